@@ -1,0 +1,14 @@
+//! What the definitions of datagrams say together.
+
+ghost use Rattle.std.specs.Prelude.{◌≡◌, ◌↔◌, ◌<◌, ℕ, List, Some, None, All};
+ghost use Rattle.protocol.specs.Wire.{Packet, Spells, Fits, packet_of, offence_of, wire_of};
+
+/// Bytes are read as a packet exactly where they spell it.
+pub fn what_is_read_is_what_is_spelled()
+    ensures { (d : Packet) (bs : List ℕ) → (packet_of bs ≡ Some d) ↔ Spells d bs }
+{}
+
+/// Bytes have no offence exactly where they spell some packet.
+pub fn nothing_is_spelled_where_something_offends()
+    ensures { (bs : List ℕ) → (offence_of bs ≡ None) ↔ ((d : Packet) × Spells d bs) }
+{}
