@@ -12,3 +12,13 @@ pub fn what_is_read_is_what_is_spelled()
 pub fn nothing_is_spelled_where_something_offends()
     ensures { (bs : List ℕ) → (offence_of bs ≡ None) ↔ ((d : Packet) × Spells d bs) }
 {}
+
+/// What is written spells what it was written from.
+pub fn what_is_written_is_spelled()
+    ensures { (d : Packet) → Fits d → Spells d (wire_of d) }
+{}
+
+/// What is written is read as what it was written from.
+pub fn what_is_written_reads_back()
+    ensures { (d : Packet) → Fits d → packet_of (wire_of d) ≡ Some d }
+{}
