@@ -28,6 +28,11 @@ neither : (a b : Bool) → (a || b) ≡ false → (a ≡ false) × (b ≡ false)
 neither true b h = cc
 neither false b h = (refl, h)
 
+-- a test of two that is true
+pub both : (a b : Bool) → IsTrue (a && b) → IsTrue a × IsTrue b
+both true b h = (refl, h)
+both false b h = cc
+
 -- a test that is not false
 either : (a b : Bool) → (a && not b) ≡ false → IsTrue (not a || b)
 either true true h = refl

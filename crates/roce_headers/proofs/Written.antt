@@ -6,6 +6,7 @@ use Rattle.std.proofs.lemmas.List.{length-replicate}
 use Rattle.std.specs.Bool.{OnTrue, OnFalse}
 use Rattle.std.proofs.Math.Seq.{take-append_seam, drop-append_seam}
 use Rattle.byteorder.specs.Numbers.{big_number-reads_back}
+use Rattle.roce_headers.proofs.Grammar.{both}
 use Rattle.protocol.specs.declared.wire.Aeth.{Aeth}
 use Rattle.protocol.specs.declared.wire.AtomicEth.{AtomicEth}
 use Rattle.protocol.specs.declared.wire.Headers.{Headers}
@@ -96,11 +97,6 @@ reth_reads d r f = record { long = refl; reth = ap Some (reth_again r d [] f); i
 reth_imm_reads : (d : Packet) (r : Reth) (n : ℕ) → FitsReth r → n < 2 ^ 32 → Reads headers.RethImm (headed d (Some r) None None None (Some n) None)
 unfolding wire_of big_bytes number_at
 reth_imm_reads d r n f g = record { long = refl; reth = ap Some (reth_again r d [] f); imm = ap Some (sym (big_number-reads_back 4 n [] g)); aeth = refl; syndrome = refl; atomic = refl; old = refl; resume = refl }
-
--- a test of two that is true
-both : (a b : Bool) → IsTrue (a && b) → IsTrue a × IsTrue b
-both true b h = (refl, h)
-both false b h = cc
 
 -- a NAK code is below 6
 nak_small : (n : ℕ) → IsTrue (is_nak_code n) → n < 6
