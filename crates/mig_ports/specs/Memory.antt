@@ -1,4 +1,4 @@
-use Rattle.std.specs.Prelude.{ℕ, zero, ◌+◌, ◌-◌, ◌^◌, List, [], ◌∷◌, ◌++◌, length, min, drop}
+use Rattle.std.specs.Prelude.{ℕ, ◌+◌, ◌-◌, ◌^◌, List, [], ◌∷◌, ◌++◌, length, min, drop}
 
 -- a source in memory: the bytes that are left, the numbers of the calls that fail, and how many calls there were and faults
 pub record SourceState : Type 0 where
@@ -38,4 +38,4 @@ write_done s bytes = record s { held = s.held ++ bytes; room = s.room - length b
 -- how many bytes a sink takes for sure: its room, where no call is to fail, and else none
 abbrev pub sure_room : List ℕ → ℕ → ℕ
 sure_room [] room = room
-sure_room (n ∷ fails) room = zero
+sure_room (n ∷ fails) room = 0

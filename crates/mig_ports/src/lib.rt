@@ -7,6 +7,8 @@
 mod mem_sink;
 mod mem_source;
 mod reading;
+#[cfg(test)]
+mod tests;
 mod writing;
 
 pub use mem_sink::MemSink;

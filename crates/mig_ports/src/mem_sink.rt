@@ -97,7 +97,7 @@ impl Sink for MemSink {
     fn write(&mut self, bytes: &[u8]) -> Result<usize, Failed>
         ensures most { IfOk result (λ n. n ≤ length bytes.now) }
         ensures put { IfOk result (λ n. Puts (Some self.old.held) (Some self.new.held) (take n bytes.now)) }
-        ensures none { IfOk result (λ n. n ≡ 0 → (bytes.now ≡ []) ⊎ Rose self.old.faults self.new.faults) }
+        ensures zero { IfOk result (λ n. n ≡ 0 → (bytes.now ≡ []) ⊎ Rose self.old.faults self.new.faults) }
         ensures err { OnErr result (Some self.new.held ≡ Some self.old.held) }
         ensures calm { IfOk result (λ n. 0 < n → self.new.faults ≡ self.old.faults) }
         ensures rose { OnErr result (Rose self.old.faults self.new.faults) }

@@ -28,7 +28,7 @@ pub trait Sink {
     fn write(&mut self, bytes: &[u8]) -> Result<usize, Failed>
         ensures most { IfOk result (λ n. n ≤ length bytes.now) }
         ensures put { IfOk result (λ n. Puts (held self.old) (held self.new) (take n bytes.now)) }
-        ensures none { IfOk result (λ n. n ≡ 0 → (bytes.now ≡ []) ⊎ Rose (faults self.old) (faults self.new)) }
+        ensures zero { IfOk result (λ n. n ≡ 0 → (bytes.now ≡ []) ⊎ Rose (faults self.old) (faults self.new)) }
         ensures err { OnErr result (held self.new ≡ held self.old) }
 
         // The count of faults rises exactly with a fault.
