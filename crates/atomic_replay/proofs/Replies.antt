@@ -9,7 +9,7 @@ use Rattle.std.proofs.Math.Seq.{drop-cons}
 use Rattle.std.specs.Option.{option_map, option_or}
 use Rattle.std.specs.List.{find, fold}
 use Rattle.protocol.specs.declared.images.KeptReply.{KeptReply}
-use Rattle.protocol.specs.Lists.{first_that}
+use Rattle.rdma_types.specs.Lists.{first_that}
 use Rattle.protocol.specs.Responder.{keeping}
 use Rattle.atomic_replay.specs.Ring.{in_order, Rises, IsRing}
 

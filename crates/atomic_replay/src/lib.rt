@@ -5,7 +5,7 @@
 ghost use Rattle.std.specs.Prelude.{List, ◌-◌, drop, fold, ◌≡◌, ℕ, ◌<◌, ◌≤◌, ◌↔◌, ◌==◌, ◌++◌, [], Some, length, All, Contains, slice_get, find};
 ghost use Rattle.std.specs.Option.{option_map};
 ghost use Rattle.protocol.specs.declared.images.KeptReply.{KeptReply};
-ghost use Rattle.protocol.specs.Lists.{first_that};
+ghost use Rattle.rdma_types.specs.Lists.{first_that};
 ghost use Rattle.protocol.specs.Responder.{keeping};
 ghost use Rattle.atomic_replay.specs.Ring.{Rises};
 
