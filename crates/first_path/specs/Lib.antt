@@ -1,1 +1,6 @@
 pub mod World
+pub mod Machine
+pub mod Legal
+pub mod Carries
+pub mod Stands
+pub mod Law
