@@ -4,3 +4,5 @@ pub mod Flights
 pub mod Start
 pub mod Facts
 pub mod Following
+pub mod Bytes
+pub mod LineStore

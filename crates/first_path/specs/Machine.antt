@@ -47,7 +47,7 @@ pub record Machine : Type 0 where
 
 -- the bytes with others put at a place
 unfoldable pub put : List ℕ → ℕ → List ℕ → List ℕ
-put bytes place new = take place bytes ++ (new ++ drop (place + length new) bytes)
+put bytes place new = take place bytes ++ new ++ drop (place + length new) bytes
 
 -- that many bytes from a place on
 unfoldable pub cut : ℕ → ℕ → List ℕ → List ℕ

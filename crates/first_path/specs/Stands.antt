@@ -4,7 +4,8 @@ use Rattle.rdma_types.specs.declared.requests.Address.{Address}
 use Rattle.rdma_types.specs.declared.requests.Terms.{Terms}
 use Rattle.protocol.specs.Numbers.{wire_number, number_limit}
 use Rattle.protocol.specs.State.{Posted}
-use Rattle.protocol.specs.Wire.{Packet, Ack, plain, wire_of}
+use Rattle.protocol.specs.Wire.{Packet, plain, wire_of}
+use Rattle.protocol.specs.declared.wire.Syndrome.TheVariants.{Ack}
 use Rattle.device_core.specs.State.{Device}
 use Rattle.device_core.specs.Rules.{grants_write}
 use Rattle.first_path.specs.Machine.{Machine, size_of}
