@@ -6,3 +6,5 @@ pub mod Facts
 pub mod Following
 pub mod Bytes
 pub mod LineStore
+pub mod LineLoad
+pub mod LinePoll
