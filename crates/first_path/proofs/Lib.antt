@@ -8,3 +8,4 @@ pub mod Bytes
 pub mod LineStore
 pub mod LineLoad
 pub mod LinePoll
+pub mod LinePost
