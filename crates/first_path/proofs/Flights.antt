@@ -47,3 +47,10 @@ fact_kept one two posted more next next' acted acted' f hn ha h = elim h [
   | inl a ↦ inl (a.0, lt_of_lt_of_le a.1 hn, write_grows posted more a.2)
   | inr b ↦ inr (b.0, lt_of_lt_of_le b.1 ha, b.2)
 ]
+
+-- .. and where only more is sent and has acted
+pub fact_later : (one two : Port) (posted : List Posted) (next next' acted acted' : ℕ) (f : Flight) → next ≤ next' → acted ≤ acted' → Fact one two posted next acted f → Fact one two posted next' acted' f
+fact_later one two posted next next' acted acted' f hn ha h = elim h [
+  | inl a ↦ inl (a.0, lt_of_lt_of_le a.1 hn, a.2)
+  | inr b ↦ inr (b.0, lt_of_lt_of_le b.1 ha, b.2)
+]

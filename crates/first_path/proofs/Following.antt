@@ -8,6 +8,7 @@ use Rattle.device_core.specs.State.{Device}
 use Rattle.device_core.specs.Rules.{Step, answers}
 use Rattle.first_path.specs.declared.Line.{Line}
 use Rattle.first_path.specs.declared.Line.TheVariants as line
+use Rattle.first_path.specs.declared.Told.{Told}
 use Rattle.first_path.specs.declared.Told.TheVariants as told
 use Rattle.first_path.specs.World.{World, WorldStep, rules, tells, unbuilt, at_one, at_two, sending, numbered}
 use Rattle.first_path.specs.Machine.{Machine, InnerStep, refusal_of, granted_answer, answer_by, after_by, done, VerbAnswers, after_verb}
@@ -72,3 +73,12 @@ at_one_answers w d a e = cc (append_nil w.sent, e)
 pub at_two_answers : (w : World) (d : Device) (a : Answer) → numbered (length w.sent + 1) a ≡ a → at_two w (answers d a) ≡ tells (record w { two = d }) a
 unfolding at_two sending
 at_two_answers w d a e = cc (append_nil w.sent, e)
+
+-- a line that is no verb and causes no inner step
+pub quiet_follows : (w w' : World) (m : Machine) (l : Line) (a : Answer) → ((t : Told) → kept_line l t ≡ []) → Carries w m l [] → rules w l ≡ tells w' a → Stands w' m → Follows w m l
+quiet_follows w w' m l a silent carried e st = follows_to w m l (tells w' a) e (record {
+  block = [];
+  carried = carried;
+  is_run = rw (silent (told.Answered a)) tt;
+  stands = rw (silent (told.Answered a)) st;
+})

@@ -9,3 +9,5 @@ pub mod LineStore
 pub mod LineLoad
 pub mod LinePoll
 pub mod LinePost
+pub mod LineOther
+pub mod LineGo
