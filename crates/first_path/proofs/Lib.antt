@@ -11,3 +11,6 @@ pub mod LinePoll
 pub mod LinePost
 pub mod LineOther
 pub mod LineGo
+pub mod ReadsBack
+pub mod Arrivals
+pub mod LineDeliver
