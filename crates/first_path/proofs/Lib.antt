@@ -14,3 +14,4 @@ pub mod LineGo
 pub mod ReadsBack
 pub mod Arrivals
 pub mod LineDeliver
+pub mod Simulation

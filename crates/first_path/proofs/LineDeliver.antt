@@ -1,7 +1,7 @@
 -- A delivery is followed.
-use Rattle.std.proofs.Common.{arith, ◌≡◌, ◌≢◌, ◌⊎◌, ◌<◌, ◌≤◌, ℕ, ◌+◌, ◌-◌, ◌%◌, ◌^◌, ◌==◌, ◌&&◌, ◌||◌, List, [], ◌∷◌, ◌++◌, Bool, true, false, refl, ap, ◌∙◌, sym, subst, inl, inr, Option, Some, None, length, take, drop, slice_get, get_or, if◌then◌else◌, length-append, length-drop}
+use Rattle.std.proofs.Common.{arith, ◌≡◌, ◌≢◌, ◌↔◌, ◌⊎◌, ◌<◌, ◌≤◌, ℕ, zero, suc, ◌+◌, ◌-◌, ◌%◌, ◌^◌, ◌==◌, ◌&&◌, ◌||◌, List, [], ◌∷◌, ◌++◌, Bool, true, false, refl, ap, ◌∙◌, sym, subst, inl, inr, Option, Some, None, length, take, drop, slice_get, get_or, if◌then◌else◌, length-append, length-drop}
 use Rattle.std.proofs.Math.Seq.{take-length}
-use Rattle.std.proofs.lemmas.Bool.Decides.{nat_tests}
+use Rattle.std.proofs.lemmas.Bool.Decides.{nat_tests, eqb_tells}
 use Rattle.std.proofs.lemmas.List.{drop-append-le}
 use Rattle.std.proofs.lemmas.Option.{slice_get-get_or}
 use Rattle.rdma_types.specs.declared.answers.Answer.{Answer}
@@ -45,9 +45,22 @@ same_address_itself a = rw (same_number a.ip a.ip refl, same_number a.port a.por
 at_partner : (a b c : Address) (x : Bool) → a ≡ b → same_address b c ≡ x → same_address a c ≡ x
 at_partner a b c x e h = ap (λ d. same_address d c) e ∙ h
 
-if_some : {A : Type 0} (b : Bool) (x : Option A) (y : A) → (if b then x else None) ≡ Some y → x ≡ Some y
+pub if_some : {A : Type 0} (b : Bool) (x : Option A) (y : A) → (if b then x else None) ≡ Some y → x ≡ Some y
 if_some true x y h = h
 if_some false x y h = absurd (cc)
+
+if_true : {A : Type 0} (b : Bool) (x : Option A) (y : A) → (if b then x else None) ≡ Some y → b ≡ true
+if_true true x y h = refl
+if_true false x y h = absurd (cc)
+
+other_number : (a b : ℕ) → a ≢ b → (a == b) ≡ false
+other_number a b h = grind (arith, nat_tests, eqb_tells a b)
+
+-- a place within a list holds something
+there_is : (P : Flight → Type 0) (fs : List Flight) (i : ℕ) → i < length fs → ((f : Flight) → slice_get fs i ≡ Some f → P f) → (f : Flight) × P f
+there_is P [] i h give = absurd (omega arith)
+there_is P (f ∷ fs) zero h give = (f, give f refl)
+there_is P (f ∷ fs) (suc i) h give = there_is P fs i (omega (arith, h)) give
 
 or_true : (b : Bool) → (b || true) ≡ true
 or_true true = refl
@@ -274,6 +287,9 @@ module _ (w : World) (posted : List Posted) (fs : Facts w posted) (k : ℕ) wher
         unfolding write_flight
         same_flight = is.is
 
+        write_told : (world.rules w (line.Deliver k)).told ≡ told.Unbuilt → ⊥
+        write_told h = let e = ap (λ s. s.told) (taken_is _ took.Ack (length w.sent + 1) 1 write_taken) in absurd (cc)
+
         write_followed : AreInOrder (port w.one) (port w.two) posted w.one.end.next w.two.end.expected (drop (w.taken + 1) w.sent) (w.two.end.expected + 1) w.one.end.una → Goal
         unfolding written_world
         write_followed rest = follows_to w (machine_of w posted) (line.Deliver k) (tells (written_world w posted fs is.request is.there) (answer.Took took.Ack (length w.sent + 1) 1)) (taken_is _ took.Ack (length w.sent + 1) 1 write_taken) (record {
@@ -303,6 +319,9 @@ module _ (w : World) (posted : List Posted) (fs : Facts w posted) (k : ℕ) wher
         unfolding ack_flight
         carries_tell = rw (ack_reads w posted fs is.msn is.msn_bits has_acted, ack_class_is) (omega arith, tt)
 
+        ack_told : (world.rules w (line.Deliver k)).told ≡ told.Unbuilt → ⊥
+        ack_told h = let e = ap (λ s. s.told) (taken_is _ took.Acked 0 0 ack_taken) in absurd (cc)
+
         ack_followed : Goal
         unfolding told_world
         ack_followed = follows_to w (machine_of w posted) (line.Deliver k) (tells (told_world w posted fs is.msn is.msn_bits has_acted) (answer.Took took.Acked 0 0)) (taken_is _ took.Acked 0 0 ack_taken) (record {
@@ -315,6 +334,9 @@ module _ (w : World) (posted : List Posted) (fs : Facts w posted) (k : ℕ) wher
       oldest_followed : Goal
       oldest_followed = elim order [ inl a ↦ write_followed a.0 a.1 | inr b ↦ ack_followed b.0 b.1 ]
 
+      oldest_told : (world.rules w (line.Deliver k)).told ≡ told.Unbuilt → ⊥
+      oldest_told h = elim order [ inl a ↦ write_told a.0 h | inr b ↦ ack_told b.0 b.1 h ]
+
     kept_followed : (oldest : Bool) → (k == w.taken + 1) ≡ oldest → Goal
     kept_followed false h = late h
     kept_followed true h = oldest_followed h
@@ -325,3 +347,38 @@ module _ (w : World) (posted : List Posted) (fs : Facts w posted) (k : ℕ) wher
 
   pub deliver_follows : Goal
   deliver_follows = by_flight (flight_at w k) refl
+
+  -- ---- when it is not built
+
+  gone_told : flight_at w k ≡ None → (world.rules w (line.Deliver k)).told ≡ told.Unbuilt → ⊥
+  unfolding delivers
+  gone_told h u =
+      let e : world.rules w (line.Deliver k) ≡ tells w answer.Gone = rw h refl in
+      let t = ap (λ s. s.told) e in
+      absurd (cc)
+
+  kept_there : world.is_kept w k ≡ true → (f : Flight) × (flight_at w k ≡ Some f)
+  unfolding flight_at
+  kept_there h =
+      let inside : k - 1 < length w.sent = grind (arith, nat_tests, h) in
+      there_is (λ f. flight_at w k ≡ Some f) w.sent (k - 1) inside (λ f e. rw (h, e) refl)
+
+  not_gone : (f : Flight) → flight_at w k ≡ Some f → world.is_kept w k ≡ true
+  unfolding flight_at
+  not_gone f h = if_true (world.is_kept w k) (slice_get w.sent (k - 1)) f h
+
+  not_oldest : (f : Flight) → flight_at w k ≡ Some f → (world.rules w (line.Deliver k)).told ≡ told.Unbuilt → k ≢ w.taken + 1
+  not_oldest f h u e = oldest_told f h (same_number k (w.taken + 1) e) u
+
+  by_told : (x : Option Flight) → flight_at w k ≡ x → (world.rules w (line.Deliver k)).told ≡ told.Unbuilt → (world.is_kept w k ≡ true) × (k ≢ w.taken + 1)
+  by_told None h u = absurd (gone_told h u)
+  by_told (Some f) h u = (not_gone f h, not_oldest f h u)
+
+  late_told : (world.is_kept w k ≡ true) × (k ≢ w.taken + 1) → (world.rules w (line.Deliver k)).told ≡ told.Unbuilt
+  late_told h =
+      let there = kept_there h.0 in
+      let not : (k == w.taken + 1) ≡ false = other_number k (w.taken + 1) h.1 in
+      ap (λ s. s.told) (late_is there.0 there.1 not)
+
+  pub unbuilt_exactly : ((world.rules w (line.Deliver k)).told ≡ told.Unbuilt) ↔ ((world.is_kept w k ≡ true) × (k ≢ w.taken + 1))
+  unbuilt_exactly = (λ u. by_told (flight_at w k) refl u, λ h. late_told h)

@@ -1,17 +1,18 @@
 -- What the law says: the packetless machine follows every line of a script, and every script.
-use Rattle.std.specs.Prelude.{◌≡◌, ◌≢◌, ◌↔◌, ◌<◌, ◌^◌, ℕ, ◌+◌, Bool, true, List, [], ◌∷◌, All}
+use Rattle.std.specs.Prelude.{◌≡◌, ◌≢◌, ◌↔◌, ◌<◌, ◌^◌, ℕ, ◌+◌, ◌-◌, true, List, [], ◌∷◌, All, Some, slice_get}
+use Rattle.rdma_types.specs.declared.answers.Answer.TheVariants as answer
 use Rattle.rdma_types.specs.declared.requests.Request.{Request}
 use Rattle.rdma_types.specs.declared.verbs.Verb.{Verb}
 use Rattle.rdma_types.specs.declared.verbs.Verb.TheVariants as verb
 use Rattle.first_path.specs.declared.Line.{Line}
 use Rattle.first_path.specs.declared.Line.TheVariants as line
 use Rattle.first_path.specs.declared.Told.TheVariants as told
-use Rattle.first_path.specs.World.{World, rules, told_all, world_after, is_kept, opening}
+use Rattle.first_path.specs.World.{World, Flight, rules, told_all, world_after, is_kept, opening}
 use Rattle.first_path.specs.Machine as machine
 use Rattle.first_path.specs.Machine.{Machine, InnerStep}
 use Rattle.first_path.specs.Legal.{IsRun, after, shown, IsLegal, kept_line, kept, line_steps, run_steps}
 use Rattle.first_path.specs.Carries.{Carries}
-use Rattle.first_path.specs.Stands.{Stands}
+use Rattle.first_path.specs.Stands.{Stands, Fact, port}
 
 -- ---- lines whose fields are in their ranges, as the reader of lines gives them
 
@@ -72,7 +73,20 @@ abbrev pub HeardIsLegal : Type 0
 HeardIsLegal = (ls : List Line) → All IsInRange ls → IsLegal (kept ls (told_all opening ls))
 
 -- a delivery is not built exactly where the datagram is kept and is not the oldest that was not delivered
+abbrev pub UnbuiltAt : World → ℕ → Type 0
+UnbuiltAt w k = ((rules w (line.Deliver k)).told ≡ told.Unbuilt) ↔ ((is_kept w k ≡ true) × (k ≢ w.taken + 1))
+
+-- it is so in each world that stands for a state
 abbrev pub UnbuiltExactly : Type 0
-UnbuiltExactly =
-    (w : World) (m : Machine) (k : ℕ) → Stands w m
-    → ((rules w (line.Deliver k)).told ≡ told.Unbuilt) ↔ ((is_kept w k ≡ true) × (k ≢ w.taken + 1))
+UnbuiltExactly = (w : World) (m : Machine) (k : ℕ) → Stands w m → UnbuiltAt w k
+
+-- the bytes shown of datagram k are those of a sent WRITE of its number, or of an acknowledgement of a number that acted
+pub record ShowsPacket (w : World) (m : Machine) (k : ℕ) (bytes : List ℕ) : Type 0 where
+  pub flight : Flight
+  pub sent : slice_get w.sent (k - 1) ≡ Some flight
+  pub shown : flight.bytes ≡ bytes
+  pub fact : Fact (port w.one) (port w.two) m.end.posted w.one.end.next m.end.acted flight
+
+-- each line that shows bytes shows those of a packet
+abbrev pub WiresArePackets : Type 0
+WiresArePackets = (w : World) (m : Machine) (k : ℕ) (bytes : List ℕ) → Stands w m → (rules w (line.Wire k)).told ≡ told.Answered (answer.Wire bytes) → ShowsPacket w m k bytes
