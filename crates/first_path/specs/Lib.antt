@@ -4,3 +4,4 @@ pub mod Legal
 pub mod Carries
 pub mod Stands
 pub mod Law
+pub mod OneWrite
