@@ -3,7 +3,7 @@
 
 mod laws;
 
-pub use laws::{machine_follows, one_write_is_told};
+pub use laws::{legal_completes_in_order, machine_follows, one_write_is_told};
 use rdma_types::{Answer, ObjName, Verb};
 
 /// A line of a script that has an answer.
