@@ -171,9 +171,9 @@ unfoldable pub executes : Device → Reth → List ℕ → Option Step
 executes d r payload =
     if (length payload == r.length && nat_le 1 r.length) && (nat_le r.length d.end.terms.mtu && grants_write d.region r.rkey r.address r.length)
     then sends
-        (with_end (with_region d (stored d.region (r.address - d.region.base) payload)) (executed d.end))
-        (answer.Took took.Ack 0 1)
-        (to_partner d.end d.end.expected (ack_packet (executed d.end) d.end.expected))
+    (with_end (with_region d (stored d.region (r.address - d.region.base) payload)) (executed d.end))
+    (answer.Took took.Ack 0 1)
+    (to_partner d.end d.end.expected (ack_packet (executed d.end) d.end.expected))
     else None
 
 -- a WRITE by its number: before the expected one it is acknowledged again and not executed; ahead of it, its form is not
@@ -208,9 +208,10 @@ acknowledges d (Some n) =
 unfoldable pub answered : Device → ℕ → Option Aeth → Option Step
 answered d psn None = None
 answered d psn (Some h) = (elim h.syndrome [
-    Ack ↦ acknowledges d (unwrap_near d.end.terms.own_start psn d.end.una)
+  | Ack ↦ acknowledges d (unwrap_near d.end.terms.own_start psn d.end.una)
   | Rnr ↦ None
-  | Nak code ↦ None ])
+  | Nak code ↦ None
+])
 
 -- a WRITE by its RETH
 unfoldable pub requested : Device → Packet → Option Reth → Option Step
