@@ -42,6 +42,26 @@ pub struct ResumeBody {
     pub address: Address,
 }
 
+/// The extension headers that follow the base header, in their order.
+#[derive(Clone, Copy, Debug, PartialEq, Eq)]
+pub enum Headers {
+    Bare,
+    Imm,
+    Reth,
+    RethImm,
+    Aeth,
+    AethOld,
+    Atomic,
+    Resume,
+}
+
+/// What an opcode says of the rest of its datagram: its extension headers, and whether it may have a payload.
+#[derive(Clone, Copy, Debug, PartialEq, Eq)]
+pub struct Layout {
+    pub headers: Headers,
+    pub payload: bool,
+}
+
 /// Why bytes are no datagram.
 #[derive(Clone, Copy, Debug, PartialEq, Eq)]
 pub enum MalformedWhy {
