@@ -22,3 +22,8 @@ pub fn what_is_written_is_spelled()
 pub fn what_is_written_reads_back()
     ensures { (d : Packet) → Fits d → packet_of (wire_of d) ≡ Some d }
 {}
+
+/// What is read of bytes can be written.
+pub fn what_is_read_can_be_written()
+    ensures { (d : Packet) (bs : List ℕ) → All (λ b. b < 256) bs → packet_of bs ≡ Some d → Fits d }
+{}

@@ -277,6 +277,7 @@ fn read(bytes: &[u8]) -> Result<Datagram<'_>, Malformed>
 pub fn decode(bytes: &[u8]) -> Result<Datagram<'_>, Malformed>
     ensures spelled { IfOk result (λ d. Spells (packet d) bytes.now) }
     ensures exact { IfOk result (λ d. packet_of bytes.now ≡ Some (packet d)) }
+    ensures fits { IfOk result (λ d. Fits (packet d)) }
     ensures refused { IfErr result (λ m. offence_of bytes.now ≡ Some m) }
     ensures nothing { OnErr result (packet_of bytes.now ≡ None) }
 {
