@@ -1,11 +1,13 @@
 -- What is true of every queue pair of a device.
 use Rattle.std.specs.Prelude.{ℕ, ◌+◌, ◌<◌, ◌≤◌, ◌^◌, None, length, IsTrue}
 use Rattle.rdma_types.specs.declared.requests.Completion.{Completion}
+use Rattle.rdma_types.specs.declared.requests.Request.{Request}
 use Rattle.rdma_types.specs.declared.requests.WcKind.TheVariants as wc
 use Rattle.rdma_types.specs.declared.requests.WcStatus.TheVariants as status
-use Rattle.protocol.specs.State.{Posted}
+use Rattle.rdma_types.specs.Limits.{is_mtu}
+use Rattle.rdma_types.specs.Objects.{Posted}
+use Rattle.protocol.specs.declared.wire.Reth.{Reth}
 use Rattle.device_core.specs.State.{End}
-use Rattle.device_core.specs.Setups.{is_mtu}
 
 -- its numbers are in range, and una, next and the number past the last untold request stand in this order
 pub record IsSound (e : End) : Type 0 where
@@ -25,3 +27,7 @@ pub record IsSound (e : End) : Type 0 where
 -- the completion of a told WRITE of the queue pair with this number
 abbrev pub completion_at : ℕ → Posted → Completion
 completion_at number p = record { qp = number; id = p.request.id; kind = wc.Write; status = status.Success; length = p.request.shape.length; imm = None }
+
+-- the remote range of a request, as its first packet names it
+abbrev pub remote_range : Request → Reth
+remote_range r = record { address = r.shape.remote; rkey = r.shape.rkey; length = r.shape.length }

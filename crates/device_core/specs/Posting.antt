@@ -1,8 +1,8 @@
 -- What a device has room for where it refuses no posted request.
-use Rattle.std.specs.Prelude.{ℕ, ◌+◌, ◌<◌, ◌≤◌, ◌==◌, ◌||◌, IsTrue, length}
+use Rattle.std.specs.Prelude.{◌+◌, ◌<◌, ◌≤◌, ◌==◌, ◌||◌, IsTrue, length}
 use Rattle.rdma_types.specs.declared.requests.Request.{Request}
-use Rattle.protocol.specs.Numbers.{number_limit}
-use Rattle.protocol.specs.Segments.{span}
+use Rattle.rdma_types.specs.Limits.{number_limit}
+use Rattle.rdma_types.specs.Spans.{span}
 use Rattle.device_core.specs.State.{Device}
 use Rattle.device_core.specs.Rules.{end_of_numbers, grants_local}
 

@@ -1,15 +1,12 @@
 -- The device that a setup describes, before anything has happened to it.
-use Rattle.std.specs.Prelude.{ℕ, ◌≡◌, ◌<◌, ◌≤◌, ◌^◌, ◌==◌, ◌||◌, Bool, List, [], replicate, IsTrue}
-use Rattle.protocol.specs.State.{Region, CompletionQueue}
+use Rattle.std.specs.Prelude.{ℕ, ◌<◌, ◌≤◌, ◌^◌, ◌==◌, ◌||◌, Bool, [], replicate, IsTrue}
+use Rattle.rdma_types.specs.Limits.{is_mtu}
+use Rattle.rdma_types.specs.Objects.{Region, CompletionQueue}
 use Rattle.device_core.specs.State.{Device, End}
 use Rattle.device_core.specs.declared.setup.EndSetup.{EndSetup}
 use Rattle.device_core.specs.declared.setup.QueueSetup.{QueueSetup}
 use Rattle.device_core.specs.declared.setup.RegionSetup.{RegionSetup}
 use Rattle.device_core.specs.declared.setup.Setup.{Setup}
-
--- one of the five MTUs (IBA 9.2)
-abbrev pub is_mtu : ℕ → Bool
-is_mtu n = n == 256 || (n == 512 || (n == 1024 || (n == 2048 || n == 4096)))
 
 -- the setup of a region is in range
 pub record IsRegionSetup (s : RegionSetup) : Type 0 where

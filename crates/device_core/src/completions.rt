@@ -22,9 +22,9 @@ pub(crate) struct CompletionQueue {
 impl Model for CompletionQueue {
     ghost use Rattle.std.specs.Prelude.{◌≤◌};
     ghost use Rattle.std.specs.VecDeque.{deque_len, deque_capacity};
-    ghost use Rattle.protocol.specs.State as state;
+    ghost use Rattle.rdma_types.specs.Objects as objects;
 
-    ghost Value = { state.CompletionQueue };
+    ghost Value = { objects.CompletionQueue };
 
     ghost view = { λ q. record { name = q.name; capacity = q.capacity; entries = q.entries.items } };
 

@@ -4,7 +4,8 @@ ghost use Rattle.std.specs.Prelude.{◌≡◌, ◌-◌, ◌==◌, ◌&&◌, leng
 ghost use Rattle.device_core.specs.Outcomes.{step_to};
 ghost use Rattle.device_core.specs.Rules.{stores, loads, grants_write};
 ghost use Rattle.device_core.specs.Setups.{IsRegionSetup, region_of};
-ghost use Rattle.protocol.specs.Memory.{RemoteWrite, allows, holds_range, loaded, stored};
+ghost use Rattle.protocol.specs.Memory.{loaded, stored};
+ghost use Rattle.rdma_types.specs.Memory.{RemoteWrite, allows, holds as holds_range};
 
 use crate::{Device, Outcome, RegionSetup};
 use rdma_types::{Answer, Items, Keys, Name, Refusal, Rights};
@@ -26,9 +27,9 @@ pub(crate) struct Region {
 impl Model for Region {
     ghost use Rattle.std.specs.Prelude.{◌≡◌, ◌≤◌, ◌^◌};
     ghost use Rattle.std.specs.Vec.{vec_len};
-    ghost use Rattle.protocol.specs.State as state;
+    ghost use Rattle.rdma_types.specs.Objects as objects;
 
-    ghost Value = { state.Region };
+    ghost Value = { objects.Region };
 
     ghost view = { λ r. record { name = r.name; domain = r.domain; base = r.base; length = r.length; rights = r.rights; keys = r.keys; bytes = r.bytes.items } };
 
@@ -58,6 +59,7 @@ impl Region {
     }
 
     /// Whether the whole range is in the region, in whole numbers without wrapping.
+    #[tactic(auto, unfolding(rdma_types::specs::Memory::holds))]
     pub(crate) fn holds(&self, at: u64, count: u64) -> bool
         ensures { result ≡ holds_range self.now at count }
     {
@@ -65,7 +67,7 @@ impl Region {
         self.base <= at && count <= length && at - self.base <= length - count
     }
 
-    #[tactic(auto, unfolding(protocol::specs::Memory::allows))]
+    #[tactic(auto, unfolding(rdma_types::specs::Memory::allows))]
     fn allows_remote_write(&self) -> bool
         ensures { result ≡ allows self.now.rights RemoteWrite }
     {
@@ -87,7 +89,7 @@ impl Region {
     }
 
     /// Writes bytes into a range that is held.
-    #[tactic(auto, unfolding(protocol::specs::Memory::stored, protocol::specs::Memory::overwritten))]
+    #[tactic(auto, unfolding(protocol::specs::Memory::stored, rdma_types::specs::Memory::put, rdma_types::specs::Memory::holds))]
     pub(crate) fn write(&mut self, at: u64, bytes: &[u8])
         requires { holds_range self.old at (length bytes.now) ≡ true }
         ensures { self.new ≡ stored self.old (at - self.old.base) bytes.now }
@@ -97,7 +99,7 @@ impl Region {
     }
 
     /// The bytes of a range that is held.
-    #[tactic(auto, unfolding(protocol::specs::Bytes::bytes_at))]
+    #[tactic(auto, unfolding(rdma_types::specs::Memory::cut, rdma_types::specs::Memory::holds))]
     pub(crate) fn read(&self, at: u64, count: u32) -> &[u8]
         requires { holds_range self.now at count ≡ true }
         ensures bytes { result.now ≡ loaded self.now at count }

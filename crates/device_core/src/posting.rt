@@ -4,22 +4,19 @@ ghost use Rattle.std.specs.Prelude.{◌≡◌, ◌<◌, ◌≤◌, ◌^◌, IfOk
 ghost use Rattle.device_core.specs.Outcomes.{built_step};
 ghost use Rattle.device_core.specs.Posting.{IsAccepted};
 ghost use Rattle.device_core.specs.Rules.{posts, post_refusal as first_refusal, is_built as has_built_form};
-ghost use Rattle.protocol.specs.Segments.{span};
+ghost use Rattle.rdma_types.specs.Spans.{span};
 
 use crate::queue_pair::Posted;
-use crate::{Device, Outcome};
+use crate::{Device, NUMBER_LIMIT, Outcome};
 use rdma_types::{Answer, Kind, Refusal, Request, Shape};
 use std::alloc::{AllocError, Global};
-
-/// No packet number reaches this (this project's choice).
-const NUMBER_LIMIT: u64 = 4_611_686_018_427_387_904;
 
 /// Bytes of a message at most (this project's choice).
 const MESSAGE_LIMIT: u32 = 1_048_576;
 
 /// How many packet numbers a request takes: an atomic one, every other one for each MTU begun, and one where there are
 /// no bytes (IBA 9.7).
-#[tactic(auto, unfolding(protocol::specs::Segments::span, protocol::specs::Segments::pieces))]
+#[tactic(auto, unfolding(rdma_types::specs::Spans::span, rdma_types::specs::Spans::pieces))]
 fn span_of(shape: &Shape, mtu: u32) -> u64
     requires { 0 < mtu }
     ensures value { result ≡ span shape.now mtu }

@@ -1,14 +1,16 @@
 //! The queue pair of a device: its untold requests and the packet numbers of both directions.
 
-ghost use Rattle.std.specs.Prelude.{◌≡◌, ◌+◌, ◌-◌, ◌<◌, ◌≤◌, ◌^◌, ◌==◌, ◌∷◌, ◌++◌, [], false, length, take, drop, map, IfOk, IsTrue, slice_get};
+ghost use Rattle.std.specs.Prelude.{◌≡◌, ◌+◌, ◌-◌, ◌<◌, ◌≤◌, ◌^◌, ◌%◌, ◌==◌, ◌∷◌, ◌++◌, [], false, length, take, drop, map, IfOk, IsSome, slice_get};
 ghost use Rattle.std.specs.Option.{option_copied};
 ghost use Rattle.std.specs.VecDeque.{deque_len, deque_capacity};
-ghost use Rattle.device_core.specs.Ends.{completion_at};
+ghost use Rattle.device_core.specs.Ends.{completion_at, remote_range};
 ghost use Rattle.device_core.specs.Rules.{executed, done, end_of_numbers};
-ghost use Rattle.device_core.specs.Setups.{IsEndSetup, end_of, is_mtu};
+ghost use Rattle.device_core.specs.Setups.{IsEndSetup, end_of};
+ghost use Rattle.protocol.specs.Wire.{FitsReth};
 
 use crate::EndSetup;
 use crate::completions::CompletionQueue;
+use protocol::Reth;
 use rdma_types::{Address, Completion, Name, Request, Terms, WcKind, WcStatus};
 use std::alloc::{AllocError, Global};
 use std::collections::VecDeque;
@@ -25,9 +27,9 @@ pub(crate) struct Posted {
 impl Model for Posted {
     ghost use Rattle.std.specs.Prelude.{◌≤◌};
     ghost use Rattle.std.specs.Vec.{vec_len};
-    ghost use Rattle.protocol.specs.State as state;
+    ghost use Rattle.rdma_types.specs.Objects as objects;
 
-    ghost Value = { state.Posted };
+    ghost Value = { objects.Posted };
 
     ghost view = { λ p. record { request = p.request; payload = p.payload.items } };
 
@@ -42,10 +44,18 @@ impl Posted {
         Posted { request, payload }
     }
 
-    pub(crate) fn request(&self) -> &Request
-        ensures { result.now ≡ self.now.request }
+    /// The remote range of the request.
+    pub(crate) fn reth(&self) -> Reth
+        ensures value { result ≡ remote_range self.now.request }
+        ensures fits { FitsReth result }
     {
-        &self.request
+        let shape = &self.request.shape;
+        let (address, rkey, length) = (shape.remote, shape.rkey, shape.length);
+        Reth {
+            address,
+            rkey,
+            length,
+        }
     }
 
     pub(crate) fn payload(&self) -> &[u8]
@@ -152,6 +162,13 @@ impl End {
         self.number
     }
 
+    pub(crate) fn peer(&self) -> u32
+        ensures value { result ≡ self.now.peer }
+        ensures fits { result < 2 ^ 24 }
+    {
+        self.peer
+    }
+
     pub(crate) fn partner(&self) -> Address
         ensures { result ≡ self.now.partner }
     {
@@ -187,6 +204,22 @@ impl End {
         self.expected
     }
 
+    /// Finished messages, in 24 bits.
+    pub(crate) fn msn(&self) -> u32
+        ensures value { result ≡ self.now.msn }
+        ensures fits { result < 2 ^ 24 }
+    {
+        self.msn
+    }
+
+    /// Finished messages with one more, in 24 bits.
+    pub(crate) fn next_msn(&self) -> u32
+        ensures value { result ≡ (self.now.msn + 1) % 16777216 }
+        ensures fits { result < 2 ^ 24 }
+    {
+        (self.msn + 1) % 16_777_216
+    }
+
     /// How many posted requests are not told.
     pub(crate) fn untold_len(&self) -> usize
         ensures value { result ≡ length self.now.untold }
@@ -213,7 +246,8 @@ impl End {
 
     /// The request whose packet is the next to send.
     pub(crate) fn due(&self) -> Option<&Posted>
-        ensures { option_copied result ≡ slice_get self.now.untold (self.now.next - self.now.una) }
+        ensures value { option_copied result ≡ slice_get self.now.untold (self.now.next - self.now.una) }
+        ensures posted { IsSome result → self.now.next < end_of_numbers self.now }
     {
         self.untold.get((self.next - self.una) as usize)
     }
