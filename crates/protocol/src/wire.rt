@@ -45,13 +45,21 @@ pub struct ResumeBody {
 /// The extension headers that follow the base header, in their order.
 #[derive(Clone, Copy, Debug, PartialEq, Eq)]
 pub enum Headers {
+    /// None.
     Bare,
+    /// An immediate.
     Imm,
+    /// A RETH.
     Reth,
+    /// A RETH, then an immediate.
     RethImm,
+    /// An AETH.
     Aeth,
+    /// An AETH, then the old value of an atomic.
     AethOld,
+    /// An AtomicETH.
     Atomic,
+    /// The body of a move.
     Resume,
 }
 

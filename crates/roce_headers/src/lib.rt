@@ -18,9 +18,7 @@ pub use laws::{
     nothing_is_spelled_where_something_offends, what_is_read_can_be_written,
     what_is_read_is_what_is_spelled, what_is_written_is_spelled, what_is_written_reads_back,
 };
-pub use protocol::{
-    Aeth, AtomicEth, Headers, Layout, Malformed, MalformedWhy, ResumeBody, Reth, Syndrome,
-};
+pub use protocol::{Aeth, AtomicEth, Malformed, MalformedWhy, ResumeBody, Reth, Syndrome};
 pub use rdma_types::Address;
 pub use reading::decode;
 pub use writing::{encode, encoded_len};
