@@ -1,6 +1,5 @@
 -- How waits for a receiver are counted.
-use Rattle.std.proofs.Common.{arith, ◌≡◌, ◌<◌, ◌+◌, ℕ, refl}
-use Rattle.std.specs.Prelude.{min}
+use Rattle.std.proofs.Common.{arith, ◌≡◌, ◌<◌, ◌+◌}
 use Rattle.protocol.specs.Requester.{waited}
 use Rattle.protocol.specs.State.{Sender}
 

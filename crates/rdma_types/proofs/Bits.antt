@@ -1,5 +1,5 @@
 -- A set of rights as bits.
-use Rattle.std.proofs.Common.{arith, ◌≡◌, ◌%◌, ◌/◌, ◌*◌, ◌^◌, ℕ, bit_and, sym, ◌∙◌}
+use Rattle.std.proofs.Common.{arith, ◌≡◌, ◌%◌, ◌/◌, ◌^◌, ℕ, bit_and, sym, ◌∙◌}
 use Rattle.std.specs.Prelude.{◌==◌}
 use Rattle.std.specs.Int.{bit_at}
 use Rattle.std.proofs.lemmas.Bool.Decides.{nat_tests}

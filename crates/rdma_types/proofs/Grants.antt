@@ -1,11 +1,11 @@
 -- The test of a grant against the fact.
-use Rattle.std.proofs.Common.{arith, ◌≡◌, ◌≤◌, ◌+◌, ℕ, zero, suc, List, [], ◌∷◌, true, false, Bool, refl, inl, inr, ap, ◌∙◌, sym}
-use Rattle.std.specs.Prelude.{◌⊎◌, ◌&&◌, ◌||◌, ◌==◌, Some, None, Option, is_some, slice_get, bytes_eq, nat_le}
+use Rattle.std.proofs.Common.{arith, ◌≡◌, ℕ, zero, suc, List, [], ◌∷◌, true, false, Bool, refl, inl, inr}
+use Rattle.std.specs.Prelude.{◌⊎◌, ◌==◌, Some, is_some, slice_get}
 use Rattle.std.proofs.lemmas.Bool.Decides.{nat_tests}
 use Rattle.rdma_types.proofs.Tables.{name_is, same_name}
 use Rattle.rdma_types.specs.declared.names.Name.{Name}
 use Rattle.rdma_types.specs.Lists.{first_that}
-use Rattle.rdma_types.specs.Memory.{Right, Grants, IsGranted, allows, granted, grants, holds, is_granted}
+use Rattle.rdma_types.specs.Memory.{Right, Grants, IsGranted, granted, grants, holds, is_granted}
 use Rattle.rdma_types.specs.Objects.{Region}
 
 -- what passes the test is granted
