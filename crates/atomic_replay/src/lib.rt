@@ -2,7 +2,7 @@
 //! (IBA 9.4). That the last sixteen are kept is this project's choice.
 #![tactic(auto)]
 
-ghost use Rattle.std.specs.Prelude.{List, ◌-◌, drop, fold, ◌≡◌, ℕ, ◌<◌, ◌≤◌, ◌↔◌, ◌==◌, ◌++◌, [], Some, length, All, Contains, slice_get, find};
+ghost use Rattle.std.specs.Prelude.{◌≡◌, ℕ, ◌-◌, ◌<◌, ◌≤◌, ◌↔◌, ◌==◌, List, [], ◌++◌, length, drop, find, fold, slice_get, All, Contains, Some};
 ghost use Rattle.std.specs.Option.{option_map};
 ghost use Rattle.protocol.specs.declared.images.KeptReply.{KeptReply};
 ghost use Rattle.rdma_types.specs.Lists.{first_that};
@@ -24,7 +24,7 @@ pub struct Kept {
 }
 
 impl Model for Kept {
-    ghost use Rattle.std.specs.Prelude.{List, ◌-◌, drop, fold, List};
+    ghost use Rattle.std.specs.Prelude.{List};
     ghost use Rattle.protocol.specs.declared.images.KeptReply.{KeptReply};
     ghost use Rattle.atomic_replay.specs.Ring.{in_order, IsRing};
 
@@ -48,6 +48,7 @@ impl Kept {
     }
 
     /// Keeps the old value that packet `number` was answered with, and forgets the oldest reply where sixteen are kept.
+    /// The numbers rise.
     pub fn put(&mut self, number: u64, old: u64)
         requires rises { All (λ k. k.number < number) self.old }
         ensures { self.new ≡ keeping self.old (record { number = number; old = old }) }

@@ -65,12 +65,14 @@ pub fn packet_of(shape: &Shape, k: u64, mtu: u32) -> PacketHead
     ensures opcode { result.opcode ≡ opcode_of shape.now.kind (k == 0) (is_last_piece shape.now mtu k) (is_some result.imm) }
     ensures remote { result.remote ≡ (shape.now.remote + k * mtu) % 2 ^ 64 }
     ensures rest { result.rest ≡ shape.now.length - k * mtu }
-    ensures imm { result.imm ≡ (if takes_bytes shape.now.kind && is_last_piece shape.now mtu k then shape.now.imm else None) }
+    ensures imm { result.imm
+        ≡ (if takes_bytes shape.now.kind && is_last_piece shape.now mtu k then shape.now.imm else None) }
     ensures off { result.off ≡ (if takes_bytes shape.now.kind then k * mtu else 0) }
     ensures length { result.length ≡ (if takes_bytes shape.now.kind then piece_length shape.now.length k mtu else 0) }
 
     // With its request, a destination and a wire number it makes the packet of the protocol's rules.
-    ensures rule { (p : Posted) (dest psn : ℕ) → Asks p shape.now → packet_with result p dest psn ≡ packet_of_piece p mtu k dest psn }
+    ensures rule { (p : Posted) (dest psn : ℕ) → Asks p shape.now
+        → packet_with result p dest psn ≡ packet_of_piece p mtu k dest psn }
 {
     let (offset, length) = piece_at(shape.length, k, mtu);
     let last = k + 1 == span_of(shape, mtu);
@@ -90,9 +92,12 @@ pub fn packet_of(shape: &Shape, k: u64, mtu: u32) -> PacketHead
 /// unless the message has none.
 pub fn pieces_are_the_message()
     ensures whole { (message : List ℕ) (mtu : ℕ) → 0 < mtu → front message mtu (pieces (length message) mtu) ≡ message }
-    ensures full { (message : List ℕ) (mtu k : ℕ) → 0 < mtu → k + 1 < pieces (length message) mtu → length (bytes_at (k * mtu) mtu message) ≡ mtu }
-    ensures last { (message : List ℕ) (mtu k : ℕ) → 0 < mtu → k + 1 ≡ pieces (length message) mtu → 0 < length message → 0 < length (bytes_at (k * mtu) mtu message) }
-    ensures bounded { (message : List ℕ) (mtu k : ℕ) → length (bytes_at (k * mtu) mtu message) ≡ piece_length (length message) k mtu }
+    ensures full { (message : List ℕ) (mtu k : ℕ) → 0 < mtu → k + 1 < pieces (length message) mtu
+        → length (bytes_at (k * mtu) mtu message) ≡ mtu }
+    ensures last { (message : List ℕ) (mtu k : ℕ) → 0 < mtu → k + 1 ≡ pieces (length message) mtu → 0 < length message
+        → 0 < length (bytes_at (k * mtu) mtu message) }
+    ensures sizes { (message : List ℕ) (mtu k : ℕ)
+        → length (bytes_at (k * mtu) mtu message) ≡ piece_length (length message) k mtu }
 {}
 
 #[cfg(test)]

@@ -41,7 +41,12 @@ const WRITE: Places = Places {
 
 impl Places {
     fn at(&self, first: bool, last: bool, imm: bool) -> u8
-        ensures { result ≡ place_code first last (if imm then self.now.only_imm else self.now.only) self.now.first (if imm then self.now.last_imm else self.now.last) self.now.middle }
+        ensures { result
+            ≡ place_code first last
+            (if imm then self.now.only_imm else self.now.only)
+            self.now.first
+            (if imm then self.now.last_imm else self.now.last)
+            self.now.middle }
     {
         match (first, last, imm) {
             (true, true, false) => self.only,

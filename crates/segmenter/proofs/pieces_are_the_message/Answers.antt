@@ -10,5 +10,5 @@ returns-clause-full c = piece_full
 pub returns-clause-last : goal.returns-clause-last
 returns-clause-last c = piece_last
 
-pub returns-clause-bounded : goal.returns-clause-bounded
-returns-clause-bounded c = length-piece
+pub returns-clause-sizes : goal.returns-clause-sizes
+returns-clause-sizes c = length-piece
