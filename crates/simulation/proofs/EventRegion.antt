@@ -11,7 +11,8 @@ use Rattle.protocol.specs.State.{Device, device_at}
 use Rattle.simulation.specs.Stands.{IsContextSound, IsCounted, IsPlaced}
 use Rattle.simulation.proofs.Worlds.{home_device, home_context, ran_device, ran_counts}
 use Rattle.simulation.proofs.Machines.{MachineChanged}
-use Rattle.simulation.proofs.Nets.{net_same}
+use Rattle.simulation.specs.Views.{context_of}
+use Rattle.simulation.proofs.Nets.{AreQuiet, net_same, listed_quiet}
 use Rattle.simulation.proofs.Kept.{IsKeyUsed, quiet_kept, counted_kept}
 use Rattle.simulation.proofs.Live.{home_changed}
 use Rattle.simulation.proofs.Grants.{contains_here, contains_later, granted_push, progress_push, keyed_push}
@@ -157,10 +158,12 @@ module _ (w : World) (m : Machine) (o : ObjName) (domain : Option Name) (base co
       let same = live_same w m o.context s live in
       let cw = home_changed w m o.context x counting (answers.Region (record { local = given; remote = given + 1 })) s.placed live (live_name w o.context live) refl refl in
       let cm = machine_changed there in
+      let quiet : AreQuiet (context_of w o.context).ends x.ends (machine.context_of m o.context).ends y.ends = same_quiet _ _ _ _ (ap (λ z. z.ends) (home_context w o.context live)) refl in
       quiet_kept w w' m m' o.context x y s (record {
         world = cw;
         machine = cm;
-        net = net_same w w' m m' o.context x y cw cm refl (same_quiet _ _ _ _ (ap (λ z. z.ends) (home_context w o.context live)) refl);
+        net = net_same w w' m m' o.context x y cw cm refl quiet;
+        listed = listed_quiet m m' o.context y _ _ cm refl quiet;
         numbers = numbers_are;
         keys = λ k h. subst (λ ks. Contains ks k) (sym keys_are) (contains_later k given m.keys h);
         counted = counted live few;

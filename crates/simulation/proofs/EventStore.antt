@@ -1,5 +1,5 @@
 -- The machine follows a store.
-use Rattle.std.proofs.Common.{arith, ◌≡◌, ◌≤◌, ◌<◌, ◌+◌, ◌-◌, ℕ, List, [], ◌++◌, length, true, false, Bool, refl, ap, ◌∙◌}
+use Rattle.std.proofs.Common.{arith, ◌≡◌, ◌≤◌, ◌<◌, ◌+◌, ◌-◌, ℕ, List, [], ◌++◌, length, true, refl, ap, ◌∙◌}
 use Rattle.std.specs.Prelude.{not, take, drop, All, Contains, ◌%◌, suc}
 use Rattle.std.proofs.lemmas.Bool.Decides.{nat_tests, leb_tells}
 use Rattle.std.proofs.lemmas.List.{length-append, length-drop, length-take}
@@ -36,7 +36,7 @@ use Rattle.simulation.specs.Stands.{Stands}
 use Rattle.simulation.specs.Law.{Follows}
 use Rattle.simulation.proofs.Machines.{context_name}
 use Rattle.simulation.proofs.Nets.{same_quiet}
-use Rattle.simulation.proofs.Refusing.{Matches, matches_cause, matches_none, first_yes, first_no, later_no}
+use Rattle.simulation.proofs.Refusing.{Matches, matches_cause, matches_none, first_yes, first_no, later_no, not_lacking}
 use Rattle.simulation.proofs.Live.{live_of, live_name, live_same, within_matches, changed_stands}
 use Rattle.simulation.proofs.Verbs.{IsDone, verb_follows}
 
@@ -117,10 +117,6 @@ module _ (w : World) (m : Machine) (o : ObjName) (a : ℕ) (bytes : List ℕ) (s
             (λ q domain p h. progress_store q domain o.name (stored_at r a bytes) y.regions p found (same_stored r a bytes) h);
       }
 
-  not_false : (b : Bool) → not b ≡ false → b ≡ true
-  not_false true h = refl
-  not_false false h = absurd (cc)
-
   pub store_follows : Follows w m (world_events.At (events.Store o a bytes))
   unfolding kept.verb_in verbing.region_of
   store_follows = verb_follows w m (events.Store o a bytes) (verbs.Store o a bytes) s (record {
@@ -130,5 +126,5 @@ module _ (w : World) (m : Machine) (o : ObjName) (a : ℕ) (bytes : List ℕ) (s
     matches = matches;
     does = λ live there h h'.
         let later = later_no refusals.NoSuch _ _ h' in
-        does live there (not_false _ (first_no refusals.NoSuch _ _ later)) (not_false _ (first_no refusals.BadKey _ [] (later_no refusals.NoSuch _ _ later)));
+        does live there (not_lacking _ (first_no refusals.NoSuch _ _ later)) (not_lacking _ (first_no refusals.BadKey _ [] (later_no refusals.NoSuch _ _ later)));
   })

@@ -9,7 +9,7 @@ use Rattle.protocol.specs.State as state
 use Rattle.protocol.specs.State.{World, Progress, device_at}
 use Rattle.ideal_model.specs.Machine as machine
 use Rattle.ideal_model.specs.Machine.{Machine, End, regions_of}
-use Rattle.simulation.specs.Views.{Net, net_of, peer, context_of}
+use Rattle.simulation.specs.Views.{Net, net_of, numbered_ends, peer, context_of}
 use Rattle.simulation.specs.Joined.{IsProgress}
 use Rattle.simulation.specs.Stands.{Stands, ArePlaced, IsPlaced, IsCounted, AreNumbered, AreSame, IsContextSound, AreProgressing, AreJoined, AreLeft, AreSent, husks_of}
 use Rattle.simulation.proofs.Tables.{name_or_not}
@@ -67,6 +67,7 @@ pub record IsQuiet (w w' : World) (m m' : Machine) (c : Name) (x : state.Context
   pub world : WorldChanged w w' c x
   pub machine : MachineChanged m m' c y
   pub net : net_of w' m' ≡ net_of w m
+  pub listed : numbered_ends m' ≡ numbered_ends m
   pub numbers : m'.numbers ≡ m.numbers
   pub keys : (k : ℕ) → Contains m.keys k → Contains m'.keys k
   pub counted : IsCounted w' m'
@@ -86,7 +87,7 @@ quiet_kept w w' m m' c x y s q = record {
     | inl a ↦ subst (λ j. IsContextSound m'.keys (machine.context_of m' j)) (sym a) (rw (machines.context_here m m' c y q.machine) q.sound)
     | inr ne ↦ rw (machines.context_other m m' c y q.machine k ne) (keys_grow m.keys m'.keys (machine.context_of m k) q.keys (s.sound k))
   ];
-  numbered = subst (λ n. AreNumbered n m'.numbers) (sym q.net) (subst (λ ns. AreNumbered (net_of w m) ns) (sym q.numbers) s.numbered);
+  numbered = subst (λ n. AreNumbered n (numbered_ends m') m'.numbers) (sym q.net) (subst (λ l. AreNumbered (net_of w m) l m'.numbers) (sym q.listed) (subst (AreNumbered (net_of w m) (numbered_ends m)) (sym q.numbers) s.numbered));
   joined = subst AreJoined (sym q.net) s.joined;
   progress = subst (λ n. AreProgressing n (regions_of m')) (sym q.net)
       (progress_kept (net_of w m) c (regions_of m) (regions_of m')

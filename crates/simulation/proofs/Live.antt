@@ -15,12 +15,13 @@ use Rattle.protocol.specs.WorldStep.{is_live, home, ran}
 use Rattle.ideal_model.specs.Machine as machine
 use Rattle.ideal_model.specs.Machine.{Machine, End, has_context, regions_of}
 use Rattle.ideal_model.specs.Verbs.{lacks_context}
+use Rattle.simulation.specs.Views.{context_of}
 use Rattle.simulation.specs.Joined.{IsProgress}
 use Rattle.simulation.specs.Stands.{Stands, AreSame, IsContextSound, IsPlaced}
 use Rattle.simulation.proofs.Tables.{map-store, name-named_there}
 use Rattle.simulation.proofs.Worlds.{WorldChanged, shape_of, home_holds, home_context, ran_changed, ran_counts}
 use Rattle.simulation.proofs.Machines.{MachineChanged, context_name, with_context_changed}
-use Rattle.simulation.proofs.Nets.{AreQuiet, net_same}
+use Rattle.simulation.proofs.Nets.{AreQuiet, net_same, listed_quiet}
 use Rattle.simulation.proofs.Kept.{quiet_kept, counted_kept}
 use Rattle.simulation.proofs.Refusing.{Matches, matches_not, matches_not_there}
 
@@ -81,10 +82,12 @@ unfolding machine.with_context
 changed_stands w m c x y a s live there named named' quiet same sound progress =
     let cw : WorldChanged w (ran w (device.answers (device.with_context (home w c) x) a)).world c x = home_changed w m c x (home w c) a s.placed live named refl refl in
     let cm : MachineChanged m (machine.with_context m c y) c y = with_context_changed m c y named' there in
+    let quiet' : AreQuiet (context_of w c).ends x.ends (machine.context_of m c).ends y.ends = subst (λ z. AreQuiet z.ends x.ends (machine.context_of m c).ends y.ends) (home_context w c live) quiet in
     quiet_kept w (ran w (device.answers (device.with_context (home w c) x) a)).world m (machine.with_context m c y) c x y s (record {
       world = cw;
       machine = cm;
-      net = net_same w _ m _ c x y cw cm (named' ∙ sym (context_name m c)) (subst (λ z. AreQuiet z.ends x.ends (machine.context_of m c).ends y.ends) (home_context w c live) quiet);
+      net = net_same w _ m _ c x y cw cm (named' ∙ sym (context_name m c)) quiet';
+      listed = listed_quiet m _ c y _ _ cm (named' ∙ sym (context_name m c)) quiet';
       numbers = refl;
       keys = λ k h. h;
       counted = counted_kept w (ran w (device.answers (device.with_context (home w c) x) a)).world m (λ k. home_counts w m c x a k s.placed live) s.counted;

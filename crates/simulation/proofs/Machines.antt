@@ -1,11 +1,11 @@
 -- A machine in which one context is changed: what of it stays, and what is seen of the change.
-use Rattle.std.proofs.Common.{◌≡◌, ◌≢◌, ℕ, map, true, refl, sym, ap, ◌∙◌, inl, inr}
+use Rattle.std.proofs.Common.{◌≡◌, ◌≢◌, map, true, refl, sym, ap, ◌∙◌, inl, inr}
 use Rattle.std.specs.Prelude.{flat_map}
 use Rattle.rdma_types.specs.declared.names.Name.{Name}
 use Rattle.rdma_types.specs.declared.names.ObjName.{ObjName}
 use Rattle.rdma_types.specs.Lists.{named, has_name, store_named}
 use Rattle.ideal_model.specs.Machine.{Machine, Context, End, no_context, nobody, has_context, context_of, has_end, end_of, with_context}
-use Rattle.simulation.specs.Views.{numbered, name_at, name_of}
+use Rattle.simulation.specs.Views.{numbered, numbered_ends}
 use Rattle.simulation.proofs.Tables.{name_or_not, name-named, name-named_there, named-store_same, named-store_other, map-store, flat_map-store}
 
 -- one context c becomes y
@@ -61,5 +61,6 @@ module _ (m m' : Machine) (c : Name) (y : Context) (ch : MachineChanged m m' c y
   pub names_same : map (λ x. x.name) m'.contexts ≡ map (λ x. x.name) m.contexts
   names_same = ap (map (λ x. x.name)) ch.contexts ∙ map-store (λ x. x.name) (λ x. x.name) (no_context c) c y m.contexts named_there (ch.named ∙ sym (name-named_there (λ x. x.name) (no_context c) c m.contexts named_there))
 
-  pub name_same : (k : ℕ) → numbered y ≡ numbered (context_of m c) → name_of m' k ≡ name_of m k
-  name_same k h = ap (λ xs. name_at xs k) (ap (flat_map numbered) ch.contexts ∙ flat_map-store numbered (λ x. x.name) (no_context c) c y m.contexts named_there (h ∙ ap numbered (sym context_there)))
+  -- the numbers of all ends stay, where the ends of y have them
+  pub listed_same : numbered y ≡ numbered (context_of m c) → numbered_ends m' ≡ numbered_ends m
+  listed_same h = ap (flat_map numbered) ch.contexts ∙ flat_map-store numbered (λ x. x.name) (no_context c) c y m.contexts named_there (h ∙ ap numbered (sym context_there))

@@ -59,3 +59,8 @@ later_no r false xs h = h
 pub first_yes : (r : Refusal) (b : Bool) (xs : List Cause) → b ≡ true → first_cause (cause r b ∷ xs) ≡ Some r
 unfolding first_cause
 first_yes r b xs h = rw h refl
+
+-- a thing is there whose lack would be a cause
+pub not_lacking : (b : Bool) → not b ≡ false → b ≡ true
+not_lacking true h = refl
+not_lacking false h = absurd (cc)

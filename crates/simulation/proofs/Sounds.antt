@@ -1,17 +1,19 @@
 -- What is sound stays sound where regions, queues and ends of a context change.
-use Rattle.std.proofs.Common.{◌≡◌, ℕ, List, [], ◌∷◌, ◌++◌, map, true, false, Bool, refl, ap, ◌∙◌}
-use Rattle.std.specs.Prelude.{◌||◌, All}
-use Rattle.std.proofs.lemmas.List.Elements.{All-weaker}
-use Rattle.std.proofs.lemmas.List.{map-append}
+use Rattle.std.proofs.Common.{arith, ◌≡◌, ◌<◌, length, ℕ, List, [], ◌∷◌, ◌++◌, map, true, false, Bool, refl, sym, ap, ◌∙◌, subst}
+use Rattle.std.specs.Prelude.{◌||◌, All, option_to_list}
+use Rattle.std.proofs.lemmas.List.Elements.{All-push, All-weaker}
+use Rattle.std.proofs.lemmas.List.{append_assoc, length_push, map-append}
 use Rattle.rdma_types.specs.declared.names.Name.{Name}
-use Rattle.rdma_types.specs.Lists.{has_word}
+use Rattle.rdma_types.specs.Lists.{has_name, has_word}
 use Rattle.rdma_types.specs.Objects.{CompletionQueue, Region}
 use Rattle.rdma_types.specs.Kinds.{kind_of, size_of}
 use Rattle.rdma_types.specs.Memory.{LocalWrite, Right, is_granted, landing_right, local_key}
-use Rattle.ideal_model.specs.Machine.{End}
-use Rattle.ideal_model.specs.Steps.{untold, receives_of}
+use Rattle.ideal_model.specs.Machine.{End, untold_count}
+use Rattle.ideal_model.specs.Sound.{IsOfferOf}
+use Rattle.rdma_types.specs.declared.requests.Receive.{Receive}
+use Rattle.ideal_model.specs.Steps.{in_place, untold, receives_of}
 use Rattle.simulation.specs.Stands.{IsEndSound}
-use Rattle.simulation.proofs.Tables.{has_name-push}
+use Rattle.simulation.proofs.Tables.{has_name-map, has_name-push}
 
 -- ---- queues
 
@@ -57,3 +59,42 @@ end_regions regions regions' names more e s = record {
 
 pub ends_regions : (regions regions' : List Region) (names : List Name) (es : List End) → ((domain : Name) (key place count : ℕ) (right : Right) → is_granted local_key regions domain key place count right ≡ true → is_granted local_key regions' domain key place count right ≡ true) → All (IsEndSound regions names) es → All (IsEndSound regions' names) es
 ends_regions regions regions' names es more all = All-weaker (IsEndSound regions names) (IsEndSound regions' names) (end_regions regions regions' names more) es all
+
+pub queues_like : (regions : List Region) (names names' : List Name) (es : List End) → names' ≡ names → All (IsEndSound regions names) es → All (IsEndSound regions names') es
+queues_like regions names names' es same all = subst (λ ns. All (IsEndSound regions ns) es) (sym same) all
+
+-- ---- ends
+
+-- one more unused receive, whose place is granted
+pub receiving_sound : (regions : List Region) (names : List Name) (e : End) (v : Receive) → length e.unused < e.receive_depth → is_granted local_key regions e.domain v.lkey v.local v.length LocalWrite ≡ true → IsEndSound regions names e → IsEndSound regions names (record e { unused = e.unused ++ v ∷ [] })
+unfolding in_place untold untold_count
+receiving_sound regions names e v room granted s = record {
+  sound = record {
+    acted_posted = s.sound.acted_posted;
+    told_posted = s.sound.told_posted;
+    told_acted = s.sound.told_acted;
+    over = s.sound.over;
+    unfinished = s.sound.unfinished;
+    whole_turns = s.sound.whole_turns;
+    known_there = s.sound.known_there;
+    known_within = s.sound.known_within;
+    unlanded = s.sound.unlanded;
+    whole_atomics = s.sound.whole_atomics;
+    replies = s.sound.replies;
+    answered = s.sound.answered;
+    offers = All-weaker (IsOfferOf e) (IsOfferOf (record e { unused = e.unused ++ v ∷ [] })) (λ x h. record { acted = h.acted; reads = h.reads; inside = h.inside }) e.offers s.sound.offers;
+    sizes = s.sound.sizes;
+    depth = s.sound.depth;
+    receive_depth = omega (arith, room, length_push e.unused v);
+  };
+  depth = s.depth;
+  send_queue = s.send_queue;
+  receive_queue = s.receive_queue;
+  requests = s.requests;
+  receives = subst (All (λ x. is_granted local_key regions e.domain x.lkey x.local x.length LocalWrite ≡ true)) (append_assoc (option_to_list e.in_use) e.unused (v ∷ []))
+      (All-push (λ x. is_granted local_key regions e.domain x.lkey x.local x.length LocalWrite ≡ true) (receives_of e) v s.receives granted);
+}
+
+-- a queue that an end names is there
+pub queue_there : (q : Name) (queues : List CompletionQueue) → has_word q (map (λ x. x.name) queues) ≡ true → has_name (λ x. x.name) q queues ≡ true
+queue_there q queues h = sym (has_name-map (λ (x : CompletionQueue). x.name) (λ x. x) (λ x. x.name) q queues (λ x. refl)) ∙ h

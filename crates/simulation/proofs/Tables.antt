@@ -186,3 +186,19 @@ pub at-store_same : {A : Type 0} (number : A → ℕ) (none : A) (k : ℕ) (e : 
 unfolding at store
 at-store_same number none k e [] same = grind (arith, nat_tests)
 at-store_same number none k e (x ∷ xs) same = grind (arith, nat_tests, at-store_same number none k e xs same)
+
+pub named-map : {A B : Type 0} (f : A → B) (name : B → List ℕ) (name' : A → List ℕ) (none : A) (n : List ℕ) (xs : List A) → ((x : A) → name (f x) ≡ name' x) → named name (f none) n (map f xs) ≡ f (named name' none n xs)
+unfolding named
+named-map f name name' none n [] same = refl
+named-map f name name' none n (x ∷ xs) same = grind (arith, same x, named-map f name name' none n xs same)
+
+pub map-store_named : {A B : Type 0} (f : A → B) (name : B → List ℕ) (name' : A → List ℕ) (n : List ℕ) (e : A) (xs : List A) → ((x : A) → name (f x) ≡ name' x) → map f (store_named name' n e xs) ≡ store_named name n (f e) (map f xs)
+unfolding store_named
+map-store_named f name name' n e [] same = refl
+map-store_named f name name' n e (x ∷ xs) same = grind (arith, same x, map-store_named f name name' n e xs same)
+
+-- a part of the thing with any name, where the new thing has that of the old one
+pub named-store_part : {A B : Type 0} (f : A → B) (name : A → List ℕ) (none none' : A) (n k : List ℕ) (e : A) (xs : List A) → has_name name n xs ≡ true → name e ≡ n → f e ≡ f (named name none' n xs) → f (named name none k (store_named name n e xs)) ≡ f (named name none k xs)
+unfolding named store_named has_name
+named-store_part f name none none' n k e [] there h same = absurd (cc)
+named-store_part f name none none' n k e (x ∷ xs) there h same = grind (arith, name_tells (name x) n, name_tells (name x) k, name_tells (name e) k, named-store_part f name none none' n k e xs)

@@ -1,0 +1,9 @@
+use Rattle.simulation.proofs.EventReceive.{receive_follows}
+use Rattle.simulation.proofs.EventPoll.{poll_follows}
+use Rattle.simulation.proofs.posting.posting_follows.Goals as goal
+
+pub returns-clause-receive : goal.returns-clause-receive
+returns-clause-receive c = λ o receive w m r s. receive_follows w m o receive s
+
+pub returns-clause-poll : goal.returns-clause-poll
+returns-clause-poll c = λ o most w m r s. poll_follows w m o most s
