@@ -62,6 +62,19 @@ progress_kept n c regions regions' others here s o connected rts =
       | inr ne ↦ subst (λ rs. IsProgress (n.end o) domain rs p) (sym (others (peer n o).context ne)) (s o connected rts)
     ]
 
+-- where one context changes, the others are the same and sound as before
+pub same_kept : (w w' : World) (m m' : Machine) (c : Name) (x : state.Context) (y : machine.Context) → WorldChanged w w' c x → MachineChanged m m' c y → AreSame x y → ((k : Name) → AreSame (context_of w k) (machine.context_of m k)) → (k : Name) → AreSame (context_of w' k) (machine.context_of m' k)
+same_kept w w' m m' c x y cw cm here all k = elim (name_or_not k c) [
+  | inl a ↦ subst (λ j. AreSame (context_of w' j) (machine.context_of m' j)) (sym a) (rw (worlds.context_here w w' c x cw, machines.context_here m m' c y cm) here)
+  | inr ne ↦ rw (worlds.context_other w w' c x cw k ne, machines.context_other m m' c y cm k ne) (all k)
+]
+
+pub sound_kept : (m m' : Machine) (c : Name) (y : machine.Context) → MachineChanged m m' c y → ((k : ℕ) → Contains m.keys k → Contains m'.keys k) → IsContextSound m'.keys y → ((k : Name) → IsContextSound m.keys (machine.context_of m k)) → (k : Name) → IsContextSound m'.keys (machine.context_of m' k)
+sound_kept m m' c y cm keys here all k = elim (name_or_not k c) [
+  | inl a ↦ subst (λ j. IsContextSound m'.keys (machine.context_of m' j)) (sym a) (rw (machines.context_here m m' c y cm) here)
+  | inr ne ↦ rw (machines.context_other m m' c y cm k ne) (keys_grow m.keys m'.keys (machine.context_of m k) keys (all k))
+]
+
 -- what a change of one context leaves to be shown
 pub record IsQuiet (w w' : World) (m m' : Machine) (c : Name) (x : state.Context) (y : machine.Context) : Type 0 where
   pub world : WorldChanged w w' c x
@@ -79,14 +92,8 @@ pub quiet_kept : (w w' : World) (m m' : Machine) (c : Name) (x : state.Context) 
 quiet_kept w w' m m' c x y s q = record {
   placed = placed_kept w w' m m' c x y q.world q.machine s.placed;
   counted = q.counted;
-  same = λ k. elim (name_or_not k c) [
-    | inl a ↦ subst (λ j. AreSame (context_of w' j) (machine.context_of m' j)) (sym a) (rw (worlds.context_here w w' c x q.world, machines.context_here m m' c y q.machine) q.same)
-    | inr ne ↦ rw (worlds.context_other w w' c x q.world k ne, machines.context_other m m' c y q.machine k ne) (s.same k)
-  ];
-  sound = λ k. elim (name_or_not k c) [
-    | inl a ↦ subst (λ j. IsContextSound m'.keys (machine.context_of m' j)) (sym a) (rw (machines.context_here m m' c y q.machine) q.sound)
-    | inr ne ↦ rw (machines.context_other m m' c y q.machine k ne) (keys_grow m.keys m'.keys (machine.context_of m k) q.keys (s.sound k))
-  ];
+  same = same_kept w w' m m' c x y q.world q.machine q.same s.same;
+  sound = sound_kept m m' c y q.machine q.keys q.sound s.sound;
   numbered = subst (λ n. AreNumbered n (numbered_ends m') m'.numbers) (sym q.net) (subst (λ l. AreNumbered (net_of w m) l m'.numbers) (sym q.listed) (subst (AreNumbered (net_of w m) (numbered_ends m)) (sym q.numbers) s.numbered));
   joined = subst AreJoined (sym q.net) s.joined;
   progress = subst (λ n. AreProgressing n (regions_of m')) (sym q.net)

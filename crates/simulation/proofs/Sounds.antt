@@ -1,14 +1,16 @@
 -- What is sound stays sound where regions, queues and ends of a context change.
-use Rattle.std.proofs.Common.{arith, ◌≡◌, ◌<◌, length, ℕ, List, [], ◌∷◌, ◌++◌, map, true, false, Bool, refl, sym, ap, ◌∙◌, subst}
+use Rattle.std.proofs.Common.{arith, ◌≡◌, ◌<◌, ◌≤◌, inl, length, ℕ, List, [], ◌∷◌, ◌++◌, map, true, false, Bool, refl, sym, ap, ◌∙◌, subst}
 use Rattle.std.specs.Prelude.{◌||◌, All, option_to_list}
-use Rattle.std.proofs.lemmas.List.Elements.{All-push, All-weaker}
+use Rattle.std.proofs.lemmas.List.Elements.{All-nil, All-push, All-weaker}
 use Rattle.std.proofs.lemmas.List.{append_assoc, length_push, map-append}
 use Rattle.rdma_types.specs.declared.names.Name.{Name}
+use Rattle.rdma_types.specs.declared.names.ObjName.{ObjName}
+use Rattle.rdma_types.specs.Limits.{most_depth}
 use Rattle.rdma_types.specs.Lists.{has_name, has_word}
 use Rattle.rdma_types.specs.Objects.{CompletionQueue, Region}
 use Rattle.rdma_types.specs.Kinds.{kind_of, size_of}
 use Rattle.rdma_types.specs.Memory.{LocalWrite, Right, is_granted, landing_right, local_key}
-use Rattle.ideal_model.specs.Machine.{End, untold_count}
+use Rattle.ideal_model.specs.Machine.{End, new_end, untold_count}
 use Rattle.ideal_model.specs.Sound.{IsOfferOf}
 use Rattle.rdma_types.specs.declared.requests.Receive.{Receive}
 use Rattle.ideal_model.specs.Steps.{in_place, untold, receives_of}
@@ -98,3 +100,32 @@ receiving_sound regions names e v room granted s = record {
 -- a queue that an end names is there
 pub queue_there : (q : Name) (queues : List CompletionQueue) → has_word q (map (λ x. x.name) queues) ≡ true → has_name (λ x. x.name) q queues ≡ true
 queue_there q queues h = sym (has_name-map (λ (x : CompletionQueue). x.name) (λ x. x) (λ x. x.name) q queues (λ x. refl)) ∙ h
+
+-- an end as it is made
+pub new_sound : (regions : List Region) (names : List Name) (o : ObjName) (number : ℕ) (domain send_queue receive_queue : Name) (send_depth receive_depth : ℕ) → send_depth ≤ most_depth → has_word send_queue names ≡ true → has_word receive_queue names ≡ true → IsEndSound regions names (new_end o number domain send_queue receive_queue send_depth receive_depth)
+unfolding in_place untold untold_count
+new_sound regions names o number domain send_queue receive_queue send_depth receive_depth few sends receives = record {
+  sound = record {
+    acted_posted = omega arith;
+    told_posted = omega arith;
+    told_acted = λ h. omega arith;
+    over = λ h. refl;
+    unfinished = inl refl;
+    whole_turns = λ h. refl;
+    known_there = λ h l. omega arith;
+    known_within = omega arith;
+    unlanded = λ h e. refl;
+    whole_atomics = λ h. refl;
+    replies = λ i h. absurd (omega arith);
+    answered = inl refl;
+    offers = All-nil _;
+    sizes = λ i h. absurd (omega arith);
+    depth = omega arith;
+    receive_depth = omega arith;
+  };
+  depth = few;
+  send_queue = sends;
+  receive_queue = receives;
+  requests = All-nil _;
+  receives = All-nil _;
+}

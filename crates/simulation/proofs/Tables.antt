@@ -1,10 +1,10 @@
 -- Laws of the lists of things that are found by name.
 use Rattle.std.proofs.Common.{arith, ◌≡◌, ◌≢◌, ◌⊎◌, ◌≤◌, ◌+◌, ℕ, List, [], ◌∷◌, ◌++◌, map, true, false, Bool, refl, sym, inl, inr, subst}
 use Rattle.std.specs.Prelude.{bytes_eq, All, ◌||◌, if◌then◌else◌, flat_map, Some, ◌==◌}
-use Rattle.std.proofs.lemmas.Bool.Decides.{nat_tests}
+use Rattle.std.proofs.lemmas.Bool.Decides.{nat_tests, eqb_tells}
 use Rattle.std.proofs.lemmas.Slice.Eq.{bytes_eq-Decides}
 use Rattle.std.proofs.lemmas.List.Elements.{All-cons, All-head, All-tail}
-use Rattle.rdma_types.specs.Lists.{named, has_name, store_named, without, first_that, store, at}
+use Rattle.rdma_types.specs.Lists.{named, has_name, store_named, without, first_that, store, at, has, some}
 use Rattle.std.specs.List.{count_by}
 use Rattle.std.proofs.lemmas.List.Sums.{sum_by-cons}
 
@@ -202,3 +202,43 @@ pub named-store_part : {A B : Type 0} (f : A → B) (name : A → List ℕ) (non
 unfolding named store_named has_name
 named-store_part f name none none' n k e [] there h same = absurd (cc)
 named-store_part f name none none' n k e (x ∷ xs) there h same = grind (arith, name_tells (name x) n, name_tells (name x) k, name_tells (name e) k, named-store_part f name none none' n k e xs)
+
+-- ---- things found by a number
+
+-- a number that is not there
+pub count-absent : {A : Type 0} (number : A → ℕ) (k : ℕ) (xs : List A) → has number k xs ≡ false → count_by (λ x. number x == k) xs ≡ 0
+unfolding has
+count-absent number k [] h = refl
+count-absent number k (x ∷ xs) h = grind (arith, nat_tests, count_by-cons (λ y. number y == k) x xs, count-absent number k xs)
+
+-- a part of the thing with a number, where one more thing at the end has what `none` has
+pub at-push_part : {A B : Type 0} (f : A → B) (number : A → ℕ) (none : A) (k : ℕ) (e : A) (xs : List A) → f e ≡ f none → f (at number none k (xs ++ e ∷ [])) ≡ f (at number none k xs)
+unfolding at
+at-push_part f number none k e [] h = grind (arith, h)
+at-push_part f number none k e (x ∷ xs) h = grind (arith, at-push_part f number none k e xs h)
+
+pub map-store_at : {A B : Type 0} (f : A → B) (number : A → ℕ) (none : A) (k : ℕ) (e : A) (xs : List A) → has number k xs ≡ true → f e ≡ f (at number none k xs) → map f (store number k e xs) ≡ map f xs
+unfolding has at store
+map-store_at f number none k e [] there h = absurd (cc)
+map-store_at f number none k e (x ∷ xs) there h = grind (arith, nat_tests, map-store_at f number none k e xs)
+
+pub flat_map-store_at : {A B : Type 0} (f : A → List B) (number : A → ℕ) (none : A) (k : ℕ) (e : A) (xs : List A) → has number k xs ≡ true → f e ≡ f (at number none k xs) → flat_map f (store number k e xs) ≡ flat_map f xs
+unfolding has at store
+flat_map-store_at f number none k e [] there h = absurd (cc)
+flat_map-store_at f number none k e (x ∷ xs) there h = grind (arith, nat_tests, flat_map-store_at f number none k e xs)
+
+pub some-at : {A : Type 0} (test : A → Bool) (number : A → ℕ) (none : A) (k : ℕ) (xs : List A) → has number k xs ≡ true → some test xs ≡ false → test (at number none k xs) ≡ false
+unfolding has at some
+some-at test number none k [] there h = absurd (cc)
+some-at test number none k (x ∷ xs) there h = grind (arith, nat_tests, some-at test number none k xs)
+
+pub number-at : {A : Type 0} (number : A → ℕ) (none : A) (k : ℕ) (xs : List A) → has number k xs ≡ true → number (at number none k xs) ≡ k
+unfolding has at
+number-at number none k [] there = absurd (cc)
+number-at number none k (x ∷ xs) there = grind (arith, nat_tests, eqb_tells (number x) k, number-at number none k xs)
+
+-- what is true of each thing in each part is true of those in the part of the thing with a number
+pub has_name-at : {A B : Type 0} (parts : A → List B) (name : B → List ℕ) (number : A → ℕ) (none : A) (n : List ℕ) (k : ℕ) (xs : List A) → has number k xs ≡ true → has_name name n (parts (at number none k xs)) ≡ true → has_name name n (flat_map parts xs) ≡ true
+unfolding has at
+has_name-at parts name number none n k [] there h = absurd (cc)
+has_name-at parts name number none n k (x ∷ xs) there h = grind (arith, nat_tests, has_name-append name n (parts x) (flat_map parts xs), has_name-at parts name number none n k xs)

@@ -1,7 +1,8 @@
 -- A world in which one live context is changed: what of it stays, and what is seen of the change.
-use Rattle.std.proofs.Common.{arith, ◌≡◌, ◌≢◌, ◌≤◌, ℕ, List, [], ◌∷◌, ◌++◌, map, true, false, Bool, refl, sym, ap, ◌∙◌, inl, inr}
+use Rattle.std.proofs.Common.{arith, ◌≡◌, ◌≢◌, ◌≤◌, ℕ, List, [], ◌∷◌, ◌++◌, map, true, false, Bool, refl, sym, ap, ◌∙◌, subst, inl, inr}
 use Rattle.std.proofs.lemmas.List.{append_assoc, append-nil}
-use Rattle.std.specs.Prelude.{Option, Some, None, not, is_some, ◌&&◌, ◌||◌, ◌==◌, if◌then◌else◌, flat_map, bytes_eq}
+use Rattle.std.proofs.lemmas.List.Elements.{All-head, All-tail}
+use Rattle.std.specs.Prelude.{All, Option, Some, None, not, is_some, ◌&&◌, ◌||◌, ◌==◌, if◌then◌else◌, flat_map, bytes_eq}
 use Rattle.std.specs.List.{count_by}
 use Rattle.rdma_types.specs.declared.names.Name.{Name}
 use Rattle.rdma_types.specs.declared.names.ObjName.{ObjName}
@@ -231,3 +232,19 @@ ran_device w d a = at-store_same (λ e. e.id) no_device d.id d w.devices refl
 -- the home before it
 pub home_device : (w : World) (m : Machine) (c : Name) → IsPlaced w m → is_live w c ≡ true → device_at w (home w c).id ≡ home w c
 home_device w m c placed live = at-found (λ e. e.id) no_device (holds_it c) (home w c) w.devices (ids_once w m placed) (home_found w c live)
+
+some_same : (a b : Device) → Some a ≡ Some b → a ≡ b
+some_same a b h = cc
+
+-- what is true of all ids is true of the id of a device that is found
+id_if : (P : ℕ → Type 0) (x d : Device) (b : Bool) (rest : Option Device) → (if b then Some x else rest) ≡ Some d → P x.id → (rest ≡ Some d → P d.id) → P d.id
+id_if P x d true rest h here later = subst P (ap (λ e. e.id) (some_same x d h)) here
+id_if P x d false rest h here later = later h
+
+id_found : (P : ℕ → Type 0) (test : Device → Bool) (d : Device) (ds : List Device) → All P (map (λ e. e.id) ds) → first_that test ds ≡ Some d → P d.id
+unfolding first_that
+id_found P test d [] all h = absurd (cc)
+id_found P test d (x ∷ ds) all h = id_if P x d (test x) (first_that test ds) h (All-head P x.id (map (λ e. e.id) ds) all) (λ l. id_found P test d ds (All-tail P x.id (map (λ e. e.id) ds) all) l)
+
+pub home_id : (P : ℕ → Type 0) (w : World) (c : Name) → is_live w c ≡ true → All P (map (λ e. e.id) w.devices) → P (home w c).id
+home_id P w c live all = id_found P (holds_it c) (home w c) w.devices all (home_found w c live)

@@ -1,3 +1,5 @@
+use Rattle.simulation.proofs.EventDevice.{device_follows}
+use Rattle.simulation.proofs.EventEnd.{end_follows}
 use Rattle.simulation.proofs.EventDomain.{domain_follows}
 use Rattle.simulation.proofs.EventRegion.{region_follows}
 use Rattle.simulation.proofs.EventQueue.{queue_follows}
@@ -11,3 +13,9 @@ returns-clause-region c = λ o domain base length rights w m r s. region_follows
 
 pub returns-clause-queue : goal.returns-clause-queue
 returns-clause-queue c = λ o capacity w m r s. queue_follows w m o capacity s
+
+pub returns-clause-device : goal.returns-clause-device
+returns-clause-device c = λ id address w m r s. device_follows w m id address r s
+
+pub returns-clause-queue_pair : goal.returns-clause-queue_pair
+returns-clause-queue_pair c = λ o domain send_cq recv_cq send_depth recv_depth w m r s. end_follows w m o domain send_cq recv_cq send_depth recv_depth r.1 s
