@@ -19,11 +19,11 @@ use Rattle.simulation.specs.Stands.{AreSame}
 use Rattle.simulation.proofs.Tables.{has_name-map, has_name-store, named-map, named-there, name-named_there, map-store, map-store_named, named-store_part}
 use Rattle.simulation.proofs.Nets.{AreQuiet}
 
-names_there : (e : state.End) → (owned_there e).name ≡ e.name
+pub names_there : (e : state.End) → (owned_there e).name ≡ e.name
 unfolding owned_there
 names_there e = refl
 
-names_here : (e : machine.End) → (owned e).name ≡ e.name
+pub names_here : (e : machine.End) → (owned e).name ≡ e.name
 unfolding owned
 names_here e = refl
 

@@ -46,7 +46,7 @@ module _ (w : World) (m : Machine) (o : ObjName) (s : Stands w m) where
         stands = changed_stands w m o.context (device.with_domain (live_of w o.context) o.name) (record (machine.context_of m o.context) { domains = (machine.context_of m o.context).domains ++ o.name ∷ [] }) answers.Done s live there
             (live_name w o.context live) (context_name m o.context) (same_quiet _ _ _ _ refl refl)
             (record { domains = ap (λ ds. ds ++ o.name ∷ []) same.domains; regions = same.regions; queues = same.queues; ends = same.ends })
-            (record { whole = sound.whole; bytes = sound.bytes; keyed = sound.keyed; keyed_once = sound.keyed_once; ends = sound.ends })
+            (record { whole = sound.whole; bytes = sound.bytes; keyed = sound.keyed; keyed_once = sound.keyed_once; named_once = sound.named_once; ends = sound.ends })
             (λ q domain p h. h);
       }
 

@@ -1,6 +1,7 @@
 -- The machine follows the making of a queue pair.
 use Rattle.std.proofs.Common.{arith, ◌≡◌, ◌≢◌, ◌≤◌, ◌<◌, ◌+◌, ◌*◌, ℕ, List, [], ◌∷◌, ◌++◌, map, true, false, Bool, refl, sym, ap, ◌∙◌, subst, inl, inr}
 use Rattle.std.specs.Prelude.{Option, Some, None, not, ◌||◌, ◌^◌, nat_le, nat_eq, All, Contains, ◌/◌, bytes_eq}
+use Rattle.std.specs.List.{count_by}
 use Rattle.std.proofs.lemmas.Bool.Decides.{nat_tests, leb_tells, eqb_tells}
 use Rattle.std.proofs.lemmas.List.{map-append}
 use Rattle.std.proofs.lemmas.List.Elements.{All-push, All-cons, All-weaker, All-contains}
@@ -11,7 +12,7 @@ use Rattle.ideal_model.specs.Machine.{new_end, nobody, has_end}
 use Rattle.ideal_model.specs.Steps.{untold}
 use Rattle.simulation.specs.Views.{owned, owned_there, link_or_none, receive_in, numbered, numbered_ends, name_at, net_of, requests_of, side_of}
 use Rattle.simulation.specs.Stands.{AreNumbered, AreSame, IsContextSound, IsCounted, IsEndSound, IsPlaced}
-use Rattle.simulation.proofs.Tables.{name_or_not, name_tells, named-store_same, named-store_other, store_named-new, has_name-push, has_name-map}
+use Rattle.simulation.proofs.Tables.{name_or_not, name_tells, named-store_same, named-store_other, store_named-new, once_push, has_name-push, has_name-map}
 use Rattle.simulation.proofs.Worlds.{WorldChanged, home_context, home_device, home_id, ran_device, ran_counts, side_same, husks_same}
 use Rattle.simulation.proofs.Machines.{MachineChanged, context_here, context_other, end_part_same}
 use Rattle.simulation.proofs.Kept.{IsUsed, placed_kept, counted_kept, same_kept, sound_kept}
@@ -202,6 +203,7 @@ module _ (w : World) (m : Machine) (o : ObjName) (domain send_cq recv_cq : Optio
           bytes = before.bytes;
           keyed = before.keyed;
           keyed_once = before.keyed_once;
+          named_once = λ n. subst (λ es. count_by (λ z. bytes_eq z.name n) es ≤ 1) (sym pushed) (once_push (λ z. z.name) f old.ends n new (before.named_once n));
           ends = subst (All (IsEndSound old.regions names)) (sym pushed) (All-push (IsEndSound old.regions names) old.ends f before.ends
               (new_sound old.regions names o given _ _ _ send_depth recv_depth few_requests (words_there _ old.queues ∙ sends) (words_there _ old.queues ∙ receives)));
         })

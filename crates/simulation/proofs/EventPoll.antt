@@ -72,6 +72,7 @@ module _ (w : World) (m : Machine) (o : ObjName) (most : ℕ) (s : Stands w m) w
               bytes = sound.bytes;
               keyed = sound.keyed;
               keyed_once = sound.keyed_once;
+              named_once = sound.named_once;
               ends = queues_like y.regions _ _ y.ends (map-store (λ x. x.name) (λ x. x.name) no_queue o.name (polled q most) y.queues found refl) sound.ends;
             })
             (λ q domain p h. h);

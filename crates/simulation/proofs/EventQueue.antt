@@ -62,6 +62,7 @@ module _ (w : World) (m : Machine) (o : ObjName) (capacity : ℕ) (s : Stands w 
               bytes = sound.bytes;
               keyed = sound.keyed;
               keyed_once = sound.keyed_once;
+              named_once = sound.named_once;
               ends = queues_more (machine.context_of m o.context).regions queues (new_queue o.name capacity) (machine.context_of m o.context).ends sound.ends;
             })
             (λ q domain p h. h));

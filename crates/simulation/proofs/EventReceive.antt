@@ -13,7 +13,7 @@ use Rattle.protocol.specs.EndWords as words
 use Rattle.simulation.specs.Views.{Owned, owned, owned_there, link_or_none}
 use Rattle.ideal_model.specs.Steps.{untold}
 use Rattle.simulation.specs.Stands.{IsEndSound}
-use Rattle.simulation.proofs.Tables.{All-store, All-named, name-named_there}
+use Rattle.simulation.proofs.Tables.{All-store, All-named, once_store, name-named_there}
 use Rattle.simulation.proofs.Ends.{end_there, end_owned, ends_store, stored_quiet, queue_in, full_same, with_more, completing_there, with_more_names}
 use Rattle.simulation.proofs.Sounds.{receiving_sound, queue_there, queues_like}
 use Rattle.rdma_types.specs.declared.names.ObjName.{ObjName}
@@ -118,6 +118,7 @@ module _ (w : World) (m : Machine) (o : ObjName) (v : Receive) (s : Stands w m) 
         bytes = sound.bytes;
         keyed = sound.keyed;
         keyed_once = sound.keyed_once;
+        named_once = sound.named_once;
         ends = queues_like y.regions _ _ y.ends (with_more_names y.queues f.receive_queue done q) sound.ends;
       })
       (λ q domain p h. h))
@@ -149,6 +150,7 @@ module _ (w : World) (m : Machine) (o : ObjName) (v : Receive) (s : Stands w m) 
         bytes = sound.bytes;
         keyed = sound.keyed;
         keyed_once = sound.keyed_once;
+        named_once = λ n. omega (arith, once_store (λ z. z.name) (machine.nobody o) o.name n f' y.ends found named', sound.named_once n);
         ends = All-store (IsEndSound y.regions (map (λ q. q.name) y.queues)) (λ z. z.name) o.name f' y.ends sound.ends (receiving_sound y.regions (map (λ q. q.name) y.queues) f v room granted (sound_end found));
       })
       (λ q domain p h. h))

@@ -11,9 +11,9 @@ use Rattle.protocol.specs.State.{Device, device_at}
 use Rattle.simulation.specs.Stands.{IsContextSound, IsCounted, IsPlaced}
 use Rattle.simulation.proofs.Worlds.{home_device, home_context, ran_device, ran_counts}
 use Rattle.simulation.proofs.Machines.{MachineChanged}
-use Rattle.simulation.specs.Views.{context_of}
+use Rattle.simulation.specs.Views.{context_of, net_of}
 use Rattle.simulation.proofs.Nets.{AreQuiet, net_same, listed_quiet}
-use Rattle.simulation.proofs.Kept.{IsKeyUsed, quiet_kept, counted_kept}
+use Rattle.simulation.proofs.Kept.{IsKeyUsed, counted_kept, progress_changed, quiet_kept}
 use Rattle.simulation.proofs.Live.{home_changed}
 use Rattle.simulation.proofs.Grants.{contains_here, contains_later, granted_push, progress_push, keyed_push}
 use Rattle.simulation.proofs.Sounds.{ends_regions}
@@ -86,6 +86,7 @@ region_sound keys given y r key even remote fresh whole bytes s = record {
       (All-weaker (IsKeyed keys) (IsKeyed (given ∷ keys)) (λ x h. (contains_later x.keys.local given keys h.0, h.1, h.2)) y.regions s.keyed)
       (subst (Contains (given ∷ keys)) (sym key) (contains_here given keys), omega (arith, key, even), omega (arith, key, remote));
   keyed_once = keyed_push r y.regions s.keyed_once (All-weaker (IsKeyed keys) (λ x. x.keys.local ≢ r.keys.local) (λ x h e. All-contains (λ k. k ≢ given) keys x.keys.local fresh h.0 (e ∙ key)) y.regions s.keyed);
+  named_once = s.named_once;
   ends = ends_regions y.regions (y.regions ++ r ∷ []) _ y.ends (λ domain k place count right h. granted_push _ y.regions (r ∷ []) domain k place count right h) s.ends;
 }
 
@@ -169,7 +170,7 @@ module _ (w : World) (m : Machine) (o : ObjName) (domain : Option Name) (base co
         counted = counted live few;
         same = record { domains = same.domains; regions = ap (λ rs. rs ++ new ∷ []) same.regions; queues = same.queues; ends = same.ends };
         sound = subst (λ ks. IsContextSound ks y) (sym keys_are) (region_sound m.keys given (machine.context_of m o.context) new refl (omega arith) (omega arith) (fresh_key w m o.context s.placed s.counted live few) (length-replicate count 0) (All-replicate (λ b. b < 256) count 0 (omega arith)) (s.sound o.context));
-        progress = λ q d p h. progress_push q d (machine.regions_of m o.context) (new ∷ []) p h;
+        progress = progress_changed (net_of w m) m m' o.context y cm (λ q d p h. progress_push q d (machine.regions_of m o.context) (new ∷ []) p h) s.progress;
       })
 
   does : is_live w o.context ≡ true → has_context m o.context ≡ true → (home w o.context).key_count < 8388607 → IsDone w m (events.MakeRegion o domain base count rights) (verbs.MakeRegion o domain base count rights)

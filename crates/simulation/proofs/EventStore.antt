@@ -79,6 +79,7 @@ store_sound keys y n a bytes there held said s =
       bytes = All-store (λ x. All (λ b. b < 256) x.bytes) (λ x. x.name) n (stored_at r a bytes) y.regions s.bytes (all_put (λ b. b < 256) r.bytes bytes (a - r.base) (All-named (λ x. All (λ b. b < 256) x.bytes) (λ x. x.name) no_region n y.regions s.bytes there) said);
       keyed = All-store (IsKeyed keys) (λ x. x.name) n (stored_at r a bytes) y.regions s.keyed (All-named (IsKeyed keys) (λ x. x.name) no_region n y.regions s.keyed there);
       keyed_once = λ k. omega (arith, keyed_store n (stored_at r a bytes) y.regions k there refl, s.keyed_once k);
+      named_once = s.named_once;
       ends = ends_regions y.regions _ _ y.ends (λ domain key place count right h. local_granted_store n (stored_at r a bytes) y.regions domain key place count right there (same_stored r a bytes) h) s.ends;
     }
 

@@ -49,6 +49,7 @@ keys_grow keys keys' y grow s = record {
   bytes = s.bytes;
   keyed = All-weaker (IsKeyed keys) (IsKeyed keys') (λ r h. (grow r.keys.local h.0, h.1, h.2)) y.regions s.keyed;
   keyed_once = s.keyed_once;
+  named_once = s.named_once;
   ends = s.ends;
 }
 
@@ -75,6 +76,14 @@ sound_kept m m' c y cm keys here all k = elim (name_or_not k c) [
   | inr ne ↦ rw (machines.context_other m m' c y cm k ne) (keys_grow m.keys m'.keys (machine.context_of m k) keys (all k))
 ]
 
+-- .. in a machine in which that context changes
+pub progress_changed : (n : Net) (m m' : Machine) (c : Name) (y : machine.Context) → MachineChanged m m' c y → ((q : End) (domain : Name) (p : Progress) → IsProgress q domain (regions_of m c) p → IsProgress q domain y.regions p) → AreProgressing n (regions_of m) → AreProgressing n (regions_of m')
+progress_changed n m m' c y cm here s =
+    progress_kept n c (regions_of m) (regions_of m')
+    (λ k ne. ap (λ z. z.regions) (machines.context_other m m' c y cm k ne))
+    (λ e domain p h. subst (λ z. IsProgress e domain z.regions p) (sym (machines.context_here m m' c y cm)) (here e domain p h))
+    s
+
 -- what a change of one context leaves to be shown
 pub record IsQuiet (w w' : World) (m m' : Machine) (c : Name) (x : state.Context) (y : machine.Context) : Type 0 where
   pub world : WorldChanged w w' c x
@@ -86,7 +95,7 @@ pub record IsQuiet (w w' : World) (m m' : Machine) (c : Name) (x : state.Context
   pub counted : IsCounted w' m'
   pub same : AreSame x y
   pub sound : IsContextSound m'.keys y
-  pub progress : (q : End) (domain : Name) (p : Progress) → IsProgress q domain (regions_of m c) p → IsProgress q domain y.regions p
+  pub progress : AreProgressing (net_of w m) (regions_of m')
 
 pub quiet_kept : (w w' : World) (m m' : Machine) (c : Name) (x : state.Context) (y : machine.Context) → Stands w m → IsQuiet w w' m m' c x y → Stands w' m'
 quiet_kept w w' m m' c x y s q = record {
@@ -96,11 +105,7 @@ quiet_kept w w' m m' c x y s q = record {
   sound = sound_kept m m' c y q.machine q.keys q.sound s.sound;
   numbered = subst (λ n. AreNumbered n (numbered_ends m') m'.numbers) (sym q.net) (subst (λ l. AreNumbered (net_of w m) l m'.numbers) (sym q.listed) (subst (AreNumbered (net_of w m) (numbered_ends m)) (sym q.numbers) s.numbered));
   joined = subst AreJoined (sym q.net) s.joined;
-  progress = subst (λ n. AreProgressing n (regions_of m')) (sym q.net)
-      (progress_kept (net_of w m) c (regions_of m) (regions_of m')
-      (λ k ne. ap (λ z. z.regions) (machines.context_other m m' c y q.machine k ne))
-      (λ e domain p h. subst (λ z. IsProgress e domain z.regions p) (sym (machines.context_here m m' c y q.machine)) (q.progress e domain p h))
-      s.progress);
+  progress = subst (λ n. AreProgressing n (regions_of m')) (sym q.net) q.progress;
   husks = subst (λ n. AreLeft n (flat_map (λ h. h.entries) (husks_of w'))) (sym q.net) (subst (λ hs. AreLeft (net_of w m) (flat_map (λ h. h.entries) hs)) (sym (worlds.husks_same w w' q.world.shapes)) s.husks);
   sent = subst (λ n. AreSent n w'.sent) (sym q.net) (subst (λ fs. AreSent (net_of w m) fs) (sym q.world.sent) s.sent);
 }

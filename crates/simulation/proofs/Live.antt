@@ -15,14 +15,14 @@ use Rattle.protocol.specs.WorldStep.{is_live, home, ran}
 use Rattle.ideal_model.specs.Machine as machine
 use Rattle.ideal_model.specs.Machine.{Machine, End, has_context, regions_of}
 use Rattle.ideal_model.specs.Verbs.{lacks_context}
-use Rattle.simulation.specs.Views.{context_of}
+use Rattle.simulation.specs.Views.{context_of, net_of}
 use Rattle.simulation.specs.Joined.{IsProgress}
-use Rattle.simulation.specs.Stands.{Stands, AreSame, IsContextSound, IsPlaced}
+use Rattle.simulation.specs.Stands.{Stands, AreSame, IsContextSound, IsPlaced, AreProgressing}
 use Rattle.simulation.proofs.Tables.{map-store, name-named_there}
 use Rattle.simulation.proofs.Worlds.{WorldChanged, shape_of, home_holds, home_context, ran_changed, ran_counts}
 use Rattle.simulation.proofs.Machines.{MachineChanged, context_name, with_context_changed}
 use Rattle.simulation.proofs.Nets.{AreQuiet, net_same, listed_quiet}
-use Rattle.simulation.proofs.Kept.{quiet_kept, counted_kept}
+use Rattle.simulation.proofs.Kept.{quiet_kept, counted_kept, progress_changed}
 use Rattle.simulation.proofs.Refusing.{Matches, matches_not, matches_not_there}
 
 -- the live context of that name
@@ -74,12 +74,12 @@ unfolding device.with_context
 home_counts w m c x a k placed live = ran_counts w m c (device.with_context (home w c) x) a k placed live refl (omega arith) (omega arith)
 
 -- a verb that changes one context on both sides, and no link, no queue of requests, no number and no key
-pub changed_stands : (w : World) (m : Machine) (c : Name) (x : state.Context) (y : machine.Context) (a : Answer) → Stands w m → is_live w c ≡ true → has_context m c ≡ true → x.name ≡ c → y.name ≡ c →
+pub changed_stands_by : (w : World) (m : Machine) (c : Name) (x : state.Context) (y : machine.Context) (a : Answer) → Stands w m → is_live w c ≡ true → has_context m c ≡ true → x.name ≡ c → y.name ≡ c →
     AreQuiet (live_of w c).ends x.ends (machine.context_of m c).ends y.ends → AreSame x y → IsContextSound m.keys y →
-    ((q : End) (domain : Name) (p : Progress) → IsProgress q domain (regions_of m c) p → IsProgress q domain y.regions p) →
+    AreProgressing (net_of w m) (regions_of (machine.with_context m c y)) →
     Stands (ran w (device.answers (device.with_context (home w c) x) a)).world (machine.with_context m c y)
 unfolding machine.with_context
-changed_stands w m c x y a s live there named named' quiet same sound progress =
+changed_stands_by w m c x y a s live there named named' quiet same sound progress =
     let cw : WorldChanged w (ran w (device.answers (device.with_context (home w c) x) a)).world c x = home_changed w m c x (home w c) a s.placed live named refl refl in
     let cm : MachineChanged m (machine.with_context m c y) c y = with_context_changed m c y named' there in
     let quiet' : AreQuiet (context_of w c).ends x.ends (machine.context_of m c).ends y.ends = subst (λ z. AreQuiet z.ends x.ends (machine.context_of m c).ends y.ends) (home_context w c live) quiet in
@@ -95,3 +95,12 @@ changed_stands w m c x y a s live there named named' quiet same sound progress =
       sound = sound;
       progress = progress;
     })
+
+-- .. where all that is in progress stays so in the new regions
+pub changed_stands : (w : World) (m : Machine) (c : Name) (x : state.Context) (y : machine.Context) (a : Answer) → Stands w m → is_live w c ≡ true → has_context m c ≡ true → x.name ≡ c → y.name ≡ c →
+    AreQuiet (live_of w c).ends x.ends (machine.context_of m c).ends y.ends → AreSame x y → IsContextSound m.keys y →
+    ((q : End) (domain : Name) (p : Progress) → IsProgress q domain (regions_of m c) p → IsProgress q domain y.regions p) →
+    Stands (ran w (device.answers (device.with_context (home w c) x) a)).world (machine.with_context m c y)
+changed_stands w m c x y a s live there named named' quiet same sound progress =
+    changed_stands_by w m c x y a s live there named named' quiet same sound
+    (progress_changed (net_of w m) m (machine.with_context m c y) c y (with_context_changed m c y named' there) progress s.progress)

@@ -22,6 +22,7 @@ use Rattle.simulation.proofs.Tables.{has_name-map, has_name-push}
 end_queues : (regions : List Region) (names names' : List Name) → ((q : Name) → has_word q names ≡ true → has_word q names' ≡ true) → (e : End) → IsEndSound regions names e → IsEndSound regions names' e
 end_queues regions names names' more e s = record {
   sound = s.sound;
+  made = s.made;
   depth = s.depth;
   send_queue = more e.send_queue s.send_queue;
   receive_queue = more e.receive_queue s.receive_queue;
@@ -46,6 +47,7 @@ queues_more regions queues q es all =
 pub end_regions : (regions regions' : List Region) (names : List Name) → ((domain : Name) (key place count : ℕ) (right : Right) → is_granted local_key regions domain key place count right ≡ true → is_granted local_key regions' domain key place count right ≡ true) → (e : End) → IsEndSound regions names e → IsEndSound regions' names e
 end_regions regions regions' names more e s = record {
   sound = s.sound;
+  made = s.made;
   depth = s.depth;
   send_queue = s.send_queue;
   receive_queue = s.receive_queue;
@@ -89,6 +91,7 @@ receiving_sound regions names e v room granted s = record {
     depth = s.sound.depth;
     receive_depth = omega (arith, room, length_push e.unused v);
   };
+  made = s.made;
   depth = s.depth;
   send_queue = s.send_queue;
   receive_queue = s.receive_queue;
@@ -123,6 +126,7 @@ new_sound regions names o number domain send_queue receive_queue send_depth rece
     depth = omega arith;
     receive_depth = omega arith;
   };
+  made = λ h. refl;
   depth = few;
   send_queue = sends;
   receive_queue = receives;

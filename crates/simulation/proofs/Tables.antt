@@ -6,7 +6,7 @@ use Rattle.std.proofs.lemmas.Slice.Eq.{bytes_eq-Decides}
 use Rattle.std.proofs.lemmas.List.Elements.{All-cons, All-head, All-tail}
 use Rattle.rdma_types.specs.Lists.{named, has_name, store_named, without, first_that, store, at, has, some}
 use Rattle.std.specs.List.{count_by}
-use Rattle.std.proofs.lemmas.List.Sums.{sum_by-cons}
+use Rattle.std.proofs.lemmas.List.Sums.{sum_by-cons, sum_by_push}
 
 -- what a test of names tells
 pub name_tells : (a b : List ℕ) → ((bytes_eq a b ≡ true) × (a ≡ b)) ⊎ ((bytes_eq a b ≡ false) × (a ≢ b))
@@ -242,3 +242,23 @@ pub has_name-at : {A B : Type 0} (parts : A → List B) (name : B → List ℕ) 
 unfolding has at
 has_name-at parts name number none n k [] there h = absurd (cc)
 has_name-at parts name number none n k (x ∷ xs) there h = grind (arith, nat_tests, has_name-append name n (parts x) (flat_map parts xs), has_name-at parts name number none n k xs)
+
+-- ---- names that stand once
+
+pub once_store : {A : Type 0} (name : A → List ℕ) (none : A) (n k : List ℕ) (e : A) (xs : List A) → has_name name n xs ≡ true → name e ≡ n → count_by (λ x. bytes_eq (name x) k) (store_named name n e xs) ≡ count_by (λ x. bytes_eq (name x) k) xs
+unfolding has_name store_named
+once_store name none n k e [] there h = absurd (cc)
+once_store name none n k e (x ∷ xs) there h = grind (arith, name_tells (name x) n, count_by-cons (λ y. bytes_eq (name y) k) x xs, count_by-cons (λ y. bytes_eq (name y) k) e xs, count_by-cons (λ y. bytes_eq (name y) k) x (store_named name n e xs), once_store name none n k e xs)
+
+lacking_count : {A : Type 0} (name : A → List ℕ) (n : List ℕ) (xs : List A) → has_name name n xs ≡ false → count_by (λ x. bytes_eq (name x) n) xs ≡ 0
+unfolding has_name
+lacking_count name n [] h = refl
+lacking_count name n (x ∷ xs) h = grind (arith, count_by-cons (λ y. bytes_eq (name y) n) x xs, lacking_count name n xs)
+
+pub once_push : {A : Type 0} (name : A → List ℕ) (e : A) (xs : List A) (k : List ℕ) → has_name name (name e) xs ≡ false → count_by (λ x. bytes_eq (name x) k) xs ≤ 1 → count_by (λ x. bytes_eq (name x) k) (xs ++ e ∷ []) ≤ 1
+once_push name e xs k fresh once = elim (name_tells (name e) k) [
+  | inl h ↦
+      let none : count_by (λ x. bytes_eq (name x) k) xs ≡ 0 = subst (λ j. count_by (λ x. bytes_eq (name x) j) xs ≡ 0) h.1 (lacking_count name (name e) xs fresh) in
+      grind (arith, h.0, none, sum_by_push (λ x. if bytes_eq (name x) k then 1 else 0) xs e)
+  | inr h ↦ grind (arith, h.0, once, sum_by_push (λ x. if bytes_eq (name x) k then 1 else 0) xs e)
+]

@@ -189,5 +189,7 @@ pub record IsJoined (o : ObjName) (x y : Side) (q p : End) : Type 0 where
   pub fenced : x.rts ≡ true → IsFencedIn x.link.sender q
   -- the responder in Rts
   pub receives : y.rts ≡ true → Receives y.link.receiver q
+  -- a responder in Error has no message in progress
+  pub idle : y.link.ended ≡ true → y.link.receiver.progress ≡ NoMessage
   -- what the peer recorded of this end's moves
   pub heard_of : IsHeardOf x y

@@ -7,7 +7,7 @@ ghost use Rattle.rdma_types.specs.declared.requests.Address.{Address};
 ghost use Rattle.rdma_types.specs.declared.rights.Rights.{Rights};
 ghost use Rattle.protocol.specs.State.{empty_world};
 ghost use Rattle.protocol.specs.declared.events.Event.TheVariants.{MakeDomain, MakeRegion, MakeCq, MakeQp};
-ghost use Rattle.protocol.specs.declared.events.WorldEvent.TheVariants.{AddDevice, At};
+ghost use Rattle.protocol.specs.declared.events.WorldEvent.TheVariants.{AddDevice, MakeContext, At};
 ghost use Rattle.ideal_model.specs.Machine.{empty};
 ghost use Rattle.simulation.specs.Stands.{Stands};
 ghost use Rattle.simulation.specs.Law.{AlwaysFollows};
@@ -17,9 +17,10 @@ pub fn starts()
     ensures { Stands empty_world empty }
 {}
 
-/// The machine follows the making of devices, domains, regions, completion queues and queue pairs.
+/// The machine follows the making of devices, contexts, domains, regions, completion queues and queue pairs.
 pub fn making_follows()
     ensures device { (id : ℕ) (address : Address) → AlwaysFollows (AddDevice id address) }
+    ensures context { (name : Name) (device : ℕ) → AlwaysFollows (MakeContext name device) }
     ensures domain { (o : ObjName) → AlwaysFollows (At (MakeDomain o)) }
     ensures region { (o : ObjName) (domain : Option Name) (base length : ℕ) (rights : Rights) → AlwaysFollows (At (MakeRegion o domain base length rights)) }
     ensures queue { (o : ObjName) (capacity : ℕ) → AlwaysFollows (At (MakeCq o capacity)) }

@@ -1,3 +1,4 @@
+use Rattle.simulation.proofs.EventContext.{context_follows}
 use Rattle.simulation.proofs.EventDevice.{device_follows}
 use Rattle.simulation.proofs.EventEnd.{end_follows}
 use Rattle.simulation.proofs.EventDomain.{domain_follows}
@@ -19,3 +20,6 @@ returns-clause-device c = λ id address w m r s. device_follows w m id address r
 
 pub returns-clause-queue_pair : goal.returns-clause-queue_pair
 returns-clause-queue_pair c = λ o domain send_cq recv_cq send_depth recv_depth w m r s. end_follows w m o domain send_cq recv_cq send_depth recv_depth r.1 s
+
+pub returns-clause-context : goal.returns-clause-context
+returns-clause-context c = λ name device w m r s. context_follows w m name device s

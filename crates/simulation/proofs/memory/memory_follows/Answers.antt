@@ -1,3 +1,4 @@
+use Rattle.simulation.proofs.EventDrop.{drop_follows}
 use Rattle.simulation.proofs.EventStore.{store_follows}
 use Rattle.simulation.proofs.EventLoad.{load_follows}
 use Rattle.simulation.proofs.memory.memory_follows.Goals as goal
@@ -7,3 +8,6 @@ returns-clause-store c = λ o address bytes w m r s. store_follows w m o address
 
 pub returns-clause-load : goal.returns-clause-load
 returns-clause-load c = λ o address length w m r s. load_follows w m o address length s
+
+pub returns-clause-drop : goal.returns-clause-drop
+returns-clause-drop c = λ o w m r s. drop_follows w m o s
