@@ -35,7 +35,7 @@ pub record NetGrows (n n' : Net) (numbers : List ℕ) : Type 0 where
   pub ends : (o : ObjName) → IsConnected n o → n'.end o ≡ n.end o
   pub names : (k : ℕ) → Contains numbers k → n'.name k ≡ n.name k
 
-joined_like : {o : ObjName} {x x' y y' : Side} {q q' p p' : End} → x' ≡ x → y' ≡ y → q' ≡ q → p' ≡ p → IsJoined o x y q p → IsJoined o x' y' q' p'
+pub joined_like : {o : ObjName} {x x' y y' : Side} {q q' p p' : End} → x' ≡ x → y' ≡ y → q' ≡ q → p' ≡ p → IsJoined o x y q p → IsJoined o x' y' q' p'
 joined_like {o} {x} {x'} {y} {y'} {q} {q'} {p} {p'} a b c d j = subst (λ z. IsJoined o z y' q' p') (sym a) (subst (λ z. IsJoined o x z q' p') (sym b) (subst (λ z. IsJoined o x y z p') (sym c) (subst (λ z. IsJoined o x y q z) (sym d) j)))
 
 module _ (n n' : Net) (numbers : List ℕ) (joined : AreJoined n) (made : AreMade n) (given : (o : ObjName) → n.there o ≡ true → Contains numbers (n.end o).number) (g : NetGrows n n' numbers) where

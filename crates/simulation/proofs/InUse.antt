@@ -257,7 +257,7 @@ module _ (w : World) (m : Machine) (s : Stands w m) (o : ObjName) (r : Region) (
 pub All-zip : {A : Type 0} (P Q R : A → Type 0) → ((x : A) → P x → Q x → R x) → (xs : List A) → All P xs → All Q xs → All R xs
 All-zip P Q R both xs p q k d h = both _ (p k d h) (q k d h)
 
-bytes_swap : (a b : Name) → bytes_eq a b ≡ false → bytes_eq b a ≡ false
+pub bytes_swap : (a b : Name) → bytes_eq a b ≡ false → bytes_eq b a ≡ false
 bytes_swap a b h = elim (name_tells b a) [ inl t ↦ absurd (cc (subst (λ z. bytes_eq a z ≡ true) (sym t.1) (same_name a), h)) | inr t ↦ t.0 ]
 
 or_right : (a b : Bool) → b ≡ true → (a || b) ≡ true

@@ -18,7 +18,7 @@ use Rattle.simulation.proofs.Worlds.{WorldChanged}
 use Rattle.simulation.proofs.Machines as machines
 use Rattle.simulation.proofs.Machines.{MachineChanged}
 
-placed_like : {names names' made made' : List Name} {ids ids' : List ℕ} {addresses addresses' : List Address} {husks husks' : List Name} → names' ≡ names → made' ≡ made → ids' ≡ ids → addresses' ≡ addresses → husks' ≡ husks → ArePlaced names made ids addresses husks → ArePlaced names' made' ids' addresses' husks'
+pub placed_like : {names names' made made' : List Name} {ids ids' : List ℕ} {addresses addresses' : List Address} {husks husks' : List Name} → names' ≡ names → made' ≡ made → ids' ≡ ids → addresses' ≡ addresses → husks' ≡ husks → ArePlaced names made ids addresses husks → ArePlaced names' made' ids' addresses' husks'
 placed_like {names} {names'} {made} {made'} {ids} {ids'} {addresses} {addresses'} {husks} {husks'} a b c d e p =
     subst (λ x. ArePlaced x made' ids' addresses' husks') (sym a) (subst (λ x. ArePlaced names x ids' addresses' husks') (sym b) (subst (λ x. ArePlaced names made x addresses' husks') (sym c) (subst (λ x. ArePlaced names made ids x husks') (sym d) (subst (λ x. ArePlaced names made ids addresses x) (sym e) p))))
 

@@ -67,7 +67,7 @@ home_changed w m c x d0 a placed live named shape same =
     (shape_kept (home w c) d0 c x named (home_holds w c live) shape same)
     (contexts_kept (home w c) d0 c x named same)
 
-home_counts : (w : World) (m : Machine) (c : Name) (x : state.Context) (a : Answer) (k : ℕ) → IsPlaced w m → is_live w c ≡ true →
+pub home_counts : (w : World) (m : Machine) (c : Name) (x : state.Context) (a : Answer) (k : ℕ) → IsPlaced w m → is_live w c ≡ true →
     ((state.device_at w k).qp_count ≤ (state.device_at (ran w (device.answers (device.with_context (home w c) x) a)).world k).qp_count)
     × ((state.device_at w k).key_count ≤ (state.device_at (ran w (device.answers (device.with_context (home w c) x) a)).world k).key_count)
 unfolding device.with_context

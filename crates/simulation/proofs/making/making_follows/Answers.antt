@@ -1,3 +1,4 @@
+use Rattle.simulation.proofs.EventConnect.{connect_follows}
 use Rattle.simulation.proofs.EventContext.{context_follows}
 use Rattle.simulation.proofs.EventDevice.{device_follows}
 use Rattle.simulation.proofs.EventEnd.{end_follows}
@@ -23,3 +24,6 @@ returns-clause-queue_pair c = λ o domain send_cq recv_cq send_depth recv_depth 
 
 pub returns-clause-context : goal.returns-clause-context
 returns-clause-context c = λ name device w m r s. context_follows w m name device s
+
+pub returns-clause-connect : goal.returns-clause-connect
+returns-clause-connect c = λ one two terms w m r s. connect_follows w m one two terms r s
