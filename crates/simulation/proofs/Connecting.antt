@@ -1,6 +1,6 @@
 -- What is needed where two ends are connected.
-use Rattle.std.proofs.Common.{arith, ◌≡◌, ◌≢◌, ◌≤◌, ◌<◌, ◌+◌, ◌⊎◌, ℕ, suc, List, [], ◌∷◌, ◌++◌, map, length, true, false, Bool, refl, sym, ap, ◌∙◌, subst, inl, inr}
-use Rattle.std.specs.Prelude.{Option, Some, None, not, ◌&&◌, ◌||◌, ◌/◌, ◌^◌, if◌then◌else◌, is_some, flat_map, bytes_eq, All}
+use Rattle.std.proofs.Common.{arith, ◌≡◌, ◌≢◌, ◌≤◌, ◌+◌, ◌⊎◌, List, [], ◌∷◌, ◌++◌, map, true, false, Bool, refl, sym, ap, ◌∙◌, inl, inr}
+use Rattle.std.specs.Prelude.{Some, not, ◌&&◌, if◌then◌else◌, is_some, flat_map, bytes_eq}
 use Rattle.std.specs.List.{count_by}
 use Rattle.std.proofs.Math.Nat.{zero-div, zero-mod}
 use Rattle.std.proofs.lemmas.List.Elements.{All-nil, All-weaker}
@@ -9,7 +9,7 @@ use Rattle.rdma_types.specs.declared.names.ObjName.{ObjName}
 use Rattle.rdma_types.specs.declared.requests.Address.{Address}
 use Rattle.rdma_types.specs.declared.requests.Terms.{Terms}
 use Rattle.rdma_types.specs.Limits.{AreTerms}
-use Rattle.rdma_types.specs.Lists.{named, has_name, has_word, store_named, first_that}
+use Rattle.rdma_types.specs.Lists.{named, has_name, store_named, first_that}
 use Rattle.rdma_types.specs.Objects.{Region}
 use Rattle.rdma_types.specs.Spans.{first_number, end_number}
 use Rattle.protocol.specs.declared.images.ContextImage.{ContextImage}
@@ -17,16 +17,15 @@ use Rattle.protocol.specs.Images as images
 use Rattle.protocol.specs.State as state
 use Rattle.protocol.specs.State.{World, Device, Link, Phase, Running, Resuming, fresh_link, no_end}
 use Rattle.protocol.specs.WorldStep.{is_live, is_carried, home, exchanged}
-use Rattle.ideal_model.specs.Machine as machine
 use Rattle.ideal_model.specs.Machine.{Machine, End, new_end, untold_count}
 use Rattle.ideal_model.specs.Numbers.{due, oldest}
 use Rattle.ideal_model.specs.Sound.{IsOfferOf}
 use Rattle.ideal_model.specs.Steps.{in_place, untold}
 use Rattle.ideal_model.specs.Verbs as verbing
 use Rattle.simulation.specs.Views.{Side, contexts_of, context_of, end_of, home_in, address_or_none, place_of, side_of, in_rts, link_or_none}
-use Rattle.simulation.specs.Joined.{IsJoined, IsInPieces, Sends, IsOver, IsOrdered, Receives, IsHeardOf, old_values, last_of}
-use Rattle.simulation.specs.Stands.{IsEndSound, IsPlaced, names_of}
-use Rattle.simulation.proofs.Tables.{name_or_not, name_tells, count_by-cons, named-store_same, named-store_other}
+use Rattle.simulation.specs.Joined.{IsJoined, old_values, last_of}
+use Rattle.simulation.specs.Stands.{IsEndSound, IsPlaced}
+use Rattle.simulation.proofs.Tables.{name_or_not, count_by-cons, named-store_same, named-store_other}
 use Rattle.simulation.proofs.Worlds.{WorldChanged, context_here, context_other, home_found, has_name-flat, place_same}
 
 -- ---- a live context
@@ -66,12 +65,15 @@ live_not_carried w m c placed live = by_test (is_carried w c) refl
     by_test : (b : Bool) → is_carried w c ≡ b → is_carried w c ≡ false
     by_test false t = t
     by_test true t =
-        absurd (omega (arith, placed.once c,
-        ap (count_by (λ k. bytes_eq k c)) (map-both (λ x. x.name) (flat_map (λ d. d.contexts) w.devices) (map images.context_of w.carried)),
-        count_append (λ k. bytes_eq k c) (map (λ x. x.name) (flat_map (λ d. d.contexts) w.devices)) (map (λ x. x.name) (map images.context_of w.carried)),
-        names_of_images c w.carried,
-        count_named (λ x. x.name) c (flat_map (λ d. d.contexts) w.devices) (has_name-flat c w.devices ∙ live),
-        count_named (λ i. i.name) c w.carried t))
+        absurd (omega (
+          arith,
+          placed.once c,
+          ap (count_by (λ k. bytes_eq k c)) (map-both (λ x. x.name) (flat_map (λ d. d.contexts) w.devices) (map images.context_of w.carried)),
+          count_append (λ k. bytes_eq k c) (map (λ x. x.name) (flat_map (λ d. d.contexts) w.devices)) (map (λ x. x.name) (map images.context_of w.carried)),
+          names_of_images c w.carried,
+          count_named (λ x. x.name) c (flat_map (λ d. d.contexts) w.devices) (has_name-flat c w.devices ∙ live),
+          count_named (λ i. i.name) c w.carried t,
+        ))
 
 -- ---- one end of a context changes
 
@@ -86,11 +88,11 @@ unfolding end_of
 end_stored_other w w' o k x e cw ends named' ne = elim (name_or_not k.context o.context) [
   | inr other ↦ ap (λ c. named (λ z. z.name) (record no_end { name = k.name }) k.name c.ends) (context_other w w' o.context x cw k.context other)
   | inl a ↦
-    ap (λ j. named (λ z. z.name) (record no_end { name = k.name }) k.name (context_of w' j).ends) a
-    ∙ (ap (λ c. named (λ z. z.name) (record no_end { name = k.name }) k.name c.ends) (context_here w w' o.context x cw)
-    ∙ (ap (named (λ z. z.name) (record no_end { name = k.name }) k.name) ends
-    ∙ (named-store_other (λ z. z.name) (record no_end { name = k.name }) o.name k.name e (context_of w o.context).ends named' (λ h. ne (λ i. record { context = a i; name = h i }))
-    ∙ ap (λ j. named (λ z. z.name) (record no_end { name = k.name }) k.name (context_of w j).ends) (sym a))))
+      ap (λ j. named (λ z. z.name) (record no_end { name = k.name }) k.name (context_of w' j).ends) a
+      ∙ (ap (λ c. named (λ z. z.name) (record no_end { name = k.name }) k.name c.ends) (context_here w w' o.context x cw)
+      ∙ (ap (named (λ z. z.name) (record no_end { name = k.name }) k.name) ends
+      ∙ (named-store_other (λ z. z.name) (record no_end { name = k.name }) o.name k.name e (context_of w o.context).ends named' (λ h. ne (λ i. record { context = a i; name = h i }))
+      ∙ ap (λ j. named (λ z. z.name) (record no_end { name = k.name }) k.name (context_of w j).ends) (sym a))))
 ]
 
 -- the side of an end whose link stays

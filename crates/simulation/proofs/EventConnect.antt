@@ -1,6 +1,6 @@
 -- The machine follows a connection.
-use Rattle.std.proofs.Common.{arith, ◌≡◌, ◌≢◌, ◌≤◌, ◌⊎◌, ℕ, List, [], ◌∷◌, ◌++◌, map, true, false, Bool, refl, sym, ap, ◌∙◌, subst, inl, inr}
-use Rattle.std.specs.Prelude.{Option, Some, None, not, ◌&&◌, ◌||◌, is_some, bytes_eq, flat_map, All, Contains}
+use Rattle.std.proofs.Common.{◌≡◌, ◌≢◌, [], map, true, false, Bool, refl, sym, ap, ◌∙◌, subst, inl, inr}
+use Rattle.std.specs.Prelude.{Option, Some, None, not, ◌&&◌, ◌||◌, is_some, bytes_eq, All, Contains}
 use Rattle.rdma_types.specs.declared.names.Name.{Name}
 use Rattle.rdma_types.specs.declared.names.ObjName.{ObjName}
 use Rattle.rdma_types.specs.declared.requests.Address.{Address}
@@ -9,43 +9,39 @@ use Rattle.rdma_types.specs.declared.verbs.Verb.TheVariants as verbs
 use Rattle.rdma_types.specs.declared.answers.Answer.TheVariants as answers
 use Rattle.rdma_types.specs.declared.answers.Refusal.{Refusal}
 use Rattle.rdma_types.specs.declared.answers.Refusal.TheVariants as refusals
-use Rattle.rdma_types.specs.Causes.{Cause, cause, first_cause}
+use Rattle.rdma_types.specs.Causes.{first_cause}
 use Rattle.rdma_types.specs.Limits.{AreTerms}
-use Rattle.rdma_types.specs.Lists.{named, has_name, has_word, store_named}
+use Rattle.rdma_types.specs.Lists.{named, has_name}
 use Rattle.protocol.specs.declared.events.Event.TheVariants as events
 use Rattle.protocol.specs.declared.events.WorldEvent.TheVariants as world_events
 use Rattle.protocol.specs.State as state
 use Rattle.protocol.specs.State.{World, Device, Link, fresh_link, no_end, device_at}
-use Rattle.protocol.specs.EndWords as words
 use Rattle.protocol.specs.Refusals as refusing
-use Rattle.protocol.specs.DeviceStep as device
 use Rattle.protocol.specs.WorldStep as step
 use Rattle.protocol.specs.WorldStep.{world_step, is_live, is_carried, home, ran, exchanged}
 use Rattle.ideal_model.specs.Machine as machine
 use Rattle.ideal_model.specs.Machine.{Machine, End, has_context, has_end, nobody, regions_of}
-use Rattle.ideal_model.specs.Steps.{untold}
 use Rattle.ideal_model.specs.Verbs as verbing
 use Rattle.simulation.specs.Kept as kept
-use Rattle.simulation.specs.Views.{Net, Owned, owned, owned_there, contexts_of, context_of, end_of, link_or_none, receive_in, net_of, numbered, numbered_ends, name_at, peer, place_of, requests_of, side_of}
-use Rattle.simulation.specs.Joined.{IsJoined, IsProgress}
+use Rattle.simulation.specs.Views.{Net, owned, owned_there, context_of, end_of, net_of, numbered_ends, name_at, peer, place_of, requests_of, side_of}
+use Rattle.simulation.specs.Joined.{IsProgress}
 use Rattle.simulation.specs.Stands.{Stands, IsPlaced, IsCounted, AreNumbered, AreSame, IsContextSound, IsEndSound}
 use Rattle.simulation.specs.Law.{Reaches, Follows}
-use Rattle.simulation.proofs.Tables.{name_or_not, name-named_there, named-there, named-store_same, named-store_other, has_name-store, map-store, All-named, All-store, once_store, same_name}
+use Rattle.simulation.proofs.Tables.{name-named_there, named-there, named-store_same, has_name-store, All-named, same_name}
 use Rattle.simulation.proofs.Worlds as worlds
 use Rattle.simulation.proofs.Worlds.{WorldChanged, shapes_of, home_holds, home_context, place_same, husks_same, has_context_is, has_name-names, is_there, ran_counts}
 use Rattle.simulation.proofs.Machines as machines
 use Rattle.simulation.proofs.Machines.{MachineChanged, context_name}
-use Rattle.simulation.proofs.Kept.{placed_like, placed_kept, counted_kept, same_kept, sound_kept}
-use Rattle.simulation.proofs.Ends.{end_there, end_owned, ends_store}
+use Rattle.simulation.proofs.Kept.{placed_kept, counted_kept, same_kept, sound_kept}
+use Rattle.simulation.proofs.Ends.{end_there, end_owned}
 use Rattle.simulation.proofs.Grows.{object_or_not, IsConnected, NetGrows, joined_like}
 use Rattle.simulation.proofs.InUse.{bytes_swap}
-use Rattle.simulation.proofs.Grown.{IsNew, number_given, grown_stands}
+use Rattle.simulation.proofs.Grown.{IsNew, grown_stands}
 use Rattle.simulation.proofs.Connecting.{live_place, live_not_carried, end_stored_here, end_stored_other, side_like, side_with, side_is, connected_end, fresh_joined, joined_sound}
-use Rattle.simulation.proofs.Live.{live_of, live_name, live_same, home_changed, home_counts}
+use Rattle.simulation.proofs.Live.{live_of, live_same, home_counts}
 use Rattle.simulation.proofs.Refusing.{Matches, is_known, matches_cause, matches_unknown, matches_none, first_no, later_no, not_lacking}
 use Rattle.simulation.proofs.Verbs.{done_reached, by_refusal_reached}
-
-use Rattle.simulation.proofs.Linked.{no_causes, no_cause, end_there_of, linked_of, connected_world, connects, placed_world, linked_changed, or_left, live_kept, some_address, home_kept, connected_machine, context_with, end_changed, machine_here, machine_other, listed, there_kept, owned_linked, side_connected, connected_sound, linked_ends}
+use Rattle.simulation.proofs.Linked.{end_there_of, linked_of, connected_world, connects, placed_world, linked_changed, live_kept, home_kept, context_with, end_changed, machine_here, machine_other, listed, there_kept, side_connected, connected_sound, linked_ends}
 
 -- ---- both ends are connected
 
@@ -263,16 +259,18 @@ module _ (w : World) (m : Machine) (one two : ObjName) (terms : Terms) (range : 
   new_one : IsNew (net_of w2 m2) (regions_of m2) one
   new_one =
       let n : Net = net_of w2 m2 in
-      let other : n.side (peer n one) ≡ side_with l2 a2 = ap n.side peer_one ∙ side_two in
-      (joined_like side_one other queue_one (ap n.end peer_one ∙ queue_two) (fresh_joined one two f1 f2 terms a1 a2 range (bytes_swap one.context two.context apart)),
-      λ rts. subst (λ y. IsProgress (n.end one) (n.end (peer n one)).domain (regions_of m2 (peer n one).context) y.link.receiver.progress) (sym other) (ap (λ z. z.into) queue_one))
+      let other : n.side (peer n one) ≡ side_with l2 a2 = ap n.side peer_one ∙ side_two in (
+        joined_like side_one other queue_one (ap n.end peer_one ∙ queue_two) (fresh_joined one two f1 f2 terms a1 a2 range (bytes_swap one.context two.context apart)),
+        λ rts. subst (λ y. IsProgress (n.end one) (n.end (peer n one)).domain (regions_of m2 (peer n one).context) y.link.receiver.progress) (sym other) (ap (λ z. z.into) queue_one),
+      )
 
   new_two : IsNew (net_of w2 m2) (regions_of m2) two
   new_two =
       let n : Net = net_of w2 m2 in
-      let other : n.side (peer n two) ≡ side_with l1 a1 = ap n.side peer_two ∙ side_one in
-      (joined_like side_two other queue_two (ap n.end peer_two ∙ queue_one) (fresh_joined two one f2 f1 (exchanged terms) a2 a1 range' apart),
-      λ rts. subst (λ y. IsProgress (n.end two) (n.end (peer n two)).domain (regions_of m2 (peer n two).context) y.link.receiver.progress) (sym other) (ap (λ z. z.into) queue_two))
+      let other : n.side (peer n two) ≡ side_with l1 a1 = ap n.side peer_two ∙ side_one in (
+        joined_like side_two other queue_two (ap n.end peer_two ∙ queue_one) (fresh_joined two one f2 f1 (exchanged terms) a2 a1 range' apart),
+        λ rts. subst (λ y. IsProgress (n.end two) (n.end (peer n two)).domain (regions_of m2 (peer n two).context) y.link.receiver.progress) (sym other) (ap (λ z. z.into) queue_two),
+      )
 
   -- the contexts
   same1 : (k : Name) → AreSame (context_of w1 k) (machine.context_of m1 k)
@@ -309,8 +307,8 @@ module _ (w : World) (m : Machine) (one two : ObjName) (terms : Terms) (range : 
   unfolding end_of
   other_than o k live h lone c a =
       let lone' : (named (λ e. e.name) (record no_end { name = o.name }) o.name (context_of w o.context).ends).link ≡ None =
-          ap (λ z. (named (λ e. e.name) (record no_end { name = o.name }) o.name z.ends).link) (sym (home_context w o.context live))
-          ∙ (ap (λ e. e.link) (named-there (λ e. e.name) (record no_end { name = o.name }) no_end o.name (live_of w o.context).ends (in_world o live h)) ∙ lone) in
+      ap (λ z. (named (λ e. e.name) (record no_end { name = o.name }) o.name z.ends).link) (sym (home_context w o.context live))
+      ∙ (ap (λ e. e.link) (named-there (λ e. e.name) (record no_end { name = o.name }) no_end o.name (live_of w o.context).ends (in_world o live h)) ∙ lone) in
       cc (ap (λ j. is_some (end_of w j).link) a, lone', c)
 
   grows : NetGrows (net_of w m) (net_of w2 m2) m.numbers
@@ -416,15 +414,15 @@ module _ (w : World) (m : Machine) (one two : ObjName) (terms : Terms) (range : 
       matches_cause refusals.NoSuch _ _ _ _ (both_lack _ _ _ _ (lacks one.context) (lacks two.context))
       (λ h. matches_unknown refusals.Stopped _ _ _ refl
       (λ dead.
-          let lives = or_no _ _ dead in
-          let live1 : is_live w one.context ≡ true = not_lacking _ lives.0 in
-          let live2 : is_live w two.context ≡ true = not_lacking _ lives.1 in
-          matches_cause refusals.NoSuch _ _ _ _ (both_lack _ _ _ _ (ap not (end_lacks one live1)) (ap not (end_lacks two live2)))
-          (λ missing.
-              let found = or_no _ _ missing in
-              let link1 = initial (step.end_of w one).link ∙ is_linked one live1 (not_lacking _ found.0) in
-              let link2 = initial (step.end_of w two).link ∙ is_linked two live2 (not_lacking _ found.1) in
-              matches_cause refusals.BadState _ _ _ _ (both_lack _ _ _ _ link1 (both_lack _ _ _ _ link2 refl)) (λ g. matches_none))))
+      let lives = or_no _ _ dead in
+      let live1 : is_live w one.context ≡ true = not_lacking _ lives.0 in
+      let live2 : is_live w two.context ≡ true = not_lacking _ lives.1 in
+      matches_cause refusals.NoSuch _ _ _ _ (both_lack _ _ _ _ (ap not (end_lacks one live1)) (ap not (end_lacks two live2)))
+      (λ missing.
+      let found = or_no _ _ missing in
+      let link1 = initial (step.end_of w one).link ∙ is_linked one live1 (not_lacking _ found.0) in
+      let link2 = initial (step.end_of w two).link ∙ is_linked two live2 (not_lacking _ found.1) in
+      matches_cause refusals.BadState _ _ _ _ (both_lack _ _ _ _ link1 (both_lack _ _ _ _ link2 refl)) (λ g. matches_none))))
 
   is_verb : kept.verb_of w (world_events.Connect one two terms) ≡ Some (verbs.Connect one two terms)
   unfolding kept.verb_of

@@ -1,19 +1,16 @@
 -- One connected end of a world and of the machine changes.
-use Rattle.std.proofs.Common.{arith, ◌≡◌, ◌≢◌, ◌≤◌, ◌⊎◌, ℕ, List, [], ◌∷◌, ◌++◌, map, true, false, Bool, refl, sym, ap, ◌∙◌, subst, inl, inr}
-use Rattle.std.specs.Prelude.{Option, Some, None, not, ◌&&◌, ◌||◌, is_some, bytes_eq, flat_map, All, Contains}
+use Rattle.std.proofs.Common.{arith, ◌≡◌, ◌≢◌, ℕ, List, [], ◌∷◌, map, true, false, Bool, refl, sym, ap, ◌∙◌}
+use Rattle.std.specs.Prelude.{Some, None, not, ◌&&◌, ◌||◌}
 use Rattle.rdma_types.specs.declared.names.Name.{Name}
 use Rattle.rdma_types.specs.declared.names.ObjName.{ObjName}
 use Rattle.rdma_types.specs.declared.requests.Address.{Address}
 use Rattle.rdma_types.specs.declared.requests.Terms.{Terms}
-use Rattle.rdma_types.specs.declared.verbs.Verb.TheVariants as verbs
 use Rattle.rdma_types.specs.declared.answers.Answer.TheVariants as answers
 use Rattle.rdma_types.specs.declared.answers.Refusal.{Refusal}
 use Rattle.rdma_types.specs.declared.answers.Refusal.TheVariants as refusals
 use Rattle.rdma_types.specs.Causes.{Cause, cause, first_cause}
-use Rattle.rdma_types.specs.Limits.{AreTerms}
 use Rattle.rdma_types.specs.Lists.{named, has_name, has_word, store_named}
 use Rattle.protocol.specs.declared.events.Event.TheVariants as events
-use Rattle.protocol.specs.declared.events.WorldEvent.TheVariants as world_events
 use Rattle.protocol.specs.State as state
 use Rattle.protocol.specs.State.{World, Device, Link, fresh_link, no_end, device_at}
 use Rattle.protocol.specs.EndWords as words
@@ -25,25 +22,17 @@ use Rattle.ideal_model.specs.Machine as machine
 use Rattle.ideal_model.specs.Machine.{Machine, End, has_context, has_end, nobody, regions_of}
 use Rattle.ideal_model.specs.Steps.{untold}
 use Rattle.ideal_model.specs.Verbs as verbing
-use Rattle.simulation.specs.Kept as kept
-use Rattle.simulation.specs.Views.{Net, Owned, owned, owned_there, contexts_of, context_of, end_of, link_or_none, receive_in, net_of, numbered, numbered_ends, name_at, peer, place_of, requests_of, side_of}
-use Rattle.simulation.specs.Joined.{IsJoined, IsProgress}
-use Rattle.simulation.specs.Stands.{Stands, IsPlaced, IsCounted, AreNumbered, AreSame, IsContextSound, IsEndSound}
-use Rattle.simulation.specs.Law.{Reaches, Follows}
-use Rattle.simulation.proofs.Tables.{name_or_not, name-named_there, named-there, named-store_same, named-store_other, has_name-store, map-store, All-named, All-store, once_store, same_name}
+use Rattle.simulation.specs.Views.{Owned, owned, owned_there, contexts_of, context_of, link_or_none, receive_in, numbered_ends}
+use Rattle.simulation.specs.Stands.{IsPlaced, AreSame, IsContextSound, IsEndSound}
+use Rattle.simulation.proofs.Tables.{named-store_same, named-store_other, has_name-store, map-store, All-store, once_store}
 use Rattle.simulation.proofs.Worlds as worlds
 use Rattle.simulation.proofs.Worlds.{WorldChanged, shapes_of, home_holds, home_context, place_same, husks_same, has_context_is, has_name-names, is_there, ran_counts}
 use Rattle.simulation.proofs.Machines as machines
 use Rattle.simulation.proofs.Machines.{MachineChanged, context_name}
-use Rattle.simulation.proofs.Kept.{placed_like, placed_kept, counted_kept, same_kept, sound_kept}
-use Rattle.simulation.proofs.Ends.{end_there, end_owned, ends_store}
-use Rattle.simulation.proofs.Grows.{object_or_not, IsConnected, NetGrows, joined_like}
-use Rattle.simulation.proofs.InUse.{bytes_swap}
-use Rattle.simulation.proofs.Grown.{IsNew, number_given, grown_stands}
-use Rattle.simulation.proofs.Connecting.{live_place, live_not_carried, end_stored_here, end_stored_other, side_like, side_with, side_is, connected_end, fresh_joined, joined_sound}
-use Rattle.simulation.proofs.Live.{live_of, live_name, live_same, home_changed, home_counts}
-use Rattle.simulation.proofs.Refusing.{Matches, is_known, matches_cause, matches_unknown, matches_none, first_no, later_no, not_lacking}
-use Rattle.simulation.proofs.Verbs.{done_reached, by_refusal_reached}
+use Rattle.simulation.proofs.Kept.{placed_like}
+use Rattle.simulation.proofs.Ends.{ends_store}
+use Rattle.simulation.proofs.Connecting.{live_place, live_not_carried}
+use Rattle.simulation.proofs.Live.{live_of, live_name, home_changed}
 
 pub no_causes : first_cause [] ≡ None
 unfolding first_cause
@@ -181,4 +170,3 @@ connected_sound keys y n none g found named' here s = record {
 pub linked_ends : (w : World) (o : ObjName) (l : Link) → is_live w o.context ≡ true → (end_there_of w o).name ≡ o.name → (linked_of w o l).ends ≡ store_named (λ z. z.name) o.name (record (end_there_of w o) { link = Some l }) (context_of w o.context).ends
 unfolding words.with_end words.with_link
 linked_ends w o l live named' = ap (λ k. store_named (λ z. z.name) k (record (end_there_of w o) { link = Some l }) (live_of w o.context).ends) named' ∙ ap (λ c. store_named (λ z. z.name) o.name (record (end_there_of w o) { link = Some l }) c.ends) (home_context w o.context live)
-

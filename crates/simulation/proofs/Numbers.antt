@@ -1,12 +1,11 @@
 -- Packet numbers where one more request is posted: those of the others stay.
-use Rattle.std.proofs.Common.{arith, ◌≡◌, ◌≢◌, ◌≤◌, ◌<◌, ◌+◌, ◌-◌, ◌/◌, ◌⊎◌, ℕ, zero, suc, List, [], ◌∷◌, ◌++◌, length, get_or, true, false, Bool, refl, sym, ap, ◌∙◌, subst, inl, inr}
-use Rattle.std.specs.Prelude.{Option, Some, None, max, nat_lt, if◌then◌else◌, drop, take, slice_get}
+use Rattle.std.proofs.Common.{arith, ◌≡◌, ◌≤◌, ◌<◌, ◌+◌, ◌-◌, ◌/◌, ℕ, zero, suc, List, [], ◌∷◌, ◌++◌, length, get_or, true, false, Bool, refl, ap}
+use Rattle.std.specs.Prelude.{Some, max, if◌then◌else◌, drop}
 use Rattle.std.proofs.lemmas.Bool.Decides.{nat_tests, leb_tells}
-use Rattle.std.proofs.lemmas.List.{get_or_append_left, length-append}
+use Rattle.std.proofs.lemmas.List.{get_or_append_left}
 use Rattle.rdma_types.specs.Kinds.{is_atomic}
 use Rattle.rdma_types.specs.Objects.{Posted, no_posted}
 use Rattle.rdma_types.specs.Spans.{Piece, span, span_of, pieces, first_number, end_number, request_of, piece_of, piece_at}
-use Rattle.protocol.specs.declared.images.KeptReply.{KeptReply}
 use Rattle.ideal_model.specs.Machine.{Reply}
 use Rattle.simulation.specs.Joined.{old_value, old_values}
 

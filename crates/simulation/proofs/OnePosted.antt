@@ -1,6 +1,6 @@
 -- What is true of an end, of its peer, and of all that was sent, stays true where the end posts one more request.
-use Rattle.std.proofs.Common.{arith, ◌≡◌, ◌≢◌, ◌≤◌, ◌<◌, ◌+◌, ◌-◌, ◌/◌, ◌⊎◌, ℕ, zero, suc, List, [], ◌∷◌, ◌++◌, length, get_or, true, false, Bool, refl, sym, ap, ◌∙◌, subst, inl, inr}
-use Rattle.std.specs.Prelude.{Option, Some, None, nat_lt, drop, take, slice_get, Contains, All, if◌then◌else◌, ◌%◌, ◌*◌, ◌==◌}
+use Rattle.std.proofs.Common.{arith, ◌≡◌, ◌≤◌, ◌<◌, ◌+◌, ◌-◌, ◌/◌, ◌⊎◌, ℕ, zero, suc, List, [], ◌∷◌, ◌++◌, length, get_or, true, false, Bool, refl, sym, ap, ◌∙◌, subst, inl, inr}
+use Rattle.std.specs.Prelude.{Option, Some, None, nat_lt, drop, take, slice_get, Contains, if◌then◌else◌, ◌*◌, ◌==◌}
 use Rattle.std.specs.List.{list_any}
 use Rattle.std.proofs.lemmas.Bool.Decides.{nat_tests, leb_tells, eqb_tells}
 use Rattle.std.proofs.lemmas.List.{get_or_past, get_or_at, length_push, length-drop, drop-append-le, take-append-le}
@@ -16,14 +16,14 @@ use Rattle.protocol.specs.Numbers.{wire_number}
 use Rattle.protocol.specs.Segments.{packet_at, packet_of_found}
 use Rattle.protocol.specs.Wire.{Packet}
 use Rattle.rdma_types.specs.Objects.{Region}
-use Rattle.ideal_model.specs.Machine.{End, Reply, Finished, OldValue, Denied, posted_at, untold_count}
+use Rattle.ideal_model.specs.Machine.{End, Reply, OldValue, untold_count}
 use Rattle.ideal_model.specs.Numbers.{due, oldest}
 use Rattle.ideal_model.specs.Sound.{IsSound, IsOfferOf, IsReplyTo, IsDenial}
-use Rattle.ideal_model.specs.Steps.{current, front, in_place}
+use Rattle.ideal_model.specs.Steps.{current, in_place}
 use Rattle.simulation.specs.Packets.{Class, class_of, IsRequest, IsReadResponse, IsAtomicResponse, IsAck, IsSequenceNak, IsRefusal, IsReceiverNotReady, IsStopped, IsResume, IsResumeAck, IsNothing}
 use Rattle.simulation.specs.Facts.{IsLeft, IsRequestOf, IsOffered, IsOld, NumberedFact, MoveFact, ClassFact, PacketFact, request_for, past_packet}
 use Rattle.simulation.specs.Views.{Side}
-use Rattle.simulation.specs.Joined.{IsJoined, IsInPieces, IsSayable, AreWholePieces, Sends, IsOver, IsOrdered, IsFencedIn, Receives, IsHeardOf, IsProgress, IsWriting, is_granted_in, lands_untold_before, last_of, old_values}
+use Rattle.simulation.specs.Joined.{IsJoined, IsSayable, AreWholePieces, IsFencedIn, IsProgress, IsWriting, is_granted_in, lands_untold_before, last_of}
 use Rattle.simulation.proofs.Numbers.{first-append, end-push, first-end, request-push, piece-push, request-inside, inside-request, piece_at-push, piece-found, old-push, posted-push}
 
 -- the end with one more request
@@ -78,8 +78,8 @@ posted_sound q r alive room short s =
       unfinished = at_place (λ x. (q.into ≡ 0) ⊎ (q.into < size_of x)) q.posted r q.acted (λ l. s.unfinished) (λ past. inl (begun_none q.posted q.acted q.into past s.unfinished));
       whole_turns = at_place (λ x. lands (kind_of x) ≡ true → q.into ≡ 0) q.posted r q.acted (λ l. s.whole_turns) (λ past h. begun_none q.posted q.acted q.into past s.unfinished);
       known_there = λ h. at_place (λ x. lands (kind_of x) ≡ false → q.known ≤ in_place (posted_end q r) q.told) q.posted r q.told
-        (λ l k. subst (λ n. q.known ≤ n) (sym (in_place_push q r q.told l)) (s.known_there h k))
-        (λ past k. omega (arith, known_none q.posted q.told q.known past s.known_within));
+          (λ l k. subst (λ n. q.known ≤ n) (sym (in_place_push q r q.told l)) (s.known_there h k))
+          (λ past k. omega (arith, known_none q.posted q.told q.known past s.known_within));
       known_within = at_place (λ x. q.known ≤ size_of x) q.posted r q.told (λ l. s.known_within) (λ past. omega (arith, known_none q.posted q.told q.known past s.known_within));
       unlanded = at_place (λ x. lands (kind_of x) ≡ true → q.told ≡ q.acted → q.known ≡ 0) q.posted r q.told (λ l. s.unlanded) (λ past h k. known_none q.posted q.told q.known past s.known_within);
       whole_atomics = at_place (λ x. is_atomic (kind_of x) ≡ true → q.known ≡ 0) q.posted r q.told (λ l. s.whole_atomics) (λ past h. known_none q.posted q.told q.known past s.known_within);
@@ -166,8 +166,11 @@ posted_joined o x y q p r alive s said limit j =
         by_order : (b : Bool) → nat_lt i (length q.posted) ≡ b → x.link.sender.top ≤ first_number (q.posted ++ r ∷ []) q.mtu i
         by_order true t =
             let inside : i < length q.posted = grind (arith, nat_tests, leb_tells (suc i) (length q.posted), t) in
-            omega (arith, first-append q.posted (r ∷ []) q.mtu i (omega (arith, inside)),
-            fenced i inside (ap (λ z. z.request.fence) (sym (posted-push q.posted r i inside)) ∙ fence) (sym (lands_push q r i told (omega (arith, inside))) ∙ lands'))
+            omega (
+              arith,
+              first-append q.posted (r ∷ []) q.mtu i (omega (arith, inside)),
+              fenced i inside (ap (λ z. z.request.fence) (sym (posted-push q.posted r i inside)) ∙ fence) (sym (lands_push q r i told (omega (arith, inside))) ∙ lands'),
+            )
         by_order false t =
             let past : i ≡ length q.posted = grind (arith, nat_tests, leb_tells (suc i) (length q.posted), t, l, length_push q.posted r) in
             omega (arith, top, first-append q.posted (r ∷ []) q.mtu i (omega (arith, past)), ap (first_number q.posted q.mtu) past, first-end q.posted q.mtu)
@@ -243,7 +246,7 @@ offered_kept q r n bytes s h =
       acted = subst (λ i. i < q.acted) same h.acted;
       is_read = subst (λ x. is_read (kind_of x) ≡ true) (sym (for_kept q r n inside)) h.is_read;
       offer = subst (λ i. Contains q.offers (record { request = i; offset = piece_of (q.posted ++ r ∷ []) q.mtu n * q.mtu; bytes = bytes })) same
-        (subst (λ k. Contains q.offers (record { request = request_of q.posted q.mtu n; offset = k * q.mtu; bytes = bytes })) piece h.offer);
+          (subst (λ k. Contains q.offers (record { request = request_of q.posted q.mtu n; offset = k * q.mtu; bytes = bytes })) piece h.offer);
     }
 
 old_inside : (answers : List Reply) (acted i value : ℕ) → (length answers ≡ acted) ⊎ ((length answers ≡ suc acted) × IsDenial (slice_get answers acted)) → slice_get answers i ≡ Some (OldValue value) → i < acted
@@ -276,10 +279,13 @@ numbered_to p x e g n d r s within IsAtomicResponse h = (h.0, old_kept e r n d.o
 numbered_to p x e g n d r s within IsAck h = (h.0, omega (arith, h.1, due_push e r s.acted_posted))
 numbered_to p x e g n d r s within IsSequenceNak h = (h.0, omega (arith, h.1, due_push e r s.acted_posted))
 numbered_to p x e g n d r s within (IsRefusal is_access) h = (h.0, record { due = h.1.due ∙ sym (due_push e r s.acted_posted); why = h.1.why; answer = h.1.answer; matches = h.1.matches })
-numbered_to p x e g n d r s within IsReceiverNotReady h = (h.0, record {
-  due = omega (arith, h.1.due, due_push e r s.acted_posted);
-  dry = subst (Contains e.dry) (sym (request-push e.posted r e.mtu n (omega (arith, h.1.due, within)))) h.1.dry;
-})
+numbered_to p x e g n d r s within IsReceiverNotReady h = (
+  h.0,
+  record {
+    due = omega (arith, h.1.due, due_push e r s.acted_posted);
+    dry = subst (Contains e.dry) (sym (request-push e.posted r e.mtu n (omega (arith, h.1.due, within)))) h.1.dry;
+  },
+)
 numbered_to p x e g n d r s within (IsStopped count) h = h
 numbered_to p x e g n d r s within (IsResume body) h = h
 numbered_to p x e g n d r s within (IsResumeAck body) h = h

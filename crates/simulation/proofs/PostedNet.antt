@@ -1,6 +1,6 @@
 -- The facts of all ends, husks and datagrams are kept where one end in Rts posts one more request.
-use Rattle.std.proofs.Common.{arith, ◌≡◌, ◌≢◌, ◌≤◌, ◌<◌, ◌+◌, ◌⊎◌, ℕ, List, length, true, false, Bool, refl, sym, ap, ◌∙◌, subst, inl, inr}
-use Rattle.std.specs.Prelude.{Option, Some, None, bytes_eq, Contains}
+use Rattle.std.proofs.Common.{arith, ◌≡◌, ◌≢◌, ◌≤◌, ◌<◌, ◌+◌, ℕ, List, length, true, false, sym, ap, ◌∙◌, subst, inl, inr}
+use Rattle.std.specs.Prelude.{Option, Some, None}
 use Rattle.std.proofs.lemmas.List.Elements.{All-weaker}
 use Rattle.rdma_types.specs.declared.names.Name.{Name}
 use Rattle.rdma_types.specs.declared.names.ObjName.{ObjName}
@@ -8,7 +8,7 @@ use Rattle.rdma_types.specs.Limits.{number_limit}
 use Rattle.rdma_types.specs.Objects.{Posted, Region}
 use Rattle.rdma_types.specs.Spans.{end_number, span_of}
 use Rattle.protocol.specs.Wire.{Packet, packet_of}
-use Rattle.protocol.specs.State.{Flight, HuskEntry, Progress}
+use Rattle.protocol.specs.State.{Flight, HuskEntry}
 use Rattle.ideal_model.specs.Machine.{End, untold_count}
 use Rattle.ideal_model.specs.Numbers.{due}
 use Rattle.ideal_model.specs.Sound.{IsSound, IsOfferOf}
@@ -93,36 +93,36 @@ module _ (n n' : Net) (o : ObjName) (r : Posted) (posts : NetPosts n n' o r) (jo
   pub joined_posted : AreJoined n'
   joined_posted k h = elim (object_or_not k o) [
     | inl a ↦ subst (λ j. IsJoined j (n'.side j) (n'.side (peer n' j)) (n'.end j) (n'.end (peer n' j))) (sym a)
-      (joined_like posts.side (side_of_peer o (peer_other o c)) posts.end (end_of_peer o (peer_other o c)) (posted_joined o (n.side o) (n.side (peer n o)) (n.end o) (n.end (peer n o)) r alive sound said limit (joined o c)))
+        (joined_like posts.side (side_of_peer o (peer_other o c)) posts.end (end_of_peer o (peer_other o c)) (posted_joined o (n.side o) (n.side (peer n o)) (n.end o) (n.end (peer n o)) r alive sound said limit (joined o c)))
     | inr ne ↦
-      let j = joined k (connected_before k h) in
-      elim (object_or_not (peer n k) o) [
-        | inl e ↦ joined_like (posts.sides k ne) (side_posted k e) (posts.ends k ne) (end_posted k e) (peer_joined k (n.side k) (n.side (peer n k)) (n.end k) (n.end (peer n k)) r j)
-        | inr nf ↦ joined_like (posts.sides k ne) (side_of_peer k nf) (posts.ends k ne) (end_of_peer k nf) j
-      ]
+        let j = joined k (connected_before k h) in
+        elim (object_or_not (peer n k) o) [
+          | inl e ↦ joined_like (posts.sides k ne) (side_posted k e) (posts.ends k ne) (end_posted k e) (peer_joined k (n.side k) (n.side (peer n k)) (n.end k) (n.end (peer n k)) r j)
+          | inr nf ↦ joined_like (posts.sides k ne) (side_of_peer k nf) (posts.ends k ne) (end_of_peer k nf) j
+        ]
   ]
 
   pub progressing_posted : (regions : Name → List Region) → AreProgressing n regions → AreProgressing n' regions
   progressing_posted regions s k h rts =
       subst (λ j. IsProgress (n'.end k) (n'.end j).domain (regions j.context) (n'.side j).link.receiver.progress) (sym (peer_same k)) (elim (object_or_not k o) [
         | inl a ↦
-          let ne : peer n k ≢ o = λ e. peer_other o c (ap (peer n) (sym a) ∙ e) in
-          let before = s k (connected_before k h) (subst (λ x. x.rts ≡ true) (ap n'.side (peer_same k) ∙ posts.sides (peer n k) ne) rts) in
-          let now = progress_posted (n.end o) r (n.end (peer n k)).domain (regions (peer n k).context) (n.side (peer n k)).link.receiver.progress sound (subst (λ j. IsProgress (n.end j) (n.end (peer n k)).domain (regions (peer n k).context) (n.side (peer n k)).link.receiver.progress) a before) in
-          subst (λ q. IsProgress q (n'.end (peer n k)).domain (regions (peer n k).context) (n'.side (peer n k)).link.receiver.progress) (sym (ap n'.end a ∙ posts.end))
-          (subst (λ p. IsProgress (posted_end (n.end o) r) p.domain (regions (peer n k).context) (n'.side (peer n k)).link.receiver.progress) (sym (posts.ends (peer n k) ne))
-          (subst (λ y. IsProgress (posted_end (n.end o) r) (n.end (peer n k)).domain (regions (peer n k).context) y.link.receiver.progress) (sym (posts.sides (peer n k) ne)) now))
+            let ne : peer n k ≢ o = λ e. peer_other o c (ap (peer n) (sym a) ∙ e) in
+            let before = s k (connected_before k h) (subst (λ x. x.rts ≡ true) (ap n'.side (peer_same k) ∙ posts.sides (peer n k) ne) rts) in
+            let now = progress_posted (n.end o) r (n.end (peer n k)).domain (regions (peer n k).context) (n.side (peer n k)).link.receiver.progress sound (subst (λ j. IsProgress (n.end j) (n.end (peer n k)).domain (regions (peer n k).context) (n.side (peer n k)).link.receiver.progress) a before) in
+            subst (λ q. IsProgress q (n'.end (peer n k)).domain (regions (peer n k).context) (n'.side (peer n k)).link.receiver.progress) (sym (ap n'.end a ∙ posts.end))
+            (subst (λ p. IsProgress (posted_end (n.end o) r) p.domain (regions (peer n k).context) (n'.side (peer n k)).link.receiver.progress) (sym (posts.ends (peer n k) ne))
+            (subst (λ y. IsProgress (posted_end (n.end o) r) (n.end (peer n k)).domain (regions (peer n k).context) y.link.receiver.progress) (sym (posts.sides (peer n k) ne)) now))
         | inr nk ↦ elim (object_or_not (peer n k) o) [
           | inl e ↦
-            let before = s k (connected_before k h) (subst (λ x. x.rts ≡ true) (side_posted k e) rts) in
-            subst (λ q. IsProgress q (n'.end (peer n k)).domain (regions (peer n k).context) (n'.side (peer n k)).link.receiver.progress) (sym (posts.ends k nk))
-            (subst (λ p. IsProgress (n.end k) p.domain (regions (peer n k).context) (n'.side (peer n k)).link.receiver.progress) (sym (ap n'.end (sym (peer_same k)) ∙ end_posted k e))
-            (subst (λ y. IsProgress (n.end k) (n.end (peer n k)).domain (regions (peer n k).context) y.link.receiver.progress) (sym (ap n'.side (sym (peer_same k)) ∙ side_posted k e)) before))
+              let before = s k (connected_before k h) (subst (λ x. x.rts ≡ true) (side_posted k e) rts) in
+              subst (λ q. IsProgress q (n'.end (peer n k)).domain (regions (peer n k).context) (n'.side (peer n k)).link.receiver.progress) (sym (posts.ends k nk))
+              (subst (λ p. IsProgress (n.end k) p.domain (regions (peer n k).context) (n'.side (peer n k)).link.receiver.progress) (sym (ap n'.end (sym (peer_same k)) ∙ end_posted k e))
+              (subst (λ y. IsProgress (n.end k) (n.end (peer n k)).domain (regions (peer n k).context) y.link.receiver.progress) (sym (ap n'.side (sym (peer_same k)) ∙ side_posted k e)) before))
           | inr nf ↦
-            let before = s k (connected_before k h) (subst (λ x. x.rts ≡ true) (side_of_peer k nf) rts) in
-            subst (λ q. IsProgress q (n'.end (peer n k)).domain (regions (peer n k).context) (n'.side (peer n k)).link.receiver.progress) (sym (posts.ends k nk))
-            (subst (λ p. IsProgress (n.end k) p.domain (regions (peer n k).context) (n'.side (peer n k)).link.receiver.progress) (sym (posts.ends (peer n k) nf))
-            (subst (λ y. IsProgress (n.end k) (n.end (peer n k)).domain (regions (peer n k).context) y.link.receiver.progress) (sym (posts.sides (peer n k) nf)) before))
+              let before = s k (connected_before k h) (subst (λ x. x.rts ≡ true) (side_of_peer k nf) rts) in
+              subst (λ q. IsProgress q (n'.end (peer n k)).domain (regions (peer n k).context) (n'.side (peer n k)).link.receiver.progress) (sym (posts.ends k nk))
+              (subst (λ p. IsProgress (n.end k) p.domain (regions (peer n k).context) (n'.side (peer n k)).link.receiver.progress) (sym (posts.ends (peer n k) nf))
+              (subst (λ y. IsProgress (n.end k) (n.end (peer n k)).domain (regions (peer n k).context) y.link.receiver.progress) (sym (posts.sides (peer n k) nf)) before))
         ]
       ])
 
@@ -131,7 +131,7 @@ module _ (n n' : Net) (o : ObjName) (r : Posted) (posts : NetPosts n n' o r) (jo
       let k : ObjName = n.name h.number in
       subst (λ j. IsLeft (n'.side j) (n'.end j) (n'.end (peer n' j)) h) (sym (posts.names h.number)) (elim (object_or_not k o) [
         | inl a ↦ left_like (ap n'.side a ∙ (posts.side ∙ ap (λ j. posted_side (n.side j) r) (sym a))) (ap n'.end a ∙ (posts.end ∙ ap (λ j. posted_end (n.end j) r) (sym a))) (end_of_peer k (λ e. peer_other o c (ap (peer n) (sym a) ∙ e)))
-          (left_own (n.side k) (n.end k) (n.end (peer n k)) h r f)
+            (left_own (n.side k) (n.end k) (n.end (peer n k)) h r f)
         | inr ne ↦ elim (object_or_not (peer n k) o) [
           | inl e ↦ left_like (posts.sides k ne) (posts.ends k ne) (end_posted k e) (left_peer (n.side k) (n.end k) (n.end (peer n k)) h r f)
           | inr nf ↦ left_like (posts.sides k ne) (posts.ends k ne) (end_of_peer k nf) f
@@ -150,12 +150,12 @@ module _ (n n' : Net) (o : ObjName) (r : Posted) (posts : NetPosts n n' o r) (jo
       let k : ObjName = n.name d.dest in
       subst (λ j. PacketFact (n'.side j) (n'.side (peer n' j)) (n'.end j) (n'.end (peer n' j)) number bytes d) (sym (posts.names d.dest)) (elim (object_or_not k o) [
         | inl a ↦
-          let ne : peer n k ≢ o = λ e. peer_other o c (ap (peer n) (sym a) ∙ e) in
-          fact_like (ap n'.side a ∙ (posts.side ∙ ap (λ j. posted_side (n.side j) r) (sym a))) (side_of_peer k ne) (ap n'.end a ∙ (posts.end ∙ ap (λ j. posted_end (n.end j) r) (sym a))) (end_of_peer k ne)
-          (fact_to (n.side k) (n.side (peer n k)) (n.end k) (n.end (peer n k)) number bytes d r (subst (λ j. IsSound (n.end j)) (sym a) sound) (subst (λ j. due (n.end j) ≤ end_number (n.end j).posted (n.end j).mtu) (sym a) within) f)
+            let ne : peer n k ≢ o = λ e. peer_other o c (ap (peer n) (sym a) ∙ e) in
+            fact_like (ap n'.side a ∙ (posts.side ∙ ap (λ j. posted_side (n.side j) r) (sym a))) (side_of_peer k ne) (ap n'.end a ∙ (posts.end ∙ ap (λ j. posted_end (n.end j) r) (sym a))) (end_of_peer k ne)
+            (fact_to (n.side k) (n.side (peer n k)) (n.end k) (n.end (peer n k)) number bytes d r (subst (λ j. IsSound (n.end j)) (sym a) sound) (subst (λ j. due (n.end j) ≤ end_number (n.end j).posted (n.end j).mtu) (sym a) within) f)
         | inr ne ↦ elim (object_or_not (peer n k) o) [
           | inl e ↦ fact_like (posts.sides k ne) (side_posted k e) (posts.ends k ne) (end_posted k e)
-            (fact_from (n.side k) (n.side (peer n k)) (n.end k) (n.end (peer n k)) number bytes d r (subst (λ j. (n.end j).told ≤ length (n.end j).posted) (sym e) sound.told_posted) (subst (λ j. (n.side j).link.terms.mtu ≡ (n.end j).mtu) (sym e) (joined o c).mtu) f)
+              (fact_from (n.side k) (n.side (peer n k)) (n.end k) (n.end (peer n k)) number bytes d r (subst (λ j. (n.end j).told ≤ length (n.end j).posted) (sym e) sound.told_posted) (subst (λ j. (n.side j).link.terms.mtu ≡ (n.end j).mtu) (sym e) (joined o c).mtu) f)
           | inr nf ↦ fact_like (posts.sides k ne) (side_of_peer k nf) (posts.ends k ne) (end_of_peer k nf) f
         ]
       ])
