@@ -86,7 +86,7 @@ most_flights = 16384
 abbrev pub latest : ℕ
 latest = 4194304
 
--- one of the five (IBA chapter 9)
+-- one of the five payload sizes of a packet (IBA)
 abbrev pub is_mtu : ℕ → Bool
 is_mtu n = (n == 256) || ((n == 512) || ((n == 1024) || ((n == 2048) || (n == 4096))))
 
