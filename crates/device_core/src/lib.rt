@@ -1,4 +1,5 @@
-//! One device of the first path.
+//! One device of the first path: one context with one region, one completion queue and one connected queue pair, and
+//! the six events that may happen to it.
 #![tactic(auto)]
 
 ghost use Rattle.std.specs.Prelude.{◌≡◌, IfOk, IfNone, OnErr};
@@ -33,34 +34,40 @@ const NUMBER_LIMIT: u64 = 4_611_686_018_427_387_904;
 /// What happens to a device.
 #[derive(Drop)]
 pub enum Event {
+    /// An application writes bytes into a region, from an address on.
     Store {
         region: ObjName,
         at: u64,
         bytes: Items<u8>,
     },
+    /// An application reads bytes of a region, from an address on.
     Load {
         region: ObjName,
         at: u64,
         length: u32,
     },
+    /// An application posts a work request to a queue pair (IBA chapter 10).
     PostSend {
         end: ObjName,
         request: Request,
     },
+    /// An application takes at most `max` completions from a completion queue.
     Poll {
         cq: ObjName,
         max: u32,
     },
+    /// A queue pair may send its next packet.
     Transmit {
         end: ObjName,
     },
+    /// A datagram arrives. No rule looks at where it came from.
     Arrive {
         from: Address,
         bytes: Items<u8>,
     },
 }
 
-/// What a step of a device answers and sends.
+/// What a step of a device answers, and the datagrams that it sends.
 #[derive(Drop)]
 pub struct Outcome {
     pub answer: Answer,
@@ -176,8 +183,16 @@ impl Device {
         self.region.grants_write(rkey, at, length)
     }
 
-    /// What an event does, and None where its form is not built. Where no memory is left, and where the form is not
-    /// built, nothing has changed. The numbers of datagrams in an answer are 0: a device does not number them.
+    /// What an event does, and None where its form is not built, and then nothing has changed. The numbers of datagrams
+    /// in an answer are 0: a device does not number them.
+    ///
+    /// A datagram is taken with the memory of the one that answers it, if any, and a packet is sent with the memory of
+    /// its datagram. Posting takes memory for the bytes of the request, loading and polling for what they hand out, and
+    /// storing takes none.
+    ///
+    /// # Errors
+    ///
+    /// Where no memory is left, and then nothing has changed.
     pub fn step(&mut self, alloc: Global, event: &Event) -> Result<Option<Outcome>, AllocError>
         ensures ok { IfOk result (λ o. device_step self.old event.now ≡ built_step self.new o) }
         ensures unbuilt { IfOk result (λ o. IfNone o (self.new ≡ self.old)) }

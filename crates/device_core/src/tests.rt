@@ -1,5 +1,7 @@
 //! A write of four bytes between two devices, whose datagrams are carried by hand.
 
+ghost use Rattle.std.specs.Prelude.{◌≤◌};
+
 use crate::{Device, EndSetup, Event, Outcome, QueueSetup, RegionSetup, Setup};
 use rdma_types::{
     Address, Answer, Completion, Items, Keys, Kind, Name, ObjName, Request, Rights, Shape,
@@ -82,132 +84,62 @@ fn built(device: &mut Device, alloc: Global, event: &Event) -> Result<Outcome, F
     Ok(device.step(alloc, event)?.ok_or("not built")?)
 }
 
-fn arrival(alloc: Global, from: u8, bytes: &[u8]) -> Result<Event, Fail> {
-    Ok(Event::Arrive {
-        from: host(from),
-        bytes: Items::new(Vec::from_slice(alloc, bytes)?),
-    })
-}
-
+/// Checks that the device sent the one datagram of these bytes, and none where there are no bytes.
 fn check_sent(rt: &impl Abort, outcome: &Outcome, to: u8, bytes: &[u8]) {
     match outcome.sent.as_slice() {
+        [] => assert_eq!(rt; bytes.len(), 0),
         [sent] => {
             assert_eq!(rt; sent.to, host(to));
             assert_eq!(rt; sent.number, Some(0));
             assert_eq!(rt; sent.bytes.as_slice(), bytes);
         }
-        _ => assert!(rt; false, "not one datagram"),
+        _ => assert!(rt; false, "more than one datagram"),
     }
 }
 
-#[test]
-fn carries_a_write(rt: HostRuntime) -> Result<(), Fail> {
-    let alloc = rt.alloc();
-    let mut one = device(alloc, b"a", b"m", 1)?;
-    let mut two = device(alloc, b"b", b"n", 2)?;
-    let end = object(b"a", b"q")?;
-    let stored = Event::Store {
-        region: object(b"a", b"m")?,
-        at: 4096,
-        bytes: Items::new(Vec::from_slice(alloc, &[0xde, 0xad, 0xbe, 0xef])?),
-    };
-    let outcome = built(&mut one, alloc, &stored)?;
-    assert!(rt; matches!(&outcome.answer, Answer::Done));
-
-    let request = Request {
-        id: 1,
-        shape: Shape {
-            kind: Kind::Write,
-            length: 4,
-            remote: 8192,
-            rkey: 0x0200_0003,
-            imm: None,
-            swap_add: 0,
-            compare: 0,
-        },
-        lkey: 0x0100_0002,
-        local: 4096,
-        signaled: true,
-        fence: false,
-    };
-    assert!(rt; one.names_end(&end));
-    assert_eq!(rt; one.post_refusal(&request), None);
-    assert!(rt; two.grants_write(0x0200_0003, 8192, 4));
-    let posted = Event::PostSend { end, request };
-    let outcome = built(&mut one, alloc, &posted)?;
-    assert!(rt; matches!(&outcome.answer, Answer::Done));
-
-    let go = Event::Transmit {
-        end: object(b"a", b"q")?,
-    };
-    let outcome = built(&mut one, alloc, &go)?;
-    assert!(rt; matches!(&outcome.answer, Answer::Sent { first: 0 }));
-    check_sent(&rt, &outcome, 2, &WRITE);
-    let outcome = built(&mut one, alloc, &go)?;
-    assert!(rt; matches!(&outcome.answer, Answer::Idle));
-
-    let write = arrival(alloc, 1, &WRITE)?;
-    let outcome = built(&mut two, alloc, &write)?;
-    assert!(rt;
-        matches!(
-            &outcome.answer,
-            Answer::Took {
-                took: Took::Ack,
-                first: 0,
-                count: 1
-            }
-        )
-    );
-    check_sent(&rt, &outcome, 1, &ACK);
-
-    let ack = arrival(alloc, 2, &ACK)?;
-    let outcome = built(&mut one, alloc, &ack)?;
-    assert!(rt;
-        matches!(
-            &outcome.answer,
-            Answer::Took {
-                took: Took::Acked,
-                first: 0,
-                count: 0
-            }
-        )
-    );
-    let outcome = built(&mut one, alloc, &ack)?;
-    assert!(rt;
-        matches!(
-            &outcome.answer,
-            Answer::Took {
-                took: Took::Silent(SilentWhy::Useless),
-                ..
-            }
-        )
-    );
-
-    let poll = Event::Poll {
-        cq: object(b"a", b"c")?,
-        max: 4,
-    };
-    let completion = Completion {
-        qp: 0x01_0001,
-        id: 1,
-        kind: WcKind::Write,
-        status: WcStatus::Success,
-        length: 4,
-        imm: None,
-    };
-    let outcome = built(&mut one, alloc, &poll)?;
+fn check_took(rt: &impl Abort, outcome: &Outcome, wanted: Took) {
     match &outcome.answer {
-        Answer::Polled(polled) => {
-            assert_eq!(rt; polled.as_slice(), [completion].as_slice());
+        Answer::Took { took, first, .. } => {
+            assert_eq!(rt; *took, wanted);
+            assert_eq!(rt; *first, 0);
         }
-        _ => assert!(rt; false, "not polled"),
+        _ => assert!(rt; false, "nothing is taken"),
     }
-    let outcome = built(&mut one, alloc, &poll)?;
-    match &outcome.answer {
-        Answer::Polled(polled) => assert_eq!(rt; polled.len(), 0),
-        _ => assert!(rt; false, "not polled"),
-    }
-    check_loaded(&rt, &mut two, alloc, &[0xde, 0xad, 0xbe, 0xef])
+}
+
+/// Delivers a datagram, and checks what it did and what is sent back.
+fn deliver(
+    rt: &impl Abort,
+    device: &mut Device,
+    alloc: Global,
+    from: u8,
+    bytes: &[u8],
+    wanted: Took,
+    reply: &[u8],
+) -> Result<(), Fail> {
+    let bytes = Items::new(Vec::from_slice(alloc, bytes)?);
+    let arrival = Event::Arrive {
+        from: host(from),
+        bytes,
+    };
+    let outcome = built(device, alloc, &arrival)?;
+    check_took(rt, &outcome, wanted);
+    check_sent(rt, &outcome, from, reply);
+    Ok(())
+}
+
+fn store(
+    rt: &impl Abort,
+    device: &mut Device,
+    alloc: Global,
+    region: ObjName,
+    at: u64,
+    bytes: &[u8],
+) -> Result<(), Fail> {
+    let bytes = Items::new(Vec::from_slice(alloc, bytes)?);
+    let outcome = built(device, alloc, &Event::Store { region, at, bytes })?;
+    assert!(rt; matches!(&outcome.answer, Answer::Done));
+    Ok(())
 }
 
 fn check_loaded(
@@ -229,39 +161,100 @@ fn check_loaded(
     Ok(())
 }
 
+fn post(rt: &impl Abort, one: &mut Device, two: &Device, alloc: Global) -> Result<(), Fail> {
+    let request = Request {
+        id: 1,
+        shape: Shape {
+            kind: Kind::Write,
+            length: 4,
+            remote: 8192,
+            rkey: 0x0200_0003,
+            imm: None,
+            swap_add: 0,
+            compare: 0,
+        },
+        lkey: 0x0100_0002,
+        local: 4096,
+        signaled: true,
+        fence: false,
+    };
+    let end = object(b"a", b"q")?;
+    assert!(rt; one.names_end(&end));
+    assert_eq!(rt; one.post_refusal(&request), None);
+    assert!(rt; two.grants_write(0x0200_0003, 8192, 4));
+    let outcome = built(one, alloc, &Event::PostSend { end, request })?;
+    assert!(rt; matches!(&outcome.answer, Answer::Done));
+    Ok(())
+}
+
+fn send(rt: &impl Abort, device: &mut Device, alloc: Global) -> Result<(), Fail> {
+    let go = Event::Transmit {
+        end: object(b"a", b"q")?,
+    };
+    let outcome = built(device, alloc, &go)?;
+    assert!(rt; matches!(&outcome.answer, Answer::Sent { first: 0 }));
+    check_sent(rt, &outcome, 2, &WRITE);
+    Ok(())
+}
+
+fn check_polled(
+    rt: &impl Abort,
+    device: &mut Device,
+    alloc: Global,
+    completions: &[Completion],
+) -> Result<(), Fail> {
+    let poll = Event::Poll {
+        cq: object(b"a", b"c")?,
+        max: 4,
+    };
+    let outcome = built(device, alloc, &poll)?;
+    match &outcome.answer {
+        Answer::Polled(polled) => assert_eq!(rt; polled.as_slice(), completions),
+        _ => assert!(rt; false, "not polled"),
+    }
+    Ok(())
+}
+
+#[test]
+fn carries_a_write(rt: HostRuntime) -> Result<(), Fail> {
+    let alloc = rt.alloc();
+    let mut one = device(alloc, b"a", b"m", 1)?;
+    let mut two = device(alloc, b"b", b"n", 2)?;
+    let region = object(b"a", b"m")?;
+    store(
+        &rt,
+        &mut one,
+        alloc,
+        region,
+        4096,
+        &[0xde, 0xad, 0xbe, 0xef],
+    )?;
+    post(&rt, &mut one, &two, alloc)?;
+    send(&rt, &mut one, alloc)?;
+    deliver(&rt, &mut two, alloc, 1, &WRITE, Took::Ack, &ACK)?;
+    deliver(&rt, &mut one, alloc, 2, &ACK, Took::Acked, &[])?;
+    let useless = Took::Silent(SilentWhy::Useless);
+    deliver(&rt, &mut one, alloc, 2, &ACK, useless, &[])?;
+    let completion = Completion {
+        qp: 0x01_0001,
+        id: 1,
+        kind: WcKind::Write,
+        status: WcStatus::Success,
+        length: 4,
+        imm: None,
+    };
+    check_polled(&rt, &mut one, alloc, &[completion])?;
+    check_polled(&rt, &mut one, alloc, &[])?;
+    check_loaded(&rt, &mut two, alloc, &[0xde, 0xad, 0xbe, 0xef])
+}
+
 #[test]
 fn acknowledges_a_repeat_and_does_not_write_again(rt: HostRuntime) -> Result<(), Fail> {
     let alloc = rt.alloc();
     let mut two = device(alloc, b"b", b"n", 2)?;
-    let write = arrival(alloc, 1, &WRITE)?;
-    let outcome = built(&mut two, alloc, &write)?;
-    assert!(rt;
-        matches!(
-            &outcome.answer,
-            Answer::Took {
-                took: Took::Ack,
-                ..
-            }
-        )
-    );
-    let stored = Event::Store {
-        region: object(b"b", b"n")?,
-        at: 8192,
-        bytes: Items::new(Vec::from_slice(alloc, &[1, 2, 3, 4])?),
-    };
-    let outcome = built(&mut two, alloc, &stored)?;
-    assert!(rt; matches!(&outcome.answer, Answer::Done));
-    let outcome = built(&mut two, alloc, &write)?;
-    assert!(rt;
-        matches!(
-            &outcome.answer,
-            Answer::Took {
-                took: Took::DupAck,
-                first: 0,
-                count: 1
-            }
-        )
-    );
-    check_sent(&rt, &outcome, 1, &ACK);
+    let region = object(b"b", b"n")?;
+    deliver(&rt, &mut two, alloc, 1, &WRITE, Took::Ack, &ACK)?;
+    store(&rt, &mut two, alloc, region, 8192, &[1, 2, 3, 4])?;
+    deliver(&rt, &mut two, alloc, 1, &WRITE, Took::DupAck, &ACK)?;
     check_loaded(&rt, &mut two, alloc, &[1, 2, 3, 4])
 }
