@@ -1,0 +1,14 @@
+use Rattle.std.proofs.Common.{◌≡◌, ◌-◌, ◌≤◌, length}
+use Rattle.mig_ports.specs.Streams.{Takes}
+use Rattle.mig_ports.proofs.reading.read_all.Given as goal
+
+abbrev pub invariant-loop-bytes : goal.invariant-loop-bytes
+invariant-loop-bytes g l = record {
+  taken : Takes (g.S.Source.left l.initial.source) (g.S.Source.left l.source) l.bytes.items;
+  short : length l.bytes.items ≤ l.limit;
+  calm : g.S.Source.faults l.source ≡ g.S.Source.faults l.initial.source;
+  sure : g.S.Source.sure l.initial.source → g.S.Source.sure l.source;
+}
+
+abbrev pub decreases-loop-bytes : goal.decreases-loop-bytes
+decreases-loop-bytes g l = l.limit - length l.bytes.items
