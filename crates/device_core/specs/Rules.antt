@@ -22,7 +22,10 @@ use Rattle.protocol.specs.Memory.{LocalWrite, RemoteWrite, holds_range, allows, 
 use Rattle.protocol.specs.Numbers.{wire_number, unwrap_near, number_limit}
 use Rattle.protocol.specs.Segments.{span}
 use Rattle.protocol.specs.State.{Region, CompletionQueue, Posted}
-use Rattle.protocol.specs.Wire.{Packet, Reth, Aeth, Syndrome, Ack, Rnr, Nak, plain, wire_of, packet_of}
+use Rattle.protocol.specs.Wire.{Packet, plain, wire_of, packet_of}
+use Rattle.protocol.specs.declared.wire.Aeth.{Aeth}
+use Rattle.protocol.specs.declared.wire.Reth.{Reth}
+use Rattle.protocol.specs.declared.wire.Syndrome.TheVariants.{Ack, Rnr, Nak}
 use Rattle.device_core.specs.State.{Device, End, names, with_region, with_queue, with_end}
 use Rattle.device_core.specs.declared.Event.{Event}
 use Rattle.device_core.specs.declared.Event.TheVariants as event

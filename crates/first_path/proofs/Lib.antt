@@ -1,0 +1,17 @@
+pub mod Lists
+pub mod Numbers
+pub mod Flights
+pub mod Start
+pub mod Facts
+pub mod Following
+pub mod Bytes
+pub mod LineStore
+pub mod LineLoad
+pub mod LinePoll
+pub mod LinePost
+pub mod LineOther
+pub mod LineGo
+pub mod ReadsBack
+pub mod Arrivals
+pub mod LineDeliver
+pub mod Simulation

@@ -1,7 +1,11 @@
 //! What the first path speaks of: the lines that it knows and what they are told.
 #![tactic(auto)]
 
+mod laws;
+
 use rdma_types::{Answer, ObjName, Verb};
+
+pub use laws::{machine_follows, one_write_is_told};
 
 /// A line of a script that has an answer.
 #[derive(Drop)]

@@ -1,0 +1,7 @@
+use Rattle.protocol.specs.Wire.{wire_of}
+use Rattle.roce_headers.proofs.Grammar.{spelled_read}
+use Rattle.roce_headers.proofs.Written.{written_spelled}
+use Rattle.roce_headers.proofs.laws.what_is_written_reads_back.Goals as goal
+
+pub returns : goal.returns
+returns c = λ d fits. spelled_read d (wire_of d) (written_spelled d fits)

@@ -1,0 +1,20 @@
+//! Datagrams of the reliable connection and their bytes, both ways and without memory.
+//!
+//! A datagram is the base header, the extension headers of its opcode, a payload, up to three bytes of padding and
+//! four bytes of CRC, which is written 0 and not checked (IBA 9.2, 9.3 and RoCEv2 annex A17). RESUME and RESUME_ACK,
+//! which carry the move of a connection, are this project's choice.
+#![tactic(auto)]
+
+mod datagram;
+mod laws;
+mod opcodes;
+mod reading;
+mod writing;
+
+pub use datagram::Datagram;
+pub use laws::{nothing_is_spelled_where_something_offends, what_is_read_is_what_is_spelled};
+pub use protocol::{
+    Aeth, AtomicEth, Headers, Layout, Malformed, MalformedWhy, ResumeBody, Reth, Syndrome,
+};
+pub use rdma_types::Address;
+pub use reading::decode;

@@ -1,0 +1,44 @@
+//! The table of opcodes.
+
+ghost use Rattle.std.specs.Prelude.{◌≡◌};
+ghost use Rattle.protocol.specs.Wire as wire;
+
+use protocol::{Headers, Layout};
+
+/// The row of an opcode: SEND, WRITE, READ and atomics of the reliable connection (IBA 9.2), and the two messages of
+/// moving. None where it is not in the table.
+#[tactic(auto, unfolding(protocol::specs::Wire::layout_of))]
+pub fn layout(opcode: u8) -> Option<Layout>
+    ensures { result ≡ wire.layout_of opcode }
+{
+    let (headers, payload) = match opcode {
+        0x00 | 0x01 | 0x02 | 0x04 | 0x07 | 0x08 | 0x0E => (Headers::Bare, true),
+        0x03 | 0x05 | 0x09 => (Headers::Imm, true),
+        0x06 | 0x0A => (Headers::Reth, true),
+        0x0B => (Headers::RethImm, true),
+        0x0C => (Headers::Reth, false),
+        0x0D | 0x0F | 0x10 => (Headers::Aeth, true),
+        0x11 => (Headers::Aeth, false),
+        0x12 => (Headers::AethOld, false),
+        0x13 | 0x14 => (Headers::Atomic, false),
+        0x1E | 0x1F => (Headers::Resume, false),
+        _ => return None,
+    };
+    Some(Layout { headers, payload })
+}
+
+/// How many bytes the extension headers have.
+pub fn headers_len(headers: Headers) -> usize
+    ensures { result ≡ wire.headers_len headers }
+{
+    match headers {
+        Headers::Bare => 0,
+        Headers::Imm => 4,
+        Headers::Reth => 16,
+        Headers::RethImm => 20,
+        Headers::Aeth => 4,
+        Headers::AethOld => 12,
+        Headers::Atomic => 28,
+        Headers::Resume => 12,
+    }
+}

@@ -1,0 +1,285 @@
+//! From bytes to a datagram.
+
+ghost use Rattle.std.specs.Prelude.{◌≡◌, ◌+◌, ◌-◌, ◌≤◌, ◌==◌, length, Some, None, IfOk, IfErr, OnOk, OnErr, not, ◌&&◌, if◌then◌else◌, IsTrue};
+ghost use Rattle.protocol.specs.Bytes.{number_at, byte_at, bytes_at};
+ghost use Rattle.protocol.specs.Wire.{Spells, Fits, packet_of, offence_of, layout_of, headers_len, has_reth, has_imm, has_aeth, has_atomic, has_old, has_resume, imm_place, when, read_reth, read_aeth, read_atomic, read_resume, read_syndrome, is_syndrome, layout_offence, pad_of, body_of, fields_of, read_by};
+ghost use Rattle.roce_headers.specs.Packets.{packet};
+
+use crate::datagram::Datagram;
+use crate::opcodes;
+use byteorder::{BigEndian, ByteOrder};
+use protocol::{
+    Aeth, AtomicEth, Headers, Layout, Malformed, MalformedWhy, ResumeBody, Reth, Syndrome,
+};
+use rdma_types::Address;
+
+#[tactic(auto, unfolding(protocol::specs::Bytes::number_at))]
+fn u16_at(bytes: &[u8], place: usize) -> u16
+    requires { place + 2 ≤ length bytes.now }
+    ensures { result ≡ number_at place 2 bytes.now }
+{
+    BigEndian::read_u16(&bytes[place..])
+}
+
+#[tactic(auto, unfolding(protocol::specs::Bytes::number_at))]
+fn u24_at(bytes: &[u8], place: usize) -> u32
+    requires { place + 3 ≤ length bytes.now }
+    ensures { result ≡ number_at place 3 bytes.now }
+{
+    BigEndian::read_u24(&bytes[place..])
+}
+
+#[tactic(auto, unfolding(protocol::specs::Bytes::number_at))]
+fn u32_at(bytes: &[u8], place: usize) -> u32
+    requires { place + 4 ≤ length bytes.now }
+    ensures { result ≡ number_at place 4 bytes.now }
+{
+    BigEndian::read_u32(&bytes[place..])
+}
+
+#[tactic(auto, unfolding(protocol::specs::Bytes::number_at))]
+fn u64_at(bytes: &[u8], place: usize) -> u64
+    requires { place + 8 ≤ length bytes.now }
+    ensures { result ≡ number_at place 8 bytes.now }
+{
+    BigEndian::read_u64(&bytes[place..])
+}
+
+fn reth_at(headers: Headers, bytes: &[u8]) -> Option<Reth>
+    requires { 16 + headers_len headers ≤ length bytes.now }
+    ensures { result ≡ when (has_reth headers) (read_reth bytes.now) }
+{
+    match headers {
+        Headers::Reth | Headers::RethImm => Some(Reth {
+            address: u64_at(bytes, 12),
+            rkey: u32_at(bytes, 20),
+            length: u32_at(bytes, 24),
+        }),
+        _ => None,
+    }
+}
+
+fn imm_at(headers: Headers, bytes: &[u8]) -> Option<u32>
+    requires { 16 + headers_len headers ≤ length bytes.now }
+    ensures { result ≡ when (has_imm headers) (number_at (imm_place headers) 4 bytes.now) }
+{
+    match headers {
+        Headers::Imm => Some(u32_at(bytes, 12)),
+        Headers::RethImm => Some(u32_at(bytes, 28)),
+        _ => None,
+    }
+}
+
+fn syndrome_of(byte: u8) -> Syndrome
+    ensures { result ≡ read_syndrome byte }
+{
+    match byte / 32 % 4 {
+        0 => Syndrome::Ack,
+        1 => Syndrome::Rnr,
+        _ => Syndrome::Nak(byte % 32),
+    }
+}
+
+fn aeth_at(headers: Headers, bytes: &[u8]) -> Option<Aeth>
+    requires { 16 + headers_len headers ≤ length bytes.now }
+    ensures { result ≡ when (has_aeth headers) (read_aeth bytes.now) }
+{
+    match headers {
+        Headers::Aeth | Headers::AethOld => Some(Aeth {
+            syndrome: syndrome_of(bytes[12]),
+            msn: u24_at(bytes, 13),
+        }),
+        _ => None,
+    }
+}
+
+// A FetchAdd compares with nothing.
+fn compare_at(bytes: &[u8]) -> u64
+    requires { 40 ≤ length bytes.now }
+    ensures { result ≡ (if byte_at 0 bytes.now == 0x14 then 0 else number_at 32 8 bytes.now) }
+{
+    match bytes[0] {
+        0x14 => 0,
+        _ => u64_at(bytes, 32),
+    }
+}
+
+fn atomic_at(headers: Headers, bytes: &[u8]) -> Option<AtomicEth>
+    requires { 16 + headers_len headers ≤ length bytes.now }
+    ensures { result ≡ when (has_atomic headers) (read_atomic (byte_at 0 bytes.now) bytes.now) }
+{
+    match headers {
+        Headers::Atomic => Some(AtomicEth {
+            address: u64_at(bytes, 12),
+            rkey: u32_at(bytes, 20),
+            swap_add: u64_at(bytes, 24),
+            compare: compare_at(bytes),
+        }),
+        _ => None,
+    }
+}
+
+fn old_at(headers: Headers, bytes: &[u8]) -> Option<u64>
+    requires { 16 + headers_len headers ≤ length bytes.now }
+    ensures { result ≡ when (has_old headers) (number_at 16 8 bytes.now) }
+{
+    match headers {
+        Headers::AethOld => Some(u64_at(bytes, 16)),
+        _ => None,
+    }
+}
+
+fn resume_at(headers: Headers, bytes: &[u8]) -> Option<ResumeBody>
+    requires { 16 + headers_len headers ≤ length bytes.now }
+    ensures { result ≡ when (has_resume headers) (read_resume bytes.now) }
+{
+    match headers {
+        Headers::Resume => Some(ResumeBody {
+            count: u32_at(bytes, 12),
+            address: Address {
+                ip: u32_at(bytes, 16),
+                port: u16_at(bytes, 20),
+            },
+        }),
+        _ => None,
+    }
+}
+
+fn psn_at(headers: Headers, bytes: &[u8]) -> u32
+    requires { 16 + headers_len headers ≤ length bytes.now }
+    ensures { result ≡ (if has_resume headers then 0 else number_at 9 3 bytes.now) }
+{
+    match headers {
+        Headers::Resume => 0,
+        _ => u24_at(bytes, 9),
+    }
+}
+
+fn refusal(place: usize, why: MalformedWhy) -> Malformed
+    ensures { result ≡ record { place = place; why = why } }
+{
+    Malformed { place, why }
+}
+
+#[tactic(auto, unfolding(protocol::specs::Wire::is_syndrome))]
+fn may_stand(opcode: u8, syndrome: u8) -> bool
+    ensures { result ≡ is_syndrome opcode syndrome }
+{
+    match syndrome / 32 % 4 {
+        0 => true,
+        1 => opcode == 0x11,
+        3 => opcode == 0x11 && matches!(syndrome % 32, 0..=3 | 5),
+        _ => false,
+    }
+}
+
+fn has_bad_syndrome(headers: Headers, bytes: &[u8]) -> bool
+    requires { 16 + headers_len headers ≤ length bytes.now }
+    ensures { result ≡ (has_aeth headers && not (is_syndrome (byte_at 0 bytes.now) (byte_at 12 bytes.now))) }
+{
+    match headers {
+        Headers::Aeth | Headers::AethOld => !may_stand(bytes[0], bytes[12]),
+        _ => false,
+    }
+}
+
+// Whether the bytes keep to the row of their opcode.
+#[tactic(auto, unfolding(protocol::specs::Wire::layout_offence))]
+fn check(layout: Layout, bytes: &[u8]) -> Result<(), Malformed>
+    requires { 16 ≤ length bytes.now }
+    ensures kept { OnOk result (layout_offence layout bytes.now ≡ None) }
+    ensures long { OnOk result (16 + headers_len layout.headers ≤ length bytes.now) }
+    ensures padded { OnOk result (pad_of bytes.now ≤ body_of layout.headers bytes.now) }
+    ensures refused { IfErr result (λ m. layout_offence layout bytes.now ≡ Some m) }
+{
+    if bytes[1] % 16 != 0 {
+        return Err(refusal(1, MalformedWhy::Version));
+    }
+    let end = 12 + opcodes::headers_len(layout.headers);
+    if bytes.len() < end + 4 {
+        return Err(refusal(bytes.len(), MalformedWhy::Short));
+    }
+    if has_bad_syndrome(layout.headers, bytes) {
+        return Err(refusal(12, MalformedWhy::Syndrome));
+    }
+    let body = bytes.len() - end - 4;
+    if body != 0 && !layout.payload || body % 4 != 0 || body > 4096 {
+        return Err(refusal(end, MalformedWhy::Length));
+    }
+    if body < (bytes[1] / 16 % 4) as usize {
+        return Err(refusal(1, MalformedWhy::Pad));
+    }
+    Ok(())
+}
+
+#[tactic(auto, unfolding(protocol::specs::Bytes::bytes_at))]
+fn payload_at(headers: Headers, bytes: &[u8]) -> &[u8]
+    requires long { 16 + headers_len headers ≤ length bytes.now }
+    requires padded { pad_of bytes.now ≤ body_of headers bytes.now }
+    ensures { result.now ≡ bytes_at (12 + headers_len headers) (body_of headers bytes.now - pad_of bytes.now) bytes.now }
+{
+    let start = 12 + opcodes::headers_len(headers);
+    let pad = (bytes[1] / 16 % 4) as usize;
+    let len = bytes.len() - start - 4 - pad;
+    &bytes[start..start + len]
+}
+
+// Each part at its place.
+#[tactic(auto, unfolding(protocol::specs::Wire::fields_of))]
+fn fields(headers: Headers, bytes: &[u8]) -> Datagram<'_>
+    requires long { 16 + headers_len headers ≤ length bytes.now }
+    requires padded { pad_of bytes.now ≤ body_of headers bytes.now }
+    ensures { packet result ≡ fields_of headers bytes.now }
+{
+    Datagram {
+        opcode: bytes[0],
+        dest: u24_at(bytes, 5),
+        ack_request: bytes[8] >= 128,
+        psn: psn_at(headers, bytes),
+        reth: reth_at(headers, bytes),
+        imm: imm_at(headers, bytes),
+        aeth: aeth_at(headers, bytes),
+        atomic: atomic_at(headers, bytes),
+        old: old_at(headers, bytes),
+        resume: resume_at(headers, bytes),
+        payload: payload_at(headers, bytes),
+    }
+}
+
+#[tactic(auto, unfolding(protocol::specs::Wire::offence_of))]
+fn read(bytes: &[u8]) -> Result<Datagram<'_>, Malformed>
+    ensures whole { OnOk result (offence_of bytes.now ≡ None) }
+    ensures read { IfOk result (λ d. read_by (layout_of (byte_at 0 bytes.now)) bytes.now ≡ Some (packet d)) }
+    ensures refused { IfErr result (λ m. offence_of bytes.now ≡ Some m) }
+{
+    if bytes.len() < 16 {
+        return Err(refusal(bytes.len(), MalformedWhy::Short));
+    }
+    let Some(layout) = opcodes::layout(bytes[0]) else {
+        return Err(refusal(0, MalformedWhy::Opcode));
+    };
+    check(layout, bytes)?;
+    Ok(fields(layout.headers, bytes))
+}
+
+/// The datagram that the bytes spell, with its payload where it lies in them. It takes no memory.
+///
+/// The fields that a sender writes 0 (or FFFF, as the P_Key) and no receiver reads are ignored: solicited, migration,
+/// P_Key, the zero byte and the reserved bits of the base header, padding, CRC, the high bit of a syndrome, the low
+/// five bits of an ACK and of an RNR NAK, the compare field of FetchAdd, and the number and last two bytes of RESUME
+/// and RESUME_ACK.
+///
+/// # Errors
+///
+/// The first offence of bytes that spell no datagram, in the order of [`MalformedWhy`], but that Short is looked for
+/// again once the headers of the opcode are known. The order is this project's choice.
+#[tactic(auto, unfolding(protocol::specs::Wire::packet_of), using(crate::proofs::Grammar::reading))]
+pub fn decode(bytes: &[u8]) -> Result<Datagram<'_>, Malformed>
+    ensures spelled { IfOk result (λ d. Spells (packet d) bytes.now) }
+    ensures exact { IfOk result (λ d. packet_of bytes.now ≡ Some (packet d)) }
+    ensures fits { IfOk result (λ d. Fits (packet d)) }
+    ensures refused { IfErr result (λ m. offence_of bytes.now ≡ Some m) }
+    ensures nothing { OnErr result (packet_of bytes.now ≡ None) }
+{
+    read(bytes)
+}
