@@ -5,7 +5,7 @@ mod laws;
 
 use rdma_types::{Answer, ObjName, Verb};
 
-pub use laws::{machine_follows, one_write_is_told};
+pub use laws::machine_follows;
 
 /// A line of a script that has an answer.
 #[derive(Drop)]

@@ -19,11 +19,11 @@ abbrev pub is_newline : ℕ → Bool
 is_newline b = b == 10
 
 -- a line without the carriage return before its newline
-unfoldable pub without_return : List ℕ → List ℕ
+abbrev pub without_return : List ℕ → List ℕ
 without_return bs = if not (length bs == 0) && slice_index bs (length bs - 1) == 13 then take (length bs - 1) bs else bs
 
 -- the lines of a text that newlines cut into these pieces; the last line may lack its newline
-unfoldable pub lines_in : List (List ℕ) → List (List ℕ)
+abbrev pub lines_in : List (List ℕ) → List (List ℕ)
 lines_in [] = []
 lines_in (last ∷ []) = if length last == 0 then [] else last ∷ []
 lines_in (piece ∷ next ∷ more) = without_return piece ∷ lines_in (next ∷ more)
@@ -39,7 +39,7 @@ abbrev pub is_space : ℕ → Bool
 is_space b = b == 32
 
 -- the pieces that have bytes
-unfoldable pub without_empty : List (List ℕ) → List (List ℕ)
+abbrev pub without_empty : List (List ℕ) → List (List ℕ)
 without_empty [] = []
 without_empty (piece ∷ more) = if length piece == 0 then without_empty more else piece ∷ without_empty more
 
@@ -54,17 +54,17 @@ abbrev pub is_digit : ℕ → Bool
 is_digit b = nat_le 48 b && nat_le b 57
 
 -- the number that digits spell after n
-unfoldable pub digits_after : ℕ → List ℕ → ℕ
+abbrev pub digits_after : ℕ → List ℕ → ℕ
 digits_after n [] = n
 digits_after n (b ∷ bs) = digits_after (n * 10 + (b - 48)) bs
 
 -- decimal digits without sign or leading zero
-unfoldable pub is_decimal : Word → Bool
+abbrev pub is_decimal : Word → Bool
 is_decimal [] = false
 is_decimal (b ∷ bs) = list_all is_digit (b ∷ bs) && (not (b == 48) || length bs == 0)
 
 -- the number of a word, from `low` to `high`
-unfoldable pub number_in : ℕ → ℕ → Word → Option ℕ
+abbrev pub number_in : ℕ → ℕ → Word → Option ℕ
 number_in low high w = if is_decimal w && (nat_le low (digits_after 0 w) && nat_le (digits_after 0 w) high) then Some (digits_after 0 w) else None
 
 -- the greatest number of 64 bits, and of 32
@@ -80,7 +80,7 @@ from_hex (Ok bs) = Some bs
 from_hex (Err e) = None
 
 -- the key of a word of eight hexadecimal digits
-unfoldable pub key_of : Word → Option ℕ
+abbrev pub key_of : Word → Option ℕ
 key_of w = if length w == 8 then as_number (from_hex (decode_of w)) else None
   where
     as_number : Option (List ℕ) → Option ℕ
@@ -88,7 +88,7 @@ key_of w = if length w == 8 then as_number (from_hex (decode_of w)) else None
     as_number (Some bs) = Some (big_number bs)
 
 -- the bytes of a word of 2 to 8,192 hexadecimal digits
-unfoldable pub bytes_of : Word → Option (List ℕ)
+abbrev pub bytes_of : Word → Option (List ℕ)
 bytes_of w = if nat_le 2 (length w) && nat_le (length w) 8192 then from_hex (decode_of w) else None
 
 -- ---- lines that are known
@@ -98,7 +98,7 @@ abbrev pub object : List ℕ → List ℕ → ObjName
 object context name = record { context = context; name = name }
 
 -- bytes into a.m
-unfoldable pub store_line : List Word → Option Line
+abbrev pub store_line : List Word → Option Line
 store_line (o ∷ at ∷ bytes ∷ []) = if bytes_eq o (codes "a.m") then said (number_in 0 greatest_u64 at) (bytes_of bytes) else None
   where
     said : Option ℕ → Option (List ℕ) → Option Line
@@ -108,7 +108,7 @@ store_line (o ∷ at ∷ bytes ∷ []) = if bytes_eq o (codes "a.m") then said (
 store_line other = None
 
 -- the bytes of a range of a.m or of b.n
-unfoldable pub load_line : List Word → Option Line
+abbrev pub load_line : List Word → Option Line
 load_line (o ∷ at ∷ count ∷ []) =
     if bytes_eq o (codes "a.m")
     then said (object (codes "a") (codes "m")) (number_in 0 greatest_u64 at) (number_in 1 4096 count)
@@ -134,7 +134,7 @@ write_request id lkey local count remote rkey = record {
 }
 
 -- a WRITE of a.q
-unfoldable pub write_line : List Word → Option Line
+abbrev pub write_line : List Word → Option Line
 write_line (o ∷ id ∷ lkey ∷ local ∷ count ∷ remote ∷ rkey ∷ []) =
     if bytes_eq o (codes "a.q")
     then said (number_in 0 greatest_u64 id) (key_of lkey) (number_in 0 greatest_u64 local) (number_in 0 greatest_u32 count) (number_in 0 greatest_u64 remote) (key_of rkey)
@@ -147,7 +147,7 @@ write_line (o ∷ id ∷ lkey ∷ local ∷ count ∷ remote ∷ rkey ∷ []) =
 write_line other = None
 
 -- the oldest completions of a.c
-unfoldable pub poll_line : List Word → Option Line
+abbrev pub poll_line : List Word → Option Line
 poll_line (o ∷ max ∷ []) = if bytes_eq o (codes "a.c") then said (number_in 1 256 max) else None
   where
     said : Option ℕ → Option Line
@@ -156,12 +156,12 @@ poll_line (o ∷ max ∷ []) = if bytes_eq o (codes "a.c") then said (number_in 
 poll_line other = None
 
 -- a.q sends its next packet
-unfoldable pub go_line : List Word → Option Line
+abbrev pub go_line : List Word → Option Line
 go_line (o ∷ []) = if bytes_eq o (codes "a.q") then Some (line.Go (object (codes "a") (codes "q"))) else None
 go_line other = None
 
 -- a datagram's number
-unfoldable pub datagram_line : (ℕ → Line) → List Word → Option Line
+abbrev pub datagram_line : (ℕ → Line) → List Word → Option Line
 datagram_line says (k ∷ []) = said (number_in 0 greatest_u64 k)
   where
     said : Option ℕ → Option Line
@@ -170,7 +170,7 @@ datagram_line says (k ∷ []) = said (number_in 0 greatest_u64 k)
 datagram_line says other = None
 
 -- what the words say
-unfoldable pub line_of : Word → List Word → Option Line
+abbrev pub line_of : Word → List Word → Option Line
 line_of w ws =
     if bytes_eq w (codes "store") then store_line ws
     else if bytes_eq w (codes "load") then load_line ws
@@ -198,7 +198,7 @@ abbrev pub longest_line : ℕ
 longest_line = 8400
 
 -- a line by its words; a first byte `#` makes a comment
-unfoldable pub reading_of_words : List Word → Reading
+abbrev pub reading_of_words : List Word → Reading
 reading_of_words [] = Blank
 reading_of_words (w ∷ ws) = if slice_index w 0 == 35 then Blank else said (line_of w ws)
   where
@@ -207,7 +207,7 @@ reading_of_words (w ∷ ws) = if slice_index w 0 == 35 then Blank else said (lin
     said None = Bad
 
 -- what a line says
-unfoldable pub reading_of : List ℕ → Reading
+abbrev pub reading_of : List ℕ → Reading
 reading_of bs = if nat_lt longest_line (length bs) || not (list_all is_printable bs) then Bad else reading_of_words (words_of bs)
 
 -- ---- a script
@@ -224,7 +224,7 @@ before Bad number s = record { lines = []; bad = Some number }
 before (Says l) number s = record { lines = l ∷ s.lines; bad = s.bad }
 
 -- lines of which the first has this number
-unfoldable pub script_from : ℕ → List (List ℕ) → Script
+abbrev pub script_from : ℕ → List (List ℕ) → Script
 script_from number [] = record { lines = []; bad = None }
 script_from number (bs ∷ more) = before (reading_of bs) number (script_from (number + 1) more)
 
