@@ -8,20 +8,19 @@ use Rattle.rdma_types.specs.declared.answers.Refusal.TheVariants as refusal
 use Rattle.rdma_types.specs.declared.answers.Sent.{Sent}
 use Rattle.rdma_types.specs.declared.answers.SilentWhy.{SilentWhy}
 use Rattle.rdma_types.specs.declared.answers.SilentWhy.TheVariants as why
-use Rattle.rdma_types.specs.declared.answers.Took.{Took}
 use Rattle.rdma_types.specs.declared.answers.Took.TheVariants as took
-use Rattle.rdma_types.specs.declared.names.ObjName.{ObjName}
-use Rattle.rdma_types.specs.declared.requests.Address.{Address}
 use Rattle.rdma_types.specs.declared.requests.Completion.{Completion}
 use Rattle.rdma_types.specs.declared.requests.Kind.{Kind}
 use Rattle.rdma_types.specs.declared.requests.Kind.TheVariants as kind
 use Rattle.rdma_types.specs.declared.requests.Request.{Request}
 use Rattle.rdma_types.specs.declared.requests.WcKind.TheVariants as wc
 use Rattle.rdma_types.specs.declared.requests.WcStatus.TheVariants as status
-use Rattle.protocol.specs.Memory.{LocalWrite, RemoteWrite, holds_range, allows, stored, loaded}
-use Rattle.protocol.specs.Numbers.{wire_number, unwrap_near, number_limit}
-use Rattle.protocol.specs.Segments.{span}
-use Rattle.protocol.specs.State.{Region, CompletionQueue, Posted}
+use Rattle.rdma_types.specs.Limits.{number_limit}
+use Rattle.rdma_types.specs.Memory.{RemoteWrite, allows, holds}
+use Rattle.rdma_types.specs.Objects.{Region, Posted}
+use Rattle.rdma_types.specs.Spans.{span}
+use Rattle.protocol.specs.Memory.{stored, loaded}
+use Rattle.protocol.specs.Numbers.{wire_number, unwrap_near}
 use Rattle.protocol.specs.Wire.{Packet, plain, wire_of, packet_of}
 use Rattle.protocol.specs.declared.wire.Aeth.{Aeth}
 use Rattle.protocol.specs.declared.wire.Reth.{Reth}
@@ -57,14 +56,14 @@ silent d why = answers d (answer.Took (took.Silent why) 0 0)
 -- bytes into the region
 unfoldable pub stores : Device → ℕ → List ℕ → Option Step
 stores d at bytes =
-    if holds_range d.region at (length bytes)
+    if holds d.region at (length bytes)
     then answers (with_region d (stored d.region (at - d.region.base) bytes)) answer.Done
     else refuses d refusal.BadKey
 
 -- the bytes of a range
 unfoldable pub loads : Device → ℕ → ℕ → Option Step
 loads d at count =
-    if holds_range d.region at count
+    if holds d.region at count
     then answers d (answer.Bytes (loaded d.region at count))
     else refuses d refusal.BadKey
 
@@ -80,11 +79,11 @@ end_of_numbers e = e.una + length e.untold
 
 -- the local place of a request is granted: its key is the region's, and the region holds it
 abbrev pub grants_local : Device → Request → Bool
-grants_local d r = r.lkey == d.region.keys.local && holds_range d.region r.local r.shape.length
+grants_local d r = r.lkey == d.region.keys.local && holds d.region r.local r.shape.length
 
 -- a remote range is granted for writing
 abbrev pub grants_write : Region → ℕ → ℕ → ℕ → Bool
-grants_write r rkey at count = rkey == r.keys.remote && (holds_range r at count && allows r.rights RemoteWrite)
+grants_write r rkey at count = rkey == r.keys.remote && (holds r at count && allows r.rights RemoteWrite)
 
 -- the first refusal of a posted request, in the order of the checks: too many packet numbers, a message over the limit, a
 -- local place that is not granted, a full send queue, a full completion queue. Pages never lack: a request takes one, and
@@ -171,9 +170,9 @@ unfoldable pub executes : Device → Reth → List ℕ → Option Step
 executes d r payload =
     if (length payload == r.length && nat_le 1 r.length) && (nat_le r.length d.end.terms.mtu && grants_write d.region r.rkey r.address r.length)
     then sends
-        (with_end (with_region d (stored d.region (r.address - d.region.base) payload)) (executed d.end))
-        (answer.Took took.Ack 0 1)
-        (to_partner d.end d.end.expected (ack_packet (executed d.end) d.end.expected))
+    (with_end (with_region d (stored d.region (r.address - d.region.base) payload)) (executed d.end))
+    (answer.Took took.Ack 0 1)
+    (to_partner d.end d.end.expected (ack_packet (executed d.end) d.end.expected))
     else None
 
 -- a WRITE by its number: before the expected one it is acknowledged again and not executed; ahead of it, its form is not
@@ -208,9 +207,10 @@ acknowledges d (Some n) =
 unfoldable pub answered : Device → ℕ → Option Aeth → Option Step
 answered d psn None = None
 answered d psn (Some h) = (elim h.syndrome [
-    Ack ↦ acknowledges d (unwrap_near d.end.terms.own_start psn d.end.una)
+  | Ack ↦ acknowledges d (unwrap_near d.end.terms.own_start psn d.end.una)
   | Rnr ↦ None
-  | Nak code ↦ None ])
+  | Nak code ↦ None
+])
 
 -- a WRITE by its RETH
 unfoldable pub requested : Device → Packet → Option Reth → Option Step

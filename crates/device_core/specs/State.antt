@@ -1,13 +1,14 @@
 -- What a device of the first path holds: one context with one region, one completion queue and one connected queue pair.
 use Rattle.std.specs.Prelude.{ℕ, List, Bool, bytes_eq, ◌&&◌}
+use Rattle.rdma_types.specs.declared.names.Name.{Name}
 use Rattle.rdma_types.specs.declared.names.ObjName.{ObjName}
 use Rattle.rdma_types.specs.declared.requests.Address.{Address}
 use Rattle.rdma_types.specs.declared.requests.Terms.{Terms}
-use Rattle.protocol.specs.State.{Word, Region, CompletionQueue, Posted}
+use Rattle.rdma_types.specs.Objects.{Region, CompletionQueue, Posted}
 
 -- a connected queue pair, whose requests take one packet each (IBA 9.7)
 pub record End : Type 0 where
-  pub name : Word
+  pub name : Name
   pub number : ℕ  -- its queue pair number
   pub peer : ℕ  -- the partner's
   pub partner : Address
@@ -22,13 +23,13 @@ pub record End : Type 0 where
 -- one context on its device
 pub record Device : Type 0 where
   pub address : Address
-  pub context : Word
+  pub context : Name
   pub region : Region
   pub queue : CompletionQueue
   pub end : End
 
 -- the word names the thing of this name in the device's context
-abbrev pub names : Device → Word → ObjName → Bool
+abbrev pub names : Device → Name → ObjName → Bool
 names d name o = bytes_eq o.context d.context && bytes_eq o.name name
 
 -- the device with another region

@@ -6,13 +6,14 @@ use Rattle.rdma_types.specs.declared.answers.Sent.{Sent}
 use Rattle.rdma_types.specs.declared.answers.SilentWhy.TheVariants as why
 use Rattle.rdma_types.specs.declared.answers.Took.{Took}
 use Rattle.rdma_types.specs.declared.answers.Took.TheVariants as took
+use Rattle.rdma_types.specs.declared.names.Name.{Name}
 use Rattle.rdma_types.specs.declared.names.ObjName.{ObjName}
 use Rattle.rdma_types.specs.declared.requests.Address.{Address}
 use Rattle.rdma_types.specs.declared.requests.Request.{Request}
 use Rattle.rdma_types.specs.declared.requests.Terms.{Terms}
 use Rattle.rdma_types.specs.declared.verbs.Verb.{Verb}
 use Rattle.rdma_types.specs.declared.verbs.Verb.TheVariants as verb
-use Rattle.protocol.specs.State.{Word, Region, CompletionQueue}
+use Rattle.rdma_types.specs.Objects.{Region, CompletionQueue}
 use Rattle.device_core.specs.declared.Event.{Event}
 use Rattle.device_core.specs.declared.Event.TheVariants as event
 use Rattle.device_core.specs.State.{Device, End, names}
@@ -161,7 +162,7 @@ abbrev pub host : ℕ → Address
 host last = record { ip = 167772160 + last; port = 4791 }
 
 -- a region of 64 zeros with all rights
-abbrev pub opening_region : Word → ℕ → ℕ → Region
+abbrev pub opening_region : Name → ℕ → ℕ → Region
 opening_region name base key = record { name = name; domain = codes "p"; base = base; length = 64; rights = record { 0 = 15 }; keys = record { local = key; remote = key + 1 }; bytes = replicate 64 0 }
 
 -- a completion queue without entries

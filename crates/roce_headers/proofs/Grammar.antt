@@ -1,12 +1,11 @@
 -- What bytes without an offence say is what they spell.
-use Rattle.std.proofs.Common.{◌≡◌, ℕ, ◌+◌, ◌-◌, ◌*◌, ◌/◌, ◌%◌, ◌^◌, ◌≤◌, ◌<◌, Bool, true, false, not, List, take, drop, length, slice_index, Option, None, Some, refl, ap, sym, subst, ◌∙◌, arith, nat_lt, nat_eq, IsTrue, is_some}
+use Rattle.std.proofs.Common.{◌≡◌, ℕ, ◌+◌, ◌%◌, ◌≤◌, Bool, true, false, not, List, length, Option, None, Some, refl, ap, sym, subst, ◌∙◌, arith, nat_lt, IsTrue, is_some}
 use Rattle.std.specs.Prelude.{◌&&◌, ◌||◌, ◌==◌, if◌then◌else◌}
-use Rattle.std.proofs.lemmas.Bool.Decides.{nat_tests}
 use borrow.Author.Tests.{eqb-true, ltb-false, le-ltb, not-false}
 use Rattle.protocol.specs.declared.wire.Layout.{Layout}
 use Rattle.protocol.specs.declared.wire.Malformed.{Malformed}
-use Rattle.protocol.specs.Bytes.{number_at, byte_at, bytes_at}
-use Rattle.protocol.specs.Wire.{Packet, Spells, packet_of, offence_of, known_offence, layout_offence, read_by, layout_of, headers_len, body_of, pad_of, has_reth, has_imm, has_aeth, has_atomic, has_old, has_resume, imm_place, is_syndrome, fields_of, when, read_reth, read_aeth, read_atomic, read_resume}
+use Rattle.protocol.specs.Bytes.{byte_at}
+use Rattle.protocol.specs.Wire.{Packet, Spells, packet_of, offence_of, known_offence, layout_offence, layout_of, headers_len, body_of, pad_of, has_aeth, has_atomic, is_syndrome, fields_of, when, read_atomic}
 
 -- the bytes keep to a row
 record Keeps (l : Layout) (bs : List ℕ) : Type 0 where

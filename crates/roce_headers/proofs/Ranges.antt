@@ -1,8 +1,7 @@
 -- What is read can be written.
-use Rattle.std.proofs.Common.{◌≡◌, ℕ, zero, suc, ◌+◌, ◌-◌, ◌*◌, ◌/◌, ◌%◌, ◌^◌, ◌≤◌, ◌<◌, List, [], ◌∷◌, ◌++◌, take, drop, length, slice_index, Bool, true, false, not, Option, None, Some, refl, ap, sym, subst, ◌∙◌, arith, length-take, IsTrue, is_some}
+use Rattle.std.proofs.Common.{◌≡◌, ℕ, zero, suc, ◌+◌, ◌-◌, ◌%◌, ◌^◌, ◌<◌, List, [], ◌∷◌, take, drop, slice_index, Bool, true, false, not, None, Some, refl, arith, length-take, IsTrue, is_some}
 use Rattle.std.specs.Prelude.{◌&&◌, ◌||◌, ◌==◌, if◌then◌else◌, IfSome, All, Result, Ok, Err, OnOk, IfOk}
 use Rattle.std.specs.Bool.{OnTrue, OnFalse}
-use Rattle.std.proofs.lemmas.Bool.Decides.{nat_tests}
 use Rattle.std.proofs.lemmas.List.{get_or-drop}
 use Rattle.byteorder.specs.Numbers.{big_from-lt}
 use borrow.Author.Tests.{eqb-true}
@@ -10,10 +9,9 @@ use Rattle.roce_headers.proofs.Grammar.{both, read_spelled}
 use Rattle.roce_headers.specs.Packets.{packet}
 use Rattle.roce_headers.specs.declared.datagram.Datagram.{Datagram}
 use Rattle.protocol.specs.declared.wire.Malformed.{Malformed}
-use Rattle.protocol.specs.declared.wire.Syndrome.{Syndrome}
 use Rattle.protocol.specs.declared.wire.Syndrome.TheVariants.{Ack, Rnr, Nak}
 use Rattle.protocol.specs.Bytes.{number_at, byte_at, bytes_at}
-use Rattle.protocol.specs.Wire.{Packet, Spells, Fits, packet_of, offence_of, read_by, FitsReth, FitsAtomic, FitsAeth, FitsResume, fits_syndrome, is_nak_code, syndrome_type, read_syndrome, headers_len, body_of, pad_of, layout_of, has_reth, has_imm, has_aeth, has_atomic, has_old, has_resume, imm_place, is_syndrome, when, read_reth, read_aeth, read_atomic, read_resume}
+use Rattle.protocol.specs.Wire.{Packet, Spells, Fits, packet_of, offence_of, read_by, FitsReth, FitsAtomic, FitsAeth, FitsResume, fits_syndrome, is_nak_code, syndrome_type, read_syndrome, body_of, pad_of, layout_of, has_reth, has_imm, has_aeth, has_atomic, has_old, has_resume, imm_place, is_syndrome, when}
 
 -- whether a header is there
 is_when : {A : Type 0} (b : Bool) (x : A) → is_some (when b x) ≡ b

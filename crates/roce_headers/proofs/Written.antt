@@ -1,6 +1,6 @@
 -- What is written spells what it was written from.
-use Rattle.std.proofs.Common.{◌≡◌, ℕ, zero, suc, ◌+◌, ◌-◌, ◌*◌, ◌/◌, ◌%◌, ◌^◌, ◌≤◌, ◌<◌, List, [], ◌∷◌, ◌++◌, take, drop, length, replicate, Bool, true, false, not, Option, None, Some, refl, ap, sym, subst, ◌∙◌, arith, drop-drop, length-append, append_assoc, IsTrue, is_some, nat_le}
-use Rattle.std.specs.Prelude.{◌&&◌, ◌||◌, ◌==◌, if◌then◌else◌, IfSome}
+use Rattle.std.proofs.Common.{◌≡◌, ℕ, ◌+◌, ◌-◌, ◌*◌, ◌/◌, ◌%◌, ◌^◌, ◌≤◌, ◌<◌, List, [], ◌++◌, take, drop, length, replicate, Bool, true, false, not, Option, None, Some, refl, ap, sym, subst, ◌∙◌, arith, drop-drop, length-append, append_assoc, IsTrue, is_some, nat_le}
+use Rattle.std.specs.Prelude.{◌||◌, ◌==◌, if◌then◌else◌, IfSome}
 use Rattle.std.proofs.lemmas.Bool.Decides.{nat_tests}
 use Rattle.std.proofs.lemmas.List.{length-replicate}
 use Rattle.std.specs.Bool.{OnTrue, OnFalse}
@@ -11,13 +11,12 @@ use Rattle.protocol.specs.declared.wire.Aeth.{Aeth}
 use Rattle.protocol.specs.declared.wire.AtomicEth.{AtomicEth}
 use Rattle.protocol.specs.declared.wire.Headers.{Headers}
 use Rattle.protocol.specs.declared.wire.Headers.TheVariants as headers
-use Rattle.protocol.specs.declared.wire.Layout.{Layout}
 use Rattle.protocol.specs.declared.wire.ResumeBody.{ResumeBody}
 use Rattle.protocol.specs.declared.wire.Reth.{Reth}
 use Rattle.protocol.specs.declared.wire.Syndrome.{Syndrome}
 use Rattle.protocol.specs.declared.wire.Syndrome.TheVariants.{Ack, Rnr, Nak}
 use Rattle.protocol.specs.Bytes.{big_bytes, number_at, byte_at, bytes_at}
-use Rattle.protocol.specs.Wire.{Packet, Spells, Fits, FitsReth, FitsAtomic, FitsAeth, FitsResume, fits_syndrome, is_nak_code, read_syndrome, syndrome_byte, wire_of, padding, base_bytes, reth_bytes, atomic_bytes, aeth_bytes, resume_bytes, extension_bytes, headers_len, body_of, pad_of, layout_of, has_reth, has_imm, has_aeth, has_atomic, has_old, has_resume, imm_place, is_syndrome, when, read_reth, read_aeth, read_atomic, read_resume}
+use Rattle.protocol.specs.Wire.{Packet, Spells, Fits, FitsReth, FitsAtomic, FitsAeth, FitsResume, fits_syndrome, is_nak_code, read_syndrome, syndrome_byte, wire_of, padding, base_bytes, reth_bytes, atomic_bytes, aeth_bytes, extension_bytes, headers_len, body_of, pad_of, has_reth, has_imm, has_aeth, has_atomic, has_old, has_resume, imm_place, is_syndrome, when, read_reth, read_aeth, read_atomic, read_resume}
 
 -- a length and its padding make fours
 fours : (n : ℕ) → (n + padding n) % 4 ≡ 0
@@ -148,10 +147,19 @@ atomic_reads d a f = record { long = refl; reth = refl; imm = refl; aeth = refl;
 
 resume_reads : (d : Packet) (r : ResumeBody) → FitsResume r → Reads headers.Resume (headed d None None None None None (Some r))
 unfolding wire_of big_bytes number_at
-resume_reads d r f = record { long = refl; reth = refl; imm = refl; aeth = refl; syndrome = refl; atomic = refl; old = refl; resume = ap Some (λ i. record {
-  count = sym (big_number-reads_back 4 r.count [] f.count) i;
-  address = record { ip = sym (big_number-reads_back 4 r.address.ip [] f.ip) i; port = sym (big_number-reads_back 2 r.address.port [] f.port) i };
-}) }
+resume_reads d r f = record {
+  long = refl;
+  reth = refl;
+  imm = refl;
+  aeth = refl;
+  syndrome = refl;
+  atomic = refl;
+  old = refl;
+  resume = ap Some (λ i. record {
+    count = sym (big_number-reads_back 4 r.count [] f.count) i;
+    address = record { ip = sym (big_number-reads_back 4 r.address.ip [] f.ip) i; port = sym (big_number-reads_back 2 r.address.port [] f.port) i };
+  });
+}
 
 -- ---- all together
 
@@ -270,3 +278,13 @@ written_spelled d f =
       padded = rw (body, pad) (omega arith);
       payload = rw left (payload_written d (extension_bytes d) (headers_len h) r.long);
     }
+
+-- how many bytes are written
+pub written_len : (d : Packet) → length (wire_of d) ≡ 16 + length (extension_bytes d) + (length d.payload + padding (length d.payload))
+unfolding wire_of
+written_len d = length_written d (extension_bytes d) (length (extension_bytes d)) refl
+
+-- what is written, part by part
+pub written_parts : (d : Packet) → base_bytes d ++ (extension_bytes d ++ (d.payload ++ replicate (padding (length d.payload) + 4) 0)) ≡ wire_of d
+unfolding wire_of
+written_parts d = sym (append_assoc (base_bytes d ++ extension_bytes d) d.payload _ ∙ append_assoc (base_bytes d) (extension_bytes d) _)

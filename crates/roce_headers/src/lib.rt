@@ -18,3 +18,4 @@ pub use protocol::{
 };
 pub use rdma_types::Address;
 pub use reading::decode;
+pub use writing::{encode, encoded_len};

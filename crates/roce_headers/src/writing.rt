@@ -1,1 +1,256 @@
 //! From a datagram to its bytes.
+
+ghost use Rattle.std.specs.Prelude.{◌≡◌, ◌+◌, ◌<◌, ◌≤◌, ◌++◌, length, replicate, Some, IfSome};
+ghost use Rattle.protocol.specs.Bytes.{big_bytes};
+ghost use Rattle.protocol.specs.Wire.{Fits, packet_of, wire_of, base_bytes, extension_bytes, optional, reth_bytes, atomic_bytes, aeth_bytes, resume_bytes, syndrome_byte, padding};
+ghost use Rattle.roce_headers.specs.Packets.{packet};
+
+use crate::datagram::Datagram;
+use byteorder::{BigEndian, ByteOrder};
+use protocol::{Aeth, AtomicEth, ResumeBody, Reth, Syndrome};
+
+#[tactic(auto, unfolding(protocol::specs::Wire::padding))]
+fn padding_len(len: usize) -> usize
+    ensures len { result ≡ padding len }
+    ensures small { result < 4 }
+{
+    (4 - len % 4) % 4
+}
+
+#[tactic(auto, unfolding(protocol::specs::Bytes::big_bytes))]
+fn reth_len(reth: Option<Reth>) -> usize
+    ensures len { result ≡ length (optional reth_bytes reth) }
+    ensures small { result ≤ 28 }
+{
+    match reth {
+        Some(_) => 16,
+        None => 0,
+    }
+}
+
+#[tactic(auto, unfolding(protocol::specs::Bytes::big_bytes))]
+fn write_reth(reth: Option<Reth>, out: &mut [u8])
+    requires { length out.old ≡ length (optional reth_bytes reth) }
+    ensures { out.new ≡ optional reth_bytes reth }
+{
+    if let Some(h) = reth {
+        BigEndian::write_u64(out, h.address);
+        BigEndian::write_u32(&mut out[8..], h.rkey);
+        BigEndian::write_u32(&mut out[12..], h.length);
+    }
+}
+
+#[tactic(auto, unfolding(protocol::specs::Bytes::big_bytes))]
+fn atomic_len(atomic: Option<AtomicEth>) -> usize
+    ensures len { result ≡ length (optional atomic_bytes atomic) }
+    ensures small { result ≤ 28 }
+{
+    match atomic {
+        Some(_) => 28,
+        None => 0,
+    }
+}
+
+#[tactic(auto, unfolding(protocol::specs::Bytes::big_bytes))]
+fn write_atomic(atomic: Option<AtomicEth>, out: &mut [u8])
+    requires { length out.old ≡ length (optional atomic_bytes atomic) }
+    ensures { out.new ≡ optional atomic_bytes atomic }
+{
+    if let Some(h) = atomic {
+        BigEndian::write_u64(out, h.address);
+        BigEndian::write_u32(&mut out[8..], h.rkey);
+        BigEndian::write_u64(&mut out[12..], h.swap_add);
+        BigEndian::write_u64(&mut out[20..], h.compare);
+    }
+}
+
+#[tactic(auto, unfolding(protocol::specs::Bytes::big_bytes))]
+fn aeth_len(aeth: Option<Aeth>) -> usize
+    ensures len { result ≡ length (optional aeth_bytes aeth) }
+    ensures small { result ≤ 28 }
+{
+    match aeth {
+        Some(_) => 4,
+        None => 0,
+    }
+}
+
+fn byte_of(syndrome: Syndrome) -> u8
+    requires { syndrome_byte syndrome < 256 }
+    ensures { result ≡ syndrome_byte syndrome }
+{
+    match syndrome {
+        Syndrome::Ack => 0x1F,
+        Syndrome::Rnr => 0x20,
+        Syndrome::Nak(code) => 0x60 + code,
+    }
+}
+
+#[tactic(auto, unfolding(protocol::specs::Bytes::big_bytes))]
+fn write_aeth(aeth: Option<Aeth>, out: &mut [u8])
+    requires fits { IfSome aeth (λ h. syndrome_byte h.syndrome < 256) }
+    requires room { length out.old ≡ length (optional aeth_bytes aeth) }
+    ensures { out.new ≡ optional aeth_bytes aeth }
+{
+    if let Some(h) = aeth {
+        let msn = h.msn.to_be_bytes();
+        out.copy_from_slice(&[byte_of(h.syndrome), msn[1], msn[2], msn[3]]);
+    }
+}
+
+#[tactic(auto, unfolding(protocol::specs::Bytes::big_bytes))]
+fn old_len(old: Option<u64>) -> usize
+    ensures len { result ≡ length (optional (big_bytes 8) old) }
+    ensures small { result ≤ 28 }
+{
+    match old {
+        Some(_) => 8,
+        None => 0,
+    }
+}
+
+#[tactic(auto, unfolding(protocol::specs::Bytes::big_bytes))]
+fn write_old(old: Option<u64>, out: &mut [u8])
+    requires { length out.old ≡ length (optional (big_bytes 8) old) }
+    ensures { out.new ≡ optional (big_bytes 8) old }
+{
+    if let Some(n) = old {
+        BigEndian::write_u64(out, n);
+    }
+}
+
+#[tactic(auto, unfolding(protocol::specs::Bytes::big_bytes))]
+fn imm_len(imm: Option<u32>) -> usize
+    ensures len { result ≡ length (optional (big_bytes 4) imm) }
+    ensures small { result ≤ 28 }
+{
+    match imm {
+        Some(_) => 4,
+        None => 0,
+    }
+}
+
+#[tactic(auto, unfolding(protocol::specs::Bytes::big_bytes))]
+fn write_imm(imm: Option<u32>, out: &mut [u8])
+    requires { length out.old ≡ length (optional (big_bytes 4) imm) }
+    ensures { out.new ≡ optional (big_bytes 4) imm }
+{
+    if let Some(n) = imm {
+        BigEndian::write_u32(out, n);
+    }
+}
+
+#[tactic(auto, unfolding(protocol::specs::Bytes::big_bytes))]
+fn resume_len(resume: Option<ResumeBody>) -> usize
+    ensures len { result ≡ length (optional resume_bytes resume) }
+    ensures small { result ≤ 28 }
+{
+    match resume {
+        Some(_) => 12,
+        None => 0,
+    }
+}
+
+#[tactic(auto, unfolding(protocol::specs::Bytes::big_bytes))]
+fn write_resume(resume: Option<ResumeBody>, out: &mut [u8])
+    requires { length out.old ≡ length (optional resume_bytes resume) }
+    ensures { out.new ≡ optional resume_bytes resume }
+{
+    if let Some(h) = resume {
+        BigEndian::write_u32(out, h.count);
+        BigEndian::write_u32(&mut out[4..], h.address.ip);
+        BigEndian::write_u16(&mut out[8..], h.address.port);
+        BigEndian::write_u16(&mut out[10..], 0);
+    }
+}
+
+#[tactic(auto, unfolding(protocol::specs::Bytes::big_bytes))]
+fn write_base(d: &Datagram<'_>, out: &mut [u8])
+    requires { length out.old ≡ 12 }
+    ensures { out.new ≡ base_bytes (packet d.now) }
+{
+    let pad = padding_len(d.payload.len()) as u8;
+    let dest = d.dest.to_be_bytes();
+    let ack_request = if d.ack_request { 128 } else { 0 };
+    let psn = d.psn.to_be_bytes();
+    out.copy_from_slice(&[
+        d.opcode,
+        16 * pad,
+        0xFF,
+        0xFF,
+        0,
+        dest[1],
+        dest[2],
+        dest[3],
+        ack_request,
+        psn[1],
+        psn[2],
+        psn[3],
+    ]);
+}
+
+fn headers_len(d: &Datagram<'_>) -> usize
+    ensures len { result ≡ length (extension_bytes (packet d.now)) }
+    ensures small { result ≤ 168 }
+{
+    reth_len(d.reth)
+        + atomic_len(d.atomic)
+        + aeth_len(d.aeth)
+        + old_len(d.old)
+        + imm_len(d.imm)
+        + resume_len(d.resume)
+}
+
+fn write_headers(d: &Datagram<'_>, out: &mut [u8])
+    requires fits { IfSome d.now.aeth (λ h. syndrome_byte h.syndrome < 256) }
+    requires room { length out.old ≡ length (extension_bytes (packet d.now)) }
+    ensures { out.new ≡ extension_bytes (packet d.now) }
+{
+    let (reth, rest) = out.split_at_mut(reth_len(d.reth));
+    write_reth(d.reth, reth);
+    let (atomic, rest) = rest.split_at_mut(atomic_len(d.atomic));
+    write_atomic(d.atomic, atomic);
+    let (aeth, rest) = rest.split_at_mut(aeth_len(d.aeth));
+    write_aeth(d.aeth, aeth);
+    let (old, rest) = rest.split_at_mut(old_len(d.old));
+    write_old(d.old, old);
+    let (imm, rest) = rest.split_at_mut(imm_len(d.imm));
+    write_imm(d.imm, imm);
+    write_resume(d.resume, rest);
+}
+
+/// How many bytes [`encode`] writes.
+#[tactic(auto, using(crate::proofs::Written::written_len))]
+pub fn encoded_len(d: &Datagram<'_>) -> usize
+    requires { Fits (packet d.now) }
+    ensures { result ≡ length (wire_of (packet d.now)) }
+{
+    let len = d.payload.len();
+    16 + headers_len(d) + len + padding_len(len)
+}
+
+fn write_parts(d: &Datagram<'_>, out: &mut [u8])
+    requires fits { IfSome d.now.aeth (λ h. syndrome_byte h.syndrome < 256) }
+    requires room { length out.old ≡ 16 + length (extension_bytes (packet d.now)) + (length d.now.payload.now + padding (length d.now.payload.now)) }
+    ensures { out.new ≡ base_bytes (packet d.now) ++ (extension_bytes (packet d.now) ++ (d.now.payload.now ++ replicate (padding (length d.now.payload.now) + 4) 0)) }
+{
+    let (base, rest) = out.split_at_mut(12);
+    write_base(d, base);
+    let (headers, rest) = rest.split_at_mut(headers_len(d));
+    write_headers(d, headers);
+    let (payload, rest) = rest.split_at_mut(d.payload.len());
+    payload.copy_from_slice(d.payload);
+    rest.fill(0);
+}
+
+/// Writes the one spelling of a datagram into a buffer of [`encoded_len`] bytes: each ignored field is 0, and the
+/// P_Key is FFFF (this project's choice). It takes no memory.
+#[tactic(auto, using(crate::proofs::Written::written_len))]
+pub fn encode(d: &Datagram<'_>, out: &mut [u8])
+    requires fits { Fits (packet d.now) }
+    requires room { length out.old ≡ length (wire_of (packet d.now)) }
+    ensures written { out.new ≡ wire_of (packet d.now) }
+    ensures again { packet_of out.new ≡ Some (packet d.now) }
+{
+    write_parts(d, out);
+}

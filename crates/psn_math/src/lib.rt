@@ -1,0 +1,97 @@
+//! Packet numbers. An end's request packets are numbered 0, 1, 2 and so on, which are their true numbers; a packet
+//! carries 24 bits, its packet sequence number (IBA 9.7).
+#![tactic(auto, unfolding(protocol::specs::Numbers::wire_number))]
+
+ghost use Rattle.std.specs.Prelude.{◌≡◌, ℕ, ◌^◌, ◌<◌, ◌↔◌, Option, Some, IsNone, IfSome};
+ghost use Rattle.protocol.specs.Numbers.{wire_number, IsNear, unwrap_near as near_number};
+ghost use Rattle.psn_math.specs.Near.{IsBelowZero};
+
+use std::cmp::Ordering;
+
+mod places;
+
+pub use places::Place;
+
+/// How many packet sequence numbers there are.
+const WIRE_NUMBERS: u32 = 16_777_216;
+
+/// Half of them.
+const HALF: u64 = 8_388_608;
+
+/// The packet sequence number of packet `n` of an end whose numbering begins at `start`.
+pub fn wire_of(n: u64, start: u32) -> u32
+    requires { n < 2 ^ 63 }
+    ensures spelled { result ≡ wire_number start n }
+    ensures fits { result < 2 ^ 24 }
+{
+    ((u64::from(start) + n) % u64::from(WIRE_NUMBERS)) as u32
+}
+
+/// The one packet number from `near` - 2^23 up to `near` + 2^23 - 1 that has the packet sequence number `psn`, and None
+/// exactly where that number lies below 0. Reading numbers within this half range is this project's choice.
+pub fn unwrap_near(psn: u32, start: u32, near: u64) -> Option<u64>
+    requires psn_fits { psn < 2 ^ 24 }
+    requires near_fits { near < 2 ^ 62 }
+
+    ensures found { IfSome result (IsNear start psn near) }
+    ensures only { (n : ℕ) → IsNear start psn near n → result ≡ Some n }
+    ensures none { IsNone result ↔ IsBelowZero start psn near }
+
+    // The protocol's rules find the same number.
+    ensures rule { result ≡ near_number start psn near }
+{
+    let lowest = wire_of(near + HALF, start);
+    let above_lowest = (psn + WIRE_NUMBERS - lowest) % WIRE_NUMBERS;
+    (near + u64::from(above_lowest)).checked_sub(HALF)
+}
+
+/// Where packet `n` stands beside the expected one (IBA 9.7).
+pub fn place(n: u64, expected: u64) -> Place
+    ensures before { (result ≡ Place.Before) ↔ (n < expected) }
+    ensures expected { (result ≡ Place.Expected) ↔ (n ≡ expected) }
+    ensures ahead { (result ≡ Place.Ahead) ↔ (expected < n) }
+{
+    match n.cmp(&expected) {
+        Ordering::Less => Place::Before,
+        Ordering::Equal => Place::Expected,
+        Ordering::Greater => Place::Ahead,
+    }
+}
+
+/// At most one number near another has a given packet sequence number.
+pub fn near_numbers_are_one()
+    ensures { (start psn near m n : ℕ) → IsNear start psn near m → IsNear start psn near n → m ≡ n }
+{}
+
+#[cfg(test)]
+mod tests {
+    use super::*;
+
+    #[test]
+    fn starts_at_the_last_wire_number(rt: HostRuntime) {
+        for (n, psn) in [(0, 0xff_ffff), (1, 0), (2, 1)] {
+            assert_eq!(rt; wire_of(n, 16_777_215), psn, "the wire number of {n}");
+            assert_eq!(rt;
+                unwrap_near(psn, 16_777_215, 0),
+                Some(n),
+                "the number of {psn}"
+            );
+        }
+    }
+
+    #[test]
+    fn ends_at_the_edges_of_the_half_range(rt: HostRuntime) {
+        assert_eq!(rt; unwrap_near(0, 0, 8_388_608), Some(0));
+        assert_eq!(rt; unwrap_near(0, 0, 8_388_609), Some(16_777_216));
+        assert_eq!(rt; unwrap_near(8_388_607, 0, 0), Some(8_388_607));
+        assert_eq!(rt; unwrap_near(8_388_608, 0, 0), None);
+        assert_eq!(rt; unwrap_near(16_777_215, 0, 0), None);
+    }
+
+    #[test]
+    fn places_numbers(rt: HostRuntime) {
+        assert_eq!(rt; place(6, 7), Place::Before);
+        assert_eq!(rt; place(7, 7), Place::Expected);
+        assert_eq!(rt; place(8, 7), Place::Ahead);
+    }
+}
