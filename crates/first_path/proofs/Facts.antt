@@ -1,5 +1,5 @@
 -- The state that a world stands for is determined by the world and the posted requests.
-use Rattle.std.proofs.Common.{arith, ◌≡◌, ◌<◌, ◌≤◌, ℕ, ◌+◌, true, List, refl, ap, ◌∙◌, sym, subst, Some, length, drop, slice_get}
+use Rattle.std.proofs.Common.{◌≡◌, ◌<◌, ◌≤◌, ℕ, ◌+◌, true, List, refl, ◌∙◌, sym, subst, Some, length, drop, slice_get}
 use Rattle.std.specs.Prelude.{All}
 use Rattle.protocol.specs.Numbers.{number_limit}
 use Rattle.protocol.specs.State.{Word, Region, CompletionQueue, Posted}
@@ -116,7 +116,7 @@ build_whole m = refl
 state_is : (w : World) (m : Machine) → Stands w m → machine_of w m.end.posted ≡ m
 state_is w m st =
     let same : build w.one.context w.one.region w.two.context w.two.region w.one.queue w.one.end.name w.one.end.number w.one.end.send_depth m.end.posted w.one.end.una 0 w.two.end.expected 0
-            ≡ build m.one.name m.one.region m.two.name m.two.region m.queue m.end.name m.end.number m.end.send_depth m.end.posted m.end.told m.end.known m.end.acted m.end.into = cc in
+    ≡ build m.one.name m.one.region m.two.name m.two.region m.queue m.end.name m.end.number m.end.send_depth m.end.posted m.end.told m.end.known m.end.acted m.end.into = cc in
     build_of w m.end.posted ∙ (same ∙ build_whole m)
 
 -- so what holds of such a state holds of each that the world stands for

@@ -1,5 +1,5 @@
 -- Datagrams in order, and the facts of datagrams.
-use Rattle.std.proofs.Common.{arith, ◌≡◌, ◌⊎◌, ◌<◌, ◌≤◌, ℕ, ◌+◌, List, [], ◌∷◌, ◌++◌, refl, ap, ◌∙◌, sym, inl, inr, Some, slice_get, lt_of_lt_of_le}
+use Rattle.std.proofs.Common.{arith, ◌≤◌, ℕ, ◌+◌, List, [], ◌∷◌, ◌++◌, ap, inl, inr, lt_of_lt_of_le}
 use Rattle.protocol.specs.State.{Posted}
 use Rattle.first_path.specs.World.{Flight}
 use Rattle.first_path.specs.Stands.{Port, IsWrite, IsAck, Fact, AreInOrder}

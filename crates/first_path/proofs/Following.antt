@@ -1,11 +1,11 @@
 -- How a line is followed, by the cases of what it is told.
-use Rattle.std.proofs.Common.{◌≡◌, List, [], ◌∷◌, Bool, true, false, refl, ap, ◌∙◌, sym, subst, Option, Some, None, ◌++◌, length, ◌+◌}
+use Rattle.std.proofs.Common.{◌≡◌, List, [], true, false, refl, sym, subst, Some, None, length, ◌+◌}
 use Rattle.rdma_types.specs.declared.answers.Answer.{Answer}
 use Rattle.rdma_types.specs.declared.answers.Answer.TheVariants as answer
 use Rattle.rdma_types.specs.declared.answers.Refusal.{Refusal}
 use Rattle.rdma_types.specs.declared.verbs.Verb.{Verb}
 use Rattle.device_core.specs.State.{Device}
-use Rattle.device_core.specs.Rules.{Step, answers}
+use Rattle.device_core.specs.Rules.{answers}
 use Rattle.first_path.specs.declared.Line.{Line}
 use Rattle.first_path.specs.declared.Line.TheVariants as line
 use Rattle.first_path.specs.declared.Told.{Told}

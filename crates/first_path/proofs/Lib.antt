@@ -15,3 +15,4 @@ pub mod ReadsBack
 pub mod Arrivals
 pub mod LineDeliver
 pub mod Simulation
+pub mod Completing

@@ -1,15 +1,14 @@
 -- A delivery is followed.
-use Rattle.std.proofs.Common.{arith, ◌≡◌, ◌≢◌, ◌↔◌, ◌⊎◌, ◌<◌, ◌≤◌, ℕ, zero, suc, ◌+◌, ◌-◌, ◌%◌, ◌^◌, ◌==◌, ◌&&◌, ◌||◌, List, [], ◌∷◌, ◌++◌, Bool, true, false, refl, ap, ◌∙◌, sym, subst, inl, inr, Option, Some, None, length, take, drop, slice_get, get_or, if◌then◌else◌, length-append, length-drop}
+use Rattle.std.proofs.Common.{arith, ◌≡◌, ◌≢◌, ◌↔◌, ◌<◌, ℕ, zero, suc, ◌+◌, ◌-◌, ◌%◌, ◌^◌, ◌==◌, ◌||◌, List, [], ◌∷◌, ◌++◌, Bool, true, false, refl, ap, ◌∙◌, sym, subst, inl, inr, Option, Some, None, length, take, drop, slice_get, get_or, if◌then◌else◌, length-append}
 use Rattle.std.proofs.Math.Seq.{take-length}
 use Rattle.std.proofs.lemmas.Bool.Decides.{nat_tests, eqb_tells}
 use Rattle.std.proofs.lemmas.List.{drop-append-le}
 use Rattle.std.proofs.lemmas.Option.{slice_get-get_or}
-use Rattle.rdma_types.specs.declared.answers.Answer.{Answer}
 use Rattle.rdma_types.specs.declared.answers.Answer.TheVariants as answer
 use Rattle.rdma_types.specs.declared.answers.Took.{Took}
 use Rattle.rdma_types.specs.declared.answers.Took.TheVariants as took
 use Rattle.rdma_types.specs.declared.requests.Address.{Address}
-use Rattle.protocol.specs.Memory.{stored, overwritten, holds_range, allows}
+use Rattle.protocol.specs.Memory.{stored, overwritten, allows}
 use Rattle.protocol.specs.State.{Posted}
 use Rattle.protocol.specs.Wire.{packet_of, wire_of}
 use Rattle.device_core.specs.State.{Device, with_end, with_region, with_queue}
@@ -25,12 +24,12 @@ use Rattle.first_path.specs.Machine.{Machine, Run, Tell, CanRun, size_of, put_ne
 use Rattle.first_path.specs.Legal.{kept_line}
 use Rattle.first_path.specs.Carries as carries
 use Rattle.first_path.specs.Carries.{Carries, CarriesFlight, taken_flight, is_taken, class_of}
-use Rattle.first_path.specs.Stands.{Port, port, Fact, IsWrite, IsAck, AreInOrder, HasForm, write_of, ack_of}
+use Rattle.first_path.specs.Stands.{port, IsWrite, IsAck, AreInOrder, HasForm, write_of, ack_of}
 use Rattle.first_path.specs.Law.{Follows}
 use Rattle.first_path.proofs.Facts.{Facts, machine_of, stands_of}
 use Rattle.first_path.proofs.Flights.{fact_later, in_order_bounds, ack_goes_last}
-use Rattle.first_path.proofs.Following.{FollowsTo, follows_to, quiet_follows, at_one_answers}
-use Rattle.first_path.proofs.Lists.{slice_get_push, slice_get_append, drop_here, get_or_here, within}
+use Rattle.first_path.proofs.Following.{follows_to, quiet_follows, at_one_answers}
+use Rattle.first_path.proofs.Lists.{slice_get_push, drop_here, get_or_here, within}
 use Rattle.first_path.proofs.Arrivals.{after_write, receives_write, receives_ack, same_number}
 use Rattle.first_path.proofs.ReadsBack.{write_reads_back, ack_reads_back}
 
@@ -99,9 +98,11 @@ module _ (w : World) (posted : List Posted) (fs : Facts w posted) (p : Posted) (
   write_arrives : world.arrives w write_flight ≡ tells (record { one = w.one; two = after_write w.two p; sent = w.sent ++ reply ∷ []; taken = w.taken }) (answer.Took took.Ack (length w.sent + 1) 1)
   unfolding world.arrives at_two sending numbered write_flight reply reply_msn ack_packet ack_of
   write_arrives = rw (
-      at_partner w.one.end.partner w.two.address w.one.address false fs.connected.to_two fs.connected.apart,
-      at_partner w.one.end.partner w.two.address w.two.address true fs.connected.to_two (same_address_itself w.two.address),
-      reads_back, acts) refl
+    at_partner w.one.end.partner w.two.address w.one.address false fs.connected.to_two fs.connected.apart,
+    at_partner w.one.end.partner w.two.address w.two.address true fs.connected.to_two (same_address_itself w.two.address),
+    reads_back,
+    acts,
+  ) refl
 
   current_is : get_or posted w.two.end.expected machine.no_posted ≡ p
   current_is = get_or_here posted p machine.no_posted w.two.end.expected there

@@ -1,5 +1,5 @@
 -- A packet goes out.
-use Rattle.std.proofs.Common.{arith, ◌≡◌, ◌<◌, ◌≤◌, ℕ, ◌+◌, ◌-◌, List, [], ◌∷◌, ◌++◌, Bool, true, false, refl, ap, ◌∙◌, sym, subst, inl, inr, Option, Some, None, length, drop, slice_get, length-append}
+use Rattle.std.proofs.Common.{arith, ◌≡◌, ◌+◌, ◌-◌, List, [], ◌∷◌, ◌++◌, Bool, true, false, refl, ap, ◌∙◌, sym, subst, inl, inr, Option, Some, None, length, drop, slice_get, length-append}
 use Rattle.std.proofs.lemmas.List.{drop-append-le}
 use Rattle.rdma_types.specs.declared.answers.Answer.TheVariants as answer
 use Rattle.rdma_types.specs.declared.answers.Refusal.TheVariants as refusal
@@ -7,12 +7,12 @@ use Rattle.rdma_types.specs.declared.names.ObjName.{ObjName}
 use Rattle.protocol.specs.State.{Posted}
 use Rattle.protocol.specs.Wire.{wire_of}
 use Rattle.device_core.specs.State.{Device, names, with_end}
-use Rattle.device_core.specs.Rules.{transmits, write_packet, answers, sends, to_partner}
+use Rattle.device_core.specs.Rules.{transmits, write_packet}
 use Rattle.first_path.specs.declared.Line.TheVariants as line
 use Rattle.first_path.specs.declared.Told.{Told}
 use Rattle.first_path.specs.World.{World, Flight, at_one, tells, sending, numbered}
 use Rattle.first_path.specs.Legal.{kept_line}
-use Rattle.first_path.specs.Stands.{Port, port, Fact, IsWrite, AreInOrder, write_of}
+use Rattle.first_path.specs.Stands.{port, IsWrite, AreInOrder, write_of}
 use Rattle.first_path.specs.Law.{Follows}
 use Rattle.first_path.proofs.Facts.{Facts, machine_of, stands_of}
 use Rattle.first_path.proofs.Flights.{fact_later, write_goes_last}

@@ -1,6 +1,5 @@
 -- A posted request is followed.
-use Rattle.std.proofs.Common.{arith, ◌≡◌, ◌⊎◌, ◌<◌, ◌≤◌, ℕ, ◌+◌, ◌-◌, ◌==◌, ◌&&◌, ◌||◌, not, List, [], ◌∷◌, ◌++◌, Bool, true, false, refl, ap, ◌∙◌, sym, subst, inl, inr, Option, Some, None, is_some, length, take, drop, min, max, slice_get, nat_lt, nat_le, if◌then◌else◌, length-append, length-take, length-drop}
-use Rattle.std.specs.Prelude.{All}
+use Rattle.std.proofs.Common.{arith, ◌≡◌, ◌⊎◌, ◌<◌, ◌≤◌, ℕ, ◌+◌, ◌-◌, ◌==◌, List, [], ◌∷◌, ◌++◌, Bool, true, false, refl, ap, ◌∙◌, sym, subst, inl, inr, Option, Some, None, length, drop, nat_lt, nat_le, length-append, length-take, length-drop}
 use Rattle.std.proofs.lemmas.Bool.Decides.{nat_tests}
 use Rattle.std.proofs.lemmas.List.{drop-append-le}
 use Rattle.std.proofs.lemmas.List.Elements.{All-take, All-drop}
@@ -22,10 +21,10 @@ use Rattle.device_core.specs.State.{Device, names, with_end}
 use Rattle.device_core.specs.Rules.{end_of_numbers, grants_local, grants_write, post_refusal, is_built, posts}
 use Rattle.device_core.specs.Rules as rules
 use Rattle.first_path.specs.declared.Line.TheVariants as line
-use Rattle.first_path.specs.World.{World, Flight, verb_step, numbered, reaches, at_one}
+use Rattle.first_path.specs.World.{World, verb_step, numbered, at_one}
 use Rattle.first_path.specs.Machine as machine
 use Rattle.first_path.specs.Legal.{is_too_many}
-use Rattle.first_path.specs.Stands.{HasForm, Fact, port}
+use Rattle.first_path.specs.Stands.{HasForm, port}
 use Rattle.first_path.specs.Law.{Follows, IsRequestInRange}
 use Rattle.first_path.proofs.Facts.{Facts, machine_of, stands_of}
 use Rattle.first_path.proofs.Flights.{fact_kept, in_order_grows}

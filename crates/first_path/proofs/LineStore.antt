@@ -1,5 +1,5 @@
 -- A store is followed.
-use Rattle.std.proofs.Common.{arith, ◌≡◌, ◌<◌, ◌≤◌, ℕ, ◌+◌, ◌-◌, List, [], ◌∷◌, Bool, true, false, refl, ap, ◌∙◌, sym, length, nat_le, ◌&&◌, not}
+use Rattle.std.proofs.Common.{arith, ◌≡◌, ◌<◌, ◌≤◌, ℕ, ◌+◌, ◌-◌, List, Bool, true, false, refl, ◌∙◌, length}
 use Rattle.std.specs.Prelude.{All}
 use Rattle.std.proofs.lemmas.Bool.Decides.{nat_tests}
 use Rattle.rdma_types.specs.declared.answers.Answer.TheVariants as answer
@@ -11,7 +11,7 @@ use Rattle.protocol.specs.State.{Posted, Region}
 use Rattle.device_core.specs.State.{Device, names, with_region}
 use Rattle.device_core.specs.Rules.{stores}
 use Rattle.first_path.specs.declared.Line.TheVariants as line
-use Rattle.first_path.specs.World.{World, verb_step, tells, numbered}
+use Rattle.first_path.specs.World.{World, verb_step, numbered}
 use Rattle.first_path.specs.Machine as machine
 use Rattle.first_path.specs.Legal.{is_too_many}
 use Rattle.first_path.specs.Law.{Follows}

@@ -1,5 +1,5 @@
 -- Lists by places.
-use Rattle.std.proofs.Common.{arith, ◌≡◌, ◌⊎◌, ◌<◌, ◌≤◌, ℕ, zero, suc, ◌+◌, List, [], ◌∷◌, ◌++◌, refl, ap, ◌∙◌, sym, inl, inr, Some, length, take, drop, slice_get, get_or}
+use Rattle.std.proofs.Common.{arith, ◌≡◌, ◌⊎◌, ◌<◌, ℕ, zero, suc, ◌+◌, List, [], ◌∷◌, ◌++◌, refl, ap, ◌∙◌, inl, inr, Some, length, drop, slice_get, get_or}
 
 module _ {A : Type 0} where
   -- what is in a longer list is in the list, or is the last

@@ -1,7 +1,7 @@
 -- A wire number near its own number.
-use Rattle.std.proofs.Common.{arith, ◌≡◌, ◌<◌, ◌≤◌, ℕ, ◌+◌, ◌-◌, ◌*◌, ◌%◌, refl, ap, ◌∙◌, Some, None, nat_lt, false, true}
+use Rattle.std.proofs.Common.{arith, ◌≡◌, ℕ, Some}
 use Rattle.std.proofs.lemmas.Bool.Decides.{nat_tests}
-use Rattle.protocol.specs.Numbers.{wire_number, unwrap_near, wire_numbers, half_of_them, above_low}
+use Rattle.protocol.specs.Numbers.{wire_number, unwrap_near, half_of_them, above_low}
 
 -- seen from its own number, a wire number lies 2^23 above the least that is near
 above_is_half : (start n : ℕ) → above_low start (wire_number start n) n ≡ half_of_them

@@ -1,5 +1,5 @@
 -- The machine follows every line, and every list of lines.
-use Rattle.std.proofs.Common.{arith, ◌≡◌, ◌<◌, ℕ, ◌+◌, ◌-◌, suc, List, [], ◌∷◌, ◌++◌, refl, ap, ◌∙◌, sym, subst, map, length, Option, Some, None, slice_get}
+use Rattle.std.proofs.Common.{arith, ◌≡◌, ℕ, ◌-◌, suc, List, [], ◌∷◌, ◌++◌, refl, ap, ◌∙◌, sym, subst, map, Option, Some, None, slice_get}
 use Rattle.std.specs.Prelude.{All}
 use Rattle.rdma_types.specs.declared.answers.Answer.{Answer}
 use Rattle.rdma_types.specs.declared.verbs.Verb.{Verb}
@@ -14,7 +14,7 @@ use Rattle.first_path.specs.World.{World, Flight, rules, told_all, world_after, 
 use Rattle.first_path.specs.World as world
 use Rattle.first_path.specs.Machine as machine
 use Rattle.first_path.specs.Machine.{Machine, InnerStep}
-use Rattle.first_path.specs.Legal.{Step, Inner, Visible, IsRun, next, after, shown, IsLegal, kept_line, kept, line_steps, run_steps}
+use Rattle.first_path.specs.Legal.{Step, Inner, Visible, IsRun, next, after, shown, kept_line, line_steps, run_steps}
 use Rattle.first_path.specs.Stands.{Stands}
 use Rattle.first_path.specs.Law.{IsInRange, Follows, FollowsAll, LineFollows, ScriptFollows, HeardIsLegal, UnbuiltAt, UnbuiltExactly, ShowsPacket, WiresArePackets}
 use Rattle.first_path.proofs.Facts.{Facts, machine_of, stands_of, at_state}

@@ -1,7 +1,6 @@
 -- The opening world stands for the opening machine.
-use Rattle.std.proofs.Common.{arith, ◌≡◌, ◌<◌, ◌≤◌, ℕ, List, [], ◌∷◌, refl, inl, inr}
+use Rattle.std.proofs.Common.{arith, ◌<◌, refl}
 use Rattle.std.proofs.lemmas.List.Elements.{All-replicate}
-use Rattle.protocol.specs.State.{Posted}
 use Rattle.first_path.specs.World as world
 use Rattle.first_path.specs.World.{Flight}
 use Rattle.first_path.specs.Machine as machine

@@ -1,6 +1,5 @@
 -- Which inner steps of the packetless machine a line may cause.
 use Rattle.std.specs.Prelude.{◌≡◌, ◌<◌, ℕ, ◌+◌, ◌==◌, ◌&&◌, Bool, true, false, List, [], ◌∷◌, length, Option, Some, None, if◌then◌else◌}
-use Rattle.rdma_types.specs.declared.answers.Answer.{Answer}
 use Rattle.rdma_types.specs.declared.answers.Answer.TheVariants as answer
 use Rattle.protocol.specs.Wire.{Packet, packet_of}
 use Rattle.protocol.specs.declared.wire.Aeth.{Aeth}

@@ -2,7 +2,6 @@
 use Rattle.std.specs.Prelude.{◌≡◌, ◌≢◌, ◌↔◌, ◌<◌, ◌^◌, ℕ, ◌+◌, ◌-◌, true, List, [], ◌∷◌, All, Some, slice_get}
 use Rattle.rdma_types.specs.declared.answers.Answer.TheVariants as answer
 use Rattle.rdma_types.specs.declared.requests.Request.{Request}
-use Rattle.rdma_types.specs.declared.verbs.Verb.{Verb}
 use Rattle.rdma_types.specs.declared.verbs.Verb.TheVariants as verb
 use Rattle.first_path.specs.declared.Line.{Line}
 use Rattle.first_path.specs.declared.Line.TheVariants as line
@@ -10,7 +9,7 @@ use Rattle.first_path.specs.declared.Told.TheVariants as told
 use Rattle.first_path.specs.World.{World, Flight, rules, told_all, world_after, is_kept, opening}
 use Rattle.first_path.specs.Machine as machine
 use Rattle.first_path.specs.Machine.{Machine, InnerStep}
-use Rattle.first_path.specs.Legal.{IsRun, after, shown, IsLegal, kept_line, kept, line_steps, run_steps}
+use Rattle.first_path.specs.Legal.{IsRun, after, shown, IsLegal, kept, line_steps, run_steps}
 use Rattle.first_path.specs.Carries.{Carries}
 use Rattle.first_path.specs.Stands.{Stands, Fact, port}
 

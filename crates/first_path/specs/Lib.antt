@@ -5,3 +5,4 @@ pub mod Carries
 pub mod Stands
 pub mod Law
 pub mod OneWrite
+pub mod Completions

@@ -1,5 +1,5 @@
 -- A worked example: four bytes are stored, written to the other device, acknowledged, polled and loaded.
-use Rattle.std.specs.Prelude.{ℕ, List, [], ◌∷◌, Some, None, true, false, codes}
+use Rattle.std.specs.Prelude.{ℕ, List, [], ◌∷◌, None, true, false, codes}
 use Rattle.rdma_types.specs.declared.answers.Answer.TheVariants as answer
 use Rattle.rdma_types.specs.declared.answers.Took.TheVariants as took
 use Rattle.rdma_types.specs.declared.names.ObjName.{ObjName}

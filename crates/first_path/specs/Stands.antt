@@ -1,5 +1,5 @@
 -- The relation between a world of two devices and the packetless machine, which every line keeps.
-use Rattle.std.specs.Prelude.{◌≡◌, ◌<◌, ◌≤◌, ◌⊎◌, ◌^◌, ℕ, ◌+◌, Bool, true, false, List, [], ◌∷◌, length, drop, All, Option, Some, slice_get}
+use Rattle.std.specs.Prelude.{◌≡◌, ◌<◌, ◌≤◌, ◌⊎◌, ◌^◌, ℕ, ◌+◌, true, false, List, [], ◌∷◌, length, drop, All, Some, slice_get}
 use Rattle.rdma_types.specs.declared.requests.Address.{Address}
 use Rattle.rdma_types.specs.declared.requests.Terms.{Terms}
 use Rattle.protocol.specs.Numbers.{wire_number, number_limit}

@@ -1,6 +1,10 @@
 //! The law between the two devices and the packetless machine.
 
+ghost use Rattle.std.specs.Prelude.{◌≡◌};
+ghost use Rattle.first_path.specs.Completions.{LegalCompletesInOrder};
 ghost use Rattle.first_path.specs.Law.{StartStands, LineFollows, ScriptFollows, HeardIsLegal, UnbuiltExactly, WiresArePackets};
+ghost use Rattle.first_path.specs.OneWrite as one_write;
+ghost use Rattle.first_path.specs.World.{told_all, opening};
 
 /// The packetless machine follows two devices and their network.
 ///
@@ -16,4 +20,14 @@ pub fn machine_follows()
     ensures legal { HeardIsLegal }
     ensures unbuilt { UnbuiltExactly }
     ensures shows { WiresArePackets }
+{}
+
+/// What an application legally hears: signaled requests complete in posting order, each at most once.
+pub fn legal_completes_in_order()
+    ensures { LegalCompletesInOrder }
+{}
+
+/// Four bytes, written from one device to the other.
+pub fn one_write_is_told()
+    ensures { told_all opening one_write.script ≡ one_write.all_told }
 {}

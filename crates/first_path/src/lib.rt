@@ -3,9 +3,8 @@
 
 mod laws;
 
+pub use laws::{legal_completes_in_order, machine_follows, one_write_is_told};
 use rdma_types::{Answer, ObjName, Verb};
-
-pub use laws::machine_follows;
 
 /// A line of a script that has an answer.
 #[derive(Drop)]
