@@ -6,7 +6,6 @@ use Rattle.rdma_types.specs.declared.requests.Kind.TheVariants as kind
 use Rattle.rdma_types.specs.declared.requests.Request.{Request}
 use Rattle.rdma_types.specs.declared.verbs.Verb.TheVariants as verb
 use Rattle.protocol.specs.Bytes.{big_number}
-use Rattle.protocol.specs.State.{Word}
 use Rattle.hex.specs.Hex.{decode_of}
 use Rattle.hex.specs.declared.error.FromHexError.{FromHexError}
 use Rattle.first_path.specs.declared.Line.{Line}
@@ -33,6 +32,10 @@ abbrev pub lines_of : List ℕ → List (List ℕ)
 lines_of bs = lines_in (slice_split is_newline bs)
 
 -- ---- words
+
+-- a word is its bytes
+abbrev pub Word : Type 0
+Word = List ℕ
 
 -- parts words
 abbrev pub is_space : ℕ → Bool
