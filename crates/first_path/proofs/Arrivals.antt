@@ -4,11 +4,12 @@ use Rattle.std.proofs.lemmas.Bool.Decides.{nat_tests}
 use Rattle.rdma_types.specs.declared.answers.Answer.TheVariants as answer
 use Rattle.rdma_types.specs.declared.answers.Took.TheVariants as took
 use Rattle.protocol.specs.Memory.{stored}
-use Rattle.protocol.specs.Numbers.{wire_number, unwrap_near, number_limit}
-use Rattle.protocol.specs.State.{Posted}
+use Rattle.rdma_types.specs.Kinds.{size_of}
+use Rattle.rdma_types.specs.Limits.{number_limit}
+use Rattle.protocol.specs.Numbers.{wire_number, unwrap_near}
+use Rattle.rdma_types.specs.Objects.{Posted}
 use Rattle.device_core.specs.State.{Device, with_end, with_region}
 use Rattle.device_core.specs.Rules.{sends, answers, receives, arrives, requested, requests, executes, executed, grants_write, ack_packet, to_partner, answered, acknowledges, acknowledged}
-use Rattle.first_path.specs.Machine.{size_of}
 use Rattle.first_path.specs.Stands.{Port, HasForm, write_of, ack_of}
 use Rattle.first_path.proofs.Numbers.{unwrap_own}
 

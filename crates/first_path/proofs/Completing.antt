@@ -9,7 +9,8 @@ use Rattle.rdma_types.specs.declared.requests.Completion.{Completion}
 use Rattle.rdma_types.specs.declared.requests.Request.{Request}
 use Rattle.rdma_types.specs.declared.verbs.Verb.{Verb}
 use Rattle.rdma_types.specs.declared.verbs.Verb.TheVariants as verb
-use Rattle.protocol.specs.State.{Posted}
+use Rattle.rdma_types.specs.Kinds.{request_done, size_of}
+use Rattle.rdma_types.specs.Objects.{Posted, no_posted}
 use Rattle.first_path.specs.Machine as machine
 use Rattle.first_path.specs.Machine.{Machine, Run, Known, Tell, refusal_of, granted_answer, done, answer_by, after_by, is_signaled_write}
 use Rattle.first_path.specs.Legal.{Step, Inner, Visible, IsRun, after, shown}
@@ -69,10 +70,10 @@ ran_by m n rs es count true k there = record { number = k.number; posted = k.pos
 ran_by m n rs es count false k there = record { number = k.number; posted = k.posted; entries = k.entries; told_acted = k.told_acted; acted_posted = k.acted_posted }
 
 completion_is : (m : Machine) (n : ℕ) (p : Posted) → m.end.number ≡ n → machine.completion_of m.end p ≡ success n p.request
-unfolding machine.completion_of success
+unfolding machine.completion_of success request_done
 completion_is m n p e = rw e refl
 
-get_or_map : (ps : List Posted) (i : ℕ) → i < length ps → get_or (map (λ p. p.request) ps) i machine.no_posted.request ≡ (get_or ps i machine.no_posted).request
+get_or_map : (ps : List Posted) (i : ℕ) → i < length ps → get_or (map (λ p. p.request) ps) i no_posted.request ≡ (get_or ps i no_posted).request
 get_or_map [] i h = absurd (omega arith)
 get_or_map (p ∷ ps) zero h = refl
 get_or_map (p ∷ ps) (suc i) h = get_or_map ps i (omega (arith, h))
@@ -82,19 +83,19 @@ unfolding machine.with_end machine.with_entries
 told_keeps m n rs es k h =
     let within : m.end.told < length rs = omega (arith, h, k.acted_posted, length_is k) in
     let inside : m.end.told < length m.end.posted = omega (arith, h, k.acted_posted) in
-    let request : get_or rs m.end.told machine.no_posted.request ≡ (machine.posted_at m.end.posted m.end.told).request = ap (λ l. get_or l m.end.told machine.no_posted.request) (sym k.posted) ∙ get_or_map m.end.posted m.end.told inside in
-    let more : take (m.end.told + 1) rs ≡ take m.end.told rs ++ get_or rs m.end.told machine.no_posted.request ∷ [] = take_one_more rs m.end.told machine.no_posted.request within in
+    let request : get_or rs m.end.told no_posted.request ≡ (machine.posted_at m.end.posted m.end.told).request = ap (λ l. get_or l m.end.told no_posted.request) (sym k.posted) ∙ get_or_map m.end.posted m.end.told inside in
+    let more : take (m.end.told + 1) rs ≡ take m.end.told rs ++ get_or rs m.end.told no_posted.request ∷ [] = take_one_more rs m.end.told no_posted.request within in
     record {
       number = k.number;
       posted = k.posted;
-      entries = sym (append_assoc es m.queue.entries _) ∙ (ap (λ l. l ++ machine.completion_of m.end (machine.posted_at m.end.posted m.end.told) ∷ []) k.entries ∙ (ap (λ c. map (success n) (take m.end.told rs) ++ c ∷ []) (completion_is m n (machine.posted_at m.end.posted m.end.told) k.number ∙ ap (success n) (sym request)) ∙ (sym (map-append (success n) (take m.end.told rs) (get_or rs m.end.told machine.no_posted.request ∷ [])) ∙ ap (map (success n)) (sym more))));
+      entries = sym (append_assoc es m.queue.entries _) ∙ (ap (λ l. l ++ machine.completion_of m.end (machine.posted_at m.end.posted m.end.told) ∷ []) k.entries ∙ (ap (λ c. map (success n) (take m.end.told rs) ++ c ∷ []) (completion_is m n (machine.posted_at m.end.posted m.end.told) k.number ∙ ap (success n) (sym request)) ∙ (sym (map-append (success n) (take m.end.told rs) (get_or rs m.end.told no_posted.request ∷ [])) ∙ ap (map (success n)) (sym more))));
       told_acted = omega (arith, h);
       acted_posted = k.acted_posted;
     }
 
 inner_keeps : (m : Machine) (n : ℕ) (rs : List Request) (es : List Completion) (s : machine.InnerStep) → Keeps m n rs es → machine.Enabled m s → Keeps (machine.effect m s) n rs es
 unfolding machine.advanced machine.with_end
-inner_keeps m n rs es (Run count) k h = ran_by m n rs es count (m.end.into + count == machine.size_of (machine.current m.end)) k h.there
+inner_keeps m n rs es (Run count) k h = ran_by m n rs es count (m.end.into + count == size_of (machine.current m.end)) k h.there
 inner_keeps m n rs es (Known count) k h = record { number = k.number; posted = k.posted; entries = k.entries; told_acted = k.told_acted; acted_posted = k.acted_posted }
 inner_keeps m n rs es Tell k h = told_keeps m n rs es k h
 

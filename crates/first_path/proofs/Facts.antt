@@ -1,11 +1,13 @@
 -- The state that a world stands for is determined by the world and the posted requests.
 use Rattle.std.proofs.Common.{◌≡◌, ◌<◌, ◌≤◌, ℕ, ◌+◌, true, List, refl, ◌∙◌, sym, subst, Some, length, drop, slice_get}
 use Rattle.std.specs.Prelude.{All}
-use Rattle.protocol.specs.Numbers.{number_limit}
-use Rattle.protocol.specs.State.{Word, Region, CompletionQueue, Posted}
+use Rattle.rdma_types.specs.Kinds.{size_of}
+use Rattle.rdma_types.specs.Limits.{number_limit}
+use Rattle.rdma_types.specs.declared.names.Name.{Name}
+use Rattle.rdma_types.specs.Objects.{Region, CompletionQueue, Posted}
 use Rattle.device_core.specs.Rules.{grants_write}
 use Rattle.first_path.specs.World.{World, Flight}
-use Rattle.first_path.specs.Machine.{Machine, size_of}
+use Rattle.first_path.specs.Machine.{Machine}
 use Rattle.first_path.specs.Stands.{Stands, Connected, port, Fact, AreInOrder, HasForm}
 
 -- the state, where these are the posted requests
@@ -96,7 +98,7 @@ facts_of st = record {
 }
 
 -- a machine from its parts
-build : Word → Region → Word → Region → CompletionQueue → Word → ℕ → ℕ → List Posted → ℕ → ℕ → ℕ → ℕ → Machine
+build : Name → Region → Name → Region → CompletionQueue → Name → ℕ → ℕ → List Posted → ℕ → ℕ → ℕ → ℕ → Machine
 build name_one region_one name_two region_two queue name number depth posted told known acted into = record {
   one = record { name = name_one; region = region_one };
   two = record { name = name_two; region = region_two };

@@ -5,6 +5,7 @@ pub mod Start
 pub mod Facts
 pub mod Following
 pub mod Bytes
+pub mod Places
 pub mod LineStore
 pub mod LineLoad
 pub mod LinePoll

@@ -8,8 +8,10 @@ use Rattle.rdma_types.specs.declared.answers.Answer.TheVariants as answer
 use Rattle.rdma_types.specs.declared.answers.Took.{Took}
 use Rattle.rdma_types.specs.declared.answers.Took.TheVariants as took
 use Rattle.rdma_types.specs.declared.requests.Address.{Address}
-use Rattle.protocol.specs.Memory.{stored, overwritten, allows}
-use Rattle.protocol.specs.State.{Posted}
+use Rattle.rdma_types.specs.Kinds.{request_done, size_of}
+use Rattle.rdma_types.specs.Memory.{RemoteWrite, cut, holds, put, remote_key}
+use Rattle.protocol.specs.Memory.{stored}
+use Rattle.rdma_types.specs.Objects.{Posted, no_posted}
 use Rattle.protocol.specs.Wire.{packet_of, wire_of}
 use Rattle.device_core.specs.State.{Device, with_end, with_region, with_queue}
 use Rattle.device_core.specs.Rules.{Step, sends, answers, receives, executed, ack_packet, to_partner, acknowledged, grants_write}
@@ -20,7 +22,7 @@ use Rattle.first_path.specs.declared.Told.TheVariants as told
 use Rattle.first_path.specs.World.{World, WorldStep, Flight, at_one, at_two, tells, unbuilt, sending, numbered, flight_at, delivers, same_address}
 use Rattle.first_path.specs.World as world
 use Rattle.first_path.specs.Machine as machine
-use Rattle.first_path.specs.Machine.{Machine, Run, Tell, CanRun, size_of, put_next, advanced, effect}
+use Rattle.first_path.specs.Machine.{Machine, Run, Tell, CanRun, put_next, advanced, effect}
 use Rattle.first_path.specs.Legal.{kept_line}
 use Rattle.first_path.specs.Carries as carries
 use Rattle.first_path.specs.Carries.{Carries, CarriesFlight, taken_flight, is_taken, class_of}
@@ -30,6 +32,7 @@ use Rattle.first_path.proofs.Facts.{Facts, machine_of, stands_of}
 use Rattle.first_path.proofs.Flights.{fact_later, in_order_bounds, ack_goes_last}
 use Rattle.first_path.proofs.Following.{follows_to, quiet_follows, at_one_answers}
 use Rattle.first_path.proofs.Lists.{slice_get_push, drop_here, get_or_here, within}
+use Rattle.first_path.proofs.Places.{granted_in_one}
 use Rattle.first_path.proofs.Arrivals.{after_write, receives_write, receives_ack, same_number}
 use Rattle.first_path.proofs.ReadsBack.{write_reads_back, ack_reads_back}
 
@@ -66,9 +69,8 @@ or_true true = refl
 or_true false = refl
 
 -- the granted range of a WRITE is granted to the machine
-is_granted : (w : World) (p : Posted) → grants_write w.two.region p.request.shape.rkey p.request.shape.remote (size_of p) ≡ true → machine.IsGranted w.two.region p
-unfolding machine.is_granted_remote machine.may_write allows
-is_granted w p h = rw h (or_true (size_of p == 0))
+granted_there : (w : World) (p : Posted) → grants_write w.two.region p.request.shape.rkey p.request.shape.remote (size_of p) ≡ true → machine.IsGranted w.two.region p
+granted_there w p h = granted_in_one remote_key w.two.region p.request.shape.rkey p.request.shape.remote (size_of p) RemoteWrite ∙ (ap (λ b. (size_of p == 0) || b) h ∙ or_true (size_of p == 0))
 
 -- ---- the WRITE of the expected number
 
@@ -104,19 +106,19 @@ module _ (w : World) (posted : List Posted) (fs : Facts w posted) (p : Posted) (
     acts,
   ) refl
 
-  current_is : get_or posted w.two.end.expected machine.no_posted ≡ p
-  current_is = get_or_here posted p machine.no_posted w.two.end.expected there
+  current_is : get_or posted w.two.end.expected no_posted ≡ p
+  current_is = get_or_here posted p no_posted w.two.end.expected there
 
   can_run : CanRun (machine_of w posted) (length p.payload)
   can_run = record {
     there = within posted p w.two.end.expected there;
-    granted = rw current_is (is_granted w p (fs.granted w.two.end.expected p there));
+    granted = rw current_is (granted_there w p (fs.granted w.two.end.expected p there));
     some_bytes = inl (omega (arith, form.whole, form.some_bytes));
     within = rw current_is (omega (arith, form.whole));
   }
 
-  put_is : put_next (machine_of w posted) (length p.payload) ≡ overwritten w.two.region.bytes (p.request.shape.remote - w.two.region.base) p.payload
-  unfolding put_next machine.put machine.cut overwritten
+  put_is : put_next (machine_of w posted) (length p.payload) ≡ put w.two.region.bytes (p.request.shape.remote - w.two.region.base) p.payload
+  unfolding put_next cut
   put_is =
       let e : p.request.shape.remote + 0 ≡ p.request.shape.remote = omega arith in
       rw (current_is, take-length p.payload, e) refl
@@ -138,7 +140,7 @@ module _ (w : World) (posted : List Posted) (fs : Facts w posted) (p : Posted) (
   -- the datagrams after it are in order
   module _ (rest : List Flight) (left : drop (w.taken + 1) w.sent ≡ rest) (before : w.taken < length w.sent) (order : AreInOrder (port w.one) (port w.two) posted w.one.end.next w.two.end.expected rest (w.two.end.expected + 1) w.one.end.una) where
     written_facts : Facts written_world posted
-    unfolding written_world after_write with_end with_region stored
+    unfolding written_world after_write with_end with_region stored holds
     written_facts = record {
       untold = fs.untold;
       told_acted = omega (arith, fs.told_acted);
@@ -194,7 +196,7 @@ module _ (w : World) (posted : List Posted) (fs : Facts w posted) (msn : ℕ) (m
 
   oldest_there : slice_get posted w.one.end.una ≡ Some oldest
   unfolding oldest
-  oldest_there = slice_get-get_or posted w.one.end.una machine.no_posted (omega (arith, acted, fs.acted_next, fs.next_posted))
+  oldest_there = slice_get-get_or posted w.one.end.una no_posted (omega (arith, acted, fs.acted_next, fs.next_posted))
 
   untold_is : w.one.end.untold ≡ oldest ∷ drop (w.one.end.una + 1) posted
   untold_is = fs.untold ∙ drop_here posted oldest w.one.end.una oldest_there
@@ -202,9 +204,13 @@ module _ (w : World) (posted : List Posted) (fs : Facts w posted) (msn : ℕ) (m
   acknowledged_is : acknowledged w.one w.one.end.una ≡ with_end (with_queue w.one (record w.one.queue { entries = w.one.queue.entries ++ rules.done w.one.end oldest ∷ [] })) (record w.one.end { untold = drop (w.one.end.una + 1) posted; una = w.one.end.una + 1 })
   acknowledged_is = acknowledged_one w.one oldest (drop (w.one.end.una + 1) posted) untold_is
 
+  completion_is : machine.completion_of (machine_of w posted).end oldest ≡ rules.done w.one.end oldest
+  unfolding machine.completion_of rules.done request_done
+  completion_is = rw ((fs.forms w.one.end.una oldest oldest_there).write) refl
+
   tell_is : effect (machine_of w posted) Tell ≡ machine_of told_world posted
-  unfolding machine.with_end machine.with_entries machine.completion_of rules.done told_world with_end with_queue oldest
-  tell_is = rw acknowledged_is refl
+  unfolding machine.with_end machine.with_entries told_world with_end with_queue oldest
+  tell_is = rw (acknowledged_is, completion_is) refl
 
   module _ (rest : List Flight) (left : drop (w.taken + 1) w.sent ≡ rest) (before : w.taken < length w.sent) (order : AreInOrder (port w.one) (port w.two) posted w.one.end.next w.two.end.expected rest w.two.end.expected (w.one.end.una + 1)) where
     told_facts : Facts told_world posted

@@ -4,7 +4,7 @@ use Rattle.std.proofs.lemmas.List.{drop-append-le}
 use Rattle.rdma_types.specs.declared.answers.Answer.TheVariants as answer
 use Rattle.rdma_types.specs.declared.answers.Refusal.TheVariants as refusal
 use Rattle.rdma_types.specs.declared.names.ObjName.{ObjName}
-use Rattle.protocol.specs.State.{Posted}
+use Rattle.rdma_types.specs.Objects.{Posted}
 use Rattle.protocol.specs.Wire.{wire_of}
 use Rattle.device_core.specs.State.{Device, names, with_end}
 use Rattle.device_core.specs.Rules.{transmits, write_packet}

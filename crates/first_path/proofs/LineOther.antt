@@ -1,7 +1,7 @@
 -- A look at a datagram, and each verb that is not of the first path, are followed.
 use Rattle.std.proofs.Common.{◌≡◌, ℕ, List, [], refl, Option, Some, None}
 use Rattle.rdma_types.specs.declared.answers.Answer.TheVariants as answer
-use Rattle.protocol.specs.State.{Posted}
+use Rattle.rdma_types.specs.Objects.{Posted}
 use Rattle.first_path.specs.declared.Line.TheVariants as line
 use Rattle.first_path.specs.declared.Told.{Told}
 use Rattle.first_path.specs.World.{World, Flight, flight_at, shows}

@@ -4,7 +4,8 @@ use Rattle.rdma_types.specs.declared.answers.Answer.TheVariants as answer
 use Rattle.rdma_types.specs.declared.answers.Refusal.TheVariants as refusal
 use Rattle.rdma_types.specs.declared.names.ObjName.{ObjName}
 use Rattle.rdma_types.specs.declared.verbs.Verb.TheVariants as verb
-use Rattle.protocol.specs.State.{Posted}
+use Rattle.rdma_types.specs.Causes.{first_cause}
+use Rattle.rdma_types.specs.Objects.{Posted}
 use Rattle.device_core.specs.State.{Device, names, with_queue}
 use Rattle.device_core.specs.Rules.{polls}
 use Rattle.first_path.specs.declared.Line.TheVariants as line
@@ -23,7 +24,7 @@ module _ (w : World) (posted : List Posted) (fs : Facts w posted) (o : ObjName) 
   polled_device = with_queue w.one (record w.one.queue { entries = drop max w.one.queue.entries })
 
   unnamed : names w.one w.one.queue.name o ≡ false → Goal
-  unfolding verb_step machine.refusal_of machine.first_cause numbered is_too_many
+  unfolding verb_step machine.refusal_of first_cause numbered is_too_many
   unnamed h = refused_follows w (machine_of w posted) (verb.Poll o max) refusal.NoSuch refl (rw h (at_one_answers w w.one (answer.Refused refusal.NoSuch) refl)) (rw h refl) (stands_of fs)
 
   polled_facts : Facts (record w { one = polled_device }) posted
@@ -47,7 +48,7 @@ module _ (w : World) (posted : List Posted) (fs : Facts w posted) (o : ObjName) 
   }
 
   polls_entries : names w.one w.one.queue.name o ≡ true → Goal
-  unfolding verb_step machine.refusal_of machine.first_cause machine.granted_answer machine.done machine.with_entries numbered is_too_many polls polled_device with_queue
+  unfolding verb_step machine.refusal_of first_cause machine.granted_answer machine.done machine.with_entries numbered is_too_many polls polled_device with_queue
   polls_entries h = granted_follows w (record w { one = polled_device }) (machine_of w posted) (verb.Poll o max) (answer.Polled (take max w.one.queue.entries)) refl (rw h (at_one_answers w polled_device (answer.Polled (take max w.one.queue.entries)) refl)) (rw h refl) refl (stands_of polled_facts)
 
   by_name : (named : Bool) → names w.one w.one.queue.name o ≡ named → Goal

@@ -1,5 +1,5 @@
 -- A posted request is followed.
-use Rattle.std.proofs.Common.{arith, ◌≡◌, ◌⊎◌, ◌<◌, ◌≤◌, ℕ, ◌+◌, ◌-◌, ◌==◌, List, [], ◌∷◌, ◌++◌, Bool, true, false, refl, ap, ◌∙◌, sym, subst, inl, inr, Option, Some, None, length, drop, nat_lt, nat_le, length-append, length-take, length-drop}
+use Rattle.std.proofs.Common.{arith, ◌≡◌, ◌⊎◌, ◌<◌, ◌≤◌, ℕ, ◌+◌, ◌-◌, ◌==◌, ◌&&◌, ◌||◌, List, [], ◌∷◌, ◌++◌, Bool, true, false, refl, ap, ◌∙◌, sym, subst, inl, inr, Option, Some, None, length, drop, nat_lt, nat_le, length-append, length-take, length-drop}
 use Rattle.std.proofs.lemmas.Bool.Decides.{nat_tests}
 use Rattle.std.proofs.lemmas.List.{drop-append-le}
 use Rattle.std.proofs.lemmas.List.Elements.{All-take, All-drop}
@@ -12,11 +12,13 @@ use Rattle.rdma_types.specs.declared.requests.Kind.TheVariants as kind
 use Rattle.rdma_types.specs.declared.requests.Request.{Request}
 use Rattle.rdma_types.specs.declared.requests.Shape.{Shape}
 use Rattle.rdma_types.specs.declared.verbs.Verb.TheVariants as verb
-use Rattle.protocol.specs.Bytes.{bytes_at}
-use Rattle.protocol.specs.Memory.{holds_range, loaded}
-use Rattle.protocol.specs.Numbers.{number_limit}
-use Rattle.protocol.specs.Segments.{span, pieces}
-use Rattle.protocol.specs.State.{Posted, Region}
+use Rattle.rdma_types.specs.Kinds.{size_of}
+use Rattle.rdma_types.specs.Limits.{number_limit}
+use Rattle.rdma_types.specs.Memory.{NoRight, allows, cut, holds, local_key}
+use Rattle.rdma_types.specs.Spans.{span, pieces}
+use Rattle.protocol.specs.Memory.{loaded}
+use Rattle.rdma_types.specs.Causes.{first_cause}
+use Rattle.rdma_types.specs.Objects.{Posted, Region}
 use Rattle.device_core.specs.State.{Device, names, with_end}
 use Rattle.device_core.specs.Rules.{end_of_numbers, grants_local, grants_write, post_refusal, is_built, posts}
 use Rattle.device_core.specs.Rules as rules
@@ -30,6 +32,7 @@ use Rattle.first_path.proofs.Facts.{Facts, machine_of, stands_of}
 use Rattle.first_path.proofs.Flights.{fact_kept, in_order_grows}
 use Rattle.first_path.proofs.Following.{refused_follows, too_many_follows, unbuilt_follows, granted_follows, at_one_answers}
 use Rattle.first_path.proofs.Lists.{slice_get_push}
+use Rattle.first_path.proofs.Places.{granted_in_one}
 
 -- ---- what the tests of the rules tell
 
@@ -54,12 +57,13 @@ record IsForm (r : Request) (mtu : ℕ) : Type 0 where
   some_bytes : 1 ≤ r.shape.length
   one_packet : r.shape.length ≤ mtu
   signaled_write : machine.is_signaled_write r ≡ true
+  write : r.shape.kind ≡ kind.Write
 
 is_form : (r : Request) (mtu : ℕ) (k : Kind) → r.shape.kind ≡ k → is_built r mtu ≡ true → IsForm r mtu
-unfolding machine.is_signaled_write machine.is_write
+unfolding machine.is_signaled_write
 is_form r mtu kind.Write e h =
     let g = rw e at h in
-    record { some_bytes = grind (arith, nat_tests, g); one_packet = grind (arith, nat_tests, g); signaled_write = rw e (grind (arith, nat_tests, g)) }
+    record { some_bytes = grind (arith, nat_tests, g); one_packet = grind (arith, nat_tests, g); signaled_write = rw e (grind (arith, nat_tests, g)); write = e }
 is_form r mtu kind.Send e h = let g = rw e at h in absurd (cc g)
 is_form r mtu kind.Read e h = let g = rw e at h in absurd (cc g)
 is_form r mtu kind.CompareSwap e h = let g = rw e at h in absurd (cc g)
@@ -73,9 +77,17 @@ same_full depth count count' e h = grind (arith, nat_tests)
 same_full_queue : (capacity entries count count' : ℕ) → count' ≡ count → entries + count ≤ capacity → (entries + count == capacity) ≡ nat_le capacity (entries + count')
 same_full_queue capacity entries count count' e h = grind (arith, nat_tests)
 
+and_true : (b : Bool) → (b && true) ≡ b
+and_true true = refl
+and_true false = refl
+
+same_grant : (region : Region) (r : Request) → machine.is_granted_in local_key region r.lkey r.local r.shape.length NoRight ≡ (r.shape.length == 0 || (r.lkey == region.keys.local && holds region r.local r.shape.length))
+unfolding allows
+same_grant region r = granted_in_one local_key region r.lkey r.local r.shape.length NoRight ∙ ap (λ b. r.shape.length == 0 || (r.lkey == region.keys.local && b)) (and_true (holds region r.local r.shape.length))
+
 -- the bytes of a granted place are as many as asked for
-loaded_length : (r : Region) (address count : ℕ) → length r.bytes ≡ r.length → holds_range r address count ≡ true → length (bytes_at (address - r.base) count r.bytes) ≡ count
-unfolding bytes_at
+loaded_length : (r : Region) (address count : ℕ) → length r.bytes ≡ r.length → holds r address count ≡ true → length (cut (address - r.base) count r.bytes) ≡ count
+unfolding cut holds
 loaded_length r address count e h =
     let low : r.base ≤ address = grind (arith, nat_tests, h) in
     let high : address + count ≤ r.base + r.length = grind (arith, nat_tests, h) in
@@ -86,7 +98,7 @@ module _ (w : World) (posted : List Posted) (fs : Facts w posted) (o : ObjName) 
   Goal = Follows w (machine_of w posted) (line.Verb (verb.PostSend o r))
 
   unnamed : names w.one w.one.end.name o ≡ false → Goal
-  unfolding verb_step machine.refusal_of machine.first_cause numbered is_too_many
+  unfolding verb_step machine.refusal_of first_cause numbered is_too_many
   unnamed h = refused_follows w (machine_of w posted) (verb.PostSend o r) refusal.NoSuch refl (rw h (at_one_answers w w.one (answer.Refused refusal.NoSuch) refl)) (rw h refl) (stands_of fs)
 
   count_is : length posted - w.one.end.una ≡ length w.one.end.untold
@@ -95,8 +107,8 @@ module _ (w : World) (posted : List Posted) (fs : Facts w posted) (o : ObjName) 
   module _ (named : names w.one w.one.end.name o ≡ true) where
     -- numbers are left: then both refuse for the same cause, or neither
     same_refusal : nat_lt (end_of_numbers w.one.end + span r.shape w.one.end.terms.mtu) number_limit ≡ true → post_refusal w.one r ≡ machine.refusal_of (machine_of w posted) (verb.PostSend o r)
-    unfolding post_refusal machine.refusal_of machine.first_cause machine.is_granted_local
-    same_refusal left = rw (left, named, same_full w.one.end.send_depth (length w.one.end.untold) (length posted - w.one.end.una) count_is fs.shallow, same_full_queue w.one.queue.capacity (length w.one.queue.entries) (length w.one.end.untold) (length posted - w.one.end.una) count_is fs.roomy) refl
+    unfolding post_refusal machine.refusal_of first_cause
+    same_refusal left = rw (left, named, same_grant w.one.region r, same_full w.one.end.send_depth (length w.one.end.untold) (length posted - w.one.end.una) count_is fs.shallow, same_full_queue w.one.queue.capacity (length w.one.queue.entries) (length w.one.end.untold) (length posted - w.one.end.una) count_is fs.roomy) refl
 
     refuses : (why : Refusal) → post_refusal w.one r ≡ Some why → verb_step w (verb.PostSend o r) ≡ at_one w (rules.refuses w.one why)
     unfolding verb_step posts
@@ -141,12 +153,13 @@ module _ (w : World) (posted : List Posted) (fs : Facts w posted) (o : ObjName) 
           una_within : w.one.end.una ≤ length posted
           una_within = omega (arith, fs.told_acted, fs.acted_next, fs.next_posted)
 
-          local_granted : holds_range w.one.region r.local r.shape.length ≡ true
+          local_granted : holds w.one.region r.local r.shape.length ≡ true
           local_granted = grind (arith, nat_tests, pass.granted, form.some_bytes)
 
           has_form : HasForm w.one.end.terms.mtu request
-          unfolding request bytes_at
+          unfolding request cut
           has_form = record {
+            write = form.write;
             whole = loaded_length w.one.region r.local r.shape.length fs.filled local_granted;
             some_bytes = form.some_bytes;
             one_packet = form.one_packet;
@@ -168,7 +181,7 @@ module _ (w : World) (posted : List Posted) (fs : Facts w posted) (o : ObjName) 
             filled = fs.filled;
             bytes = fs.bytes;
             forms = λ n p h. elim (slice_get_push posted request p n h) [ inl a ↦ fs.forms n p a | inr b ↦ subst (λ x. HasForm w.one.end.terms.mtu x) (sym b.1) has_form ];
-            granted = λ n p h. elim (slice_get_push posted request p n h) [ inl a ↦ fs.granted n p a | inr b ↦ subst (λ x. grants_write w.two.region x.request.shape.rkey x.request.shape.remote (machine.size_of x) ≡ true) (sym b.1) granted ];
+            granted = λ n p h. elim (slice_get_push posted request p n h) [ inl a ↦ fs.granted n p a | inr b ↦ subst (λ x. grants_write w.two.region x.request.shape.rkey x.request.shape.remote (size_of x) ≡ true) (sym b.1) granted ];
             connected = fs.connected;
             sent = λ k f h. fact_kept (port w.one) (port w.two) posted (request ∷ []) w.one.end.next w.one.end.next w.two.end.expected w.two.end.expected f (omega arith) (omega arith) (fs.sent k f h);
             taken = fs.taken;
@@ -180,7 +193,7 @@ module _ (w : World) (posted : List Posted) (fs : Facts w posted) (o : ObjName) 
           steps_to = rw (named, fits, granted, built) refl
 
           done_is : machine.done (machine_of w posted) (verb.PostSend o r) ≡ machine_of (record w { one = posted_device }) (posted ++ request ∷ [])
-          unfolding machine.done machine.with_end machine.taken machine.cut bytes_at posted_device rules.posted with_end request
+          unfolding machine.done machine.with_end machine.taken posted_device rules.posted with_end request
           done_is = refl
 
           answer_is : machine.granted_answer (machine_of w posted) (verb.PostSend o r) ≡ Some answer.Done

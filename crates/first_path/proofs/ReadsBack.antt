@@ -1,7 +1,7 @@
 -- The bytes of a packet read back.
 use Rattle.std.proofs.Common.{arith, ◌≡◌, ◌<◌, ◌≤◌, ◌^◌, ℕ, Some, refl}
 use Rattle.protocol.specs.Numbers.{wire_number}
-use Rattle.protocol.specs.State.{Posted}
+use Rattle.rdma_types.specs.Objects.{Posted}
 use Rattle.protocol.specs.Wire.{Packet, packet_of, wire_of, layout_of, Fits}
 use Rattle.roce_headers.proofs.Grammar.{spelled_read}
 use Rattle.roce_headers.proofs.Written.{written_spelled}

@@ -1,13 +1,13 @@
 -- What a legal list says of completions: accepted requests complete in posting order, each at most once.
-use Rattle.std.specs.Prelude.{◌≡◌, ℕ, List, [], ◌∷◌, ◌++◌, map, take, None}
+use Rattle.std.specs.Prelude.{◌≡◌, ℕ, List, [], ◌∷◌, ◌++◌, map, take}
 use Rattle.rdma_types.specs.declared.answers.Answer.{Answer}
 use Rattle.rdma_types.specs.declared.answers.Answer.TheVariants as answer
 use Rattle.rdma_types.specs.declared.requests.Completion.{Completion}
 use Rattle.rdma_types.specs.declared.requests.Request.{Request}
-use Rattle.rdma_types.specs.declared.requests.WcKind.TheVariants as wc
 use Rattle.rdma_types.specs.declared.requests.WcStatus.TheVariants as status
 use Rattle.rdma_types.specs.declared.verbs.Verb.{Verb}
 use Rattle.rdma_types.specs.declared.verbs.Verb.TheVariants as verb
+use Rattle.rdma_types.specs.Kinds.{request_done}
 use Rattle.first_path.specs.Legal.{IsLegal}
 use Rattle.first_path.specs.Machine.{opening}
 
@@ -31,9 +31,9 @@ abbrev pub polled : List (Verb × Answer) → List Completion
 polled [] = []
 polled (x ∷ xs) = polled_by x.0 x.1 ++ polled xs
 
--- the successful completion of a WRITE of the queue pair with that number
+-- the successful completion of a request of the queue pair with that number
 unfoldable pub success : ℕ → Request → Completion
-success number r = record { qp = number; id = r.id; kind = wc.Write; status = status.Success; length = r.shape.length; imm = None }
+success number r = request_done number (record { request = r; payload = [] }) status.Success r.shape.length
 
 -- the polled completions are those of the first so many accepted requests, in posting order, each once
 pub record CompletesInOrder (heard : List (Verb × Answer)) : Type 0 where

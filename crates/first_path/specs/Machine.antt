@@ -1,33 +1,34 @@
 -- The packetless machine of the first path: what a reliable connection gives its users (IBA volume 1, chapter 9), with no
 -- devices, packets, windows or addresses. Context one has a region, a completion queue and the end of a connection;
 -- context two is the peer's, with a region. The requests are signaled WRITEs.
-use Rattle.std.specs.Prelude.{◌≡◌, ◌≤◌, ◌<◌, ◌⊎◌, ℕ, ◌+◌, ◌-◌, ◌/◌, ◌%◌, ◌==◌, ◌&&◌, ◌||◌, not, Bool, true, false, List, [], ◌∷◌, ◌++◌, length, take, drop, replicate, get_or, Option, Some, None, is_some, nat_lt, nat_le, if◌then◌else◌, bytes_eq, codes}
+use Rattle.std.specs.Prelude.{◌≡◌, ◌≤◌, ◌<◌, ◌⊎◌, ℕ, ◌+◌, ◌-◌, ◌==◌, ◌&&◌, not, Bool, true, List, [], ◌∷◌, ◌++◌, length, take, drop, replicate, get_or, Option, Some, None, is_some, nat_lt, nat_le, if◌then◌else◌, bytes_eq, codes}
 use Rattle.rdma_types.specs.declared.answers.Answer.{Answer}
 use Rattle.rdma_types.specs.declared.answers.Answer.TheVariants as answer
 use Rattle.rdma_types.specs.declared.answers.Refusal.{Refusal}
 use Rattle.rdma_types.specs.declared.answers.Refusal.TheVariants as refusal
+use Rattle.rdma_types.specs.declared.names.Name.{Name}
 use Rattle.rdma_types.specs.declared.names.ObjName.{ObjName}
 use Rattle.rdma_types.specs.declared.requests.Completion.{Completion}
-use Rattle.rdma_types.specs.declared.requests.Kind.{Kind}
-use Rattle.rdma_types.specs.declared.requests.Kind.TheVariants as kind
 use Rattle.rdma_types.specs.declared.requests.Request.{Request}
-use Rattle.rdma_types.specs.declared.requests.WcKind.TheVariants as wc
 use Rattle.rdma_types.specs.declared.requests.WcStatus.TheVariants as status
-use Rattle.rdma_types.specs.declared.rights.Rights.{Rights}
 use Rattle.rdma_types.specs.declared.verbs.Verb.{Verb}
 use Rattle.rdma_types.specs.declared.verbs.Verb.TheVariants as verb
-use Rattle.protocol.specs.State.{Word, Region, CompletionQueue, Posted}
+use Rattle.rdma_types.specs.Causes.{cause, first_cause}
+use Rattle.rdma_types.specs.Kinds.{is_write, request_done, size_of}
+use Rattle.rdma_types.specs.Limits.{most_bytes}
+use Rattle.rdma_types.specs.Memory.{Right, NoRight, RemoteWrite, cut, put, holds, is_granted, local_key, remote_key}
+use Rattle.rdma_types.specs.Objects.{Region, CompletionQueue, Posted, no_posted}
 
 -- ---- the state
 
 -- a context, with its region
 pub record Context : Type 0 where
-  pub name : Word
+  pub name : Name
   pub region : Region
 
 -- the end of a connection
 pub record End : Type 0 where
-  pub name : Word
+  pub name : Name
   pub number : ℕ  -- its queue pair number
   pub send_depth : ℕ
   pub posted : List Posted  -- all its requests ever posted, with their bytes as they were when posted
@@ -45,57 +46,19 @@ pub record Machine : Type 0 where
 
 -- ---- places
 
--- the bytes with others put at a place
-unfoldable pub put : List ℕ → ℕ → List ℕ → List ℕ
-put bytes place new = take place bytes ++ new ++ drop (place + length new) bytes
-
--- that many bytes from a place on
-unfoldable pub cut : ℕ → ℕ → List ℕ → List ℕ
-cut place count bytes = take count (drop place bytes)
-
--- the region holds that many bytes from the address on, as whole numbers without wrapping
-abbrev pub holds : Region → ℕ → ℕ → Bool
-holds r address count = nat_le r.base address && nat_le (address + count) (r.base + r.length)
-
--- REMOTE_WRITE is among the rights (IBA 10.6)
-unfoldable pub may_write : Rights → Bool
-may_write rights = (rights.0 / 2) % 2 == 1
-
--- a local place is granted: it is empty, or the region has this local key and holds it
-unfoldable pub is_granted_local : Region → ℕ → ℕ → ℕ → Bool
-is_granted_local r key address count = count == 0 || (key == r.keys.local && holds r address count)
-
--- a remote place is granted for writing: it is empty, or the region has this remote key and the right, and holds it
-unfoldable pub is_granted_remote : Region → ℕ → ℕ → ℕ → Bool
-is_granted_remote r key address count = count == 0 || (key == r.keys.remote && (holds r address count && may_write r.rights))
+-- a place of a context is granted to a key, by its region; a context has one protection domain, which is the region's
+unfoldable pub is_granted_in : (Region → ℕ) → Region → ℕ → ℕ → ℕ → Right → Bool
+is_granted_in key_of r key address count right = is_granted key_of (r ∷ []) r.domain key address count right
 
 -- the whole range of a posted WRITE is granted in the region
 abbrev pub IsGranted : Region → Posted → Type 0
-IsGranted r p = is_granted_remote r p.request.shape.rkey p.request.shape.remote p.request.shape.length ≡ true
+IsGranted r p = is_granted_in remote_key r p.request.shape.rkey p.request.shape.remote (size_of p) RemoteWrite ≡ true
 
 -- ---- requests
-
--- no request
-abbrev pub no_posted : Posted
-no_posted = record {
-  request = record {
-    id = 0;
-    shape = record { kind = kind.Write; length = 0; remote = 0; rkey = 0; imm = None; swap_add = 0; compare = 0 };
-    lkey = 0;
-    local = 0;
-    signaled = false;
-    fence = false;
-  };
-  payload = [];
-}
 
 -- request number i
 abbrev pub posted_at : List Posted → ℕ → Posted
 posted_at posted i = get_or posted i no_posted
-
--- the bytes of a request
-abbrev pub size_of : Posted → ℕ
-size_of p = p.request.shape.length
 
 -- the current request: the next one to act
 abbrev pub current : End → Posted
@@ -107,7 +70,7 @@ untold_count e = length e.posted - e.told
 
 -- the completion of a told request
 unfoldable pub completion_of : End → Posted → Completion
-completion_of e p = record { qp = e.number; id = p.request.id; kind = wc.Write; status = status.Success; length = size_of p; imm = None }
+completion_of e p = request_done e.number p status.Success (size_of p)
 
 -- ---- changed parts
 
@@ -184,17 +147,8 @@ effect m Tell =
 
 -- ---- verbs: their refusals, the first cause that holds
 
--- the longest message (this project's choice)
-abbrev pub longest : ℕ
-longest = 1048576
-
--- the first refusal of a list whose cause is there
-unfoldable pub first_cause : List (Bool × Refusal) → Option Refusal
-first_cause [] = None
-first_cause (x ∷ xs) = if x.0 then Some x.1 else first_cause xs
-
 -- the word names the thing of this name in the context
-abbrev pub names : Context → Word → ObjName → Bool
+abbrev pub names : Context → Name → ObjName → Bool
 names c name o = bytes_eq o.context c.name && bytes_eq o.name name
 
 -- the context that the word may be of
@@ -209,32 +163,24 @@ is_full m = nat_le m.queue.capacity (length m.queue.entries + untold_count m.end
 -- the completion queue is full
 unfoldable pub refusal_of : Machine → Verb → Option Refusal
 refusal_of m (verb.Store o address bytes) = first_cause (
-    (not (names m.one m.one.region.name o), refusal.NoSuch)
-    ∷ (not (holds m.one.region address (length bytes)), refusal.BadKey)
+    cause refusal.NoSuch (not (names m.one m.one.region.name o))
+    ∷ cause refusal.BadKey (not (holds m.one.region address (length bytes)))
     ∷ [])
 refusal_of m (verb.Load o address count) = first_cause (
-    (not (names (context_of m o) (context_of m o).region.name o), refusal.NoSuch)
-    ∷ (not (holds (context_of m o).region address count), refusal.BadKey)
+    cause refusal.NoSuch (not (names (context_of m o) (context_of m o).region.name o))
+    ∷ cause refusal.BadKey (not (holds (context_of m o).region address count))
     ∷ [])
 refusal_of m (verb.PostSend o r) = first_cause (
-    (not (names m.one m.end.name o), refusal.NoSuch)
-    ∷ (nat_lt longest r.shape.length, refusal.TooLong)
-    ∷ (not (is_granted_local m.one.region r.lkey r.local r.shape.length), refusal.BadKey)
-    ∷ (nat_le m.end.send_depth (untold_count m.end), refusal.SqFull)
-    ∷ (is_full m, refusal.CqFull)
+    cause refusal.NoSuch (not (names m.one m.end.name o))
+    ∷ cause refusal.TooLong (nat_lt most_bytes r.shape.length)
+    ∷ cause refusal.BadKey (not (is_granted_in local_key m.one.region r.lkey r.local r.shape.length NoRight))
+    ∷ cause refusal.SqFull (nat_le m.end.send_depth (untold_count m.end))
+    ∷ cause refusal.CqFull (is_full m)
     ∷ [])
-refusal_of m (verb.Poll o max) = first_cause ((not (names m.one m.queue.name o), refusal.NoSuch) ∷ [])
+refusal_of m (verb.Poll o max) = first_cause (cause refusal.NoSuch (not (names m.one m.queue.name o)) ∷ [])
 refusal_of m other = None
 
 -- ---- verbs: what they answer and do
-
--- a WRITE
-unfoldable pub is_write : Kind → Bool
-is_write kind.Write = true
-is_write kind.Send = false
-is_write kind.Read = false
-is_write kind.CompareSwap = false
-is_write kind.FetchAdd = false
 
 -- a signaled WRITE with neither fence nor immediate
 unfoldable pub is_signaled_write : Request → Bool
@@ -281,7 +227,7 @@ after_verb m v = after_by (refusal_of m v) m v
 -- ---- the opening
 
 -- a region of 64 zeros with all rights
-abbrev pub fresh_region : Word → ℕ → ℕ → Region
+abbrev pub fresh_region : Name → ℕ → ℕ → Region
 fresh_region name base key = record { name = name; domain = codes "p"; base = base; length = 64; rights = record { 0 = 15 }; keys = record { local = key; remote = key + 1 }; bytes = replicate 64 0 }
 
 -- contexts a and b with their regions, and an end that has posted nothing

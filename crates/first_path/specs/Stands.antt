@@ -1,14 +1,17 @@
 -- The relation between a world of two devices and the packetless machine, which every line keeps.
 use Rattle.std.specs.Prelude.{◌≡◌, ◌<◌, ◌≤◌, ◌⊎◌, ◌^◌, ℕ, ◌+◌, true, false, List, [], ◌∷◌, length, drop, All, Some, slice_get}
 use Rattle.rdma_types.specs.declared.requests.Address.{Address}
+use Rattle.rdma_types.specs.declared.requests.Kind.TheVariants as kind
 use Rattle.rdma_types.specs.declared.requests.Terms.{Terms}
-use Rattle.protocol.specs.Numbers.{wire_number, number_limit}
-use Rattle.protocol.specs.State.{Posted}
+use Rattle.rdma_types.specs.Kinds.{size_of}
+use Rattle.rdma_types.specs.Limits.{number_limit}
+use Rattle.rdma_types.specs.Objects.{IsWhole, Posted}
+use Rattle.protocol.specs.Numbers.{wire_number}
 use Rattle.protocol.specs.Wire.{Packet, plain, wire_of}
 use Rattle.protocol.specs.declared.wire.Syndrome.TheVariants.{Ack}
 use Rattle.device_core.specs.State.{Device}
 use Rattle.device_core.specs.Rules.{grants_write}
-use Rattle.first_path.specs.Machine.{Machine, size_of}
+use Rattle.first_path.specs.Machine.{Machine}
 use Rattle.first_path.specs.World.{World, Flight, same_address}
 
 -- ---- a connection
@@ -78,8 +81,9 @@ AreInOrder one two posted next acted (f ∷ fs) due oldest =
 
 -- ---- requests
 
--- a posted request has the form of the first path: a message of one packet with all its bytes, and fields of their widths
+-- a posted request has the form of the first path: a WRITE of one packet with all its bytes, and fields of their widths
 pub record HasForm (mtu : ℕ) (p : Posted) : Type 0 where
+  pub write : p.request.shape.kind ≡ kind.Write
   pub whole : length p.payload ≡ size_of p
   pub some_bytes : 1 ≤ size_of p
   pub one_packet : size_of p ≤ mtu
@@ -118,7 +122,7 @@ pub record Stands (w : World) (m : Machine) : Type 0 where
   pub shallow : length w.one.end.untold ≤ w.one.end.send_depth
   pub roomy : length w.one.queue.entries + length w.one.end.untold ≤ w.one.queue.capacity
   -- the first region has as many bytes as it says
-  pub filled : length w.one.region.bytes ≡ w.one.region.length
+  pub filled : IsWhole w.one.region
   pub bytes : All (λ b. b < 256) w.one.region.bytes
   -- each posted request is of the form, and its range is granted in the second region
   pub forms : (n : ℕ) (p : Posted) → slice_get m.end.posted n ≡ Some p → HasForm w.one.end.terms.mtu p

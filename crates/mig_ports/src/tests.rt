@@ -1,8 +1,9 @@
 //! What no clause says: that calls succeed with ample memory, and runs whose outcome is known.
 
-ghost use Rattle.std.specs.Prelude.{None};
+ghost use Rattle.std.specs.Prelude.{◌<◌, None};
 
 use super::*;
+use std::alloc::{AllocError, Global};
 use std::test::Fail;
 
 /// A source that gives a byte a call, and fails at a chosen byte.
@@ -79,21 +80,28 @@ fn reads_all_in_memory(rt: HostRuntime) -> Result<(), Fail> {
     Ok(())
 }
 
+/// Reads 10,000 bytes up to a limit, where one call fails: the error, and the count of bytes left.
+fn read_in_part(
+    alloc: Global,
+    limit: usize,
+    failing: u64,
+) -> Result<(Option<ReadAllFault>, usize), AllocError>
+    requires { limit < usize.MAX }
+{
+    let input = vec![in alloc; 7u8; 10_000]?;
+    let mut source = MemSource::make(input, vec![in alloc; failing]?);
+    let fault = read_all(alloc, &mut source, limit).err();
+    Ok((fault, source.left().len()))
+}
+
 #[test]
 fn stops_short_of_the_end(rt: HostRuntime) -> Result<(), Fail> {
-    let alloc = rt.alloc();
-    for (limit, failing, fault, left) in [
-        (9_999, 4, ReadAllFault::TooLong, 0),
-        (10, 4, ReadAllFault::TooLong, 9_989),
-        (1_048_576, 3, ReadAllFault::ReadFault, 1_808),
-    ] {
-        let input = vec![in alloc; 7u8; 10_000]?;
-        let fails = vec![in alloc; failing]?;
-        let mut source = MemSource::make(input, fails);
-        let refused = read_all(alloc, &mut source, limit);
-        assert!(rt; refused.err() == Some(fault), "{limit}");
-        assert_eq!(rt; source.left().len(), left);
-    }
+    let long = read_in_part(rt.alloc(), 9_999, 4)?;
+    assert!(rt; long == (Some(ReadAllFault::TooLong), 0));
+    let far_too_long = read_in_part(rt.alloc(), 10, 4)?;
+    assert!(rt; far_too_long == (Some(ReadAllFault::TooLong), 9_989));
+    let broken = read_in_part(rt.alloc(), 65_536, 3)?;
+    assert!(rt; broken == (Some(ReadAllFault::ReadFault), 1_808));
     Ok(())
 }
 

@@ -44,6 +44,14 @@ allows r RemoteWrite = (r.0 / 2) % 2 == 1
 allows r RemoteRead = (r.0 / 4) % 2 == 1
 allows r RemoteAtomic = (r.0 / 8) % 2 == 1
 
+-- the set that holds a right alone
+abbrev pub set_of : Right → ℕ
+set_of NoRight = 0
+set_of LocalWrite = 1
+set_of RemoteWrite = 2
+set_of RemoteRead = 4
+set_of RemoteAtomic = 8
+
 -- what a request's local place must give: where bytes land, the right to write
 abbrev pub landing_right : Kind → Right
 landing_right k = if lands k then LocalWrite else NoRight

@@ -9,10 +9,15 @@ mod datagram;
 mod laws;
 mod opcodes;
 mod reading;
+#[cfg(test)]
+mod tests;
 mod writing;
 
 pub use datagram::Datagram;
-pub use laws::{nothing_is_spelled_where_something_offends, what_is_read_is_what_is_spelled};
+pub use laws::{
+    nothing_is_spelled_where_something_offends, what_is_read_can_be_written,
+    what_is_read_is_what_is_spelled, what_is_written_is_spelled, what_is_written_reads_back,
+};
 pub use protocol::{
     Aeth, AtomicEth, Headers, Layout, Malformed, MalformedWhy, ResumeBody, Reth, Syndrome,
 };

@@ -271,8 +271,10 @@ fn read(bytes: &[u8]) -> Result<Datagram<'_>, Malformed>
 ///
 /// # Errors
 ///
-/// The first offence of bytes that spell no datagram, in the order of [`MalformedWhy`], but that Short is looked for
-/// again once the headers of the opcode are known. The order is this project's choice.
+/// What is wrong first, of these in order (this project's choice): Short, under 16 bytes; Opcode, not in the table;
+/// Version, not 0; Short, the headers of the opcode and the CRC do not fit; Syndrome, none of the opcode; Length,
+/// bytes behind the headers where no payload may be, or not a multiple of four, or over 4,096; Pad, more padding
+/// than such bytes.
 #[tactic(auto, unfolding(protocol::specs::Wire::packet_of), using(crate::proofs::Grammar::reading))]
 pub fn decode(bytes: &[u8]) -> Result<Datagram<'_>, Malformed>
     ensures spelled { IfOk result (λ d. Spells (packet d) bytes.now) }

@@ -1,0 +1,242 @@
+//! The moves of a connected end: whether it runs, pauses or resumes, how often it and its partner have moved, and where
+//! its partner is. NAK_STOPPED and pausing are MigrOS's; the counts, RESUME and RESUME_ACK are this project's choice.
+#![tactic(auto, unfolding(protocol::specs::Moves::move_row))]
+
+ghost use Rattle.std.specs.Prelude.{◌≡◌, ◌≢◌, ℕ, ◌+◌, ◌<◌, ◌≤◌, ◌↔◌, IsTrue};
+ghost use Rattle.rdma_types.specs.declared.requests.Address.{Address};
+ghost use Rattle.protocol.specs.Moves.{move_row};
+ghost use Rattle.move_core.specs.Table.{moving_of, control_of, row_of, moved_by, moving_by};
+
+use rdma_types::Address;
+
+/// The greatest count of moves.
+const MOST_MOVES: u32 = 65_535;
+
+/// What a connected end may do.
+#[derive(Clone, Copy, Debug, PartialEq, Eq)]
+pub enum Phase {
+    /// It sends and executes.
+    Running,
+    /// Its partner has stopped: it neither sends requests nor executes any.
+    Paused,
+    /// It has moved and tells its partner so: it executes, and its own requests wait.
+    Resuming,
+}
+
+/// A message of moving.
+#[derive(Clone, Copy, Debug, PartialEq, Eq)]
+pub enum Control {
+    /// NAK_STOPPED: the partner was stopped when it had moved this often.
+    Stopped { count: u32 },
+    /// RESUME: the partner has moved this often, and is here.
+    Resume { count: u32, address: Address },
+    /// RESUME_ACK: the partner knows that this end has moved this often.
+    ResumeAck { count: u32 },
+}
+
+/// What a message of moving did.
+#[derive(Clone, Copy, Debug, PartialEq, Eq)]
+pub enum MoveTook {
+    /// The end is paused.
+    Paused,
+    /// The partner's move is recorded, to be answered by a RESUME_ACK.
+    Resumed,
+    /// The partner's move was recorded already, and a RESUME_ACK is due again.
+    Again,
+    /// The partner knows of this end's move, and the end runs.
+    Running,
+    /// The message is of an earlier move and changes nothing.
+    Stale,
+}
+
+/// The moves of a connected end.
+#[derive(Clone, Copy, Debug, PartialEq, Eq)]
+pub struct MoveState {
+    pub phase: Phase,
+    /// How often this end has moved.
+    pub own: u16,
+    /// How often the partner is known to have moved.
+    pub recorded: u16,
+    /// Where the partner is, as far as it is known.
+    pub partner: Address,
+}
+
+impl MoveState {
+    /// The state of an end as it is connected: it runs, and neither end has moved.
+    pub fn make(partner: Address) -> MoveState
+        ensures { result ≡ record { phase = Phase.Running; own = 0; recorded = 0; partner = partner } }
+    {
+        MoveState {
+            phase: Phase::Running,
+            own: 0,
+            recorded: 0,
+            partner,
+        }
+    }
+
+    /// Takes a message of moving, by the first row that holds:
+    ///
+    /// - NAK_STOPPED with the recorded count pauses an end that is not paused.
+    /// - RESUME with a greater count, of at most 65,535, has its count and address recorded, and a paused end runs.
+    /// - RESUME with the recorded count, at an end that is not paused, is to be answered again.
+    /// - RESUME_ACK with the end's own count lets a resuming end run.
+    /// - All else is stale and changes nothing.
+    pub fn take(&mut self, c: Control) -> MoveTook
+        ensures paused { (result ≡ MoveTook.Paused) ↔ ((c ≡ Control.Stopped self.old.recorded) × (self.old.phase ≢ Phase.Paused)) }
+        ensures resumed { (result ≡ MoveTook.Resumed)
+            ↔ ((n : ℕ) × (at : Address) × (c ≡ Control.Resume n at) × (self.old.recorded < n) × (n ≤ 65535)) }
+        ensures again { (result ≡ MoveTook.Again)
+            ↔ ((at : Address) × (c ≡ Control.Resume self.old.recorded at) × (self.old.phase ≢ Phase.Paused)) }
+        ensures running { (result ≡ MoveTook.Running) ↔ ((c ≡ Control.ResumeAck self.old.own) × (self.old.phase ≡ Phase.Resuming)) }
+        ensures changes { self.new ≡ moved_by self.old c result }
+
+        // The row of the protocol's table, and what it leaves of the state.
+        ensures row { row_of result ≡ move_row (moving_of self.old) (control_of c) }
+        ensures rule { moving_of self.new ≡ moving_by (moving_of self.old) (control_of c) (row_of result) }
+    {
+        let own = u32::from(self.own);
+        let recorded = u32::from(self.recorded);
+        match c {
+            Control::Stopped { count } if count == recorded && !self.is_paused() => {
+                self.phase = Phase::Paused;
+                MoveTook::Paused
+            }
+            Control::Resume { count, address } if recorded < count && count <= MOST_MOVES => {
+                self.recorded = count as u16;
+                self.partner = address;
+                if self.is_paused() {
+                    self.phase = Phase::Running;
+                }
+                MoveTook::Resumed
+            }
+            Control::Resume { count, .. } if count == recorded && !self.is_paused() => {
+                MoveTook::Again
+            }
+            Control::ResumeAck { count } if count == own && self.is_resuming() => {
+                self.phase = Phase::Running;
+                MoveTook::Running
+            }
+            _ => MoveTook::Stale,
+        }
+    }
+
+    /// Counts one more move of this end.
+    pub fn moved(&mut self)
+        requires { self.old.own < 65535 }
+        ensures { self.new ≡ record self.old { own = self.old.own + 1 } }
+    {
+        self.own += 1;
+    }
+
+    fn is_paused(&self) -> bool
+        ensures { IsTrue result ↔ (self.now.phase ≡ Phase.Paused) }
+    {
+        matches!(self.phase, Phase::Paused)
+    }
+
+    fn is_resuming(&self) -> bool
+        ensures { IsTrue result ↔ (self.now.phase ≡ Phase.Resuming) }
+    {
+        matches!(self.phase, Phase::Resuming)
+    }
+}
+
+#[cfg(test)]
+mod tests {
+    use super::*;
+
+    const HOME: Address = Address {
+        ip: 0x0a00_0001,
+        port: 4791,
+    };
+
+    const AWAY: Address = Address {
+        ip: 0x0a00_0002,
+        port: 4791,
+    };
+
+    /// An end that moved twice and knows of three moves of its partner.
+    fn state(phase: Phase, recorded: u16, partner: Address) -> MoveState {
+        MoveState {
+            phase,
+            own: 2,
+            recorded,
+            partner,
+        }
+    }
+
+    #[test]
+    fn a_stop_pauses_at_the_recorded_count(rt: HostRuntime) {
+        let stop = Control::Stopped { count: 3 };
+        for (phase, took, left) in [
+            (Phase::Running, MoveTook::Paused, Phase::Paused),
+            (Phase::Resuming, MoveTook::Paused, Phase::Paused),
+            (Phase::Paused, MoveTook::Stale, Phase::Paused),
+        ] {
+            let mut end = state(phase, 3, HOME);
+            assert_eq!(rt; end.take(stop), took);
+            assert_eq!(rt; end, state(left, 3, HOME));
+        }
+        let mut end = state(Phase::Running, 4, HOME);
+        assert_eq!(rt; end.take(stop), MoveTook::Stale);
+        assert_eq!(rt; end, state(Phase::Running, 4, HOME));
+    }
+
+    #[test]
+    fn a_resume_with_a_greater_count_is_recorded(rt: HostRuntime) {
+        for (phase, left) in [
+            (Phase::Running, Phase::Running),
+            (Phase::Resuming, Phase::Resuming),
+            (Phase::Paused, Phase::Running),
+        ] {
+            let mut end = state(phase, 3, HOME);
+            let resume = Control::Resume {
+                count: 65_535,
+                address: AWAY,
+            };
+            assert_eq!(rt; end.take(resume), MoveTook::Resumed);
+            assert_eq!(rt; end, state(left, 65_535, AWAY));
+        }
+    }
+
+    #[test]
+    fn other_resumes_change_nothing(rt: HostRuntime) {
+        for (phase, count, took) in [
+            (Phase::Running, 3, MoveTook::Again),
+            (Phase::Resuming, 3, MoveTook::Again),
+            (Phase::Paused, 3, MoveTook::Stale),
+            (Phase::Running, 2, MoveTook::Stale),
+            (Phase::Running, 65_536, MoveTook::Stale),
+        ] {
+            let mut end = state(phase, 3, HOME);
+            let resume = Control::Resume {
+                count,
+                address: AWAY,
+            };
+            assert_eq!(rt; end.take(resume), took);
+            assert_eq!(rt; end, state(phase, 3, HOME));
+        }
+    }
+
+    #[test]
+    fn a_resume_ack_with_the_own_count_lets_it_run(rt: HostRuntime) {
+        for (phase, count, took, left) in [
+            (Phase::Resuming, 2, MoveTook::Running, Phase::Running),
+            (Phase::Resuming, 1, MoveTook::Stale, Phase::Resuming),
+            (Phase::Running, 2, MoveTook::Stale, Phase::Running),
+            (Phase::Paused, 2, MoveTook::Stale, Phase::Paused),
+        ] {
+            let mut end = state(phase, 3, HOME);
+            assert_eq!(rt; end.take(Control::ResumeAck { count }), took);
+            assert_eq!(rt; end, state(left, 3, HOME));
+        }
+    }
+
+    #[test]
+    fn moves_are_counted(rt: HostRuntime) {
+        let mut end = MoveState::make(HOME);
+        end.moved();
+        assert_eq!(rt; end.own, 1);
+        assert_eq!(rt; end.take(Control::Stopped { count: 0 }), MoveTook::Paused);
+    }
+}

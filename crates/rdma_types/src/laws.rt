@@ -1,0 +1,22 @@
+//! What the definitions say, as laws.
+
+ghost use Rattle.std.specs.Prelude.{ℕ, List, ◌≡◌, ◌⊎◌, ◌==◌, true, bit_and};
+ghost use Rattle.rdma_types.specs.declared.names.Name.{Name};
+ghost use Rattle.rdma_types.specs.declared.rights.Rights.{Rights};
+ghost use Rattle.rdma_types.specs.Memory.{Right, allows, set_of, Grants, IsGranted, grants, is_granted};
+ghost use Rattle.rdma_types.specs.Objects.{Region};
+
+/// The test of a grant is the fact: a region of the domain with the key holds the whole range and gives the right. And
+/// a place is granted exactly where it is empty or some region grants it.
+pub fn a_granted_place_is_in_a_region()
+    ensures granting { (key_of : Region → ℕ) (domain : Name) (key at count : ℕ) (right : Right) (r : Region) → grants key_of domain key at count right r ≡ true → Grants key_of domain key at count right r }
+    ensures granted { (key_of : Region → ℕ) (domain : Name) (key at count : ℕ) (right : Right) (r : Region) → Grants key_of domain key at count right r → grants key_of domain key at count right r ≡ true }
+    ensures found { (key_of : Region → ℕ) (rs : List Region) (domain : Name) (key at count : ℕ) (right : Right) → is_granted key_of rs domain key at count right ≡ true → (count ≡ 0) ⊎ IsGranted key_of rs domain key at count right }
+    ensures empty { (key_of : Region → ℕ) (rs : List Region) (domain : Name) (key at : ℕ) (right : Right) → is_granted key_of rs domain key at 0 right ≡ true }
+    ensures there { (key_of : Region → ℕ) (rs : List Region) (domain : Name) (key at count : ℕ) (right : Right) → IsGranted key_of rs domain key at count right → is_granted key_of rs domain key at count right ≡ true }
+{}
+
+/// A right is in a set exactly where the set's bits hold its bit, which is what `contains` of `Flags` answers.
+pub fn a_set_of_rights_holds_its_bits()
+    ensures bits { (r : Rights) (right : Right) → allows r right ≡ (bit_and r.0 (set_of right) == set_of right) }
+{}
