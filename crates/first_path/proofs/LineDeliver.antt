@@ -19,7 +19,8 @@ use Rattle.device_core.specs.Rules as rules
 use Rattle.first_path.specs.declared.Line.TheVariants as line
 use Rattle.first_path.specs.declared.Told.{Told}
 use Rattle.first_path.specs.declared.Told.TheVariants as told
-use Rattle.first_path.specs.World.{World, WorldStep, Flight, at_one, at_two, tells, unbuilt, sending, numbered, flight_at, delivers, same_address}
+use Rattle.first_path.specs.declared.Flight.{Flight}
+use Rattle.first_path.specs.World.{World, WorldStep, at_one, at_two, tells, unbuilt, sending, numbered, flight_at, delivers, same_address}
 use Rattle.first_path.specs.World as world
 use Rattle.first_path.specs.Machine as machine
 use Rattle.first_path.specs.Machine.{Machine, Run, Tell, CanRun, put_next, advanced, effect}

@@ -10,7 +10,8 @@ use Rattle.device_core.specs.State.{Device, names, with_end}
 use Rattle.device_core.specs.Rules.{transmits, write_packet}
 use Rattle.first_path.specs.declared.Line.TheVariants as line
 use Rattle.first_path.specs.declared.Told.{Told}
-use Rattle.first_path.specs.World.{World, Flight, at_one, tells, sending, numbered}
+use Rattle.first_path.specs.declared.Flight.{Flight}
+use Rattle.first_path.specs.World.{World, at_one, tells, sending, numbered}
 use Rattle.first_path.specs.Legal.{kept_line}
 use Rattle.first_path.specs.Stands.{port, IsWrite, AreInOrder, write_of}
 use Rattle.first_path.specs.Law.{Follows}

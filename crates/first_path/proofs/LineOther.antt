@@ -4,7 +4,8 @@ use Rattle.rdma_types.specs.declared.answers.Answer.TheVariants as answer
 use Rattle.rdma_types.specs.Objects.{Posted}
 use Rattle.first_path.specs.declared.Line.TheVariants as line
 use Rattle.first_path.specs.declared.Told.{Told}
-use Rattle.first_path.specs.World.{World, Flight, flight_at, shows}
+use Rattle.first_path.specs.declared.Flight.{Flight}
+use Rattle.first_path.specs.World.{World, flight_at, shows}
 use Rattle.first_path.specs.Legal.{kept_line}
 use Rattle.first_path.specs.Law.{Follows}
 use Rattle.first_path.proofs.Facts.{Facts, machine_of, stands_of}

@@ -10,7 +10,8 @@ use Rattle.first_path.specs.declared.Line.TheVariants as line
 use Rattle.first_path.specs.declared.Told.{Told}
 use Rattle.first_path.specs.declared.Told.TheVariants as told
 use Rattle.rdma_types.specs.declared.answers.Answer.TheVariants as answer
-use Rattle.first_path.specs.World.{World, Flight, rules, told_all, world_after, verb_step, shows, flight_at}
+use Rattle.first_path.specs.declared.Flight.{Flight}
+use Rattle.first_path.specs.World.{World, rules, told_all, world_after, verb_step, shows, flight_at}
 use Rattle.first_path.specs.World as world
 use Rattle.first_path.specs.Machine as machine
 use Rattle.first_path.specs.Machine.{Machine, InnerStep}

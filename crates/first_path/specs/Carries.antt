@@ -8,7 +8,8 @@ use Rattle.first_path.specs.declared.Line.{Line}
 use Rattle.first_path.specs.declared.Line.TheVariants as line
 use Rattle.first_path.specs.declared.Told.{Told}
 use Rattle.first_path.specs.declared.Told.TheVariants as told
-use Rattle.first_path.specs.World.{World, Flight, rules, flight_at, same_address}
+use Rattle.first_path.specs.declared.Flight.{Flight}
+use Rattle.first_path.specs.World.{World, rules, flight_at, same_address}
 use Rattle.first_path.specs.Machine.{Machine, InnerStep, Run, Known, Tell, effect}
 
 -- the owner learns of no request from number `limit` on

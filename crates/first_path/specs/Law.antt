@@ -6,7 +6,8 @@ use Rattle.rdma_types.specs.declared.verbs.Verb.TheVariants as verb
 use Rattle.first_path.specs.declared.Line.{Line}
 use Rattle.first_path.specs.declared.Line.TheVariants as line
 use Rattle.first_path.specs.declared.Told.TheVariants as told
-use Rattle.first_path.specs.World.{World, Flight, rules, told_all, world_after, is_kept, opening}
+use Rattle.first_path.specs.declared.Flight.{Flight}
+use Rattle.first_path.specs.World.{World, rules, told_all, world_after, is_kept, opening}
 use Rattle.first_path.specs.Machine as machine
 use Rattle.first_path.specs.Machine.{Machine, InnerStep}
 use Rattle.first_path.specs.Legal.{IsRun, after, shown, IsLegal, kept, line_steps, run_steps}

@@ -12,7 +12,8 @@ use Rattle.protocol.specs.declared.wire.Syndrome.TheVariants.{Ack}
 use Rattle.device_core.specs.State.{Device}
 use Rattle.device_core.specs.Rules.{grants_write}
 use Rattle.first_path.specs.Machine.{Machine}
-use Rattle.first_path.specs.World.{World, Flight, same_address}
+use Rattle.first_path.specs.declared.Flight.{Flight}
+use Rattle.first_path.specs.World.{World, same_address}
 
 -- ---- a connection
 

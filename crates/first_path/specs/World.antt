@@ -18,17 +18,11 @@ use Rattle.device_core.specs.declared.Event.{Event}
 use Rattle.device_core.specs.declared.Event.TheVariants as event
 use Rattle.device_core.specs.State.{Device, End, names}
 use Rattle.device_core.specs.Rules.{Step, device_step, post_refusal, grants_write}
+use Rattle.first_path.specs.declared.Flight.{Flight}
 use Rattle.first_path.specs.declared.Line.{Line}
 use Rattle.first_path.specs.declared.Line.TheVariants as line
 use Rattle.first_path.specs.declared.Told.{Told}
 use Rattle.first_path.specs.declared.Told.TheVariants as told
-
--- a datagram that was sent
-pub record Flight : Type 0 where
-  pub from : Address
-  pub to : Address
-  pub number : Option ℕ  -- its true number
-  pub bytes : List ℕ
 
 -- two devices, every datagram ever sent, and how many of them were delivered, in their order
 pub record World : Type 0 where

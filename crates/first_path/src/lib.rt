@@ -4,7 +4,7 @@
 mod laws;
 
 pub use laws::{legal_completes_in_order, machine_follows, one_write_is_told};
-use rdma_types::{Answer, ObjName, Verb};
+use rdma_types::{Address, Answer, Items, ObjName, Verb};
 
 /// A line of a script that has an answer.
 #[derive(Drop)]
@@ -26,4 +26,14 @@ pub enum Told {
     Answered(Answer),
     /// Its form is not built yet, and nothing has changed.
     Unbuilt,
+}
+
+/// A datagram that was sent.
+#[derive(Drop)]
+pub struct Flight {
+    pub from: Address,
+    pub to: Address,
+    /// Its true packet number.
+    pub number: Option<u64>,
+    pub bytes: Items<u8>,
 }

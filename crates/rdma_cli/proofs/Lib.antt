@@ -1,0 +1,4 @@
+pub mod Sending
+pub mod Fronts
+pub mod Played
+pub mod Ending
