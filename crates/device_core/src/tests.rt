@@ -97,13 +97,10 @@ fn check_sent(rt: &impl Abort, outcome: &Outcome, to: u8, bytes: &[u8]) {
     }
 }
 
-fn check_took(rt: &impl Abort, outcome: &Outcome, wanted: Took) {
+fn took(outcome: &Outcome, wanted: Took) -> bool {
     match &outcome.answer {
-        Answer::Took { took, first, .. } => {
-            assert_eq!(rt; *took, wanted);
-            assert_eq!(rt; *first, 0);
-        }
-        _ => assert!(rt; false, "nothing is taken"),
+        Answer::Took { took, .. } => *took == wanted,
+        _ => false,
     }
 }
 
@@ -123,7 +120,7 @@ fn deliver(
         bytes,
     };
     let outcome = built(device, alloc, &arrival)?;
-    check_took(rt, &outcome, wanted);
+    assert!(rt; took(&outcome, wanted));
     check_sent(rt, &outcome, from, reply);
     Ok(())
 }
