@@ -41,7 +41,12 @@ impl<'a> Words<'a> {
 fn word_length(bytes: &[u8]) -> usize
     ensures { result ≡ position_or_len is_space bytes.now }
 {
-    bytes.iter().position(|b| *b == b' ').unwrap_or(bytes.len())
+    for (i, b) in bytes.iter().enumerate() {
+        if *b == b' ' {
+            return i;
+        }
+    }
+    bytes.len()
 }
 
 fn all_digits(word: &[u8]) -> bool
