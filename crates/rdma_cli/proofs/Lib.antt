@@ -1,3 +1,4 @@
 pub mod Splitting
 pub mod Digits
 pub mod InRange
+pub mod Writing

@@ -1,6 +1,7 @@
 //! The program.
 #![tactic(auto)]
 
+mod printing;
 mod words;
 
 fn main() {}
