@@ -1,4 +1,5 @@
 pub mod Splitting
 pub mod Digits
+pub mod Lines
 pub mod InRange
 pub mod Writing

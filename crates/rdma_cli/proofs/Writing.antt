@@ -13,7 +13,7 @@ use Rattle.rdma_cli.specs.Printed.{Keeps, more_completions, completion_text, lef
 pub keeps_after : (old text mid new : List ℕ) → mid ≡ old ++ text → Keeps mid new → Keeps old new
 keeps_after old text mid new e k =
     let whole : new ≡ old ++ (text ++ drop (length mid) new) =
-        sym (take-append-drop (length mid) new) ∙ ap (λ (z : List ℕ). z ++ drop (length mid) new) (k ∙ e) ∙ append_assoc old text (drop (length mid) new) in
+    sym (take-append-drop (length mid) new) ∙ ap (λ (z : List ℕ). z ++ drop (length mid) new) (k ∙ e) ∙ append_assoc old text (drop (length mid) new) in
     ap (take (length old)) whole ∙ take-append_seam old (text ++ drop (length mid) new)
 
 encode_with-append : (t xs ys : List ℕ) → encode_with t (xs ++ ys) ≡ encode_with t xs ++ encode_with t ys
@@ -55,9 +55,9 @@ completions_step xs i d start mid new h e n =
     n ∙ ap (λ (z : List ℕ). z ++ (10 ∷ completion_text x)) e
     ∙ append_assoc start (more_completions (take i xs)) (10 ∷ completion_text x)
     ∙ ap (λ (z : List ℕ). start ++ z)
-        (ap (λ (z : List ℕ). more_completions (take i xs) ++ z) (sym (one_completion x))
-        ∙ sym (more_completions-append (take i xs) (x ∷ []))
-        ∙ ap more_completions (sym (take_more xs i d h)))
+    (ap (λ (z : List ℕ). more_completions (take i xs) ++ z) (sym (one_completion x))
+    ∙ sym (more_completions-append (take i xs) (x ∷ []))
+    ∙ ap more_completions (sym (take_more xs i d h)))
 
 -- one more end that settling left
 pub left_step : (xs : List (ObjName × LeftWhy)) (i : ℕ) (x : ObjName × LeftWhy) (start mid new : List ℕ) → i < length xs → x ≡ get_or xs i x → mid ≡ start ++ left_lines (take i xs) → new ≡ mid ++ (10 ∷ left_line x) → new ≡ start ++ left_lines (take (i + 1) xs)
@@ -65,9 +65,9 @@ left_step xs i x start mid new h is e n =
     n ∙ ap (λ (z : List ℕ). z ++ (10 ∷ left_line x)) e
     ∙ append_assoc start (left_lines (take i xs)) (10 ∷ left_line x)
     ∙ ap (λ (z : List ℕ). start ++ z)
-        (ap (λ (z : List ℕ). left_lines (take i xs) ++ z) (sym (one_left x))
-        ∙ sym (left_lines-append (take i xs) (x ∷ []))
-        ∙ ap left_lines (ap (λ (y : ObjName × LeftWhy). take i xs ++ y ∷ []) is ∙ sym (take_more xs i x h)))
+    (ap (λ (z : List ℕ). left_lines (take i xs) ++ z) (sym (one_left x))
+    ∙ sym (left_lines-append (take i xs) (x ∷ []))
+    ∙ ap left_lines (ap (λ (y : ObjName × LeftWhy). take i xs ++ y ∷ []) is ∙ sym (take_more xs i x h)))
 
 -- before the first byte
 pub hex_start : (start : List ℕ) → start ≡ start ++ encode_lower []

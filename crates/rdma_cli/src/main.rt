@@ -2,6 +2,9 @@
 #![tactic(auto)]
 
 mod printing;
+mod reading;
+#[cfg(test)]
+mod tests;
 mod words;
 
 fn main() {}

@@ -9,7 +9,10 @@ ghost use Rattle.rdma_cli.specs.Printed.{Keeps, in_hex};
 
 use byteorder::{BigEndian, ByteOrder};
 use first_path::Told;
-use rdma_types::{Answer, Completion, Keys, LeftWhy, NotWhy, ObjName, Refusal, SilentWhy, Took, WcKind, WcStatus, Why};
+use rdma_types::{
+    Answer, Completion, Keys, LeftWhy, NotWhy, ObjName, Refusal, SilentWhy, Took, WcKind, WcStatus,
+    Why,
+};
 use std::alloc::AllocError;
 
 fn kind_text(kind: WcKind) -> &'static [u8]
