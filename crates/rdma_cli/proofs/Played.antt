@@ -28,14 +28,14 @@ module _ (held held' : Option (List ℕ)) (text : List ℕ) (w : World) (number 
   -- a blank line changes nothing
   pub played_blank : reading_of bs ≡ Blank → IsPlayed held held' text w number (bs ∷ more) → IsPlayed held held' text w (number + 1) more
   played_blank e h =
-    let same : script_from (number + 1) (bs ∷ more) ≡ Later = ap (λ r. before r (number + 1) Later) e in
-    record {
-      done = h.done;
-      written = h.written;
-      whole = h.whole ∙ ap (λ (s : Script). h.done ++ printed (told_all w s.lines)) same;
-      bad = h.bad ∙ ap (λ (s : Script). s.bad) same;
-      count = omega (arith, h.count);
-    }
+      let same : script_from (number + 1) (bs ∷ more) ≡ Later = ap (λ r. before r (number + 1) Later) e in
+      record {
+        done = h.done;
+        written = h.written;
+        whole = h.whole ∙ ap (λ (s : Script). h.done ++ printed (told_all w s.lines)) same;
+        bad = h.bad ∙ ap (λ (s : Script). s.bad) same;
+        count = omega (arith, h.count);
+      }
 
   module _ (l : Line) (e : reading_of bs ≡ Says l) (h : IsPlayed held held' text w number (bs ∷ more)) where
     says : script_from (number + 1) (bs ∷ more) ≡ record { lines = l ∷ (Later).lines; bad = (Later).bad }
@@ -88,8 +88,8 @@ module _ (held held' : Option (List ℕ)) (text : List ℕ) (w : World) (number 
     pub played_before : Puts held held' (answers_text text)
     unfolding printed
     played_before =
-      let all : answers_text text ≡ h.done = h.whole ∙ ap (λ (s : Script). h.done ++ printed (told_all w s.lines)) stops ∙ append-nil h.done in
-      subst (Puts held held') (sym all) h.written
+        let all : answers_text text ≡ h.done = h.whole ∙ ap (λ (s : Script). h.done ++ printed (told_all w s.lines)) stops ∙ append-nil h.done in
+        subst (Puts held held') (sym all) h.written
 
 -- no line is left
 module _ (held held' : Option (List ℕ)) (text : List ℕ) (w : World) (number : ℕ) (h : IsPlayed held held' text w number []) where
@@ -99,8 +99,8 @@ module _ (held held' : Option (List ℕ)) (text : List ℕ) (w : World) (number 
   pub played_whole : Puts held held' (answers_text text)
   unfolding printed
   played_whole =
-    let all : answers_text text ≡ h.done = h.whole ∙ append-nil h.done in
-    subst (Puts held held') (sym all) h.written
+      let all : answers_text text ≡ h.done = h.whole ∙ append-nil h.done in
+      subst (Puts held held') (sym all) h.written
 
 -- a front of the answers is written
 pub played_front : (held held' : Option (List ℕ)) (text : List ℕ) (w : World) (number : ℕ) (rest : List (List ℕ)) → IsPlayed held held' text w number rest → PutsFront held held' (answers_text text)

@@ -4,7 +4,10 @@ use Rattle.std.specs.Fmt.{decimal}
 use Rattle.std.specs.declared.alloc.Global.{Global}
 use Rattle.std.specs.String.{string_bytes}
 use Rattle.first_path.specs.declared.Line.{Line}
-use Rattle.first_path.specs.World.{World, opening, told_all}
+use Rattle.first_path.specs.Law.{FollowsAll}
+use Rattle.first_path.specs.Legal.{IsLegal, kept}
+use Rattle.first_path.specs.Machine as machine
+use Rattle.first_path.specs.World.{opening, told_all}
 use Rattle.mig_ports.specs.Streams.{Puts, TakesAll}
 use Rattle.rdma_cli.specs.Script.{Script, script_of}
 use Rattle.rdma_cli.specs.Printed.{printed}
@@ -68,12 +71,16 @@ pub record PutsFront (held held' : Option (List ℕ)) (text : List ℕ) : Type 0
 abbrev pub AnswersRead : Option (List ℕ) → Option (List ℕ) → List ℕ → Type 0
 AnswersRead left left' answers = (answers ≡ []) ⊎ ((text : List ℕ) × TakesAll left left' text × (answers ≡ answers_text text))
 
--- status 0: the whole input was read, none of its lines is bad, and what was written is the answers to them
+-- status 0: the whole input was read, none of its lines is bad, and what was written is the answers to them. The packetless
+-- machine follows these lines, by inner steps only where a line causes them; and what the applications made and heard is
+-- legal for it.
 pub record IsAnswered (left left' held held' : Option (List ℕ)) : Type 0 where
   pub text : List ℕ
   pub read : TakesAll left left' text
   pub good : bad_line text ≡ None
   pub written : Puts held held' (answers_text text)
+  pub follows : FollowsAll opening machine.opening (lines text)
+  pub legal : IsLegal (kept (lines text) (told_all opening (lines text)))
 
 -- status 3: the whole input was read, and what was written is the answers to the lines before its first bad one, and the
 -- last line with the number of that

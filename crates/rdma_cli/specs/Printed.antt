@@ -1,5 +1,5 @@
 -- The text of the answers: a line for each, but for a poll and for settling, which have one for each thing that they tell.
-use Rattle.std.specs.Prelude.{ℕ, ◌+◌, ◌-◌, ◌==◌, List, [], ◌∷◌, ◌++◌, length, Option, Some, None, nat_le, if◌then◌else◌, codes}
+use Rattle.std.specs.Prelude.{◌≡◌, ℕ, ◌+◌, ◌-◌, ◌==◌, List, [], ◌∷◌, ◌++◌, length, take, Option, Some, None, nat_le, if◌then◌else◌, codes}
 use Rattle.std.specs.Fmt.{decimal}
 use Rattle.rdma_types.specs.declared.answers.Answer.{Answer}
 use Rattle.rdma_types.specs.declared.answers.Answer.TheVariants as answer
@@ -26,6 +26,12 @@ use Rattle.hex.specs.Hex.{encode_lower}
 use Rattle.first_path.specs.declared.Told.{Told}
 use Rattle.first_path.specs.declared.Told.TheVariants as told
 
+-- ---- writing
+
+-- the new bytes begin with the old ones
+abbrev pub Keeps : List ℕ → List ℕ → Type 0
+Keeps old new = take (length old) new ≡ old
+
 -- ---- words
 
 -- a space and a word
@@ -41,7 +47,7 @@ abbrev pub object_text : ObjName → List ℕ
 object_text o = o.context ++ (46 ∷ o.name)
 
 -- the kind of a completion
-unfoldable pub kind_text : WcKind → List ℕ
+abbrev pub kind_text : WcKind → List ℕ
 kind_text wc.Write = codes "write"
 kind_text wc.Send = codes "send"
 kind_text wc.Read = codes "read"
@@ -51,7 +57,7 @@ kind_text wc.Recv = codes "recv"
 kind_text wc.RecvImm = codes "recvimm"
 
 -- the number of a status
-unfoldable pub status_number : WcStatus → ℕ
+abbrev pub status_number : WcStatus → ℕ
 status_number status.Success = 0
 status_number status.LocalLength = 1
 status_number status.Flush = 5
@@ -61,7 +67,7 @@ status_number status.RetryExceeded = 12
 status_number status.RnrExceeded = 13
 
 -- the name of a refusal
-unfoldable pub refusal_text : Refusal → List ℕ
+abbrev pub refusal_text : Refusal → List ℕ
 refusal_text refusal.NoSuch = codes "NoSuch"
 refusal_text refusal.NumberTaken = codes "NumberTaken"
 refusal_text refusal.TooMany = codes "TooMany"
@@ -78,7 +84,7 @@ refusal_text refusal.Spent = codes "Spent"
 refusal_text refusal.NoPage = codes "NoPage"
 
 -- why an expiry is not counted
-unfoldable pub not_why_text : NotWhy → List ℕ
+abbrev pub not_why_text : NotWhy → List ℕ
 not_why_text not_why.Ended = codes "ended"
 not_why_text not_why.Paused = codes "paused"
 not_why_text not_why.Resuming = codes "resuming"
@@ -86,13 +92,13 @@ not_why_text not_why.Rnr = codes "rnr"
 not_why_text not_why.Nothing = codes "nothing"
 
 -- why a request is refused
-unfoldable pub why_text : Why → List ℕ
+abbrev pub why_text : Why → List ℕ
 why_text why.Invalid = codes "invalid"
 why_text why.Access = codes "access"
 why_text why.Length = codes "length"
 
 -- why a datagram has no effect
-unfoldable pub silent_text : SilentWhy → List ℕ
+abbrev pub silent_text : SilentWhy → List ℕ
 silent_text silent.Malformed = codes "malformed"
 silent_text silent.Unknown = codes "unknown"
 silent_text silent.Ended = codes "ended"
@@ -103,7 +109,7 @@ silent_text silent.Useless = codes "useless"
 silent_text silent.Stale = codes "stale"
 
 -- why requests are left
-unfoldable pub left_text : LeftWhy → List ℕ
+abbrev pub left_text : LeftWhy → List ℕ
 left_text left.Paused = codes "paused"
 left_text left.Resuming = codes "resuming"
 left_text left.NoReceive = codes "noreceive"
@@ -140,15 +146,22 @@ sent_text first count =
 
 -- ---- lines
 
+-- the immediate of a completion, where there is one
+abbrev pub imm_text : Option ℕ → List ℕ
+imm_text None = []
+imm_text (Some imm) = codes " imm" ++ spaced (in_hex 4 imm)
+
+-- the queue pair of a completion, and the id of its request
+abbrev pub request_text : Completion → List ℕ
+request_text c = codes "wc" ++ spaced (in_hex 3 c.qp) ++ spaced (decimal c.id)
+
+-- the kind, the status and the length of a completion
+abbrev pub outcome_text : Completion → List ℕ
+outcome_text c = spaced (kind_text c.kind) ++ spaced (decimal (status_number c.status)) ++ spaced (decimal c.length)
+
 -- a completion: queue pair, id, kind, status, length, and the immediate where there is one
 unfoldable pub completion_text : Completion → List ℕ
-completion_text c =
-    codes "wc" ++ spaced (in_hex 3 c.qp) ++ spaced (decimal c.id) ++ spaced (kind_text c.kind)
-    ++ spaced (decimal (status_number c.status)) ++ spaced (decimal c.length) ++ imm_text c.imm
-  where
-    imm_text : Option ℕ → List ℕ
-    imm_text None = []
-    imm_text (Some imm) = codes " imm" ++ spaced (in_hex 4 imm)
+completion_text c = request_text c ++ outcome_text c ++ imm_text c.imm
 
 -- a line for each completion, each with a newline before it
 unfoldable pub more_completions : List Completion → List ℕ
@@ -160,10 +173,14 @@ unfoldable pub completions_text : List Completion → List ℕ
 completions_text [] = codes "none"
 completions_text (c ∷ cs) = completion_text c ++ more_completions cs
 
+-- an end that settling left, and why
+abbrev pub left_line : (ObjName × LeftWhy) → List ℕ
+left_line x = codes "left" ++ spaced (object_text x.0) ++ spaced (left_text x.1)
+
 -- a line for each end that settling left, each with a newline before it
 unfoldable pub left_lines : List (ObjName × LeftWhy) → List ℕ
 left_lines [] = []
-left_lines (x ∷ xs) = 10 ∷ (codes "left" ++ spaced (object_text x.0) ++ spaced (left_text x.1) ++ left_lines xs)
+left_lines (x ∷ xs) = 10 ∷ (left_line x ++ left_lines xs)
 
 -- bytes behind a length, where any are shown
 unfoldable pub shown_text : List ℕ → List ℕ

@@ -10,6 +10,8 @@ use Rattle.hex.specs.Hex.{decode_of}
 use Rattle.hex.specs.declared.error.FromHexError.{FromHexError}
 use Rattle.first_path.specs.declared.Line.{Line}
 use Rattle.first_path.specs.declared.Line.TheVariants as line
+use Rattle.rdma_cli.specs.declared.reading.Reading.{Reading}
+use Rattle.rdma_cli.specs.declared.reading.Reading.TheVariants.{Blank, Bad, Says}
 
 -- ---- lines
 
@@ -22,13 +24,13 @@ abbrev pub without_return : List ℕ → List ℕ
 without_return bs = if not (length bs == 0) && slice_index bs (length bs - 1) == 13 then take (length bs - 1) bs else bs
 
 -- the lines of a text that newlines cut into these pieces; the last line may lack its newline
-abbrev pub lines_in : List (List ℕ) → List (List ℕ)
+unfoldable pub lines_in : List (List ℕ) → List (List ℕ)
 lines_in [] = []
 lines_in (last ∷ []) = if length last == 0 then [] else last ∷ []
 lines_in (piece ∷ next ∷ more) = without_return piece ∷ lines_in (next ∷ more)
 
 -- the lines of a text, without their ends
-abbrev pub lines_of : List ℕ → List (List ℕ)
+unfoldable pub lines_of : List ℕ → List (List ℕ)
 lines_of bs = lines_in (slice_split is_newline bs)
 
 -- ---- words
@@ -47,7 +49,7 @@ without_empty [] = []
 without_empty (piece ∷ more) = if length piece == 0 then without_empty more else piece ∷ without_empty more
 
 -- the words of a line
-abbrev pub words_of : List ℕ → List Word
+unfoldable pub words_of : List ℕ → List Word
 words_of bs = without_empty (slice_split is_space bs)
 
 -- ---- numbers, keys and bytes
@@ -82,13 +84,14 @@ abbrev pub from_hex : Result (List ℕ) FromHexError → Option (List ℕ)
 from_hex (Ok bs) = Some bs
 from_hex (Err e) = None
 
+-- the number that bytes spell
+abbrev pub number_of_bytes : Option (List ℕ) → Option ℕ
+number_of_bytes None = None
+number_of_bytes (Some bs) = Some (big_number bs)
+
 -- the key of a word of eight hexadecimal digits
 abbrev pub key_of : Word → Option ℕ
-key_of w = if length w == 8 then as_number (from_hex (decode_of w)) else None
-  where
-    as_number : Option (List ℕ) → Option ℕ
-    as_number None = None
-    as_number (Some bs) = Some (big_number bs)
+key_of w = if length w == 8 then number_of_bytes (from_hex (decode_of w)) else None
 
 -- the bytes of a word of 2 to 8,192 hexadecimal digits
 abbrev pub bytes_of : Word → Option (List ℕ)
@@ -100,29 +103,31 @@ bytes_of w = if nat_le 2 (length w) && nat_le (length w) 8192 then from_hex (dec
 abbrev pub object : List ℕ → List ℕ → ObjName
 object context name = record { context = context; name = name }
 
+-- bytes into a.m, where the words spell an address and bytes
+abbrev pub stored : Option ℕ → Option (List ℕ) → Option Line
+stored (Some at) (Some bytes) = Some (line.Verb (verb.Store (object (codes "a") (codes "m")) at bytes))
+stored (Some at) None = None
+stored None bytes = None
+
 -- bytes into a.m
-abbrev pub store_line : List Word → Option Line
-store_line (o ∷ at ∷ bytes ∷ []) = if bytes_eq o (codes "a.m") then said (number_in 0 greatest_u64 at) (bytes_of bytes) else None
-  where
-    said : Option ℕ → Option (List ℕ) → Option Line
-    said (Some at) (Some bytes) = Some (line.Verb (verb.Store (object (codes "a") (codes "m")) at bytes))
-    said (Some at) None = None
-    said None bytes = None
+unfoldable pub store_line : List Word → Option Line
+store_line (o ∷ at ∷ bytes ∷ []) = if bytes_eq o (codes "a.m") then stored (number_in 0 greatest_u64 at) (bytes_of bytes) else None
 store_line other = None
 
+-- the bytes of a range, where the words spell an address and a length
+abbrev pub loaded : ObjName → Option ℕ → Option ℕ → Option Line
+loaded o (Some at) (Some count) = Some (line.Verb (verb.Load o at count))
+loaded o (Some at) None = None
+loaded o None count = None
+
 -- the bytes of a range of a.m or of b.n
-abbrev pub load_line : List Word → Option Line
+unfoldable pub load_line : List Word → Option Line
 load_line (o ∷ at ∷ count ∷ []) =
     if bytes_eq o (codes "a.m")
-    then said (object (codes "a") (codes "m")) (number_in 0 greatest_u64 at) (number_in 1 4096 count)
+    then loaded (object (codes "a") (codes "m")) (number_in 0 greatest_u64 at) (number_in 1 4096 count)
     else if bytes_eq o (codes "b.n")
-    then said (object (codes "b") (codes "n")) (number_in 0 greatest_u64 at) (number_in 1 4096 count)
+    then loaded (object (codes "b") (codes "n")) (number_in 0 greatest_u64 at) (number_in 1 4096 count)
     else None
-  where
-    said : ObjName → Option ℕ → Option ℕ → Option Line
-    said o (Some at) (Some count) = Some (line.Verb (verb.Load o at count))
-    said o (Some at) None = None
-    said o None count = None
 load_line other = None
 
 -- a signaled WRITE without fence and immediate
@@ -136,44 +141,47 @@ write_request id lkey local count remote rkey = record {
   fence = false;
 }
 
+-- a WRITE of a.q, where the words spell its fields
+abbrev pub written : Option ℕ → Option ℕ → Option ℕ → Option ℕ → Option ℕ → Option ℕ → Option Line
+written (Some id) (Some lkey) (Some local) (Some count) (Some remote) (Some rkey) =
+    Some (line.Verb (verb.PostSend (object (codes "a") (codes "q")) (write_request id lkey local count remote rkey)))
+written id lkey local count remote rkey = None
+
 -- a WRITE of a.q
-abbrev pub write_line : List Word → Option Line
+unfoldable pub write_line : List Word → Option Line
 write_line (o ∷ id ∷ lkey ∷ local ∷ count ∷ remote ∷ rkey ∷ []) =
     if bytes_eq o (codes "a.q")
-    then said (number_in 0 greatest_u64 id) (key_of lkey) (number_in 0 greatest_u64 local) (number_in 0 greatest_u32 count) (number_in 0 greatest_u64 remote) (key_of rkey)
+    then written (number_in 0 greatest_u64 id) (key_of lkey) (number_in 0 greatest_u64 local) (number_in 0 greatest_u32 count) (number_in 0 greatest_u64 remote) (key_of rkey)
     else None
-  where
-    said : Option ℕ → Option ℕ → Option ℕ → Option ℕ → Option ℕ → Option ℕ → Option Line
-    said (Some id) (Some lkey) (Some local) (Some count) (Some remote) (Some rkey) =
-        Some (line.Verb (verb.PostSend (object (codes "a") (codes "q")) (write_request id lkey local count remote rkey)))
-    said id lkey local count remote rkey = None
 write_line other = None
 
+-- the oldest completions of a.c, where a word spells how many
+abbrev pub polled : Option ℕ → Option Line
+polled (Some max) = Some (line.Verb (verb.Poll (object (codes "a") (codes "c")) max))
+polled None = None
+
 -- the oldest completions of a.c
-abbrev pub poll_line : List Word → Option Line
-poll_line (o ∷ max ∷ []) = if bytes_eq o (codes "a.c") then said (number_in 1 256 max) else None
-  where
-    said : Option ℕ → Option Line
-    said (Some max) = Some (line.Verb (verb.Poll (object (codes "a") (codes "c")) max))
-    said None = None
+unfoldable pub poll_line : List Word → Option Line
+poll_line (o ∷ max ∷ []) = if bytes_eq o (codes "a.c") then polled (number_in 1 256 max) else None
 poll_line other = None
 
 -- a.q sends its next packet
-abbrev pub go_line : List Word → Option Line
+unfoldable pub go_line : List Word → Option Line
 go_line (o ∷ []) = if bytes_eq o (codes "a.q") then Some (line.Go (object (codes "a") (codes "q"))) else None
 go_line other = None
 
+-- a line that names a datagram, where a word spells its number
+abbrev pub named : (ℕ → Line) → Option ℕ → Option Line
+named says (Some k) = Some (says k)
+named says None = None
+
 -- a datagram's number
-abbrev pub datagram_line : (ℕ → Line) → List Word → Option Line
-datagram_line says (k ∷ []) = said (number_in 0 greatest_u64 k)
-  where
-    said : Option ℕ → Option Line
-    said (Some k) = Some (says k)
-    said None = None
+unfoldable pub datagram_line : (ℕ → Line) → List Word → Option Line
+datagram_line says (k ∷ []) = named says (number_in 0 greatest_u64 k)
 datagram_line says other = None
 
 -- what the words say
-abbrev pub line_of : Word → List Word → Option Line
+unfoldable pub line_of : Word → List Word → Option Line
 line_of w ws =
     if bytes_eq w (codes "store") then store_line ws
     else if bytes_eq w (codes "load") then load_line ws
@@ -186,12 +194,6 @@ line_of w ws =
 
 -- ---- a line
 
--- a line that is empty or a comment, one that is in no known form, or what it says
-pub data Reading : Type 0 where
-  Blank : Reading
-  Bad : Reading
-  Says : (line : Line) → Reading
-
 -- a byte that may stand in a line
 abbrev pub is_printable : ℕ → Bool
 is_printable b = nat_le 32 b && nat_le b 126
@@ -200,14 +202,15 @@ is_printable b = nat_le 32 b && nat_le b 126
 abbrev pub longest_line : ℕ
 longest_line = 8400
 
+-- what a line in a known form says; another is bad
+abbrev pub said : Option Line → Reading
+said (Some l) = Says l
+said None = Bad
+
 -- a line by its words; a first byte `#` makes a comment
-abbrev pub reading_of_words : List Word → Reading
+unfoldable pub reading_of_words : List Word → Reading
 reading_of_words [] = Blank
 reading_of_words (w ∷ ws) = if slice_index w 0 == 35 then Blank else said (line_of w ws)
-  where
-    said : Option Line → Reading
-    said (Some l) = Says l
-    said None = Bad
 
 -- what a line says
 abbrev pub reading_of : List ℕ → Reading

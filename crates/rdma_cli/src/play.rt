@@ -9,8 +9,8 @@ ghost use Rattle.rdma_cli.specs.declared.play.PlayFault.TheVariants as fault;
 
 use crate::printing::print_told;
 use crate::reading::{Lines, Reading, read_line};
+use crate::texts::write_text;
 use crate::world::World;
-use crate::writing::write_text;
 use first_path::Line;
 use mig_ports::{Sink, WriteFault};
 use std::alloc::{AllocError, Global};

@@ -8,10 +8,13 @@ ghost use Rattle.rdma_cli.specs.Stopping as stopping;
 ghost use Rattle.rdma_cli.specs.Stopping.{StopsFor, last_line, stop_of_read, stop_of_play};
 
 use crate::play::{PlayFault, play};
-use crate::writing::write_text;
+use crate::texts::write_text;
 use itoa::Buffer;
 use mig_ports::{ReadAllFault, Sink, Source, WriteFault, read_all};
 use std::alloc::Global;
+
+#[cfg(test)]
+mod tests;
 
 /// Bytes of an input at most (this project's choice).
 const LIMIT: usize = 1_048_576;
@@ -83,6 +86,7 @@ fn is_play(words: &[String]) -> bool
 }
 
 /// Reads the input to its end and plays it.
+#[tactic(auto, using(crate::proofs::Answered::answered))]
 fn perform<S: Source, K: Sink>(
     alloc: Global,
     words: &[String],
