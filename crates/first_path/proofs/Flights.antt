@@ -2,7 +2,6 @@
 use Rattle.std.proofs.Common.{arith, ◌≤◌, ℕ, ◌+◌, List, [], ◌∷◌, ◌++◌, ap, inl, inr, lt_of_lt_of_le}
 use Rattle.rdma_types.specs.Objects.{Posted}
 use Rattle.first_path.specs.declared.Flight.{Flight}
-
 use Rattle.first_path.specs.Stands.{Port, IsWrite, IsAck, Fact, AreInOrder}
 use Rattle.first_path.proofs.Lists.{slice_get_append}
 

@@ -3,7 +3,6 @@ use Rattle.std.proofs.Common.{arith, ◌<◌, refl}
 use Rattle.std.proofs.lemmas.List.Elements.{All-replicate}
 use Rattle.first_path.specs.World as world
 use Rattle.first_path.specs.declared.Flight.{Flight}
-
 use Rattle.first_path.specs.Machine as machine
 use Rattle.first_path.specs.Stands.{Stands, Connected, port}
 
