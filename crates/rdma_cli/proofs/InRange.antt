@@ -1,5 +1,5 @@
 -- What a line says is in range: its numbers have their widths, and its bytes are bytes.
-use Rattle.std.proofs.Common.{◌≡◌, ℕ, zero, suc, ◌+◌, ◌-◌, ◌*◌, ◌<◌, ◌≤◌, ◌^◌, ◌%◌, ◌==◌, ◌&&◌, ◌||◌, not, Bool, true, false, nat_le, nat_lt, if◌then◌else◌, List, [], ◌∷◌, length, get_or, Option, Some, None, Result, Ok, Err, All, refl, sym, ◌∙◌, ap, subst, arith, codes}
+use Rattle.std.proofs.Common.{◌≡◌, ℕ, ◌<◌, ◌≤◌, ◌^◌, ◌==◌, ◌&&◌, Bool, true, false, nat_le, if◌then◌else◌, List, [], ◌∷◌, length, Option, Some, None, Result, Ok, Err, All, refl, ap, subst, arith, codes}
 use Rattle.std.specs.Str.{bytes_eq}
 use Rattle.std.proofs.lemmas.Bool.Decides.{nat_tests}
 use Rattle.std.proofs.lemmas.Bool.{eqb-true}
@@ -13,10 +13,10 @@ use Rattle.rdma_types.specs.declared.names.ObjName.{ObjName}
 use Rattle.first_path.specs.declared.Line.{Line}
 use Rattle.first_path.specs.declared.Line.TheVariants as line
 use Rattle.rdma_types.specs.declared.verbs.Verb.TheVariants as verb
-use Rattle.first_path.specs.Law.{IsInRange, IsRequestInRange}
+use Rattle.first_path.specs.Law.{IsInRange}
 use Rattle.rdma_cli.specs.declared.reading.Reading.{Reading}
 use Rattle.rdma_cli.specs.declared.reading.Reading.TheVariants.{Blank, Bad, Says}
-use Rattle.rdma_cli.specs.Script.{Word, number_in, greatest_u64, greatest_u32, digits_after, is_decimal, from_hex, number_of_bytes, key_of, bytes_of, object, stored, loaded, written, write_request, polled, named, store_line, load_line, write_line, poll_line, go_line, datagram_line, line_of, said, reading_of_words, reading_of, words_of, longest_line, is_printable}
+use Rattle.rdma_cli.specs.Script.{Word, number_in, greatest_u64, greatest_u32, digits_after, is_decimal, from_hex, number_of_bytes, key_of, bytes_of, object, stored, loaded, written, write_request, polled, named, store_line, load_line, write_line, poll_line, go_line, datagram_line, line_of, said, reading_of_words, reading_of, words_of}
 
 -- ---- choices
 

@@ -1,9 +1,8 @@
 use Rattle.std.proofs.lemmas.List.Sums.{prefix_len-le-length}
-use Rattle.std.proofs.Common.{not, ◌≤◌, ◌≡◌, ◌≢◌, ℕ, zero, suc, ◌+◌, ◌<◌, ◌==◌, Bool, true, false, cond, List, [], ◌∷◌, length, take, drop, refl, ap, sym, ◌∙◌, arith, add-one, one-add, get_or, drop-cons}
+use Rattle.std.proofs.Common.{not, ◌≤◌, ◌≡◌, ℕ, suc, ◌+◌, ◌<◌, ◌==◌, Bool, true, false, List, [], ◌∷◌, length, take, drop, refl, ap, sym, ◌∙◌, arith, add-one, one-add, get_or, drop-cons}
 use Rattle.std.specs.List.{slice_split, position_or_len, before_first}
-use Rattle.std.proofs.lemmas.List.Splits.{slice_split-cons_yes, slice_split-cons_no}
 use Rattle.std.proofs.lemmas.Bool.Decides.{nat_tests}
-use Rattle.rdma_cli.specs.Script.{is_space, without_empty, words_of, Word}
+use Rattle.rdma_cli.specs.Script.{is_space, without_empty, words_of}
 
 -- the first piece stands before the first space, and the words of the others are those from that space on
 pub record FirstPiece (bs : List ℕ) : Type 0 where

@@ -1,6 +1,6 @@
 //! The text of an answer.
 
-ghost use Rattle.std.specs.Prelude.{◌≡◌, ◌++◌, [], ◌∷◌, OnOk, OnErr, length};
+ghost use Rattle.std.specs.Prelude.{◌≡◌, ◌++◌, [], ◌∷◌, OnOk, OnErr, codes, length};
 ghost use Rattle.std.specs.Fmt.{decimal};
 ghost use Rattle.protocol.specs.Bytes.{big_bytes};
 ghost use Rattle.hex.specs.Hex.{encode_lower};
@@ -223,11 +223,11 @@ fn put_sent(out: &mut Vec<u8>, first: u64, count: u64) -> Result<(), AllocError>
 
 #[tactic(auto, using(crate::proofs::Writing::keeps_after, std::proofs::lemmas::List::append_assoc))]
 fn put_took(out: &mut Vec<u8>, took: Took, first: u64, count: u64) -> Result<(), AllocError>
-    ensures ok { OnOk result (out.new.items ≡ out.old.items ++ (text.spaced (text.took_text took) ++ text.sent_text first count)) }
+    ensures ok { OnOk result (out.new.items ≡ out.old.items ++ (codes "took" ++ text.spaced (text.took_text took) ++ text.sent_text first count)) }
     ensures err { OnErr result (Keeps out.old.items out.new.items) }
 {
     let (word, more) = took_text(took);
-    put(out, b" ")?;
+    put(out, b"took ")?;
     put_pair(out, word, more)?;
     put_sent(out, first, count)
 }
@@ -340,10 +340,10 @@ fn put_left_lines(out: &mut Vec<u8>, ends: &[(ObjName, LeftWhy)]) -> Result<(), 
 
 #[tactic(auto, using(crate::proofs::Writing::keeps_after, std::proofs::lemmas::List::append_assoc))]
 fn put_quiet(out: &mut Vec<u8>, ends: &[(ObjName, LeftWhy)]) -> Result<(), AllocError>
-    ensures ok { OnOk result (out.new.items ≡ out.old.items ++ (text.spaced (decimal (length ends.now)) ++ text.left_lines ends.now)) }
+    ensures ok { OnOk result (out.new.items ≡ out.old.items ++ (codes "quiet" ++ text.spaced (decimal (length ends.now)) ++ text.left_lines ends.now)) }
     ensures err { OnErr result (Keeps out.old.items out.new.items) }
 {
-    put_number(out, b" ", ends.len() as u64)?;
+    put_number(out, b"quiet ", ends.len() as u64)?;
     put_left_lines(out, ends)
 }
 
@@ -361,19 +361,19 @@ fn put_shown(out: &mut Vec<u8>, bytes: &[u8]) -> Result<(), AllocError>
 
 #[tactic(auto, using(crate::proofs::Writing::keeps_after, std::proofs::lemmas::List::append_assoc))]
 fn put_dump(out: &mut Vec<u8>, count: u64, bytes: &[u8]) -> Result<(), AllocError>
-    ensures ok { OnOk result (out.new.items ≡ out.old.items ++ (text.spaced (decimal count) ++ text.shown_text bytes.now)) }
+    ensures ok { OnOk result (out.new.items ≡ out.old.items ++ (codes "dump" ++ text.spaced (decimal count) ++ text.shown_text bytes.now)) }
     ensures err { OnErr result (Keeps out.old.items out.new.items) }
 {
-    put_number(out, b" ", count)?;
+    put_number(out, b"dump ", count)?;
     put_shown(out, bytes)
 }
 
 #[tactic(auto, using(crate::proofs::Writing::keeps_after, std::proofs::lemmas::List::append_assoc))]
 fn put_region(out: &mut Vec<u8>, keys: &Keys) -> Result<(), AllocError>
-    ensures ok { OnOk result (out.new.items ≡ out.old.items ++ (text.spaced (in_hex 4 keys.now.local) ++ text.spaced (in_hex 4 keys.now.remote))) }
+    ensures ok { OnOk result (out.new.items ≡ out.old.items ++ (codes "region" ++ text.spaced (in_hex 4 keys.now.local) ++ text.spaced (in_hex 4 keys.now.remote))) }
     ensures err { OnErr result (Keeps out.old.items out.new.items) }
 {
-    put_hex(out, b" ", &word_bytes(keys.local))?;
+    put_hex(out, b"region ", &word_bytes(keys.local))?;
     put_hex(out, b" ", &word_bytes(keys.remote))
 }
 
@@ -385,10 +385,7 @@ fn put_answer(out: &mut Vec<u8>, answer: &Answer) -> Result<(), AllocError>
     match answer {
         Answer::Done => put(out, b"ok"),
         Answer::Stopped => put(out, b"stopped"),
-        Answer::Region(keys) => {
-            put(out, b"region")?;
-            put_region(out, keys)
-        }
+        Answer::Region(keys) => put_region(out, keys),
         Answer::Qp(number) => put_hex(out, b"qp ", &low_bytes(*number)),
         Answer::Bytes(bytes) => put_hex(out, b"bytes ", bytes.as_slice()),
         Answer::Polled(completions) => put_completions(out, completions.as_slice()),
@@ -398,10 +395,7 @@ fn put_answer(out: &mut Vec<u8>, answer: &Answer) -> Result<(), AllocError>
         Answer::ReadsFull => put(out, b"reads"),
         Answer::Fenced => put(out, b"fenced"),
         Answer::Waiting => put(out, b"waiting"),
-        Answer::Took { took, first, count } => {
-            put(out, b"took")?;
-            put_took(out, *took, *first, *count)
-        }
+        Answer::Took { took, first, count } => put_took(out, *took, *first, *count),
         Answer::Expired(spent) => put_number(out, b"expired ", u64::from(*spent)),
         Answer::Spent => put(out, b"spent"),
         Answer::NotCounted(why) => put_pair(out, b"notcounted ", not_why_text(*why)),
@@ -411,14 +405,8 @@ fn put_answer(out: &mut Vec<u8>, answer: &Answer) -> Result<(), AllocError>
         Answer::Gone => put(out, b"gone"),
         Answer::Lost => put(out, b"lost"),
         Answer::Aged => put(out, b"aged"),
-        Answer::Dump { length, shown } => {
-            put(out, b"dump")?;
-            put_dump(out, *length, shown.as_slice())
-        }
-        Answer::Quiet(ends) => {
-            put(out, b"quiet")?;
-            put_quiet(out, ends.as_slice())
-        }
+        Answer::Dump { length, shown } => put_dump(out, *length, shown.as_slice()),
+        Answer::Quiet(ends) => put_quiet(out, ends.as_slice()),
         Answer::Refused(refusal) => put_pair(out, b"refused ", refusal_text(*refusal)),
     }
 }

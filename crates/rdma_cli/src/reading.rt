@@ -278,6 +278,7 @@ fn without_return(line: &[u8]) -> &[u8]
 }
 
 impl<'a> Lines<'a> {
+    /// The lines of a text.
     pub fn new(input: &'a [u8]) -> Lines<'a>
         ensures { result.rest.now ≡ input.now }
     {

@@ -86,7 +86,6 @@ fn is_play(words: &[String]) -> bool
 }
 
 /// Reads the input to its end and plays it.
-#[tactic(auto, using(crate::proofs::Answered::answered))]
 fn perform<S: Source, K: Sink>(
     alloc: Global,
     words: &[String],

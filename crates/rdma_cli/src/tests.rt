@@ -98,6 +98,11 @@ fn answers_of_verbs(rt: HostRuntime) -> Result<(), AllocError> {
         text_of(rt.alloc(), Answer::Bytes(bytes))?.as_slice(),
         b"bytes dead\n".as_slice()
     );
+    Ok(())
+}
+
+#[test]
+fn completions_have_a_line_each(rt: HostRuntime) -> Result<(), AllocError> {
     let done = Completion {
         qp: 65537,
         id: 7,
@@ -151,6 +156,11 @@ fn answers_of_the_network(rt: HostRuntime) -> Result<(), AllocError> {
         text_of(rt.alloc(), silent)?.as_slice(),
         b"took silent naksent\n".as_slice()
     );
+    Ok(())
+}
+
+#[test]
+fn answers_of_timers_and_moves(rt: HostRuntime) -> Result<(), AllocError> {
     assert_eq!(rt;
         text_of(rt.alloc(), Answer::NotCounted(NotWhy::Rnr))?.as_slice(),
         b"notcounted rnr\n".as_slice()

@@ -15,6 +15,7 @@ pub struct Words<'a> {
 }
 
 impl<'a> Words<'a> {
+    /// The words of a line.
     pub fn new(line: &'a [u8]) -> Words<'a>
         ensures { result.rest.now ≡ line.now }
     {

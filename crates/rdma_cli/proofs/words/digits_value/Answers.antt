@@ -1,4 +1,4 @@
-use Rattle.std.proofs.Common.{◌≡◌, ◌^◌, sym, ◌∙◌, refl}
+use Rattle.std.proofs.Common.{◌≡◌, ◌^◌, sym, ◌∙◌}
 use Rattle.rdma_cli.specs.Script.{digits_after}
 use Rattle.rdma_cli.proofs.Digits.{digits_done, told_below}
 use Rattle.rdma_cli.proofs.words.digits_value.Goals as goal

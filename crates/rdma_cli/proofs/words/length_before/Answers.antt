@@ -1,4 +1,4 @@
-use Rattle.std.proofs.Common.{◌≡◌, ◌==◌, ℕ, ◌<◌, get_or, length, refl, sym, arith, true}
+use Rattle.std.proofs.Common.{◌≡◌, ◌==◌, ℕ, get_or, length, sym, arith, true}
 use Rattle.std.proofs.lemmas.Bool.{eq-eqb}
 use Rattle.std.proofs.lemmas.List.Sums.{position_or_len_is}
 use Rattle.rdma_cli.proofs.words.length_before.Goals as goal
