@@ -1,7 +1,7 @@
 -- What a run that stops leaves.
-use Rattle.std.proofs.Common.{arith, ◌≡◌, ◌≤◌, ℕ, ◌+◌, Bool, true, false, List, [], ◌∷◌, ◌++◌, length, Option, None, Some, refl, ap, sym, ◌∙◌, subst, append-nil, length-drop, drop, inl, inr}
+use Rattle.std.proofs.Common.{arith, ◌≡◌, ℕ, ◌+◌, Bool, true, false, List, [], ◌∷◌, ◌++◌, length, Option, None, Some, refl, ap, sym, ◌∙◌, subst, append-nil, length-drop, drop, inl, inr}
 use Rattle.std.specs.Prelude.{IsSome}
-use Rattle.mig_ports.specs.Streams.{Puts, TakesCount}
+use Rattle.mig_ports.specs.Streams.{TakesCount}
 use Rattle.mig_ports.proofs.Chains.{Puts-then}
 use Rattle.rdma_cli.specs.declared.serial.Stop.{Stop}
 use Rattle.rdma_cli.specs.declared.serial.Stop.TheVariants as stop

@@ -1,10 +1,10 @@
 -- Fronts of texts, and last lines behind them.
-use Rattle.std.proofs.Common.{arith, ◌≡◌, ◌<◌, ℕ, List, [], ◌∷◌, ◌++◌, length, take, drop, Option, Some, None, refl, ap, sym, ◌∙◌, subst, append_assoc, append-nil, inl, inr, ◌⊎◌, Result, Ok, Err}
+use Rattle.std.proofs.Common.{◌<◌, ℕ, List, [], ◌++◌, length, take, drop, Option, refl, ap, sym, ◌∙◌, append_assoc, append-nil, Result, Ok, Err}
 use Rattle.std.proofs.lemmas.List.{take-append-drop}
 use Rattle.std.specs.Result.{OnErr}
-use Rattle.mig_ports.specs.Streams.{Puts, TakesAll}
+use Rattle.mig_ports.specs.Streams.{Puts}
 use Rattle.mig_ports.proofs.Chains.{Puts-none, Puts-then}
-use Rattle.rdma_cli.specs.Headline.{PutsFront, AnswersRead, answers_text}
+use Rattle.rdma_cli.specs.Headline.{PutsFront}
 
 -- nothing put is a front
 pub no_front : (held : Option (List ℕ)) (text : List ℕ) → PutsFront held held text

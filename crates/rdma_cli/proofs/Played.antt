@@ -1,5 +1,5 @@
 -- A script is played line by line.
-use Rattle.std.proofs.Common.{arith, ◌≡◌, ◌≤◌, ℕ, zero, suc, ◌+◌, ◌==◌, Bool, true, false, List, [], ◌∷◌, ◌++◌, length, Option, Some, None, refl, ap, sym, ◌∙◌, subst, append_assoc, append-nil, if◌then◌else◌}
+use Rattle.std.proofs.Common.{arith, ◌≡◌, ◌≤◌, ℕ, ◌+◌, ◌==◌, Bool, true, false, List, [], ◌∷◌, ◌++◌, length, Option, Some, None, refl, ap, sym, ◌∙◌, subst, append_assoc, append-nil, if◌then◌else◌}
 use Rattle.std.proofs.lemmas.List.Splits.{length-slice_split}
 use Rattle.std.proofs.lemmas.List.Sums.{count_by-le-length}
 use Rattle.std.specs.List.{slice_split}
@@ -9,7 +9,7 @@ use Rattle.first_path.specs.World.{World, opening, rules, told_all}
 use Rattle.mig_ports.specs.Streams.{Puts}
 use Rattle.mig_ports.proofs.Chains.{Puts-none, Puts-then}
 use Rattle.rdma_cli.specs.declared.reading.Reading.TheVariants.{Blank, Bad, Says}
-use Rattle.rdma_cli.specs.Script.{Script, script_from, before, lines_of, lines_in, reading_of, without_return, is_newline}
+use Rattle.rdma_cli.specs.Script.{Script, script_from, before, lines_of, lines_in, reading_of, is_newline}
 use Rattle.rdma_cli.specs.Printed.{told_text, printed}
 use Rattle.rdma_cli.specs.Headline.{answers_text, bad_line, PutsFront}
 use Rattle.rdma_cli.specs.Playing.{IsPlayed, answer_line}

@@ -1,5 +1,5 @@
 -- Every line that a script says is in range.
-use Rattle.std.proofs.Common.{arith, ◌≡◌, ◌<◌, ℕ, zero, suc, ◌+◌, List, [], ◌∷◌, length, refl}
+use Rattle.std.proofs.Common.{arith, ◌≡◌, ℕ, zero, suc, ◌+◌, List, [], ◌∷◌, refl}
 use Rattle.std.specs.Prelude.{All}
 use Rattle.first_path.specs.declared.Line.{Line}
 use Rattle.first_path.specs.Law.{IsInRange}

@@ -1,9 +1,9 @@
 -- A step of a device sends one datagram at most.
-use Rattle.std.proofs.Common.{arith, ◌≡◌, ◌≤◌, ℕ, ◌-◌, Bool, true, false, List, [], ◌∷◌, length, Option, Some, None, if◌then◌else◌, subst, refl, ap, ◌∙◌, slice_get}
+use Rattle.std.proofs.Common.{arith, ◌≡◌, ◌≤◌, ℕ, ◌-◌, Bool, true, false, List, length, Option, Some, None, if◌then◌else◌, subst, refl, ap, ◌∙◌, slice_get}
 use Rattle.rdma_types.specs.declared.answers.Refusal.{Refusal}
 use Rattle.rdma_types.specs.declared.requests.Request.{Request}
 use Rattle.rdma_types.specs.Objects.{Posted}
-use Rattle.protocol.specs.Wire.{Packet, packet_of}
+use Rattle.protocol.specs.Wire.{Packet}
 use Rattle.protocol.specs.declared.wire.Aeth.{Aeth}
 use Rattle.protocol.specs.declared.wire.Reth.{Reth}
 use Rattle.protocol.specs.declared.wire.Syndrome.{Syndrome}

@@ -1,5 +1,5 @@
 -- What a run of the program leaves: the text read, the answers written, and the last line.
-use Rattle.std.specs.Prelude.{ℕ, ◌≡◌, ◌+◌, ◌⊎◌, Bool, false, List, [], ◌∷◌, ◌++◌, Option, Some, None, String, codes, bytes_eq}
+use Rattle.std.specs.Prelude.{ℕ, ◌≡◌, ◌⊎◌, Bool, false, List, [], ◌∷◌, ◌++◌, Option, Some, None, String, codes, bytes_eq}
 use Rattle.std.specs.Fmt.{decimal}
 use Rattle.std.specs.declared.alloc.Global.{Global}
 use Rattle.std.specs.String.{string_bytes}
@@ -9,7 +9,7 @@ use Rattle.first_path.specs.Legal.{IsLegal, kept}
 use Rattle.first_path.specs.Machine as machine
 use Rattle.first_path.specs.World.{opening, told_all}
 use Rattle.mig_ports.specs.Streams.{Puts, TakesAll}
-use Rattle.rdma_cli.specs.Script.{Script, script_of}
+use Rattle.rdma_cli.specs.Script.{script_of}
 use Rattle.rdma_cli.specs.Printed.{printed}
 
 -- ---- the text and its answers

@@ -1,5 +1,5 @@
 -- Why a run of the program stops before all is answered, and what is known there.
-use Rattle.std.specs.Prelude.{ℕ, ◌≡◌, ◌+◌, Bool, true, false, List, [], ◌++◌, Option, Some}
+use Rattle.std.specs.Prelude.{ℕ, ◌≡◌, ◌+◌, Bool, true, false, List, [], Option, Some}
 use Rattle.mig_ports.specs.Streams.{Rose, Puts, TakesAll, TakesCount}
 use Rattle.mig_ports.specs.declared.reading.ReadAllFault.{ReadAllFault}
 use Rattle.mig_ports.specs.declared.reading.ReadAllFault.TheVariants as read

@@ -1,5 +1,4 @@
-use Rattle.std.proofs.Common.{◌≡◌, ap, ◌∙◌, inl}
-use Rattle.rdma_cli.specs.declared.serial.Stop.TheVariants as stop
+use Rattle.std.proofs.Common.{ap, ◌∙◌, inl}
 use Rattle.rdma_cli.specs.Headline.{is_play}
 use Rattle.rdma_cli.specs.Stopping.{last_line}
 use Rattle.rdma_cli.proofs.Fronts.{whole_front}
