@@ -163,7 +163,7 @@ fresh_joined o p e f t a b terms apart = record {
 
 -- ---- an end of the machine that is connected
 
-pub joined_sound : (regions : List Region) (names : List Name) (e : End) (p : ObjName) (t : Terms) → IsEndSound regions names e → IsEndSound regions names (verbing.joined e p t)
+pub joined_sound : (regions : List Region) (names : List Name) (e : End) (p : ObjName) (t : Terms) → IsEndSound regions names e → IsEndSound regions names (verbing.joined p t e)
 unfolding verbing.joined in_place untold untold_count
 joined_sound regions names e p t s = record {
   sound = record {
@@ -179,7 +179,7 @@ joined_sound regions names e p t s = record {
     whole_atomics = s.sound.whole_atomics;
     replies = s.sound.replies;
     answered = s.sound.answered;
-    offers = All-weaker (IsOfferOf e) (IsOfferOf (record e { connected = true; peer = p; mtu = t.mtu; retry = t.retry; rnr = t.rnr })) (λ x h. record { acted = h.acted; reads = h.reads; inside = h.inside }) e.offers s.sound.offers;
+    offers = All-weaker (IsOfferOf e) (IsOfferOf (record e { connected = true; peer = p; mtu = t.mtu; retry = t.retry; rnr = t.rnr; spent = 0; waits = 0 })) (λ x h. record { acted = h.acted; reads = h.reads; inside = h.inside }) e.offers s.sound.offers;
     sizes = s.sound.sizes;
     depth = s.sound.depth;
     receive_depth = s.sound.receive_depth;

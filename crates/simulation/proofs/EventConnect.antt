@@ -73,10 +73,10 @@ module _ (w : World) (m : Machine) (one two : ObjName) (terms : Terms) (range : 
   w2 = connected_world w1 two l2
 
   abbrev g1 : End
-  g1 = verbing.joined f1 two terms
+  g1 = verbing.joined two terms f1
 
   abbrev g2 : End
-  g2 = verbing.joined f2 one terms
+  g2 = verbing.joined one terms f2
 
   abbrev m1 : Machine
   m1 = machine.with_end m one g1
@@ -164,14 +164,11 @@ module _ (w : World) (m : Machine) (one two : ObjName) (terms : Terms) (range : 
   named2 = name_here two found2
 
   cm1 : MachineChanged m m1 one.context (context_with m one g1)
-  cm1 = end_changed m one g1 there1
+  cm1 = end_changed m one g1 there1 (in_list one found1)
 
   there2' : has_context m1 two.context ≡ true
-  unfolding has_context machine.with_end machine.with_context
-  there2' = has_name-store (λ z. z.name) one.context two.context (context_with m one g1) m.contexts there1 (context_name m one.context) ∙ there2
-
-  cm2 : MachineChanged m1 m2 two.context (context_with m1 two g2)
-  cm2 = end_changed m1 two g2 there2'
+  unfolding has_context
+  there2' = ap (has_name (λ z. z.name) two.context) cm1.contexts ∙ (has_name-store (λ z. z.name) one.context two.context (context_with m one g1) m.contexts there1 (context_name m one.context) ∙ there2)
 
   context_two : machine.context_of m1 two.context ≡ machine.context_of m two.context
   context_two = machines.context_other m m1 one.context (context_with m one g1) cm1 two.context (λ h. contexts_differ (sym h))
@@ -179,17 +176,20 @@ module _ (w : World) (m : Machine) (one two : ObjName) (terms : Terms) (range : 
   found2' : has_name (λ z. z.name) two.name (machine.context_of m1 two.context).ends ≡ true
   found2' = ap (λ c. has_name (λ z. z.name) two.name c.ends) context_two ∙ in_list two found2
 
+  cm2 : MachineChanged m1 m2 two.context (context_with m1 two g2)
+  cm2 = end_changed m1 two g2 there2' found2'
+
   machine_one : machine.end_of m2 one ≡ g1
-  machine_one = machine_other m1 two one g2 there2' named2 ends_differ ∙ machine_here m one g1 there1 named1
+  machine_one = machine_other m1 two one g2 there2' found2' named2 ends_differ ∙ machine_here m one g1 there1 (in_list one found1) named1
 
   machine_two : machine.end_of m2 two ≡ g2
-  machine_two = machine_here m1 two g2 there2' named2
+  machine_two = machine_here m1 two g2 there2' found2' named2
 
   machine_two_before : machine.end_of m1 two ≡ f2
-  machine_two_before = machine_other m one two g1 there1 named1 (λ h. ends_differ (sym h))
+  machine_two_before = machine_other m one two g1 there1 (in_list one found1) named1 (λ h. ends_differ (sym h))
 
   machine_else : (k : ObjName) → (k ≢ one) → (k ≢ two) → machine.end_of m2 k ≡ machine.end_of m k
-  machine_else k ne ne' = machine_other m1 two k g2 there2' named2 ne' ∙ machine_other m one k g1 there1 named1 ne
+  machine_else k ne ne' = machine_other m1 two k g2 there2' found2' named2 ne' ∙ machine_other m one k g1 there1 (in_list one found1) named1 ne
 
   numbered_same : numbered_ends m2 ≡ numbered_ends m
   unfolding verbing.joined
@@ -240,11 +240,11 @@ module _ (w : World) (m : Machine) (one two : ObjName) (terms : Terms) (range : 
 
   queue_one : requests_of (machine.end_of m2 one) ≡ connected_end f1 two terms
   unfolding verbing.joined
-  queue_one = ap requests_of machine_one ∙ ap (λ (z : End). record z { connected = true; peer = two; mtu = terms.mtu; retry = terms.retry; rnr = terms.rnr }) ((sound_end one found1).made (unconnected one live1 found1 lone1))
+  queue_one = ap requests_of machine_one ∙ ap (λ (z : End). record z { connected = true; peer = two; mtu = terms.mtu; retry = terms.retry; rnr = terms.rnr; spent = 0; waits = 0 }) ((sound_end one found1).made (unconnected one live1 found1 lone1))
 
   queue_two : requests_of (machine.end_of m2 two) ≡ connected_end f2 one (exchanged terms)
   unfolding verbing.joined
-  queue_two = ap requests_of machine_two ∙ ap (λ (z : End). record z { connected = true; peer = one; mtu = terms.mtu; retry = terms.retry; rnr = terms.rnr }) ((sound_end two found2).made (unconnected two live2 found2 lone2))
+  queue_two = ap requests_of machine_two ∙ ap (λ (z : End). record z { connected = true; peer = one; mtu = terms.mtu; retry = terms.retry; rnr = terms.rnr; spent = 0; waits = 0 }) ((sound_end two found2).made (unconnected two live2 found2 lone2))
 
   peer_one : peer (net_of w2 m2) one ≡ two
   peer_one = ap (λ z. z.peer) queue_one
@@ -370,7 +370,8 @@ module _ (w : World) (m : Machine) (one two : ObjName) (terms : Terms) (range : 
 
   pub world_stands : Stands (step.connects_one (step.connects_one w one two terms) two one (exchanged terms)) (verbing.connected_pair m one two terms)
   unfolding verbing.connected_pair
-  world_stands = subst (λ z. Stands z m2) (sym (ap (λ v. step.connects_one v two one (exchanged terms)) first_is ∙ second_is)) stands
+  world_stands = subst (λ e. Stands (step.connects_one (step.connects_one w one two terms) two one (exchanged terms)) (machine.with_end m1 two (verbing.joined one terms e))) (sym machine_two_before)
+      (subst (λ z. Stands z m2) (sym (ap (λ v. step.connects_one v two one (exchanged terms)) first_is ∙ second_is)) stands)
 
 -- ---- by the refusals
 

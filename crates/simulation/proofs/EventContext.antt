@@ -16,7 +16,7 @@ use Rattle.rdma_types.specs.declared.answers.Refusal.{Refusal}
 use Rattle.rdma_types.specs.declared.answers.Refusal.TheVariants as refusals
 use Rattle.rdma_types.specs.declared.requests.Address.{Address}
 use Rattle.rdma_types.specs.Causes.{cause, first_cause}
-use Rattle.rdma_types.specs.Lists.{named, has_name, has_word, has, at, store}
+use Rattle.rdma_types.specs.Lists.{named, has_name, has_word, has, at, store, store_named}
 use Rattle.protocol.specs.declared.events.Event.TheVariants as events
 use Rattle.protocol.specs.declared.events.WorldEvent.{WorldEvent}
 use Rattle.protocol.specs.declared.events.WorldEvent.TheVariants as world_events
@@ -81,7 +81,7 @@ module _ (w : World) (m : Machine) (n : Name) (k : ℕ) (s : Stands w m) (made :
   w' = (ran w (device.answers d' answers.Done)).world
 
   abbrev m' : Machine
-  m' = machine.with_context m n (machine.no_context n)
+  m' = record m { contexts = m.contexts ++ machine.no_context n ∷ [] }
 
   id_is : d.id ≡ k
   id_is = number-at (λ e. e.id) no_device k w.devices made
@@ -123,17 +123,17 @@ module _ (w : World) (m : Machine) (n : Name) (k : ℕ) (s : Stands w m) (made :
   unfolding has_context
   lacking = sym (has_name-made n m.contexts) ∙ (sym (s.placed.same n) ∙ (has_name-names n (contexts_of w) ∙ fresh))
 
-  machine_contexts : m'.contexts ≡ m.contexts ++ machine.no_context n ∷ []
-  unfolding machine.with_context has_context
-  machine_contexts = store_named-new (λ z. z.name) n (machine.no_context n) m.contexts lacking
+  machine_contexts : m'.contexts ≡ store_named (λ z. z.name) n (machine.no_context n) m.contexts
+  unfolding has_context
+  machine_contexts = sym (store_named-new (λ z. z.name) n (machine.no_context n) m.contexts lacking)
 
   machine_new : machine.context_of m' n ≡ machine.no_context n
-  unfolding machine.context_of machine.with_context
-  machine_new = named-store_same (λ z. z.name) (machine.no_context n) n (machine.no_context n) m.contexts refl
+  unfolding machine.context_of
+  machine_new = ap (named (λ z. z.name) (machine.no_context n) n) machine_contexts ∙ named-store_same (λ z. z.name) (machine.no_context n) n (machine.no_context n) m.contexts refl
 
   machine_old : (c : Name) → (c ≢ n) → machine.context_of m' c ≡ machine.context_of m c
-  unfolding machine.context_of machine.with_context
-  machine_old c ne = named-store_other (λ z. z.name) (machine.no_context c) n c (machine.no_context n) m.contexts refl ne
+  unfolding machine.context_of
+  machine_old c ne = ap (named (λ z. z.name) (machine.no_context c) c) machine_contexts ∙ named-store_other (λ z. z.name) (machine.no_context c) n c (machine.no_context n) m.contexts refl ne
 
   machine_none : machine.context_of m n ≡ machine.no_context n
   unfolding machine.context_of has_context
@@ -154,15 +154,13 @@ module _ (w : World) (m : Machine) (n : Name) (k : ℕ) (s : Stands w m) (made :
   ]
 
   numbers_are : m'.numbers ≡ m.numbers
-  unfolding machine.with_context
   numbers_are = refl
 
   keys_are : m'.keys ≡ m.keys
-  unfolding machine.with_context
   keys_are = refl
 
   numbered_same : numbered_ends m' ≡ numbered_ends m
-  numbered_same = ap (flat_map numbered) machine_contexts ∙ (flat_map-append numbered m.contexts (machine.no_context n ∷ []) ∙ append-nil (numbered_ends m))
+  numbered_same = flat_map-append numbered m.contexts (machine.no_context n ∷ []) ∙ append-nil (numbered_ends m)
 
   husks_are : husks_of w' ≡ husks_of w
   husks_are = ap (flat_map (λ e. e.husks)) devices_are ∙ flat_map-store_at (λ e. e.husks) (λ e. e.id) no_device k d' w.devices made refl
@@ -171,7 +169,7 @@ module _ (w : World) (m : Machine) (n : Name) (k : ℕ) (s : Stands w m) (made :
   names_inserted = inserts_map (λ z. z.name) x (contexts_of w) (contexts_of w') inserted
 
   made_now : (c : Name) → has_word c (map (λ z. z.name) m'.contexts) ≡ (has_word c (map (λ z. z.name) m.contexts) || bytes_eq n c)
-  made_now c = ap (λ cs. has_word c (map (λ z. z.name) cs)) machine_contexts ∙ (ap (has_word c) (map-append (λ z. z.name) m.contexts (machine.no_context n ∷ [])) ∙ has_name-push (λ z. z) c (map (λ z. z.name) m.contexts) n)
+  made_now c = ap (has_word c) (map-append (λ z. z.name) m.contexts (machine.no_context n ∷ [])) ∙ has_name-push (λ z. z) c (map (λ z. z.name) m.contexts) n
 
   absent_name : has_word n (names_of w) ≡ false
   absent_name = has_name-names n (contexts_of w) ∙ fresh
@@ -203,7 +201,6 @@ module _ (w : World) (m : Machine) (n : Name) (k : ℕ) (s : Stands w m) (made :
       addresses_are = ap (map (λ e. e.address)) devices_are ∙ map-store_at (λ e. e.address) (λ e. e.id) no_device k d' w.devices made refl
 
   counted : IsCounted w' m'
-  unfolding machine.with_context
   counted =
       let qps : (j : ℕ) → (device_at w' j).qp_count ≡ (device_at w j).qp_count = λ j. ap (λ ds. (at (λ e. e.id) no_device j ds).qp_count) devices_are ∙ at-store_part (λ e. e.qp_count) (λ e. e.id) no_device k j d' w.devices id_is refl in
       let keys : (j : ℕ) → (device_at w' j).key_count ≡ (device_at w j).key_count = λ j. ap (λ ds. (at (λ e. e.id) no_device j ds).key_count) devices_are ∙ at-store_part (λ e. e.key_count) (λ e. e.id) no_device k j d' w.devices id_is refl in

@@ -34,7 +34,7 @@ module _ (w : World) (m : Machine) (o : ObjName) (s : Stands w m) where
       (λ h. matches_unknown refusals.TooMany _ [] (first_cause []) refl (λ h. matches_none)))
 
   does : is_live w o.context ≡ true → has_context m o.context ≡ true → IsDone w m (events.MakeDomain o) (verbs.MakeDomain o)
-  unfolding ran step.numbered device.makes_domain device.with_domain kept.is_unmade
+  unfolding ran step.numbered device.makes_domain device.with_domain kept.is_unmade verbing.with_domain
   does live there =
       let same = live_same w m o.context s live in
       let sound = s.sound o.context in

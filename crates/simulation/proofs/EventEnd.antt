@@ -1,10 +1,10 @@
 -- The machine follows the making of a queue pair.
 use Rattle.std.proofs.Common.{arith, ◌≡◌, ◌≢◌, ◌≤◌, ◌<◌, ◌+◌, ◌*◌, ℕ, List, [], ◌∷◌, ◌++◌, map, true, false, Bool, refl, sym, ap, ◌∙◌, subst, inl, inr}
-use Rattle.std.specs.Prelude.{Option, Some, None, not, ◌||◌, ◌^◌, nat_le, nat_eq, All, Contains, ◌/◌, bytes_eq}
+use Rattle.std.specs.Prelude.{Option, Some, None, not, ◌||◌, ◌^◌, nat_le, nat_eq, All, Contains, ◌/◌, bytes_eq, flat_map}
 use Rattle.std.specs.List.{count_by}
 use Rattle.std.proofs.lemmas.Bool.Decides.{nat_tests, leb_tells, eqb_tells}
 use Rattle.std.proofs.lemmas.List.{map-append}
-use Rattle.std.proofs.lemmas.List.Elements.{All-push, All-cons, All-weaker, All-contains}
+use Rattle.std.proofs.lemmas.List.Elements.{All-push, All-weaker, All-contains, Contains-append_left}
 use Rattle.std.proofs.lemmas.List.Folds.{list_any_none}
 use Rattle.rdma_types.specs.Limits.{most_depth}
 use Rattle.protocol.specs.State.{Device, device_at, no_end}
@@ -12,7 +12,7 @@ use Rattle.ideal_model.specs.Machine.{new_end, nobody, has_end}
 use Rattle.ideal_model.specs.Steps.{untold}
 use Rattle.simulation.specs.Views.{owned, owned_there, link_or_none, receive_in, numbered, numbered_ends, name_at, net_of, requests_of, side_of}
 use Rattle.simulation.specs.Stands.{AreNumbered, AreSame, IsContextSound, IsCounted, IsEndSound, IsPlaced}
-use Rattle.simulation.proofs.Tables.{name_or_not, name_tells, named-store_same, named-store_other, store_named-new, once_push, has_name-push, has_name-map}
+use Rattle.simulation.proofs.Tables.{name_or_not, name_tells, named-store_same, named-store_other, replaced-stored, store_named-new, once_push, has_name-push, has_name-map}
 use Rattle.simulation.proofs.Worlds.{WorldChanged, home_context, home_device, home_id, ran_device, ran_counts, side_same, husks_same}
 use Rattle.simulation.proofs.Machines.{MachineChanged, context_here, context_other, end_part_same}
 use Rattle.simulation.proofs.Kept.{IsUsed, placed_kept, counted_kept, same_kept, sound_kept}
@@ -20,7 +20,7 @@ use Rattle.simulation.proofs.Grows.{object_or_not, IsConnected, NetGrows}
 use Rattle.simulation.proofs.Grown.{are_made, number_given, grown_stands}
 use Rattle.simulation.proofs.Inserts.{Inserts, inserts_flat, inserts_all, name_here, name_other}
 use Rattle.simulation.proofs.Live.{home_changed}
-use Rattle.simulation.proofs.Grants.{contains_here, contains_later}
+use Rattle.simulation.proofs.Grants.{contains_last}
 use Rattle.simulation.proofs.Sounds.{new_sound}
 use Rattle.simulation.proofs.Ends.{end_there}
 use Rattle.rdma_types.specs.declared.names.Name.{Name}
@@ -55,7 +55,6 @@ number_used d = d.id * 65536 + (d.qp_count + 1)
 
 -- the word of a thing here
 word_is : (n : Option Name) → device.word_of n ≡ verbing.word_or_none n
-unfolding verbing.word_or_none
 word_is None = refl
 word_is (Some n) = refl
 
@@ -88,7 +87,7 @@ words_there q queues = has_name-map (λ (x : CompletionQueue). x.name) (λ x. x)
 
 -- a word that is not lacking names a thing that is there
 queue_named : (m : Machine) (c : Name) (q : Option Name) → verbing.lacks_queue m c q ≡ false → has_name (λ x. x.name) (verbing.word_or_none q) (machine.context_of m c).queues ≡ true
-unfolding verbing.lacks_queue verbing.word_or_none
+unfolding verbing.lacks_queue
 queue_named m c None h = absurd (cc)
 queue_named m c (Some q) h = not_lacking _ h
 
@@ -143,22 +142,22 @@ module _ (w : World) (m : Machine) (o : ObjName) (domain send_cq recv_cq : Optio
   w' = (ran w (device.answers (device.with_context counting x) (answers.Qp given))).world
 
   abbrev m' : Machine
-  m' = machine.with_end (record m { numbers = given ∷ m.numbers }) o f
+  m' = machine.with_context (record m { numbers = m.numbers ++ given ∷ [] }) o.context y
 
   machine_changed : has_context m o.context ≡ true → MachineChanged m m' o.context y
-  unfolding machine.with_end machine.with_context machine.context_of
-  machine_changed there = record { named = context_name m o.context; there = there; contexts = refl }
+  unfolding machine.with_context machine.context_of has_context
+  machine_changed there = record { named = context_name m o.context; there = there; contexts = replaced-stored (λ z. z.name) o.context y m.contexts there }
 
-  numbers_are : m'.numbers ≡ given ∷ m.numbers
-  unfolding machine.with_end machine.with_context
+  numbers_are : m'.numbers ≡ m.numbers ++ given ∷ []
+  unfolding machine.with_context
   numbers_are = refl
 
   keys_are : m'.keys ≡ m.keys
-  unfolding machine.with_end machine.with_context
+  unfolding machine.with_context
   keys_are = refl
 
   counted : is_live w o.context ≡ true → (home w o.context).qp_count < 65535 → IsCounted w' m'
-  unfolding device.with_context device.with_new_end machine.with_end machine.with_context
+  unfolding device.with_context device.with_new_end machine.with_context
   counted live few =
       let old = counted_kept w w' m (λ k. ran_counts w m o.context (device.with_context counting x) (answers.Qp given) k s.placed live refl (omega arith) (omega arith)) s.counted in
       let here : (device_at w' (home w o.context).id).qp_count ≡ (home w o.context).qp_count + 1 = ap (λ d. d.qp_count) (ran_device w (device.with_context counting x) (answers.Qp given)) in
@@ -166,8 +165,8 @@ module _ (w : World) (m : Machine) (o : ObjName) (domain send_cq recv_cq : Optio
       let there : (device_at w' (given / 65536)).qp_count ≡ (home w o.context).qp_count + 1 = ap (λ i. (device_at w' i).qp_count) id ∙ here in
       let said : (home w o.context).id < 256 = home_id (λ k. k < 256) w o.context live s.placed.ids_said in
       record {
-        numbers_said = All-cons (λ n. n < 2 ^ 24) given m.numbers (omega (arith, few, said)) old.numbers_said;
-        numbers_used = All-cons (IsUsed (λ k. (device_at w' k).qp_count)) given m.numbers (omega (arith, few, there)) old.numbers_used;
+        numbers_said = All-push (λ n. n < 2 ^ 24) m.numbers given old.numbers_said (omega (arith, few, said));
+        numbers_used = All-push (IsUsed (λ k. (device_at w' k).qp_count)) m.numbers given old.numbers_used (omega (arith, few, there));
         keys_used = old.keys_used;
       }
 
@@ -210,11 +209,11 @@ module _ (w : World) (m : Machine) (o : ObjName) (domain send_cq recv_cq : Optio
 
     -- its number is one more beside a name
     inserted : Inserts (ℕ × ObjName) (given, o) (numbered_ends m) (numbered_ends m')
-    unfolding machine.with_end machine.with_context machine.context_of has_context
-    inserted = inserts_flat numbered (λ z. z.name) (machine.no_context o.context) o.context y (given, o) m.contexts there
+    unfolding machine.context_of has_context
+    inserted = subst (λ cs. Inserts (ℕ × ObjName) (given, o) (numbered_ends m) (flat_map numbered cs)) (sym (machine_changed there).contexts) (inserts_flat numbered (λ z. z.name) (machine.no_context o.context) o.context y (given, o) m.contexts there
         (ap (map (λ z. (z.number, record { context = old.name; name = z.name }))) pushed
         ∙ (map-append (λ z. (z.number, record { context = old.name; name = z.name })) old.ends (f ∷ [])
-        ∙ ap (λ c. numbered old ++ (given, record { context = c; name = o.name }) ∷ []) (context_name m o.context)))
+        ∙ ap (λ c. numbered old ++ (given, record { context = c; name = o.name }) ∷ []) (context_name m o.context))))
 
     cm : MachineChanged m m' o.context y
     cm = machine_changed there
@@ -252,9 +251,9 @@ module _ (w : World) (m : Machine) (o : ObjName) (domain send_cq recv_cq : Optio
 
     numbering : AreNumbered (net_of w' m') (numbered_ends m') m'.numbers
     numbering = subst (AreNumbered (net_of w' m') (numbered_ends m')) (sym numbers_are) (record {
-      given = inserts_all (λ z. Contains (given ∷ m.numbers) z.0) (given, o) (numbered_ends m) (numbered_ends m') inserted
-          (All-weaker (λ z. Contains m.numbers z.0) (λ z. Contains (given ∷ m.numbers) z.0) (λ z h. contains_later z.0 given m.numbers h) (numbered_ends m) s.numbered.given)
-          (contains_here given m.numbers);
+      given = inserts_all (λ z. Contains (m.numbers ++ given ∷ []) z.0) (given, o) (numbered_ends m) (numbered_ends m') inserted
+          (All-weaker (λ z. Contains m.numbers z.0) (λ z. Contains (m.numbers ++ given ∷ []) z.0) (λ z h. Contains-append_left m.numbers (given ∷ []) z.0 h) (numbered_ends m) s.numbered.given)
+          (contains_last given m.numbers);
       named = λ k h. elim (object_or_not k o) [
         | inl a ↦ ap (name_at (numbered_ends m')) (ap (λ j. (machine.end_of m' j).number) a ∙ ap (λ z. z.number) here_end) ∙ (name_here (given, o) (numbered_ends m) (numbered_ends m') inserted (All-weaker (λ z. Contains m.numbers z.0) (λ z. z.0 ≢ given) (λ z c. not_given z.0 c) (numbered_ends m) s.numbered.given) ∙ sym a)
         | inr ne ↦
@@ -299,16 +298,17 @@ module _ (w : World) (m : Machine) (o : ObjName) (domain send_cq recv_cq : Optio
     })
 
     does : IsDone w m (events.MakeQp o domain send_cq recv_cq send_depth recv_depth) (verbs.MakeQp o domain send_cq recv_cq send_depth recv_depth)
-    unfolding ran step.numbered device.makes_end kept.is_unmade
+    unfolding ran step.numbered device.makes_end kept.is_unmade verbing.made_end
     does = record {
       given = given;
       may = may_be_given m.numbers given fresh;
       answer = refl;
       made = refl;
       stands =
-          subst (λ d. Stands (ran w (device.answers (device.with_context counting (device.with_new_end (live_of w o.context) (record e { domain = d; send_cq = device.word_of send_cq; recv_cq = device.word_of recv_cq }))) (answers.Qp given))).world m') (sym (word_is domain))
+          subst (λ es. Stands (ran w (device.answers (device.with_context counting (device.with_new_end (live_of w o.context) (record e { domain = device.word_of domain; send_cq = device.word_of send_cq; recv_cq = device.word_of recv_cq }))) (answers.Qp given))).world (machine.with_context (record m { numbers = m.numbers ++ given ∷ [] }) o.context (record old { ends = es }))) pushed
+          (subst (λ d. Stands (ran w (device.answers (device.with_context counting (device.with_new_end (live_of w o.context) (record e { domain = d; send_cq = device.word_of send_cq; recv_cq = device.word_of recv_cq }))) (answers.Qp given))).world m') (sym (word_is domain))
           (subst (λ q. Stands (ran w (device.answers (device.with_context counting (device.with_new_end (live_of w o.context) (record e { send_cq = q; recv_cq = device.word_of recv_cq }))) (answers.Qp given))).world m') (sym (word_is send_cq))
-          (subst (λ q. Stands (ran w (device.answers (device.with_context counting (device.with_new_end (live_of w o.context) (record e { recv_cq = q }))) (answers.Qp given))).world m') (sym (word_is recv_cq)) stands));
+          (subst (λ q. Stands (ran w (device.answers (device.with_context counting (device.with_new_end (live_of w o.context) (record e { recv_cq = q }))) (answers.Qp given))).world m') (sym (word_is recv_cq)) stands)));
     }
 
   few_numbers : (a : Bool) (n : ℕ) → (a || nat_le 65535 n) ≡ false → n < 65535

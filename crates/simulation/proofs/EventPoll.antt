@@ -1,5 +1,5 @@
 -- The machine follows a poll.
-use Rattle.std.proofs.Common.{◌≡◌, ℕ, List, [], true, refl, sym, ap, ◌∙◌}
+use Rattle.std.proofs.Common.{◌≡◌, ℕ, List, [], true, refl, sym, ap, ◌∙◌, subst}
 use Rattle.std.specs.Prelude.{not, take, drop}
 use Rattle.simulation.proofs.Tables.{map-store, name-named_there}
 use Rattle.simulation.proofs.Sounds.{queues_like}
@@ -25,7 +25,7 @@ use Rattle.ideal_model.specs.Verbs as verbing
 use Rattle.simulation.specs.Kept as kept
 use Rattle.simulation.specs.Stands.{Stands}
 use Rattle.simulation.specs.Law.{Follows}
-use Rattle.simulation.proofs.Machines.{context_name}
+use Rattle.simulation.proofs.Machines.{context_name, queue_stored}
 use Rattle.simulation.proofs.Nets.{same_quiet}
 use Rattle.simulation.proofs.Refusing.{Matches, matches_cause, matches_none, first_yes, first_no, later_no, not_lacking}
 use Rattle.simulation.proofs.Live.{live_of, live_name, live_same, within_matches, changed_stands}
@@ -47,7 +47,7 @@ module _ (w : World) (m : Machine) (o : ObjName) (most : ℕ) (s : Stands w m) w
       (λ h. matches_none))
 
   does : is_live w o.context ≡ true → has_context m o.context ≡ true → has_name (λ q. q.name) o.name (machine.context_of m o.context).queues ≡ true → IsDone w m (events.Poll o most) (verbs.Poll o most)
-  unfolding ran step.numbered device.polls with_queue with_entries kept.is_unmade machine.with_queue machine.queue_of verbing.polled
+  unfolding ran step.numbered device.polls with_queue with_entries kept.is_unmade machine.queue_of verbing.polled
   does live there found =
       let same = live_same w m o.context s live in
       let sound = s.sound o.context in
@@ -58,7 +58,8 @@ module _ (w : World) (m : Machine) (o : ObjName) (most : ℕ) (s : Stands w m) w
         may = refl;
         answer = ap (λ qs. answers.Polled (take most (queue_in qs o.name).entries)) (sym same.queues);
         made = refl;
-        stands = changed_stands w m o.context (with_queue (live_of w o.context) (with_entries (state.queue_at (live_of w o.context) o.name) (drop most (state.queue_at (live_of w o.context) o.name).entries)))
+        stands = subst (Stands (ran w (device.answers (device.with_context (home w o.context) (with_queue (live_of w o.context) (with_entries (state.queue_at (live_of w o.context) o.name) (drop most (state.queue_at (live_of w o.context) o.name).entries)))) (answers.Polled (take most (state.queue_at (live_of w o.context) o.name).entries)))).world) (sym (queue_stored m o.context o.name (polled q most) found))
+            (changed_stands w m o.context (with_queue (live_of w o.context) (with_entries (state.queue_at (live_of w o.context) o.name) (drop most (state.queue_at (live_of w o.context) o.name).entries)))
             (record y { queues = store_named (λ x. x.name) o.name (polled q most) y.queues }) (answers.Polled (take most (state.queue_at (live_of w o.context) o.name).entries)) s live there
             (live_name w o.context live) (context_name m o.context) (same_quiet _ _ _ _ refl refl)
             (record {
@@ -75,7 +76,7 @@ module _ (w : World) (m : Machine) (o : ObjName) (most : ℕ) (s : Stands w m) w
               named_once = sound.named_once;
               ends = queues_like y.regions _ _ y.ends (map-store (λ x. x.name) (λ x. x.name) no_queue o.name (polled q most) y.queues found refl) sound.ends;
             })
-            (λ q domain p h. h);
+            (λ q domain p h. h));
       }
 
   pub poll_follows : Follows w m (world_events.At (events.Poll o most))

@@ -1,6 +1,5 @@
 -- The machine follows the making of a completion queue.
-use Rattle.std.proofs.Common.{◌≡◌, ℕ, [], ◌∷◌, ◌++◌, true, false, refl, sym, ap, subst}
-use Rattle.simulation.proofs.Tables.{store_named-new}
+use Rattle.std.proofs.Common.{◌≡◌, ℕ, [], ◌∷◌, ◌++◌, true, refl, ap}
 use Rattle.simulation.proofs.Sounds.{queues_more}
 use Rattle.rdma_types.specs.declared.names.Name.{Name}
 use Rattle.rdma_types.specs.declared.names.ObjName.{ObjName}
@@ -8,7 +7,7 @@ use Rattle.rdma_types.specs.declared.verbs.Verb.TheVariants as verbs
 use Rattle.rdma_types.specs.declared.answers.Answer.TheVariants as answers
 use Rattle.rdma_types.specs.declared.answers.Refusal.TheVariants as refusals
 use Rattle.rdma_types.specs.Causes.{first_cause}
-use Rattle.rdma_types.specs.Lists.{has_name, store_named}
+use Rattle.rdma_types.specs.Lists.{has_name}
 use Rattle.rdma_types.specs.Objects.{CompletionQueue}
 use Rattle.protocol.specs.declared.events.Event.TheVariants as events
 use Rattle.protocol.specs.declared.events.WorldEvent.TheVariants as world_events
@@ -25,7 +24,7 @@ use Rattle.simulation.specs.Stands.{Stands}
 use Rattle.simulation.specs.Law.{Follows}
 use Rattle.simulation.proofs.Machines.{context_name}
 use Rattle.simulation.proofs.Nets.{same_quiet}
-use Rattle.simulation.proofs.Refusing.{Matches, matches_cause, matches_unknown, matches_none, first_yes, first_no, later_no}
+use Rattle.simulation.proofs.Refusing.{Matches, matches_cause, matches_unknown, matches_none, first_yes}
 use Rattle.simulation.proofs.Live.{live_of, live_name, live_same, within_matches, changed_stands}
 use Rattle.simulation.proofs.Verbs.{IsDone, verb_follows}
 
@@ -40,21 +39,19 @@ module _ (w : World) (m : Machine) (o : ObjName) (capacity : ℕ) (s : Stands w 
       (matches_cause refusals.NumberTaken _ _ _ _ (ap (has_name (λ q. q.name) o.name) (live_same w m o.context s live).queues)
       (λ h. matches_unknown refusals.TooMany _ [] (first_cause []) refl (λ h. matches_none)))
 
-  does : is_live w o.context ≡ true → has_context m o.context ≡ true → has_name (λ q. q.name) o.name (machine.context_of m o.context).queues ≡ false → IsDone w m (events.MakeCq o capacity) (verbs.MakeCq o capacity)
-  unfolding ran step.numbered device.makes_queue device.with_new_queue kept.is_unmade machine.with_queue
-  does live there fresh =
+  does : is_live w o.context ≡ true → has_context m o.context ≡ true → IsDone w m (events.MakeCq o capacity) (verbs.MakeCq o capacity)
+  unfolding ran step.numbered device.makes_queue device.with_new_queue kept.is_unmade verbing.made_queue
+  does live there =
       let same = live_same w m o.context s live in
       let sound = s.sound o.context in
       let queues = (machine.context_of m o.context).queues in
-      let more : store_named (λ q. q.name) o.name (new_queue o.name capacity) queues ≡ queues ++ new_queue o.name capacity ∷ [] = store_named-new (λ q. q.name) o.name (new_queue o.name capacity) queues fresh in
       record {
         given = 0;
         may = refl;
         answer = refl;
         made = refl;
         stands =
-            subst (λ qs. Stands (ran w (device.answers (device.with_context (home w o.context) (device.with_new_queue (live_of w o.context) (new_queue o.name capacity))) answers.Done)).world (machine.with_context m o.context (record (machine.context_of m o.context) { queues = qs }))) (sym more)
-            (changed_stands w m o.context (device.with_new_queue (live_of w o.context) (new_queue o.name capacity)) (record (machine.context_of m o.context) { queues = queues ++ new_queue o.name capacity ∷ [] }) answers.Done s live there
+            changed_stands w m o.context (device.with_new_queue (live_of w o.context) (new_queue o.name capacity)) (record (machine.context_of m o.context) { queues = queues ++ new_queue o.name capacity ∷ [] }) answers.Done s live there
             (live_name w o.context live) (context_name m o.context) (same_quiet _ _ _ _ refl refl)
             (record { domains = same.domains; regions = same.regions; queues = ap (λ qs. qs ++ new_queue o.name capacity ∷ []) same.queues; ends = same.ends })
             (record {
@@ -65,7 +62,7 @@ module _ (w : World) (m : Machine) (o : ObjName) (capacity : ℕ) (s : Stands w 
               named_once = sound.named_once;
               ends = queues_more (machine.context_of m o.context).regions queues (new_queue o.name capacity) (machine.context_of m o.context).ends sound.ends;
             })
-            (λ q domain p h. h));
+            (λ q domain p h. h);
       }
 
   pub queue_follows : Follows w m (world_events.At (events.MakeCq o capacity))
@@ -75,5 +72,5 @@ module _ (w : World) (m : Machine) (o : ObjName) (capacity : ℕ) (s : Stands w 
     allows = λ a. refl;
     nowhere = λ h. first_yes refusals.NoSuch _ _ (rw h refl);
     matches = matches;
-    does = λ live there h h'. does live there (first_no refusals.NumberTaken _ [] (later_no refusals.NoSuch _ _ h'));
+    does = λ live there h h'. does live there;
   })

@@ -35,7 +35,7 @@ use Rattle.ideal_model.specs.Verbs as verbing
 use Rattle.simulation.specs.Kept as kept
 use Rattle.simulation.specs.Stands.{Stands}
 use Rattle.simulation.specs.Law.{Follows}
-use Rattle.simulation.proofs.Machines.{context_name}
+use Rattle.simulation.proofs.Machines.{context_name, end_stored, queue_stored}
 use Rattle.simulation.proofs.Nets.{same_quiet}
 use Rattle.simulation.proofs.Refusing.{Matches, matches_cause, matches_none, first_yes, first_no, later_no, not_lacking}
 use Rattle.simulation.proofs.Live.{live_of, live_name, live_same, within_matches, changed_stands}
@@ -99,7 +99,7 @@ module _ (w : World) (m : Machine) (o : ObjName) (v : Receive) (s : Stands w m) 
 
   -- at an end that has ended the receive is completed
   completes : is_live w o.context ≡ true → has_context m o.context ≡ true → has_name (λ z. z.name) o.name y.ends ≡ true → StandsBy true true
-  unfolding machine.completing machine.with_queue machine.queue_of owned_there owned
+  unfolding machine.completing machine.queue_of owned_there owned
   completes live there found =
       let same = live_same w m o.context s live in
       let sound = s.sound o.context in
@@ -110,6 +110,7 @@ module _ (w : World) (m : Machine) (o : ObjName) (v : Receive) (s : Stands w m) 
       ap (λ z. words.completing x z.receive_queue (receive_done z.number v wc.Recv status.Flush 0 None ∷ [])) ends
       ∙ completing_there x y.queues f.receive_queue done same.queues q in
       subst (λ z. Stands (ran w (device.answers (device.with_context (home w o.context) z) answers.Done)).world (here_now true)) (sym is)
+      (subst (Stands (ran w (device.answers (device.with_context (home w o.context) (record x { queues = with_more y.queues f.receive_queue done })) answers.Done)).world) (sym (queue_stored m o.context f.receive_queue _ q))
       (changed_stands w m o.context (record x { queues = with_more y.queues f.receive_queue done }) (record y { queues = with_more y.queues f.receive_queue done }) answers.Done s live there
       (live_name w o.context live) (context_name m o.context) (same_quiet _ _ _ _ refl refl)
       (record { domains = same.domains; regions = same.regions; queues = refl; ends = same.ends })
@@ -121,11 +122,11 @@ module _ (w : World) (m : Machine) (o : ObjName) (v : Receive) (s : Stands w m) 
         named_once = sound.named_once;
         ends = queues_like y.regions _ _ y.ends (with_more_names y.queues f.receive_queue done q) sound.ends;
       })
-      (λ q domain p h. h))
+      (λ q domain p h. h)))
 
   -- at another it is one more unused one
   waits : is_live w o.context ≡ true → has_context m o.context ≡ true → has_name (λ z. z.name) o.name y.ends ≡ true → length f.unused < f.receive_depth → is_granted local_key y.regions f.domain v.lkey v.local v.length LocalWrite ≡ true → StandsBy false false
-  unfolding words.with_end words.with_unused machine.with_end owned_there owned untold
+  unfolding words.with_end words.with_unused owned_there owned untold
   waits live there found room granted =
       let same = live_same w m o.context s live in
       let sound = s.sound o.context in
@@ -136,6 +137,7 @@ module _ (w : World) (m : Machine) (o : ObjName) (v : Receive) (s : Stands w m) 
       let e' : state.End = record e { unused = e.unused ++ v ∷ [] } in
       let f' : machine.End = record f { unused = f.unused ++ v ∷ [] } in
       subst (λ k. Stands (ran w (device.answers (device.with_context (home w o.context) (record x { ends = store_named (λ z. z.name) k e' x.ends })) answers.Done)).world (here_now false)) (sym named)
+      (subst (Stands (ran w (device.answers (device.with_context (home w o.context) (record x { ends = store_named (λ z. z.name) o.name e' x.ends })) answers.Done)).world) (sym (end_stored m o f' found))
       (changed_stands w m o.context (record x { ends = store_named (λ z. z.name) o.name e' x.ends }) (record y { ends = store_named (λ z. z.name) o.name f' y.ends }) answers.Done s live there
       (live_name w o.context live) (context_name m o.context)
       (stored_quiet o.name no_end (machine.nobody o) e' f' x.ends y.ends here found named named' refl refl)
@@ -153,7 +155,7 @@ module _ (w : World) (m : Machine) (o : ObjName) (v : Receive) (s : Stands w m) 
         named_once = λ n. omega (arith, once_store (λ z. z.name) (machine.nobody o) o.name n f' y.ends found named', sound.named_once n);
         ends = All-store (IsEndSound y.regions (map (λ q. q.name) y.queues)) (λ z. z.name) o.name f' y.ends sound.ends (receiving_sound y.regions (map (λ q. q.name) y.queues) f v room granted (sound_end found));
       })
-      (λ q domain p h. h))
+      (λ q domain p h. h)))
 
   by_ended : is_live w o.context ≡ true → has_context m o.context ≡ true → has_name (λ z. z.name) o.name y.ends ≡ true → length f.unused < f.receive_depth → is_granted local_key y.regions f.domain v.lkey v.local v.length LocalWrite ≡ true → (b : Bool) → StandsBy b b
   by_ended live there found room granted true = completes live there found

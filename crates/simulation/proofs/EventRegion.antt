@@ -3,7 +3,7 @@ use Rattle.std.proofs.Common.{arith, ◌≡◌, ◌≢◌, ◌<◌, ◌+◌, ◌
 use Rattle.std.specs.Prelude.{Option, Some, None, not, ◌&&◌, ◌||◌, ◌==◌, nat_le, nat_eq, replicate, All, Contains, ◌%◌, ◌/◌, suc}
 use Rattle.std.proofs.lemmas.Bool.Decides.{nat_tests, leb_tells, eqb_tells}
 use Rattle.std.proofs.lemmas.List.{length-replicate}
-use Rattle.std.proofs.lemmas.List.Elements.{All-push, All-cons, All-weaker, All-replicate, All-contains}
+use Rattle.std.proofs.lemmas.List.Elements.{All-push, All-weaker, All-replicate, All-contains, Contains-append_left}
 use Rattle.std.proofs.lemmas.List.Folds.{list_any_none}
 use Rattle.rdma_types.specs.declared.rights.Rights.{Rights}
 use Rattle.rdma_types.specs.Objects.{IsWhole}
@@ -11,11 +11,12 @@ use Rattle.protocol.specs.State.{Device, device_at}
 use Rattle.simulation.specs.Stands.{IsContextSound, IsCounted, IsPlaced}
 use Rattle.simulation.proofs.Worlds.{home_device, home_context, ran_device, ran_counts}
 use Rattle.simulation.proofs.Machines.{MachineChanged}
+use Rattle.simulation.proofs.Tables.{replaced-stored}
 use Rattle.simulation.specs.Views.{context_of, net_of}
 use Rattle.simulation.proofs.Nets.{AreQuiet, net_same, listed_quiet}
 use Rattle.simulation.proofs.Kept.{IsKeyUsed, counted_kept, progress_changed, quiet_kept}
 use Rattle.simulation.proofs.Live.{home_changed}
-use Rattle.simulation.proofs.Grants.{contains_here, contains_later, granted_push, progress_push, keyed_push}
+use Rattle.simulation.proofs.Grants.{contains_last, granted_push, progress_push, keyed_push}
 use Rattle.simulation.proofs.Sounds.{ends_regions}
 use Rattle.rdma_types.specs.declared.names.Name.{Name}
 use Rattle.rdma_types.specs.declared.names.ObjName.{ObjName}
@@ -50,7 +51,6 @@ keys_used d = d.id * 16777216 + 2 * (d.key_count + 1)
 
 -- the word of a thing here
 word_is : (n : Option Name) → device.word_of n ≡ verbing.word_or_none n
-unfolding verbing.word_or_none
 word_is None = refl
 word_is (Some n) = refl
 
@@ -78,13 +78,13 @@ abbrev IsKeyed : List ℕ → Region → Type 0
 IsKeyed keys r = Contains keys r.keys.local × (r.keys.local % 2 ≡ 0) × (r.keys.remote ≡ suc r.keys.local)
 
 -- a context with one more region, whose key is new
-region_sound : (keys : List ℕ) (given : ℕ) (y : machine.Context) (r : Region) → r.keys.local ≡ given → given % 2 ≡ 0 → r.keys.remote ≡ suc given → All (λ k. k ≢ given) keys → IsWhole r → All (λ b. b < 256) r.bytes → IsContextSound keys y → IsContextSound (given ∷ keys) (record y { regions = y.regions ++ r ∷ [] })
+region_sound : (keys : List ℕ) (given : ℕ) (y : machine.Context) (r : Region) → r.keys.local ≡ given → given % 2 ≡ 0 → r.keys.remote ≡ suc given → All (λ k. k ≢ given) keys → IsWhole r → All (λ b. b < 256) r.bytes → IsContextSound keys y → IsContextSound (keys ++ given ∷ []) (record y { regions = y.regions ++ r ∷ [] })
 region_sound keys given y r key even remote fresh whole bytes s = record {
   whole = All-push IsWhole y.regions r s.whole whole;
   bytes = All-push (λ x. All (λ b. b < 256) x.bytes) y.regions r s.bytes bytes;
-  keyed = All-push (IsKeyed (given ∷ keys)) y.regions r
-      (All-weaker (IsKeyed keys) (IsKeyed (given ∷ keys)) (λ x h. (contains_later x.keys.local given keys h.0, h.1, h.2)) y.regions s.keyed)
-      (subst (Contains (given ∷ keys)) (sym key) (contains_here given keys), omega (arith, key, even), omega (arith, key, remote));
+  keyed = All-push (IsKeyed (keys ++ given ∷ [])) y.regions r
+      (All-weaker (IsKeyed keys) (IsKeyed (keys ++ given ∷ [])) (λ x h. (Contains-append_left keys (given ∷ []) x.keys.local h.0, h.1, h.2)) y.regions s.keyed)
+      (subst (Contains (keys ++ given ∷ [])) (sym key) (contains_last given keys), omega (arith, key, even), omega (arith, key, remote));
   keyed_once = keyed_push r y.regions s.keyed_once (All-weaker (IsKeyed keys) (λ x. x.keys.local ≢ r.keys.local) (λ x h e. All-contains (λ k. k ≢ given) keys x.keys.local fresh h.0 (e ∙ key)) y.regions s.keyed);
   named_once = s.named_once;
   ends = ends_regions y.regions (y.regions ++ r ∷ []) _ y.ends (λ domain k place count right h. granted_push _ y.regions (r ∷ []) domain k place count right h) s.ends;
@@ -126,13 +126,13 @@ module _ (w : World) (m : Machine) (o : ObjName) (domain : Option Name) (base co
   w' = (ran w (device.answers (device.with_context counting x) (answers.Region (record { local = given; remote = given + 1 })))).world
 
   abbrev m' : Machine
-  m' = machine.with_regions (record m { keys = given ∷ m.keys }) o.context (machine.regions_of m o.context ++ new ∷ [])
+  m' = machine.with_regions (record m { keys = m.keys ++ given ∷ [] }) o.context (machine.regions_of m o.context ++ new ∷ [])
 
   machine_changed : has_context m o.context ≡ true → MachineChanged m m' o.context y
-  unfolding machine.with_regions machine.with_context machine.context_of
-  machine_changed there = record { named = context_name m o.context; there = there; contexts = refl }
+  unfolding machine.with_regions machine.with_context machine.context_of has_context
+  machine_changed there = record { named = context_name m o.context; there = there; contexts = replaced-stored (λ z. z.name) o.context y m.contexts there }
 
-  keys_are : m'.keys ≡ given ∷ m.keys
+  keys_are : m'.keys ≡ m.keys ++ given ∷ []
   unfolding machine.with_regions machine.with_context
   keys_are = refl
 
@@ -150,7 +150,7 @@ module _ (w : World) (m : Machine) (o : ObjName) (domain : Option Name) (base co
       record {
         numbers_said = old.numbers_said;
         numbers_used = old.numbers_used;
-        keys_used = All-cons (IsKeyUsed (λ k. (device_at w' k).key_count)) given m.keys (omega (arith, few, there)) old.keys_used;
+        keys_used = All-push (IsKeyUsed (λ k. (device_at w' k).key_count)) m.keys given old.keys_used (omega (arith, few, there));
       }
 
   stands : is_live w o.context ≡ true → has_context m o.context ≡ true → (home w o.context).key_count < 8388607 → Stands w' m'
@@ -166,7 +166,7 @@ module _ (w : World) (m : Machine) (o : ObjName) (domain : Option Name) (base co
         net = net_same w w' m m' o.context x y cw cm refl quiet;
         listed = listed_quiet m m' o.context y _ _ cm refl quiet;
         numbers = numbers_are;
-        keys = λ k h. subst (λ ks. Contains ks k) (sym keys_are) (contains_later k given m.keys h);
+        keys = λ k h. subst (λ ks. Contains ks k) (sym keys_are) (Contains-append_left m.keys (given ∷ []) k h);
         counted = counted live few;
         same = record { domains = same.domains; regions = ap (λ rs. rs ++ new ∷ []) same.regions; queues = same.queues; ends = same.ends };
         sound = subst (λ ks. IsContextSound ks y) (sym keys_are) (region_sound m.keys given (machine.context_of m o.context) new refl (omega arith) (omega arith) (fresh_key w m o.context s.placed s.counted live few) (length-replicate count 0) (All-replicate (λ b. b < 256) count 0 (omega arith)) (s.sound o.context));

@@ -26,7 +26,7 @@ use Rattle.simulation.proofs.Tables.{All-named, name-named_there, named-there}
 use Rattle.simulation.proofs.Worlds as worlds
 use Rattle.simulation.proofs.Worlds.{WorldChanged, home_context, husks_same}
 use Rattle.simulation.proofs.Machines as machines
-use Rattle.simulation.proofs.Machines.{MachineChanged}
+use Rattle.simulation.proofs.Machines.{MachineChanged, queue_stored}
 use Rattle.simulation.proofs.Kept.{placed_kept, counted_kept, same_kept, sound_kept}
 use Rattle.simulation.proofs.Ends.{end_there, end_owned, ends_store, queue_in, full_same, with_more, completing_there, with_more_names}
 use Rattle.simulation.proofs.Sounds.{queue_there, queues_like}
@@ -191,7 +191,7 @@ module _ (w : World) (m : Machine) (o : ObjName) (p : Posted) (l : Link) (s : St
   cw = linked_changed w m o l' s.placed live
 
   cm : MachineChanged m m' o.context (context_with m o (posted_end f p))
-  cm = end_changed m o (posted_end f p) there
+  cm = end_changed m o (posted_end f p) there in_list
 
   link_after : (end_of w' o).link ≡ Some l'
   link_after = ap (λ e. e.link) (end_stored_here w w' o (linked_of w o l') (record (end_there_of w o) { link = Some l' }) cw (linked_ends w o l' live name_there) name_there)
@@ -214,9 +214,9 @@ module _ (w : World) (m : Machine) (o : ObjName) (p : Posted) (l : Link) (s : St
   posts : NetPosts (net_of w m) (net_of w' m') o p
   posts = record {
     side = side_after;
-    end = ap requests_of (machine_here m o (posted_end f p) there name_here);
+    end = ap requests_of (machine_here m o (posted_end f p) there in_list name_here);
     sides = λ k ne. side_like w w' o.context (linked_of w o l') k cw (ap (λ e. e.link) (end_stored_other w w' o k (linked_of w o l') (record (end_there_of w o) { link = Some l' }) cw (linked_ends w o l' live name_there) name_there ne));
-    ends = λ k ne. ap requests_of (machine_other m o k (posted_end f p) there name_here ne);
+    ends = λ k ne. ap requests_of (machine_other m o k (posted_end f p) there in_list name_here ne);
     names = λ k. ap (λ xs. name_at xs k) listed_same;
   }
 
@@ -260,8 +260,8 @@ module _ (w : World) (m : Machine) (o : ObjName) (p : Posted) (l : Link) (s : St
 
   number_same : (k : ObjName) → (machine.end_of m' k).number ≡ (machine.end_of m k).number
   number_same k = elim (grows.object_or_not k o) [
-    | inl a ↦ ap (λ j. (machine.end_of m' j).number) a ∙ (ap (λ z. z.number) (machine_here m o (posted_end f p) there name_here) ∙ ap (λ j. (machine.end_of m j).number) (sym a))
-    | inr ne ↦ ap (λ z. z.number) (machine_other m o k (posted_end f p) there name_here ne)
+    | inl a ↦ ap (λ j. (machine.end_of m' j).number) a ∙ (ap (λ z. z.number) (machine_here m o (posted_end f p) there in_list name_here) ∙ ap (λ j. (machine.end_of m j).number) (sym a))
+    | inr ne ↦ ap (λ z. z.number) (machine_other m o k (posted_end f p) there in_list name_here ne)
   ]
 
   numbering : AreNumbered (net_of w' m') (numbered_ends m') m'.numbers
@@ -346,9 +346,9 @@ module _ (w : World) (m : Machine) (o : ObjName) (r : Request) (range : IsReques
   sound_end found = All-named (IsEndSound y.regions (map (λ q. q.name) y.queues)) (λ z. z.name) (machine.nobody o) o.name y.ends (s.sound o.context).ends found
 
   -- what is posted is the same on both sides
-  posted_same : is_live w o.context ≡ true → record { request = r; payload = device.taken_bytes x r } ≡ taken
+  posted_same : is_live w o.context ≡ true → is_granted local_key y.regions g.domain r.lkey r.local r.shape.length (landing_right r.shape.kind) ≡ true → record { request = r; payload = device.taken_bytes x r } ≡ taken
   unfolding verbing.taken
-  posted_same live = λ i. record { request = r; payload = taken_same x y.regions r (live_same w m o.context s live).regions i }
+  posted_same live granted = λ i. record { request = r; payload = taken_same x y.regions g.domain r (landing_right r.shape.kind) (s.sound o.context).keyed_once granted (live_same w m o.context s live).regions i }
 
   said : is_granted local_key y.regions g.domain r.lkey r.local r.shape.length (landing_right r.shape.kind) ≡ true → IsSayable taken
   unfolding verbing.taken
@@ -377,7 +377,7 @@ module _ (w : World) (m : Machine) (o : ObjName) (r : Request) (range : IsReques
   StandsBy l p q = Stands (ran w (device.answers (device.with_context (home w o.context) (there_now l p)) answers.Done)).world (here_now q)
 
   completes : (l : Link) → is_live w o.context ≡ true → has_context m o.context ≡ true → has_end m o ≡ true → StandsBy l true true
-  unfolding machine.completing machine.with_queue machine.queue_of owned_there owned
+  unfolding machine.completing machine.queue_of owned_there owned
   completes l live there found =
       let same = live_same w m o.context s live in
       let sound = s.sound o.context in
@@ -388,6 +388,7 @@ module _ (w : World) (m : Machine) (o : ObjName) (r : Request) (range : IsReques
       ap (λ z. words.completing x z.send_queue (request_done z.number taken status.Flush 0 ∷ [])) ends
       ∙ completing_there x y.queues g.send_queue done same.queues q in
       subst (λ z. Stands (ran w (device.answers (device.with_context (home w o.context) z) answers.Done)).world (here_now true)) (sym is)
+      (subst (Stands (ran w (device.answers (device.with_context (home w o.context) (record x { queues = with_more y.queues g.send_queue done })) answers.Done)).world) (sym (queue_stored m o.context g.send_queue _ q))
       (changed_stands w m o.context (record x { queues = with_more y.queues g.send_queue done }) (record y { queues = with_more y.queues g.send_queue done }) answers.Done s live there
       (live_name w o.context live) (context_name m o.context) (same_quiet _ _ _ _ refl refl)
       (record { domains = same.domains; regions = same.regions; queues = refl; ends = same.ends })
@@ -399,7 +400,7 @@ module _ (w : World) (m : Machine) (o : ObjName) (r : Request) (range : IsReques
         named_once = sound.named_once;
         ends = queues_like y.regions _ _ y.ends (with_more_names y.queues g.send_queue done q) sound.ends;
       })
-      (λ q domain p h. h))
+      (λ q domain p h. h)))
 
   by_ended : (l : Link) (b : Bool) → l.ended ≡ b → e.link ≡ Some l → is_live w o.context ≡ true → has_context m o.context ≡ true → has_end m o ≡ true → untold_count g < g.send_depth → r.shape.length ≤ most_bytes →
       is_granted local_key y.regions g.domain r.lkey r.local r.shape.length (landing_right r.shape.kind) ≡ true → (not l.ended && nat_le number_limit (end_of_queue l.terms l.sender + span_of taken l.terms.mtu)) ≡ false → StandsBy l b b
@@ -410,11 +411,11 @@ module _ (w : World) (m : Machine) (o : ObjName) (r : Request) (range : IsReques
       (below number_limit _ (sym (ap (λ b. not b && nat_le number_limit (end_of_queue l.terms l.sender + span_of taken l.terms.mtu)) h) ∙ limit))
 
   -- the device's step
-  step_is : (l : Link) → is_live w o.context ≡ true → e.link ≡ Some l → device.posts (home w o.context) x e r ≡ device.answers (device.with_context (home w o.context) (there_now l l.ended)) answers.Done
+  step_is : (l : Link) → is_live w o.context ≡ true → is_granted local_key y.regions g.domain r.lkey r.local r.shape.length (landing_right r.shape.kind) ≡ true → e.link ≡ Some l → device.posts (home w o.context) x e r ≡ device.answers (device.with_context (home w o.context) (there_now l l.ended)) answers.Done
   unfolding device.posts device.posted_at
-  step_is l live linked =
+  step_is l live granted linked =
       ap (λ z. device.posts_at (home w o.context) x e z r) linked
-      ∙ ap (λ p. device.answers (device.with_context (home w o.context) (if l.ended then words.completing x e.send_cq (words.failed_request e.number status.Flush p ∷ []) else words.linked x e (words.with_sender l (device.posting l.sender p)))) answers.Done) (posted_same live)
+      ∙ ap (λ p. device.answers (device.with_context (home w o.context) (if l.ended then words.completing x e.send_cq (words.failed_request e.number status.Flush p ∷ []) else words.linked x e (words.with_sender l (device.posting l.sender p)))) answers.Done) (posted_same live granted)
 
   machine_is : verbing.posted m o r ≡ here_now g.ended
   unfolding verbing.posted
@@ -431,7 +432,7 @@ module _ (w : World) (m : Machine) (o : ObjName) (r : Request) (range : IsReques
       let over : l.ended ≡ g.ended = ap (λ z. (link_or_none z).ended) (sym linked) ∙ ap (λ z. z.ended) same in
       let now : StandsBy l l.ended l.ended = by_ended l l.ended refl linked live there found room short granted (ap (λ z. refusing.is_past_limit z r) (sym linked) ∙ limit) in
       let both : StandsBy l l.ended g.ended = subst (λ b. StandsBy l l.ended b) over now in
-      let is = step_is l live linked in
+      let is = step_is l live granted linked in
       record {
         given = 0;
         may = refl;

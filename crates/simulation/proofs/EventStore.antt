@@ -1,5 +1,5 @@
 -- The machine follows a store.
-use Rattle.std.proofs.Common.{arith, ◌≡◌, ◌≤◌, ◌<◌, ◌+◌, ◌-◌, ℕ, List, [], ◌++◌, length, true, refl, ap, ◌∙◌}
+use Rattle.std.proofs.Common.{arith, ◌≡◌, ◌≤◌, ◌<◌, ◌+◌, ◌-◌, ℕ, List, [], ◌++◌, length, true, refl, sym, ap, ◌∙◌, subst}
 use Rattle.std.specs.Prelude.{not, take, drop, All, Contains, ◌%◌, suc}
 use Rattle.std.proofs.lemmas.Bool.Decides.{nat_tests, leb_tells}
 use Rattle.std.proofs.lemmas.List.{length-append, length-drop, length-take}
@@ -9,7 +9,7 @@ use Rattle.rdma_types.specs.Memory.{put}
 use Rattle.rdma_types.specs.Objects.{IsWhole}
 use Rattle.protocol.specs.Memory.{stored, with_region}
 use Rattle.simulation.specs.Stands.{IsContextSound}
-use Rattle.simulation.proofs.Tables.{All-store, All-named}
+use Rattle.simulation.proofs.Tables.{All-store, All-named, replaced-stored}
 use Rattle.simulation.proofs.Grants.{SamePlace, local_granted_store, progress_store, keyed_store, store_by_key}
 use Rattle.simulation.proofs.Sounds.{ends_regions}
 use Rattle.rdma_types.specs.declared.names.Name.{Name}
@@ -93,7 +93,7 @@ module _ (w : World) (m : Machine) (o : ObjName) (a : ℕ) (bytes : List ℕ) (s
       (λ h. matches_none)))
 
   does : is_live w o.context ≡ true → has_context m o.context ≡ true → has_name (λ r. r.name) o.name (machine.context_of m o.context).regions ≡ true → holds (named (λ r. r.name) no_region o.name (machine.context_of m o.context).regions) a (length bytes) ≡ true → IsDone w m (events.Store o a bytes) (verbs.Store o a bytes)
-  unfolding ran step.numbered device.stores stored with_region kept.is_unmade verbing.stored verbing.region_of machine.with_regions
+  unfolding ran step.numbered device.stores stored with_region kept.is_unmade verbing.stored verbing.region_of verbing.overwritten machine.with_regions
   does live there found held =
       let same = live_same w m o.context s live in
       let y = machine.context_of m o.context in
@@ -103,7 +103,8 @@ module _ (w : World) (m : Machine) (o : ObjName) (a : ℕ) (bytes : List ℕ) (s
         may = refl;
         answer = refl;
         made = refl;
-        stands = changed_stands w m o.context
+        stands = subst (λ rs. Stands (ran w (device.answers (device.with_context (home w o.context) (with_region (live_of w o.context) (stored (state.region_at (live_of w o.context) o.name) (a - (state.region_at (live_of w o.context) o.name).base) bytes))) answers.Done)).world (machine.with_context m o.context (record y { regions = rs }))) (sym (replaced-stored (λ x. x.name) o.name (stored_at r a bytes) y.regions found))
+            (changed_stands w m o.context
             (with_region (live_of w o.context) (stored (state.region_at (live_of w o.context) o.name) (a - (state.region_at (live_of w o.context) o.name).base) bytes))
             (record y { regions = store_named (λ x. x.name) o.name (stored_at r a bytes) y.regions })
             answers.Done s live there
@@ -115,7 +116,7 @@ module _ (w : World) (m : Machine) (o : ObjName) (a : ℕ) (bytes : List ℕ) (s
               ends = same.ends;
             })
             (store_sound m.keys y o.name a bytes found held said (s.sound o.context))
-            (λ q domain p h. progress_store q domain o.name (stored_at r a bytes) y.regions p found (same_stored r a bytes) h);
+            (λ q domain p h. progress_store q domain o.name (stored_at r a bytes) y.regions p found (same_stored r a bytes) h));
       }
 
   pub store_follows : Follows w m (world_events.At (events.Store o a bytes))

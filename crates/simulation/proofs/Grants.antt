@@ -29,6 +29,10 @@ contains_here x xs = (0, omega arith, refl)
 pub contains_later : {A : Type 0} (x y : A) (xs : List A) → Contains xs x → Contains (y ∷ xs) x
 contains_later x y xs h = (suc h.0, omega (arith, h.1), h.2)
 
+pub contains_last : {A : Type 0} (x : A) (xs : List A) → Contains (xs ++ x ∷ []) x
+contains_last x [] = contains_here x []
+contains_last x (y ∷ ys) = contains_later x y (ys ++ x ∷ []) (contains_last x ys)
+
 contains_if : {A : Type 0} (x : A) (b : Bool) (xs ys : List A) → (b ≡ true → Contains xs x) → (b ≡ false → Contains ys x) → Contains (if b then xs else ys) x
 contains_if x true xs ys h k = h refl
 contains_if x false xs ys h k = k refl

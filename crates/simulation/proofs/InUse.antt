@@ -22,7 +22,7 @@ use Rattle.ideal_model.specs.Machine as machine
 use Rattle.ideal_model.specs.Machine.{Machine, End, has_end}
 use Rattle.ideal_model.specs.Numbers.{due}
 use Rattle.ideal_model.specs.Sound.{IsSound}
-use Rattle.ideal_model.specs.Steps.{current, has_current, lands_before, untold}
+use Rattle.ideal_model.specs.Steps.{current, has_current, has_peer, has_turn, lands_before, untold}
 use Rattle.ideal_model.specs.Verbs as verbing
 use Rattle.simulation.specs.Views.{Net, net_of, requests_of, peer, owned, owned_there, link_or_none, receive_in, end_of, in_rts, context_of}
 use Rattle.simulation.specs.Joined.{IsJoined, IsProgress}
@@ -96,18 +96,19 @@ not_held w m s q c begun =
         let begins = whole_begun (machine.end_of m q).into (machine.end_of m q).mtu (omega (arith, top, j.ordered.due_top)) j.in_pieces.acting.0 in
         omega (arith, begins, begun)
 
-four_true : (a b c d : Bool) → a ≡ true → b ≡ false → c ≡ true → d ≡ false → (a && (not b && (c && not d))) ≡ true
-four_true a b c d h i j k = rw (h, i, j, k) refl
+all_current : (a p b c d : Bool) → a ≡ true → p ≡ true → b ≡ false → c ≡ true → d ≡ false → ((a && p) && (not b && (c && not d))) ≡ true
+all_current a p b c d h g i j k = rw (h, g, i, j, k) refl
 
 -- an end whose message is in progress at its peer has a current request
 current_now : (w : World) (m : Machine) → Stands w m → (q : ObjName) → IsConnected (net_of w m) q → (machine.end_of m (machine.end_of m q).peer).ended ≡ false → 0 < (machine.end_of m q).into → has_current m q ≡ true
-unfolding has_current owned owned_there
+unfolding has_current has_peer has_turn owned owned_there
 current_now w m s q c alive begun =
     let there : has_end m q ≡ true = are_made w m s q c in
     let posted : (machine.end_of m q).acted < length (machine.end_of m q).posted = begun_posted (machine.end_of m q) (sound_of w m s q there) begun in
     let connected : (machine.end_of m q).connected ≡ true = ap (λ z. z.connected) (sym (owned_of w m s q there)) ∙ c in
     let before : nat_lt (machine.end_of m q).acted (length (machine.end_of m q).posted) ≡ true = grind (arith, nat_tests, leb_tells (suc (machine.end_of m q).acted) (length (machine.end_of m q).posted)) in
-    four_true _ _ _ _ connected alive before (not_held w m s q c begun)
+    let peer_there : has_end m (machine.end_of m q).peer ≡ true = are_made w m s (machine.end_of m q).peer (s.joined q c).connected in
+    all_current _ _ _ _ _ connected peer_there alive before (not_held w m s q c begun)
 
 -- ---- a message in progress names a region
 
@@ -209,7 +210,7 @@ module _ (w : World) (m : Machine) (s : Stands w m) (o : ObjName) (r : Region) (
   in_error c ended =
       let j = joined c in
       let gone : (machine.end_of m (machine.end_of m q).peer).ended ≡ true = ap (λ z. (machine.end_of m z).ended) j.back ∙ ended in
-      and_ended f.connected (machine.end_of m q).connected (machine.end_of m (machine.end_of m q).peer).ended _ _ gone
+      and_ended f.connected (has_peer m q) (machine.end_of m (machine.end_of m q).peer).ended _ _ gone
 
   idle : IsConnected (net_of w m) o → (link_or_none (end_of w o).link).ended ≡ true → (link_or_none (end_of w o).link).receiver.progress ≡ NoMessage
   idle c =

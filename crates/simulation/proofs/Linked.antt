@@ -1,5 +1,5 @@
 -- One connected end of a world and of the machine changes.
-use Rattle.std.proofs.Common.{arith, ◌≡◌, ◌≢◌, ℕ, List, [], ◌∷◌, map, true, false, Bool, refl, sym, ap, ◌∙◌}
+use Rattle.std.proofs.Common.{arith, ◌≡◌, ◌≢◌, ℕ, List, [], ◌∷◌, map, true, false, Bool, refl, sym, ap, ◌∙◌, subst}
 use Rattle.std.specs.Prelude.{Some, None, not, ◌&&◌, ◌||◌}
 use Rattle.rdma_types.specs.declared.names.Name.{Name}
 use Rattle.rdma_types.specs.declared.names.ObjName.{ObjName}
@@ -28,7 +28,7 @@ use Rattle.simulation.proofs.Tables.{named-store_same, named-store_other, has_na
 use Rattle.simulation.proofs.Worlds as worlds
 use Rattle.simulation.proofs.Worlds.{WorldChanged, shapes_of, home_holds, home_context, place_same, husks_same, has_context_is, has_name-names, is_there, ran_counts}
 use Rattle.simulation.proofs.Machines as machines
-use Rattle.simulation.proofs.Machines.{MachineChanged, context_name}
+use Rattle.simulation.proofs.Machines.{MachineChanged, context_name, with_context_changed, end_stored}
 use Rattle.simulation.proofs.Kept.{placed_like}
 use Rattle.simulation.proofs.Ends.{ends_store}
 use Rattle.simulation.proofs.Connecting.{live_place, live_not_carried}
@@ -95,36 +95,38 @@ connected_machine m o e = machine.with_end m o e
 abbrev pub context_with : Machine → ObjName → End → machine.Context
 context_with m o e = record (machine.context_of m o.context) { ends = store_named (λ z. z.name) o.name e (machine.context_of m o.context).ends }
 
-pub end_changed : (m : Machine) (o : ObjName) (e : End) → has_context m o.context ≡ true → MachineChanged m (machine.with_end m o e) o.context (context_with m o e)
-unfolding machine.with_end machine.with_context
-end_changed m o e there = record { named = context_name m o.context; there = there; contexts = refl }
+abbrev pub HasEnd : Machine → ObjName → Type 0
+HasEnd m o = has_name (λ z. z.name) o.name (machine.context_of m o.context).ends ≡ true
 
-pub machine_here : (m : Machine) (o : ObjName) (e : End) → has_context m o.context ≡ true → e.name ≡ o.name → machine.end_of (machine.with_end m o e) o ≡ e
+pub end_changed : (m : Machine) (o : ObjName) (e : End) → has_context m o.context ≡ true → HasEnd m o → MachineChanged m (machine.with_end m o e) o.context (context_with m o e)
+end_changed m o e there found = subst (λ z. MachineChanged m z o.context (context_with m o e)) (sym (end_stored m o e found)) (with_context_changed m o.context (context_with m o e) (context_name m o.context) there)
+
+pub machine_here : (m : Machine) (o : ObjName) (e : End) → has_context m o.context ≡ true → HasEnd m o → e.name ≡ o.name → machine.end_of (machine.with_end m o e) o ≡ e
 unfolding machine.end_of
-machine_here m o e there named' =
-    ap (λ z. named (λ u. u.name) (nobody o) o.name z.ends) (machines.context_here m _ o.context (context_with m o e) (end_changed m o e there))
+machine_here m o e there found named' =
+    ap (λ z. named (λ u. u.name) (nobody o) o.name z.ends) (machines.context_here m _ o.context (context_with m o e) (end_changed m o e there found))
     ∙ named-store_same (λ u. u.name) (nobody o) o.name e (machine.context_of m o.context).ends named'
 
-pub machine_other : (m : Machine) (o k : ObjName) (e : End) → has_context m o.context ≡ true → e.name ≡ o.name → (k ≢ o) → machine.end_of (machine.with_end m o e) k ≡ machine.end_of m k
-machine_other m o k e there named' ne =
-    machines.end_part_same m _ o.context (context_with m o e) (end_changed m o e there) (λ z. z) k
+pub machine_other : (m : Machine) (o k : ObjName) (e : End) → has_context m o.context ≡ true → HasEnd m o → e.name ≡ o.name → (k ≢ o) → machine.end_of (machine.with_end m o e) k ≡ machine.end_of m k
+machine_other m o k e there found named' ne =
+    machines.end_part_same m _ o.context (context_with m o e) (end_changed m o e there found) (λ z. z) k
     (λ c. named-store_other (λ z. z.name) (nobody k) o.name k.name e (machine.context_of m o.context).ends named' (λ h. ne (λ i. record { context = c i; name = h i })))
 
 -- the numbers of all ends stay
 pub listed : (m : Machine) (o : ObjName) (e : End) → has_context m o.context ≡ true → has_name (λ z. z.name) o.name (machine.context_of m o.context).ends ≡ true → e.name ≡ o.name → e.number ≡ (machine.end_of m o).number → e.name ≡ (machine.end_of m o).name → numbered_ends (machine.with_end m o e) ≡ numbered_ends m
 unfolding machine.end_of
 listed m o e there found named' number name =
-    machines.listed_same m _ o.context (context_with m o e) (end_changed m o e there)
+    machines.listed_same m _ o.context (context_with m o e) (end_changed m o e there found)
     (map-store (λ z. (z.number, record { context = (machine.context_of m o.context).name; name = z.name })) (λ z. z.name) (nobody o) o.name e (machine.context_of m o.context).ends found
     (λ i. (number i, record { context = (machine.context_of m o.context).name; name = name i })))
 
 pub there_kept : (m : Machine) (o k : ObjName) (e : End) → has_context m o.context ≡ true → has_name (λ z. z.name) o.name (machine.context_of m o.context).ends ≡ true → e.name ≡ o.name → has_end (machine.with_end m o e) k ≡ has_end m k
-there_kept m o k e there found named' = machines.there_same m _ o.context (context_with m o e) (end_changed m o e there) k (λ n. has_name-store (λ z. z.name) o.name n e (machine.context_of m o.context).ends found named')
+there_kept m o k e there found named' = machines.there_same m _ o.context (context_with m o e) (end_changed m o e there found) k (λ n. has_name-store (λ z. z.name) o.name n e (machine.context_of m o.context).ends found named')
 
 -- ---- both sides of one end
 
 -- what an owner has of an end that is connected
-pub owned_linked : (e : state.End) (f : End) (l : Link) (p : ObjName) (t : Terms) → owned_there e ≡ owned f → e.link ≡ None → l.ended ≡ false → l.sender.untold ≡ [] → l.receiver.progress ≡ state.NoMessage → owned_there (record e { link = Some l }) ≡ owned (verbing.joined f p t)
+pub owned_linked : (e : state.End) (f : End) (l : Link) (p : ObjName) (t : Terms) → owned_there e ≡ owned f → e.link ≡ None → l.ended ≡ false → l.sender.untold ≡ [] → l.receiver.progress ≡ state.NoMessage → owned_there (record e { link = Some l }) ≡ owned (verbing.joined p t f)
 unfolding owned_there owned untold link_or_none receive_in verbing.joined
 owned_linked e f l p t same lone alive idle none =
     let before : record (owned_there e) { connected = true } ≡ record (owned f) { connected = true } = ap (λ (z : Owned). record z { connected = true }) same in
@@ -146,7 +148,7 @@ owned_linked e f l p t same lone alive idle none =
 
 -- the context with the connected end, on both sides
 pub side_connected : (x : state.Context) (y : machine.Context) (n : Name) (e : state.End) (f : End) (l : Link) (p : ObjName) (t : Terms) → AreSame x y → e.name ≡ n → owned_there e ≡ owned f → e.link ≡ None → l.ended ≡ false → l.sender.untold ≡ [] → l.receiver.progress ≡ state.NoMessage →
-    AreSame (words.linked x e l) (record y { ends = store_named (λ z. z.name) n (verbing.joined f p t) y.ends })
+    AreSame (words.linked x e l) (record y { ends = store_named (λ z. z.name) n (verbing.joined p t f) y.ends })
 unfolding words.with_end words.with_link
 side_connected x y n e f l p t same named' both lone alive idle none = record {
   domains = same.domains;
@@ -154,7 +156,7 @@ side_connected x y n e f l p t same named' both lone alive idle none = record {
   queues = same.queues;
   ends =
       ap (λ k. map owned_there (store_named (λ z. z.name) k (record e { link = Some l }) x.ends)) named'
-      ∙ ends_store n (record e { link = Some l }) (verbing.joined f p t) x.ends y.ends same.ends (owned_linked e f l p t both lone alive idle none);
+      ∙ ends_store n (record e { link = Some l }) (verbing.joined p t f) x.ends y.ends same.ends (owned_linked e f l p t both lone alive idle none);
 }
 
 pub connected_sound : (keys : List ℕ) (y : machine.Context) (n : Name) (none : End) (g : End) → has_name (λ z. z.name) n y.ends ≡ true → g.name ≡ n → IsEndSound y.regions (map (λ q. q.name) y.queues) g → IsContextSound keys y → IsContextSound keys (record y { ends = store_named (λ z. z.name) n g y.ends })

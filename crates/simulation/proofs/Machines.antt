@@ -4,9 +4,10 @@ use Rattle.std.specs.Prelude.{flat_map}
 use Rattle.rdma_types.specs.declared.names.Name.{Name}
 use Rattle.rdma_types.specs.declared.names.ObjName.{ObjName}
 use Rattle.rdma_types.specs.Lists.{named, has_name, store_named}
-use Rattle.ideal_model.specs.Machine.{Machine, Context, End, no_context, nobody, has_context, context_of, has_end, end_of, with_context}
+use Rattle.rdma_types.specs.Objects.{CompletionQueue}
+use Rattle.ideal_model.specs.Machine.{Machine, Context, End, no_context, nobody, has_context, context_of, has_end, end_of, with_context, with_end, with_end_in, with_queue, with_queue_in}
 use Rattle.simulation.specs.Views.{numbered, numbered_ends}
-use Rattle.simulation.proofs.Tables.{name_or_not, name-named, name-named_there, named-store_same, named-store_other, map-store, flat_map-store}
+use Rattle.simulation.proofs.Tables.{name_or_not, name-named, name-named_there, named-store_same, named-store_other, map-store, flat_map-store, replaced-stored}
 
 -- one context c becomes y
 pub record MachineChanged (m m' : Machine) (c : Name) (y : Context) : Type 0 where
@@ -19,8 +20,18 @@ unfolding context_of
 context_name m c = name-named (λ x. x.name) (no_context c) c m.contexts refl
 
 pub with_context_changed : (m : Machine) (c : Name) (y : Context) → y.name ≡ c → has_context m c ≡ true → MachineChanged m (with_context m c y) c y
-unfolding with_context
-with_context_changed m c y h there = record { named = h; there = there; contexts = refl }
+unfolding with_context has_context
+with_context_changed m c y h there = record { named = h; there = there; contexts = replaced-stored (λ x. x.name) c y m.contexts there }
+
+-- an end that is there is put in its place as the protocol does it
+pub end_stored : (m : Machine) (o : ObjName) (e : End) → has_name (λ z. z.name) o.name (context_of m o.context).ends ≡ true → with_end m o e ≡ with_context m o.context (record (context_of m o.context) { ends = store_named (λ z. z.name) o.name e (context_of m o.context).ends })
+unfolding with_end with_end_in
+end_stored m o e found = ap (λ es. with_context m o.context (record (context_of m o.context) { ends = es })) (replaced-stored (λ z. z.name) o.name e (context_of m o.context).ends found)
+
+-- .. and so is a completion queue
+pub queue_stored : (m : Machine) (c q : Name) (x : CompletionQueue) → has_name (λ z. z.name) q (context_of m c).queues ≡ true → with_queue m c q x ≡ with_context m c (record (context_of m c) { queues = store_named (λ z. z.name) q x (context_of m c).queues })
+unfolding with_queue with_queue_in
+queue_stored m c q x found = ap (λ qs. with_context m c (record (context_of m c) { queues = qs })) (replaced-stored (λ z. z.name) q x (context_of m c).queues found)
 
 module _ (m m' : Machine) (c : Name) (y : Context) (ch : MachineChanged m m' c y) where
   pub context_here : context_of m' c ≡ y

@@ -16,7 +16,9 @@ use Rattle.protocol.specs.Numbers.{wire_number}
 use Rattle.protocol.specs.Segments.{packet_at, packet_of_found}
 use Rattle.protocol.specs.Wire.{Packet}
 use Rattle.rdma_types.specs.Objects.{Region}
-use Rattle.ideal_model.specs.Machine.{End, Reply, OldValue, untold_count}
+use Rattle.ideal_model.specs.declared.reply.Reply.{Reply}
+use Rattle.ideal_model.specs.declared.reply.Reply.TheVariants.{OldValue}
+use Rattle.ideal_model.specs.Machine.{End, untold_count}
 use Rattle.ideal_model.specs.Numbers.{due, oldest}
 use Rattle.ideal_model.specs.Sound.{IsSound, IsOfferOf, IsReplyTo, IsDenial}
 use Rattle.ideal_model.specs.Steps.{current, in_place}

@@ -1,10 +1,11 @@
 -- Laws of the lists of things that are found by name.
-use Rattle.std.proofs.Common.{arith, ◌≡◌, ◌≢◌, ◌⊎◌, ◌≤◌, ◌+◌, ℕ, List, [], ◌∷◌, ◌++◌, map, true, false, Bool, refl, sym, inl, inr, subst}
+use Rattle.std.proofs.Common.{arith, ◌≡◌, ◌≢◌, ◌⊎◌, ◌≤◌, ◌+◌, ℕ, List, [], ◌∷◌, ◌++◌, map, true, false, Bool, refl, sym, ap, ◌∙◌, inl, inr, subst}
 use Rattle.std.specs.Prelude.{bytes_eq, All, ◌||◌, if◌then◌else◌, flat_map, Some, ◌==◌}
 use Rattle.std.proofs.lemmas.Bool.Decides.{nat_tests, eqb_tells}
 use Rattle.std.proofs.lemmas.Slice.Eq.{bytes_eq-Decides}
 use Rattle.std.proofs.lemmas.List.Elements.{All-cons, All-head, All-tail}
 use Rattle.rdma_types.specs.Lists.{named, has_name, store_named, without, first_that, store, at, has, some}
+use Rattle.ideal_model.specs.Tables.{replaced, place_where}
 use Rattle.std.specs.List.{count_by}
 use Rattle.std.proofs.lemmas.List.Sums.{sum_by-cons, sum_by_push}
 
@@ -112,6 +113,16 @@ pub has_name-map : {A B : Type 0} (f : A → B) (name : B → List ℕ) (name' :
 unfolding has_name
 has_name-map f name name' n [] same = refl
 has_name-map f name name' n (x ∷ xs) same = grind (arith, same x, has_name-map f name name' n xs same)
+
+-- where there is a thing of the name, the machine puts a new one in its place as the protocol does
+pub replaced-stored : {A : Type 0} (name : A → List ℕ) (n : List ℕ) (e : A) (xs : List A) → has_name name n xs ≡ true → replaced name n e xs ≡ store_named name n e xs
+unfolding has_name store_named replaced place_where
+replaced-stored name n e [] h = absurd (cc)
+replaced-stored name n e (x ∷ xs) h = by_test (bytes_eq (name x) n) refl (replaced-stored name n e xs)
+  where
+    by_test : (b : Bool) → bytes_eq (name x) n ≡ b → (has_name name n xs ≡ true → replaced name n e xs ≡ store_named name n e xs) → replaced name n e (x ∷ xs) ≡ store_named name n e (x ∷ xs)
+    by_test true t later = rw t refl
+    by_test false t later = rw t (ap (λ l. x ∷ l) (later (ap (λ b. b || has_name name n xs) (sym t) ∙ h)))
 
 -- a thing that is not there is stored at the end
 pub store_named-new : {A : Type 0} (name : A → List ℕ) (n : List ℕ) (e : A) (xs : List A) → has_name name n xs ≡ false → store_named name n e xs ≡ xs ++ e ∷ []

@@ -10,7 +10,8 @@ use Rattle.protocol.specs.Numbers.{wire_number}
 use Rattle.protocol.specs.Segments.{packet_at}
 use Rattle.protocol.specs.Wire.{Packet, packet_of, wire_of}
 use Rattle.protocol.specs.State.{Flight, Link, HuskEntry}
-use Rattle.ideal_model.specs.Machine.{End, OldValue, Denied, posted_at}
+use Rattle.ideal_model.specs.declared.reply.Reply.TheVariants.{OldValue, Denied}
+use Rattle.ideal_model.specs.Machine.{End, posted_at}
 use Rattle.ideal_model.specs.Numbers.{due}
 use Rattle.simulation.specs.Packets.{Class, class_of, IsRequest, IsReadResponse, IsAtomicResponse, IsAck, IsSequenceNak, IsRefusal, IsReceiverNotReady, IsStopped, IsResume, IsResumeAck}
 use Rattle.simulation.specs.Views.{Net, Side, peer}

@@ -1,0 +1,11 @@
+use Rattle.std.proofs.Common.{◌≡◌, true, false, rules, refl, sym, ap, ◌∙◌}
+use Rattle.std.specs.Prelude.{◌||◌, ◌==◌}
+use Rattle.ideal_model.specs.Keyed.{key_by, right_of}
+use Rattle.ideal_model.proofs.Memory.{is_granted_by}
+use Rattle.ideal_model.proofs.region.is_granted.Goals as goal
+
+pub returns-then-place-eq0 : goal.returns-then-place-eq0
+returns-then-place-eq0 c = rw (is_granted_by (key_by c.args.place.now.kind) c.args.regions.now c.args.domain c.args.place.now.key c.args.place.now.address c.args.place.now.count (right_of c.args.need)) (search rules)
+
+pub returns-else-place-eq0 : goal.returns-else-place-eq0
+returns-else-place-eq0 c = rw (is_granted_by (key_by c.args.place.now.kind) c.args.regions.now c.args.domain c.args.place.now.key c.args.place.now.address c.args.place.now.count (right_of c.args.need)) (search rules)

@@ -1,0 +1,25 @@
+-- What a method that makes a step answers, and what it leaves.
+use Rattle.std.specs.Prelude.{◌≡◌, ℕ, Bool, true, false, Result, Ok, Err}
+use Rattle.rdma_types.specs.declared.verbs.Verb.{Verb}
+use Rattle.rdma_types.specs.declared.answers.Answer.{Answer}
+use Rattle.ideal_model.specs.declared.steps.IdealFault.{IdealFault}
+use Rattle.ideal_model.specs.declared.steps.IdealFault.TheVariants.{NotEnabled, OutOfMemory}
+use Rattle.ideal_model.specs.declared.steps.IdealStep.{IdealStep}
+use Rattle.ideal_model.specs.Machine.{Machine}
+use Rattle.ideal_model.specs.Verbs.{may_verb, after_verb, verb_answer}
+use Rattle.ideal_model.specs.Legal.{is_enabled, effect, answer_of}
+
+-- the old machine may make a step that leads to `next` with the answer `said`, and did; or it may not, or memory was
+-- wanting, and it is as it was
+abbrev pub Makes : Machine → Machine → Bool → Machine → Answer → Result Answer IdealFault → Type 0
+Makes old new may next said (Ok a) = (may ≡ true) × (new ≡ next) × (a ≡ said)
+Makes old new may next said (Err NotEnabled) = (may ≡ false) × (new ≡ old)
+Makes old new may next said (Err OutOfMemory) = new ≡ old
+
+-- .. for a step
+abbrev pub MakesStep : Machine → Machine → IdealStep → Result Answer IdealFault → Type 0
+MakesStep old new step result = Makes old new (is_enabled old step) (effect old step) (answer_of old step) result
+
+-- .. for a verb
+abbrev pub MakesVerb : Machine → Machine → Verb → ℕ → Result Answer IdealFault → Type 0
+MakesVerb old new verb given result = Makes old new (may_verb old verb given) (after_verb old verb given) (verb_answer old verb given) result

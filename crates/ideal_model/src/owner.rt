@@ -1,0 +1,313 @@
+//! Inner steps at the owner of a request: it learns what became of its first untold request.
+#![tactic(auto, unfolding(crate::specs::Steps::has_untold, crate::specs::Steps::may_land_offer, crate::specs::Steps::may_land, crate::specs::Steps::land_at, crate::specs::Steps::bytes_of, crate::specs::Steps::landed, crate::specs::Steps::in_place, crate::specs::Steps::may_know, crate::specs::Steps::knowing, crate::specs::Steps::may_tell, crate::specs::Steps::success, crate::specs::Steps::tell_at, crate::specs::Steps::tell, crate::specs::Steps::expire, crate::specs::Steps::may_wait, crate::specs::Steps::wait, crate::specs::Steps::is_denied, crate::specs::Steps::may_bounce, crate::specs::Steps::bounce_status, crate::specs::Steps::bounce, crate::specs::Steps::ended_with, crate::specs::Machine::completing), using(crate::proofs::Same::same_parts))]
+
+ghost use Rattle.std.specs.Prelude.{◌≡◌, ◌<◌, ◌+◌, length, IfSome, IfNone, IfOk, OnOk, OnErr, true, false, slice_get};
+ghost use Rattle.ideal_model.specs.Machine.{end_of, has_end, nobody, in_end, completing, context_of};
+ghost use Rattle.ideal_model.specs.Steps.{has_untold, front, in_place, may_land, landed, may_know, knowing, may_tell, tell, expire, may_wait, wait, is_denied, may_bounce, bounce_status, bounce, ended_with, success, put_old, told_one, expired, waited, with_known, may_land_offer, failed_queues, receives_of, closed};
+
+use crate::end::End;
+use crate::ideal::Ideal;
+use crate::kinds::{is_read, lands, request_done};
+use crate::posted::{Offered, Posted};
+use crate::queue::{Queue, copied};
+use crate::region::{KeyKind, Place};
+use crate::reply::Reply;
+use rdma_types::{Completion, Name, ObjName, Request, WcStatus, Why};
+use std::alloc::{AllocError, Global};
+
+impl End {
+    /// The bytes of request number i that are in place.
+    fn in_place(&self, i: usize) -> u32
+        ensures { result ≡ in_place self.now i }
+    {
+        match self.posted.get(i) {
+            Some(r) if i < self.acted => r.length(),
+            _ if i == self.acted => self.into,
+            _ => 0,
+        }
+    }
+
+    /// An offer is the one that comes next.
+    fn may_land(&self, offer: &Offered) -> bool
+        ensures { result ≡ may_land_offer self.now (Some offer.now) }
+    {
+        !offer.bytes().is_empty() && offer.request() == self.told && offer.offset() == self.known
+    }
+
+    /// The completion of its first untold request, where that is signaled.
+    fn success(&self, alloc: Global, r: &Posted) -> Result<Vec<Completion>, AllocError>
+        ensures { IfOk result (λ v. v.items ≡ success self.now r.now) }
+    {
+        let mut all = Vec::new(alloc);
+        if r.request().signaled {
+            all.push(request_done(self.number, r, WcStatus::Success, r.length()))?;
+        }
+        Ok(all)
+    }
+}
+
+/// The local place of a request, from an offset on.
+fn local_place(r: &Posted, offset: u32, count: usize) -> Place
+    ensures { result ≡ record { kind = KeyKind.Local; key = r.now.request.lkey; address = r.now.request.local + offset; count = count } }
+{
+    let request = r.request();
+    Place {
+        kind: KeyKind::Local,
+        key: request.lkey,
+        address: u128::from(request.local) + u128::from(offset),
+        count,
+    }
+}
+
+/// The queues, once all work of an end is completed in them.
+fn failed_queues(
+    alloc: Global,
+    end: &End,
+    status: WcStatus,
+    queues: &[Queue],
+) -> Result<Vec<Queue>, AllocError>
+    ensures { IfOk result (λ v. v.items ≡ failed_queues end.now status (receives_of end.now) queues.now) }
+{
+    let mut queues = copied(alloc, queues)?;
+    let receives = end.receives(alloc)?;
+    end.fail_in(alloc, status, &receives, &mut queues)?;
+    Ok(queues)
+}
+
+impl Ideal {
+    /// The end of that name, where it has an untold request.
+    fn owner(&self, q: &ObjName) -> Option<&End>
+        ensures some { IfSome result (λ e. (e.now ≡ end_of self.now q.now) × (has_end self.now q.now ≡ true) × (has_untold self.now q.now ≡ true) × (e.now.told < length e.now.posted)) }
+        ensures none { IfNone result (has_untold self.now q.now ≡ false) }
+    {
+        let end = self.end(q)?;
+        if end.connected && !end.ended && end.told < end.posted.len() {
+            return Some(end);
+        }
+        None
+    }
+
+    pub(crate) fn has_untold(&self, q: &ObjName) -> bool
+        ensures { result ≡ has_untold self.now q.now }
+    {
+        self.owner(q).is_some()
+    }
+
+    pub(crate) fn may_land(&self, q: &ObjName, o: usize) -> bool
+        ensures { result ≡ may_land self.now q.now o }
+    {
+        let Some(end) = self.owner(q) else {
+            return false;
+        };
+        match end.offers.get(o) {
+            Some(offer) => end.may_land(offer),
+            None => false,
+        }
+    }
+
+    pub(crate) fn may_know(&self, q: &ObjName, bytes: u32) -> bool
+        ensures { result ≡ may_know self.now q.now bytes }
+    {
+        let Some(end) = self.owner(q) else {
+            return false;
+        };
+        match end.front() {
+            Some(r) => !lands(r.kind()) && end.known < bytes && bytes <= end.in_place(end.told),
+            None => false,
+        }
+    }
+
+    pub(crate) fn may_tell(&self, q: &ObjName) -> bool
+        ensures { result ≡ may_tell self.now q.now }
+    {
+        let Some(end) = self.owner(q) else {
+            return false;
+        };
+        match end.front() {
+            Some(r) => end.told < end.acted && (!is_read(r.kind()) || end.known == r.length()),
+            None => false,
+        }
+    }
+
+    pub(crate) fn may_wait(&self, q: &ObjName) -> bool
+        ensures { result ≡ may_wait self.now q.now }
+    {
+        let Some(end) = self.owner(q) else {
+            return false;
+        };
+        end.is_dry()
+    }
+
+    pub(crate) fn may_bounce(&self, q: &ObjName) -> bool
+        ensures { result ≡ may_bounce self.now q.now }
+    {
+        let Some(end) = self.owner(q) else {
+            return false;
+        };
+        matches!(end.answers.get(end.told), Some(Reply::Denied(_)))
+    }
+
+    /// The end fails, and all its work is completed.
+    pub(crate) fn end_with(
+        &mut self,
+        alloc: Global,
+        o: &ObjName,
+        status: WcStatus,
+    ) -> Result<(), AllocError>
+        requires { has_end self.old o.now ≡ true }
+        ensures ok { OnOk result (self.new ≡ ended_with self.old o.now status) }
+        ensures err { OnErr result (self.new ≡ self.old) }
+    {
+        let Some((context, end)) = self.home(o) else {
+            return Ok(());
+        };
+        let queues = failed_queues(alloc, end, status, &context.queues)?;
+        if let Some(end) = self.end_mut(o) {
+            end.close();
+        }
+        self.set_queues(o.context, queues);
+        Ok(())
+    }
+
+    pub(crate) fn know(&mut self, q: &ObjName, bytes: u32)
+        ensures { self.new ≡ knowing self.old q.now bytes }
+    {
+        if let Some(end) = self.end_mut(q) {
+            end.know(bytes);
+        }
+    }
+
+    pub(crate) fn expire(&mut self, alloc: Global, q: &ObjName) -> Result<(), AllocError>
+        requires { has_untold self.old q.now ≡ true }
+        ensures ok { OnOk result (self.new ≡ expire self.old q.now) }
+        ensures err { OnErr result (self.new ≡ self.old) }
+    {
+        let Some(end) = self.owner(q) else {
+            return Ok(());
+        };
+        if end.spent == end.retry {
+            return self.end_with(alloc, q, WcStatus::RetryExceeded);
+        }
+        if let Some(end) = self.end_mut(q) {
+            end.expire();
+        }
+        Ok(())
+    }
+
+    pub(crate) fn wait(&mut self, alloc: Global, q: &ObjName) -> Result<(), AllocError>
+        requires { may_wait self.old q.now ≡ true }
+        ensures ok { OnOk result (self.new ≡ wait self.old q.now) }
+        ensures err { OnErr result (self.new ≡ self.old) }
+    {
+        let Some(end) = self.owner(q) else {
+            return Ok(());
+        };
+        if end.rnr == 7 {
+            return Ok(());
+        }
+        if end.waits == end.rnr {
+            return self.end_with(alloc, q, WcStatus::RnrExceeded);
+        }
+        if let Some(end) = self.end_mut(q) {
+            end.wait();
+        }
+        Ok(())
+    }
+
+    pub(crate) fn bounce(&mut self, alloc: Global, q: &ObjName) -> Result<(), AllocError>
+        requires { may_bounce self.old q.now ≡ true }
+        ensures ok { OnOk result (self.new ≡ bounce self.old q.now) }
+        ensures err { OnErr result (self.new ≡ self.old) }
+    {
+        let Some(end) = self.owner(q) else {
+            return Ok(());
+        };
+        let status = match end.answers.get(end.told) {
+            Some(Reply::Denied(Why::Access)) => WcStatus::RemoteAccess,
+            _ => WcStatus::RemoteInvalid,
+        };
+        self.end_with(alloc, q, status)
+    }
+
+    /// The bytes of an offer land.
+    pub(crate) fn land(&mut self, alloc: Global, q: &ObjName, o: usize) -> Result<(), AllocError>
+        requires { may_land self.old q.now o ≡ true }
+        ensures ok { OnOk result (self.new ≡ landed self.old q.now o) }
+        ensures err { OnErr result (self.new ≡ self.old) }
+    {
+        let Some(end) = self.owner(q) else {
+            return Ok(());
+        };
+        let (Some(r), Some(offer)) = (end.front(), end.offers.get(o)) else {
+            return Ok(());
+        };
+        let bytes = Vec::from_slice(alloc, offer.bytes())?;
+        let place = local_place(r, end.known, bytes.len());
+        let known = end.known + bytes.len() as u32;
+        self.put(q.context, &place, &bytes);
+        if let Some(end) = self.end_mut(q) {
+            end.know(known);
+        }
+        Ok(())
+    }
+
+    /// The first untold request is finished for its owner.
+    #[tactic(auto, unfolding(crate::specs::Steps::may_tell, crate::specs::Steps::tell_at, crate::specs::Steps::tell), using(crate::proofs::Views::ends_kept))]
+    pub(crate) fn tell(&mut self, alloc: Global, q: &ObjName) -> Result<(), AllocError>
+        requires { may_tell self.old q.now ≡ true }
+        ensures ok { OnOk result (self.new ≡ tell self.old q.now) }
+        ensures err { OnErr result (self.new ≡ self.old) }
+    {
+        let Some(end) = self.owner(q) else {
+            return Ok(());
+        };
+        let Some(r) = end.front() else {
+            return Ok(());
+        };
+        let done = end.success(alloc, r)?;
+        let request = r.request();
+        let reply = end.answers.get(end.told).copied();
+        let queue = end.send_queue;
+        self.complete(q.context, queue, &done)?;
+        self.put_old(q.context, &request, reply);
+        if let Some(end) = self.end_mut(q) {
+            end.tell();
+        }
+        Ok(())
+    }
+
+    /// An old value comes to the local place of its atomic.
+    #[tactic(auto, unfolding(crate::specs::Steps::put_old, rdma_types::specs::Memory::word_bytes))]
+    fn put_old(&mut self, home: Name, request: &Request, reply: Option<Reply>)
+        ensures { self.new ≡ put_old self.old home request.now reply }
+    {
+        match reply {
+            Some(Reply::OldValue(value)) => {
+                let place = Place {
+                    kind: KeyKind::Local,
+                    key: request.lkey,
+                    address: u128::from(request.local),
+                    count: 8,
+                };
+                self.put(home, &place, &value.to_be_bytes());
+            }
+            Some(Reply::Finished) | Some(Reply::Denied(_)) | None => {}
+        }
+    }
+
+    /// Completions are added to a queue.
+    pub(crate) fn complete(
+        &mut self,
+        context: Name,
+        queue: Name,
+        done: &[Completion],
+    ) -> Result<(), AllocError>
+        ensures ok { OnOk result (self.new ≡ completing self.old context queue done.now) }
+        ensures err { OnErr result (self.new ≡ self.old) }
+    {
+        match self.queue_mut(context, queue) {
+            Some(queue) => queue.complete(done),
+            None => Ok(()),
+        }
+    }
+}

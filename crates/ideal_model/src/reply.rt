@@ -1,0 +1,14 @@
+//! What a peer made of a request.
+
+use rdma_types::Why;
+
+/// What a peer made of a request.
+#[derive(Clone, Copy, Debug, PartialEq, Eq)]
+pub enum Reply {
+    /// A Write, Send or Read acted.
+    Finished,
+    /// An atomic acted on this value.
+    OldValue(u64),
+    /// The request was refused.
+    Denied(Why),
+}
