@@ -1,0 +1,15 @@
+//! The law of moving: a context is stopped, its image is carried, put on a device and resumed, and a husk is forgotten.
+//! The machine makes no step.
+//!
+//! The functions have no code. Each promises the law for the events that it names.
+#![tactic(auto)]
+
+ghost use Rattle.std.specs.Prelude.{ℕ};
+ghost use Rattle.rdma_types.specs.declared.names.Name.{Name};
+ghost use Rattle.protocol.specs.declared.events.WorldEvent.TheVariants.{Release};
+ghost use Rattle.simulation.specs.Law.{AlwaysFollows};
+
+/// The machine follows the forgetting of a husk: it makes no step.
+pub fn release_follows()
+    ensures { (name : Name) (device : ℕ) → AlwaysFollows (Release name device) }
+{}
