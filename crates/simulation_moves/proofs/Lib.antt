@@ -3,3 +3,7 @@ pub mod NetMoves
 pub mod Relocated
 pub mod Devices
 pub mod EventRelease
+pub mod Image
+pub mod Founds
+pub mod Movers
+pub mod EventStop

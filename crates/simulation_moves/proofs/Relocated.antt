@@ -40,7 +40,7 @@ module _ (w w' : World) (c : Name) (x x' : Context) (r : Relocated w w' c x x') 
   names_is = subst (λ k. Inserts Name k (map (λ y. y.name) r.rest) (names_of w')) r.named' (inserts_map (λ y. y.name) x' r.rest (contexts_of w') r.is)
 
   -- no other has the name
-  alone : has_name (λ y. y.name) c r.rest ≡ false
+  pub alone : has_name (λ y. y.name) c r.rest ≡ false
   alone = absent_by_count (λ y. y.name) c r.rest (none (name_tells c c))
     where
       none : ((bytes_eq c c ≡ true) × (c ≡ c)) ⊎ ((bytes_eq c c ≡ false) × (c ≢ c)) → count_by (λ y. bytes_eq y.name c) r.rest ≡ 0
@@ -102,9 +102,6 @@ pub record Migrates (w w' : World) (m : Machine) (c : Name) (x x' : Context) (f 
   pub addresses : map (λ d. d.address) w'.devices ≡ map (λ d. d.address) w.devices
   pub counts : (k : ℕ) → ((device_at w k).qp_count ≤ (device_at w' k).qp_count) × ((device_at w k).key_count ≤ (device_at w' k).key_count)
   pub sent : w'.sent ≡ w.sent
-  -- husks are of contexts that were made, and their entries are right
-  pub husks_made : All (λ h. has_word h (map (λ y. y.name) m.contexts) ≡ true) (map (λ h. h.name) (husks_of w'))
-  pub husks : AreLeft (net_of w' m) (flat_map (λ h. h.entries) (husks_of w'))
   -- ends of c move, and what their peers and they recorded of each other is right
   pub moves : (o : ObjName) → o.context ≡ c → IsConnected (net_of w m) o → SideMoves (side_of w o) (side_of w' o)
   pub heard : (o : ObjName) → o.context ≡ c → IsConnected (net_of w m) o → IsHeardOf (side_of w' o) (side_of w' (peer (net_of w m) o)) × IsHeardOf (side_of w' (peer (net_of w m) o)) (side_of w' o)
@@ -162,7 +159,7 @@ module _ (w w' : World) (m : Machine) (c : Name) (x x' : Context) (f : Link → 
     ]
   ]
 
-  net_moves : NetMoves n (side_of w')
+  pub net_moves : NetMoves n (side_of w')
   net_moves = record {
     connected = λ o. connected_still w w' c x x' f once v.relocated v.links o;
     moves = λ o connected. elim (name_or_not o.context c) [
@@ -181,26 +178,31 @@ module _ (w w' : World) (m : Machine) (c : Name) (x x' : Context) (f : Link → 
         record { domains = v.domains ∙ before.domains; regions = v.regions ∙ before.regions; queues = v.queues ∙ before.queues; ends = v.ends ∙ before.ends }))
   ]
 
-  placed_still : IsPlaced w' m
-  placed_still = record {
+  placed_still : All (λ h. has_word h (map (λ y. y.name) m.contexts) ≡ true) (map (λ h. h.name) (husks_of w')) → IsPlaced w' m
+  placed_still husks_made = record {
     once = once_still w w' c x x' v.relocated once;
     same = λ k. has_still w w' c x x' v.relocated once k ∙ s.placed.same k;
-    husks_made = v.husks_made;
+    husks_made = husks_made;
     ids_once = λ k. subst (λ is. count_by (λ z. z == k) is ≤ 1) (sym v.ids) (s.placed.ids_once k);
     addresses_once = (placed_like refl refl v.ids v.addresses refl s.placed).addresses_once;
     ids_said = (placed_like refl refl v.ids v.addresses refl s.placed).ids_said;
     addresses_said = (placed_like refl refl v.ids v.addresses refl s.placed).addresses_said;
   }
 
-  pub migrated_stands : Stands w' m
-  migrated_stands = record {
-    placed = placed_still;
+  -- an entry of a husk stays right
+  pub entries_kept : AreLeft (net_of w' m) (flat_map (λ h. h.entries) (husks_of w))
+  entries_kept = left_all n (side_of w') net_moves s.joined (flat_map (λ h. h.entries) (husks_of w)) s.husks
+
+  -- husks are of contexts that were made, and their entries are right
+  pub migrated_stands : All (λ h. has_word h (map (λ y. y.name) m.contexts) ≡ true) (map (λ h. h.name) (husks_of w')) → AreLeft (net_of w' m) (flat_map (λ h. h.entries) (husks_of w')) → Stands w' m
+  migrated_stands husks_made husks = record {
+    placed = placed_still husks_made;
     counted = counted_kept w w' m v.counts s.counted;
     same = same_still;
     sound = s.sound;
     numbered = record { given = s.numbered.given; named = s.numbered.named };
     joined = joined_all n (side_of w') net_moves s.joined;
     progress = progressing_all n (side_of w') net_moves s.joined (regions_of m) s.progress;
-    husks = v.husks;
+    husks = husks;
     sent = subst (λ fs. AreSent (net_of w' m) fs) (sym v.sent) (sent_all n (side_of w') net_moves s.joined w.sent s.sent);
   }
