@@ -7,3 +7,4 @@ pub mod Image
 pub mod Founds
 pub mod Movers
 pub mod EventStop
+pub mod EventRestore

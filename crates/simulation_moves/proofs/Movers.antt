@@ -70,7 +70,7 @@ resuming_is w k = sym (some_parts (λ x. some (is_resuming_with k) x.ends) (λ d
 
 -- ---- an end by its name
 
-image_name : (i : ContextImage) → (images.context_of i).name ≡ i.name
+pub image_name : (i : ContextImage) → (images.context_of i).name ≡ i.name
 unfolding images.context_of
 image_name i = refl
 

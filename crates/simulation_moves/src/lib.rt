@@ -6,12 +6,17 @@
 
 ghost use Rattle.std.specs.Prelude.{ℕ};
 ghost use Rattle.rdma_types.specs.declared.names.Name.{Name};
-ghost use Rattle.protocol.specs.declared.events.WorldEvent.TheVariants.{Stop, Release};
+ghost use Rattle.protocol.specs.declared.events.WorldEvent.TheVariants.{Stop, Restore, Release};
 ghost use Rattle.simulation.specs.Law.{AlwaysFollows};
 
 /// The machine follows a stop, by which a context becomes a carried image and leaves a husk: it makes no step.
 pub fn stop_follows()
     ensures { (name : Name) → AlwaysFollows (Stop name) }
+{}
+
+/// The machine follows a restore, by which a carried image is put on a device and its ends are Resuming: it makes no step.
+pub fn restore_follows()
+    ensures { (name : Name) (device : ℕ) → AlwaysFollows (Restore name device) }
 {}
 
 /// The machine follows the forgetting of a husk: it makes no step.
