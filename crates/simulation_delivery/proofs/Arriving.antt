@@ -162,7 +162,7 @@ rts_parts true false h = (refl, refl)
 rts_parts true true h = absurd (cc)
 rts_parts false b h = absurd (cc)
 
-and_parts : (a b : Bool) → (a && b) ≡ true → (a ≡ true) × (b ≡ true)
+pub and_parts : (a b : Bool) → (a && b) ≡ true → (a ≡ true) × (b ≡ true)
 and_parts true true h = (refl, refl)
 and_parts true false h = absurd (cc)
 and_parts false b h = absurd (cc)
@@ -192,12 +192,12 @@ unfound w m f d s connected number none = by_test (finds_end w m f d) refl
 -- ---- the device's answer
 
 -- a context that is stored again
-stored_again : {A : Type 0} (name : A → Name) (none : A) (n : Name) (xs : List A) → has_name name n xs ≡ true → store_named name n (named name none n xs) xs ≡ xs
+pub stored_again : {A : Type 0} (name : A → Name) (none : A) (n : Name) (xs : List A) → has_name name n xs ≡ true → store_named name n (named name none n xs) xs ≡ xs
 unfolding has_name store_named named
 stored_again name none n [] there = absurd (cc)
 stored_again name none n (x ∷ xs) there = grind (arith, name_tells (name x) n, stored_again name none n xs)
 
-same_device : (d : Device) (c : Name) → has_name (λ x. x.name) c d.contexts ≡ true → device.with_context d (context_at d c) ≡ d
+pub same_device : (d : Device) (c : Name) → has_name (λ x. x.name) c d.contexts ≡ true → device.with_context d (context_at d c) ≡ d
 unfolding device.with_context
 same_device d c there = ap (λ cs. record d { contexts = cs }) (ap (λ n. store_named (λ x. x.name) n (context_at d c) d.contexts) (name-named_there (λ x. x.name) no_context c d.contexts there) ∙ stored_again (λ x. x.name) no_context c d.contexts there)
 
