@@ -1,2 +1,5 @@
 pub mod Wires
 pub mod HuskAnswers
+pub mod EndMoves
+pub mod Heard
+pub mod Takings
