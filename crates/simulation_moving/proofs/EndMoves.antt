@@ -1,6 +1,6 @@
 -- The relation is kept where one live end changes its moving parts, and its next number goes on or back to the oldest.
-use Rattle.std.proofs.Common.{arith, ◌≡◌, ◌≢◌, ◌≤◌, ℕ, List, [], ◌∷◌, map, true, false, Bool, refl, sym, ap, ◌∙◌, subst, inl, inr}
-use Rattle.std.specs.Prelude.{Option, Some, None, is_some, not, ◌&&◌, flat_map}
+use Rattle.std.proofs.Common.{◌≡◌, ◌≢◌, ℕ, List, map, true, false, Bool, refl, sym, ap, ◌∙◌, subst, inl, inr}
+use Rattle.std.specs.Prelude.{Some, is_some, flat_map}
 use Rattle.rdma_types.specs.declared.names.Name.{Name}
 use Rattle.rdma_types.specs.declared.names.ObjName.{ObjName}
 use Rattle.rdma_types.specs.declared.answers.Answer.{Answer}
@@ -13,7 +13,7 @@ use Rattle.protocol.specs.DeviceStep as device
 use Rattle.protocol.specs.WorldStep.{is_live, is_carried, home, ran}
 use Rattle.ideal_model.specs.Machine as machine
 use Rattle.ideal_model.specs.Machine.{Machine, has_end, regions_of}
-use Rattle.simulation.specs.Views.{Net, Side, context_of, end_of, link_or_none, is_connected, net_of, numbered_ends, owned, owned_there, peer, place_of, side_of}
+use Rattle.simulation.specs.Views.{Net, context_of, end_of, link_or_none, is_connected, net_of, owned_there, peer, place_of, side_of}
 use Rattle.simulation.specs.Joined.{IsHeardOf}
 use Rattle.simulation.specs.Stands.{Stands, AreSame, AreLeft, AreSent, husks_of}
 use Rattle.simulation.proofs.Tables.{name_or_not, map-store, name-named_there, named-there, same_name}
@@ -25,7 +25,6 @@ use Rattle.simulation.proofs.Linked.{end_there_of, linked_of, linked_ends}
 use Rattle.simulation.proofs.Connecting.{live_place, live_not_carried, side_with, side_is, side_like, end_stored_here, end_stored_other}
 use Rattle.simulation.proofs.Ends.{end_there}
 use Rattle.simulation.proofs.Grows.{IsConnected, object_or_not}
-use Rattle.simulation_delivery.proofs.Found.{linked_there}
 use Rattle.simulation_moves.proofs.NetMoves.{SideMoves, stays_put, NetMoves, joined_all, left_all, sent_all, progressing_all}
 
 -- the link with other moving parts, and another next number

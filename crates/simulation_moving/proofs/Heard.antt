@@ -1,10 +1,10 @@
 -- What two ends of a connection recorded of each other's moves stays right, as one of them takes a message of moving.
-use Rattle.std.proofs.Common.{arith, ◌≡◌, ◌≤◌, ◌<◌, ◌+◌, ◌⊎◌, ℕ, true, false, Bool, refl, sym, ap, ◌∙◌, inl, inr}
+use Rattle.std.proofs.Common.{arith, ◌≡◌, ◌<◌, ◌⊎◌, ℕ, true, false, refl, ap, inl, inr}
 use Rattle.std.specs.Prelude.{Some, not}
 use Rattle.rdma_types.specs.declared.requests.Address.{Address}
 use Rattle.protocol.specs.declared.wire.ResumeBody.{ResumeBody}
 use Rattle.protocol.specs.Moves.{unpaused}
-use Rattle.protocol.specs.State.{Link, Moving, Phase, Running, Paused, Resuming}
+use Rattle.protocol.specs.State.{Link, Phase, Running, Paused, Resuming}
 use Rattle.simulation.specs.Packets.{IsStopped, IsResume, IsResumeAck}
 use Rattle.simulation.specs.Views.{Side}
 use Rattle.simulation.specs.Joined.{IsHeardOf, IsMoving}

@@ -1,7 +1,6 @@
 -- What a husk answers keeps the relation: its NAK_STOPPED says what stays true of the end that it is of.
 use Rattle.std.proofs.Common.{arith, ◌≡◌, ◌≤◌, ◌<◌, ◌^◌, ◌⊎◌, ℕ, List, [], ◌∷◌, ◌++◌, true, false, Bool, refl, sym, ap, ◌∙◌, subst, inl, inr}
-use Rattle.std.specs.Prelude.{Option, Some, None, ◌==◌, if◌then◌else◌, flat_map, All, Contains}
-use Rattle.std.specs.List.{filter}
+use Rattle.std.specs.Prelude.{Option, Some, None, ◌==◌, if◌then◌else◌, flat_map, All}
 use Rattle.std.proofs.lemmas.Grind.{flat_map-append}
 use Rattle.std.proofs.lemmas.List.{append-nil, map-id}
 use Rattle.std.proofs.lemmas.List.Elements.{All-nil, All-cons, All-head, All-contains, All-filter}
@@ -10,7 +9,6 @@ use Rattle.rdma_types.specs.declared.answers.Answer.{Answer}
 use Rattle.rdma_types.specs.declared.answers.Answer.TheVariants as answers
 use Rattle.rdma_types.specs.declared.answers.Sent.{Sent}
 use Rattle.rdma_types.specs.declared.answers.Took.TheVariants as took
-use Rattle.rdma_types.specs.declared.requests.Address.{Address}
 use Rattle.rdma_types.specs.Limits.{most_moves}
 use Rattle.rdma_types.specs.Lists.{first_that, store}
 use Rattle.protocol.specs.Fabric.{flight_of, sending}
@@ -18,13 +16,12 @@ use Rattle.protocol.specs.Moves.{nak_stopped}
 use Rattle.protocol.specs.State.{World, Device, Flight, Husk, HuskEntry}
 use Rattle.protocol.specs.DeviceStep as device
 use Rattle.protocol.specs.DeviceStep.{gives, husk_entries, found_in}
-use Rattle.protocol.specs.Wire.{Packet, packet_of, wire_of, is_control}
+use Rattle.protocol.specs.Wire.{Packet, packet_of, wire_of}
 use Rattle.protocol.specs.WorldStep.{with_device, ran, device_with, same_address}
 use Rattle.ideal_model.specs.Machine as machine
 use Rattle.ideal_model.specs.Machine.{Machine}
-use Rattle.simulation.specs.Packets.{class_of, IsStopped}
 use Rattle.simulation.specs.Views.{Net, Side, net_of, name_of, peer, side_of, requests_of}
-use Rattle.simulation.specs.Facts.{Fact, HuskFact, IsLeft, BytesFact, PacketFact, MoveFact}
+use Rattle.simulation.specs.Facts.{Fact, HuskFact, BytesFact, MoveFact}
 use Rattle.simulation.specs.Stands.{Stands, IsPlaced, husks_of}
 use Rattle.simulation.proofs.Tables.{map-store_found}
 use Rattle.simulation.proofs.Worlds.{ids_once}

@@ -3,3 +3,4 @@ pub mod HuskAnswers
 pub mod EndMoves
 pub mod Heard
 pub mod Takings
+pub mod Unfounds

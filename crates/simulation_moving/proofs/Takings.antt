@@ -1,6 +1,6 @@
 -- The machine follows a message of moving at an end that lives in Rts: it makes no step.
-use Rattle.std.proofs.Common.{arith, ◌≡◌, ◌≤◌, ◌<◌, ◌^◌, ℕ, List, [], ◌∷◌, true, false, Bool, refl, sym, ap, ◌∙◌, subst, inl, inr}
-use Rattle.std.specs.Prelude.{Option, Some, None, is_some, not, ◌&&◌, ◌==◌, nat_lt, nat_le, if◌then◌else◌, All}
+use Rattle.std.proofs.Common.{arith, ◌≡◌, ◌≤◌, ◌<◌, ◌^◌, ℕ, List, [], ◌∷◌, map, true, false, Bool, refl, sym, ap, ◌∙◌, subst}
+use Rattle.std.specs.Prelude.{Option, Some, None, not, ◌&&◌, ◌==◌, nat_lt, nat_le, if◌then◌else◌}
 use Rattle.std.proofs.lemmas.Bool.Decides.{nat_tests, leb_tells, eqb_tells}
 use Rattle.std.proofs.lemmas.List.{append-nil}
 use Rattle.std.proofs.lemmas.List.Elements.{All-nil, All-cons}
@@ -18,17 +18,16 @@ use Rattle.protocol.specs.EndStep.{takes}
 use Rattle.protocol.specs.EndWords as words
 use Rattle.protocol.specs.EndWords.{is_paused, is_resuming, to_partner}
 use Rattle.protocol.specs.Fabric.{flight_of, sending}
-use Rattle.protocol.specs.Moves.{Control, Stopped, Resume, ResumeAck, GoesPaused, Resumed, Again, GoesRunning, Stale, control_of, move_row, moves_by, takes_control, resume_packet, resumed_link}
+use Rattle.protocol.specs.Moves.{Control, Stopped, Resume, ResumeAck, GoesPaused, Resumed, Again, GoesRunning, Stale, control_of, move_row, moves_by, takes_control, resume_packet}
 use Rattle.protocol.specs.State as state
 use Rattle.protocol.specs.State.{World, Link, Phase, Running, Paused, Resuming}
-use Rattle.protocol.specs.Wire.{Packet, FitsResume, packet_of, wire_of}
+use Rattle.protocol.specs.Wire.{Packet, FitsResume}
 use Rattle.protocol.specs.WorldStep.{is_live, home, with_device, ran}
 use Rattle.ideal_model.specs.Machine as machine
 use Rattle.ideal_model.specs.Machine.{Machine, End, has_end}
-use Rattle.ideal_model.specs.declared.steps.IdealStep.{IdealStep}
 use Rattle.roce_headers.proofs.Grammar.{read_spelled}
 use Rattle.simulation.specs.Packets.{Class, class_of, IsStopped, IsResume, IsResumeAck}
-use Rattle.simulation.specs.Views.{Net, Side, end_of, is_connected, net_of, peer, side_of, requests_of}
+use Rattle.simulation.specs.Views.{Net, Side, is_connected, net_of, peer, side_of}
 use Rattle.simulation.specs.Joined.{IsHeardOf}
 use Rattle.simulation.specs.Facts.{Fact, MoveFact, NumberedFact, ClassFact}
 use Rattle.simulation.specs.Carries.{CarriesNumbered}
@@ -36,14 +35,14 @@ use Rattle.simulation.specs.Stands.{Stands, AreSent}
 use Rattle.simulation.proofs.Connecting.{side_with}
 use Rattle.simulation.proofs.EventNetwork.{sent_changed}
 use Rattle.simulation.proofs.Grown.{are_made}
-use Rattle.simulation.proofs.Linked.{end_there_of, linked_of}
+use Rattle.simulation.proofs.Linked.{linked_of}
 use Rattle.simulation_delivery.specs.Delivered.{Arrives, Takes, context_there, end_there}
 use Rattle.simulation_delivery.proofs.Arriving.{unchanged_stands}
-use Rattle.simulation_delivery.proofs.Lifted.{IsAnswer, answer_fact, sent_world, both_sent, answers_sent, unchanged_sent}
+use Rattle.simulation_delivery.proofs.Lifted.{answer_fact, sent_world, both_sent, answers_sent, unchanged_sent}
 use Rattle.simulation_moving.proofs.Wires.{reads_back, ack_fits, ack_class, control_stopped, resume_parts, control_resuming, no_aeth, resume_small}
 use Rattle.simulation_moving.proofs.HuskAnswers.{number_bits}
-use Rattle.simulation_moving.proofs.EndMoves.{moved_parts, side_before, side_after, connected, end_moved}
-use Rattle.simulation_moving.proofs.Heard.{paused_link, paused_heard, paused_hears, paused_moves, recording_link, recording_heard, recording_hears, recording_moves, running_link, running_heard, running_hears, running_moves}
+use Rattle.simulation_moving.proofs.EndMoves.{side_before, side_after, connected, end_moved}
+use Rattle.simulation_moving.proofs.Heard.{paused_heard, paused_hears, paused_moves, recording_link, recording_heard, recording_hears, recording_moves, running_heard, running_hears, running_moves}
 
 -- ---- what such a datagram says
 
@@ -154,7 +153,7 @@ module _ (w : World) (m : Machine) (o : ObjName) (l : Link) (s : Stands w m) (li
       let sent : List Sent = ack (recording_link l body) body ∷ [] in
       subst (λ z. Stands z m) (sym (sent_world w d (answers.Took took.Resumed 0 1) sent))
       (sent_changed (w1 body) m (sending w.sent d.address sent) moved
-      (both_sent (net_of (w1 body) m) w.sent _ (subst (AreSent (net_of (w1 body) m)) (sent_is body) moved.sent)
+      (both_sent (net_of (w1 body) m) w.sent (map (flight_of d.address) sent) (subst (AreSent (net_of (w1 body) m)) (sent_is body) moved.sent)
       (answers_sent (net_of (w1 body) m) d.address sent (All-cons (λ z. Fact (net_of (w1 body) m) (flight_of d.address z)) (ack (recording_link l body) body) [] (ack_fact (w1 body) (recording_link l body) body d.address moved after fits (omega arith)) (All-nil _)))))
 
   again : (body : ResumeBody) → FitsResume body → body.count ≡ l.moving.recorded → After (moves_by c e l (Resume body) Again)

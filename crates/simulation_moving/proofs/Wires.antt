@@ -1,6 +1,6 @@
 -- Messages of moving on the wire: what they are, and that they read back.
-use Rattle.std.proofs.Common.{arith, ◌≡◌, ◌≤◌, ◌<◌, ◌^◌, ℕ, List, [], true, false, Bool, refl, sym, ap, ◌∙◌, subst, IsTrue}
-use Rattle.std.specs.Prelude.{Option, Some, None, not, ◌==◌, if◌then◌else◌}
+use Rattle.std.proofs.Common.{arith, ◌≡◌, ◌<◌, ◌^◌, ℕ, List, true, false, Bool, refl, sym, ap, ◌∙◌}
+use Rattle.std.specs.Prelude.{Option, Some, None, ◌==◌, if◌then◌else◌}
 use Rattle.protocol.specs.declared.wire.Aeth.{Aeth}
 use Rattle.protocol.specs.declared.wire.Headers.{Headers}
 use Rattle.protocol.specs.declared.wire.Headers.TheVariants as headers
@@ -13,7 +13,7 @@ use Rattle.protocol.specs.State.{HuskEntry}
 use Rattle.protocol.specs.Wire.{Packet, Spells, Fits, FitsResume, packet_of, wire_of, layout_of, has_resume, has_reth, has_imm, has_aeth, has_atomic, has_old, imm_place, when, read_aeth, read_reth, read_atomic, read_resume, is_request, is_read_response, is_nak_stopped}
 use Rattle.roce_headers.proofs.Grammar.{read_spelled, spelled_read}
 use Rattle.roce_headers.proofs.Written.{written_spelled}
-use Rattle.simulation.specs.Packets.{Class, class_of, nak_class, syndrome_class, aeth_class, resume_class, IsRequest, IsReadResponse, IsAtomicResponse, IsAck, IsSequenceNak, IsRefusal, IsReceiverNotReady, IsStopped, IsResume, IsResumeAck, IsNothing}
+use Rattle.simulation.specs.Packets.{Class, class_of, nak_class, syndrome_class, aeth_class, resume_class, IsRequest, IsReadResponse, IsAtomicResponse, IsSequenceNak, IsRefusal, IsStopped, IsResume, IsResumeAck, IsNothing}
 
 -- what is written is read as what it was written from
 pub reads_back : (d : Packet) → Fits d → packet_of (wire_of d) ≡ Some d
