@@ -1,0 +1,28 @@
+use Rattle.std.proofs.Common.{◌≡◌, ◌+◌, ◌<◌, [], ◌∷◌, ◌++◌, drop, length, refl, ap, arith}
+use Rattle.protocol.specs.Fabric.{flight_of, sending}
+use Rattle.fabric.proofs.Stores.{length-after_blanks, settled_within-send, is_store-send, forgetting-send}
+use Rattle.fabric.proofs.Fabric.send.Goals as goal
+
+pub unsettled_from-self-inside-requires : goal.unsettled_from-self-inside-requires
+unsettled_from-self-inside-requires c =
+    let f = c.self.inside in
+    let n = c.forget_oldest-forgotten.result in
+    let same : c.push_back_reserved.new.self.items ≡ drop n f.ring.items ++ flight_of c.args.from c.args.s ∷ [] = rw (c.push_back_reserved.ensures.items, c.forget_oldest-forgotten.ensures.rest, c.new.ensures) refl in
+    let within = settled_within-send f.gone f.settled n f.ring.items (flight_of c.args.from c.args.s) c.self.invariant.0 c.forget_oldest-forgotten.ensures.count in
+    omega (arith, within, ap length same)
+
+pub invariant_of-self : goal.invariant_of-self
+invariant_of-self c =
+    let f = c.self.inside in
+    let n = c.forget_oldest-forgotten.result in
+    let same : c.push_back_reserved.new.self.items ≡ drop n f.ring.items ++ flight_of c.args.from c.args.s ∷ [] = rw (c.push_back_reserved.ensures.items, c.forget_oldest-forgotten.ensures.rest, c.new.ensures) refl in
+    let few : f.gone + length f.ring.items + 1 < 9223372036854775808 = omega (arith, length-after_blanks f.gone f.ring.items, ap length c.self.view_is) in
+    (rw same (is_store-send f.gone f.settled _ n f.ring.items (flight_of c.args.from c.args.s) c.self.invariant.0 c.forget_oldest-forgotten.ensures.count few (rw (← same, ← c.saturating_sub-self-inside.ensures) c.unsettled_from-self-inside.ensures)), omega (arith, c.self.invariant.1))
+
+pub returns-clause-sent : goal.returns-clause-sent
+unfolding sending
+returns-clause-sent c =
+    let f = c.self.inside in
+    let n = c.forget_oldest-forgotten.result in
+    let same : c.push_back_reserved.new.self.items ≡ drop n f.ring.items ++ flight_of c.args.from c.args.s ∷ [] = rw (c.push_back_reserved.ensures.items, c.forget_oldest-forgotten.ensures.rest, c.new.ensures) refl in
+    rw (same, ← c.self.view_is) (forgetting-send f.gone n f.ring.items (flight_of c.args.from c.args.s) c.self.invariant.0.room c.self.invariant.0.full c.forget_oldest-forgotten.ensures.count)

@@ -1,0 +1,29 @@
+-- What the network's store knows of the list of every datagram ever sent: it keeps the last 16,384.
+use Rattle.std.specs.Prelude.{ℕ, ◌≡◌, ◌+◌, ◌-◌, ◌^◌, ◌<◌, ◌≤◌, ◌||◌, Bool, false, List, [], ◌++◌, length, drop, replicate, None}
+use Rattle.std.specs.List.{prefix_len}
+use Rattle.rdma_types.specs.Limits.{most_flights}
+use Rattle.rdma_types.specs.Objects.{no_address}
+use Rattle.protocol.specs.State.{Flight}
+
+-- what stands for a datagram that is not kept any more
+abbrev pub blank : Flight
+blank = record { from = no_address; to = no_address; number = None; bytes = []; lost = false; taken = false }
+
+-- the datagrams, and n before them that are not kept any more
+abbrev pub after_blanks : ℕ → List Flight → List Flight
+after_blanks n kept = replicate n blank ++ kept
+
+-- every datagram ever sent, where those that are not kept any more are blank
+unfoldable pub forgetting : List Flight → List Flight
+forgetting sent = after_blanks (length sent - most_flights) (drop (length sent - most_flights) sent)
+
+-- it is lost or taken, so it is not pending
+abbrev pub is_settled : Flight → Bool
+is_settled f = f.lost || f.taken
+
+-- the datagrams that are kept, how many are not any more, and how many of the oldest ones are settled
+pub record IsStore (gone settled : ℕ) (kept : List Flight) : Type 0 where
+  pub room : length kept ≤ 16384
+  pub full : 0 < gone → length kept ≡ 16384
+  pub few : gone + length kept < 2 ^ 63
+  pub front : settled ≡ prefix_len is_settled kept

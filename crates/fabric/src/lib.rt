@@ -1,0 +1,180 @@
+//! The network's store: every datagram that was sent has a number, from 1 on, and the last 16,384 are kept (this
+//! project's choice).
+#![tactic(auto)]
+
+ghost use Rattle.std.specs.Prelude.{◌≡◌, ◌+◌, ◌-◌, ◌^◌, ◌<◌, ◌≤◌, ◌⊎◌, [], ◌∷◌, drop, length, is_some, IfOk, MatchOption};
+ghost use Rattle.std.specs.List.{prefix_len};
+ghost use Rattle.std.specs.Option.{option_copied};
+ghost use Rattle.std.specs.VecDeque.{deque_capacity, deque_len};
+ghost use Rattle.protocol.specs.Fabric as rules;
+ghost use Rattle.fabric.specs.Store.{forgetting, is_settled};
+
+mod flights;
+mod laws;
+
+pub use flights::{Flight, Look};
+pub use laws::nothing_asked_for_is_forgotten;
+use rdma_types::{Address, Sent};
+use std::alloc::{AllocError, Global};
+use std::collections::VecDeque;
+use std::marker::Model;
+
+/// How many datagrams are kept.
+const ROOM: usize = 16_384;
+
+/// The datagrams that were sent, of which the last 16,384 are kept. Only `make` takes memory. Each call takes constant
+/// time, but that the place of the least pending number moves on over datagrams that are lost or taken, over each
+/// once.
+#[derive(Drop)]
+pub struct Fabric {
+    gone: u64,
+    settled: usize,
+    ring: VecDeque<Flight>,
+}
+
+impl Model for Fabric {
+    ghost use Rattle.std.specs.Prelude.{◌≤◌, List};
+    ghost use Rattle.std.specs.VecDeque.{deque_capacity};
+    ghost use Rattle.protocol.specs.State as state;
+    ghost use Rattle.fabric.specs.Store.{IsStore, after_blanks};
+
+    ghost Value = { List state.Flight };
+
+    ghost view = { λ f. after_blanks f.gone f.ring.items };
+
+    ghost invariant = { λ f. IsStore f.gone f.settled f.ring.items × (16384 ≤ deque_capacity f.ring) };
+}
+
+impl Fabric {
+    ghost use Rattle.fabric.specs.Told.{told};
+
+    /// A store with room for 16,384 datagrams, of which none was sent.
+    pub fn make(alloc: Global) -> Result<Fabric, AllocError>
+        ensures { IfOk result (λ f. f ≡ []) }
+    {
+        let ring = VecDeque::with_capacity(alloc, ROOM)?;
+        Ok(Fabric {
+            gone: 0,
+            settled: 0,
+            ring,
+        })
+    }
+
+    /// The number that the next datagram gets.
+    pub fn next(&self) -> u64
+        ensures number { result ≡ length self.now + 1 }
+        ensures few { result ≤ 2 ^ 63 }
+        ensures kept { forgetting self.now ≡ self.now }
+    {
+        self.gone + self.ring.len() as u64 + 1
+    }
+
+    /// Keeps a datagram from this address under the next number, which is the answer, and forgets the oldest one where
+    /// 16,384 are kept. The next number is below 2^63.
+    pub fn send(&mut self, from: Address, s: Sent) -> u64
+        requires { length self.old + 1 < 2 ^ 63 }
+        ensures number { result ≡ length self.old + 1 }
+        ensures sent { self.new ≡ forgetting (rules.sending self.old from (s ∷ [])) }
+    {
+        let forgotten = forget_oldest(&mut self.ring);
+        self.gone += forgotten as u64;
+        self.settled = self.settled.saturating_sub(forgotten);
+        self.ring.push_back_reserved(Flight::new(from, s));
+        self.settled = unsettled_from(&self.ring, self.settled);
+        self.gone + self.ring.len() as u64
+    }
+
+    /// Datagram `k`, whether lost or not; None where it is not among the last 16,384.
+    pub fn kept(&self, k: u64) -> Option<&Flight>
+        ensures { option_copied result ≡ rules.kept_flight self.now k }
+    {
+        let place = place_of(k, self.gone, self.ring.len())?;
+        self.ring.get(place)
+    }
+
+    /// What datagram `k` is where its receiver is at number `now`: gone, lost, aged or here, by the first that holds.
+    pub fn look(&self, k: u64, now: u64) -> Look<'_>
+        ensures { told result ≡ rules.look self.now k now }
+    {
+        match self.kept(k) {
+            None => Look::Gone,
+            Some(flight) => flight.look(now),
+        }
+    }
+
+    /// Datagram `k` is taken, where it is kept.
+    pub fn took(&mut self, k: u64)
+        ensures { self.new ≡ rules.took self.old k }
+    {
+        if let Some(place) = place_of(k, self.gone, self.ring.len()) {
+            self.ring[place].take();
+            self.settled = unsettled_from(&self.ring, self.settled);
+        }
+    }
+
+    /// Datagram `k` is lost, where it is kept; and whether it is.
+    pub fn lose(&mut self, k: u64) -> bool
+        ensures lost { self.new ≡ rules.losing self.old k }
+        ensures known { result ≡ is_some (rules.kept_flight self.old k) }
+    {
+        let Some(place) = place_of(k, self.gone, self.ring.len()) else {
+            return false;
+        };
+        self.ring[place].lose();
+        self.settled = unsettled_from(&self.ring, self.settled);
+        true
+    }
+
+    /// The least number of a datagram that is kept and neither lost nor taken.
+    pub fn pending(&self) -> Option<u64>
+        ensures { result ≡ rules.pending self.now }
+    {
+        if self.settled == self.ring.len() {
+            None
+        } else {
+            Some(self.gone + self.settled as u64 + 1)
+        }
+    }
+}
+
+/// Where datagram `k` stands among the `count` kept ones, where `gone` were sent before them.
+fn place_of(k: u64, gone: u64, count: usize) -> Option<usize>
+    requires { gone < 2 ^ 63 }
+    ensures { MatchOption result ((k ≤ gone) ⊎ (gone + count < k)) (λ i. (i < count) × (k ≡ gone + i + 1)) }
+{
+    let place = k.checked_sub(gone + 1)?;
+    if place < count as u64 {
+        Some(place as usize)
+    } else {
+        None
+    }
+}
+
+/// Forgets the oldest datagram where the store is full, and says how many it forgot.
+fn forget_oldest(ring: &mut VecDeque<Flight>) -> usize
+    requires { length ring.old.items ≤ 16384 }
+    ensures count { result ≡ length ring.old.items + 1 - 16384 }
+    ensures rest { ring.new.items ≡ drop result ring.old.items }
+    ensures room { deque_capacity ring.new ≡ deque_capacity ring.old }
+{
+    if ring.len() < ROOM {
+        return 0;
+    }
+    let _ = ring.pop_front();
+    1
+}
+
+/// The first place from `from` on whose datagram is neither lost nor taken, or the end.
+fn unsettled_from(ring: &VecDeque<Flight>, from: usize) -> usize
+    requires { from ≤ deque_len ring.now }
+    ensures { result ≡ from + prefix_len is_settled (drop from ring.now.items) }
+{
+    let mut place = from;
+    while place < ring.len() && ring[place].is_settled() {
+        place += 1;
+    }
+    place
+}
+
+#[cfg(test)]
+mod tests;
