@@ -445,3 +445,6 @@ pub fn print_answer(answer: &Answer, out: &mut Vec<u8>) -> Result<(), AllocError
     }
     printed
 }
+
+#[cfg(test)]
+mod tests;

@@ -11,3 +11,6 @@ mod writing;
 
 pub use plan::{Mix, plan_of};
 pub use summary::summary_of;
+
+#[cfg(test)]
+mod tests;
