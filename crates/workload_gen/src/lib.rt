@@ -2,6 +2,7 @@
 //! of it (this project's choice).
 #![tactic(auto)]
 
+mod laws;
 mod message;
 mod opening;
 mod plan;
@@ -9,6 +10,7 @@ mod schedule;
 mod summary;
 mod writing;
 
+pub use laws::moves_stand_in_order;
 pub use plan::{Mix, plan_of};
 pub use summary::summary_of;
 
