@@ -1,0 +1,21 @@
+//! Text put after what is there.
+
+ghost use Rattle.std.specs.Prelude.{◌≡◌, ◌++◌, OnOk};
+ghost use Rattle.std.specs.Fmt.{decimal};
+
+use std::alloc::AllocError;
+
+pub fn put(out: &mut Vec<u8>, text: &[u8]) -> Result<(), AllocError>
+    ensures { OnOk result (out.new.items ≡ out.old.items ++ text.now) }
+{
+    out.extend_from_slice(text)
+}
+
+/// A text and a number.
+pub fn put_number(out: &mut Vec<u8>, text: &[u8], n: u64) -> Result<(), AllocError>
+    ensures { OnOk result (out.new.items ≡ out.old.items ++ (text.now ++ decimal n)) }
+{
+    let mut buffer = itoa::Buffer::new();
+    put(out, text)?;
+    put(out, buffer.format(n).as_bytes())
+}
