@@ -1,6 +1,6 @@
 -- What a made step says, clause by clause.
 use Rattle.std.proofs.Common.{◌≡◌, Bool, true, false, Result, Ok, Err}
-use Rattle.std.specs.Prelude.{OnOk, OnErr, IfOk, IfErr}
+use Rattle.std.specs.Prelude.{◌↔◌, refl, OnOk, OnErr, IfOk}
 use Rattle.rdma_types.specs.declared.answers.Answer.{Answer}
 use Rattle.ideal_model.specs.declared.steps.IdealFault.{IdealFault}
 use Rattle.ideal_model.specs.declared.steps.IdealFault.TheVariants.{NotEnabled, OutOfMemory}
@@ -20,12 +20,12 @@ module _ (old new : Machine) (may : Bool) (next : Machine) (said : Answer) where
   made_answer (Ok a) h = h.2
   made_answer (Err e) h = tt
 
-  pub made_not_enabled : (r : Result Answer IdealFault) → Makes old new may next said r → IfErr r (λ e. e ≡ NotEnabled → may ≡ false)
-  made_not_enabled (Ok a) h = tt
-  made_not_enabled (Err NotEnabled) h = λ _. h.0
-  made_not_enabled (Err OutOfMemory) h = λ wrong. absurd (cc)
+  pub made_not_enabled : (r : Result Answer IdealFault) → Makes old new may next said r → (r ≡ Err NotEnabled) ↔ (may ≡ false)
+  made_not_enabled (Ok a) h = (λ wrong. absurd cc, λ no. let yes : may ≡ true = h.0 in absurd cc)
+  made_not_enabled (Err NotEnabled) h = (λ _. h.0, λ _. refl)
+  made_not_enabled (Err OutOfMemory) h = (λ wrong. absurd cc, λ no. let yes : may ≡ true = h.0 in absurd cc)
 
   pub made_unchanged : (r : Result Answer IdealFault) → Makes old new may next said r → OnErr r (new ≡ old)
   made_unchanged (Ok a) h = tt
   made_unchanged (Err NotEnabled) h = h.1
-  made_unchanged (Err OutOfMemory) h = h
+  made_unchanged (Err OutOfMemory) h = h.1

@@ -9,12 +9,12 @@ use Rattle.ideal_model.specs.Machine.{Machine}
 use Rattle.ideal_model.specs.Verbs.{may_verb, after_verb, verb_answer}
 use Rattle.ideal_model.specs.Legal.{is_enabled, effect, answer_of}
 
--- the old machine may make a step that leads to `next` with the answer `said`, and did; or it may not, or memory was
--- wanting, and it is as it was
+-- the old machine may make a step that leads to `next` with the answer `said`, and did; or it may not; or it may and
+-- memory was wanting, and it is as it was
 abbrev pub Makes : Machine → Machine → Bool → Machine → Answer → Result Answer IdealFault → Type 0
 Makes old new may next said (Ok a) = (may ≡ true) × (new ≡ next) × (a ≡ said)
 Makes old new may next said (Err NotEnabled) = (may ≡ false) × (new ≡ old)
-Makes old new may next said (Err OutOfMemory) = new ≡ old
+Makes old new may next said (Err OutOfMemory) = (may ≡ true) × (new ≡ old)
 
 -- .. for a step
 abbrev pub MakesStep : Machine → Machine → IdealStep → Result Answer IdealFault → Type 0

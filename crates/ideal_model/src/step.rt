@@ -1,7 +1,7 @@
 //! One step of the machine: a verb of an application, or an inner step.
 #![tactic(auto)]
 
-ghost use Rattle.std.specs.Prelude.{◌≡◌, true, false, OnOk, OnErr, IfOk, IfErr};
+ghost use Rattle.std.specs.Prelude.{◌≡◌, ◌↔◌, true, false, OnOk, OnErr, IfOk};
 ghost use Rattle.ideal_model.specs.declared.steps.IdealFault.TheVariants.{NotEnabled};
 ghost use Rattle.ideal_model.specs.Legal.{is_enabled, effect, answer_of};
 ghost use Rattle.ideal_model.specs.Made.{Makes, MakesStep};
@@ -21,7 +21,7 @@ impl Ideal {
         ensures enabled { OnOk result (is_enabled self.old step.now ≡ true) }
         ensures next { OnOk result (self.new ≡ effect self.old step.now) }
         ensures answer { IfOk result (λ a. a ≡ answer_of self.old step.now) }
-        ensures not_enabled { IfErr result (λ e. e ≡ NotEnabled → is_enabled self.old step.now ≡ false) }
+        ensures not_enabled { (result ≡ Err NotEnabled) ↔ (is_enabled self.old step.now ≡ false) }
         ensures unchanged { OnErr result (self.new ≡ self.old) }
     {
         self.make_step(alloc, step)

@@ -1,5 +1,9 @@
 //! What a packet says.
 
+ghost use Rattle.std.specs.Prelude.{◌≡◌, ◌||◌};
+ghost use Rattle.protocol.specs.Segments.{is_eighth};
+ghost use Rattle.segmenter.specs.Heads.{asks_by_place};
+
 /// What the headers of a request packet say beside what its request, its destination and its number say, and which
 /// bytes of the message are its payload.
 #[derive(Clone, Copy, Debug, PartialEq, Eq)]
@@ -16,4 +20,15 @@ pub struct PacketHead {
     pub off: u32,
     /// How many bytes its payload has.
     pub length: u32,
+}
+
+impl PacketHead {
+    /// Whether the packet asks for an acknowledgement under wire number `psn`: each but a First and a Middle does, and
+    /// these do where the number mod 8 is 7 (this project's choice).
+    pub fn asks_for_ack(&self, psn: u32) -> bool
+        ensures { result ≡ (asks_by_place self.now.opcode || is_eighth psn) }
+    {
+        let by_place = !matches!(self.opcode, 0x00 | 0x01 | 0x06 | 0x07);
+        by_place || psn % 8 == 7
+    }
 }

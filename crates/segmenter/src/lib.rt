@@ -159,6 +159,33 @@ mod tests {
     }
 
     #[test]
+    fn a_first_and_a_middle_ask_at_each_eighth_number(rt: HostRuntime) {
+        for (opcode, psn, asks) in [
+            (0x07, 6, false),
+            (0x07, 7, true),
+            (0x06, 8, false),
+            (0x00, 15, true),
+            (0x01, 0xFF_FFFF, true),
+            (0x08, 0, true),
+            (0x0C, 1, true),
+        ] {
+            let head = PacketHead {
+                opcode,
+                remote: 0,
+                rest: 0,
+                imm: None,
+                off: 0,
+                length: 0,
+            };
+            assert_eq!(rt;
+                head.asks_for_ack(psn),
+                asks,
+                "opcode {opcode} at number {psn}"
+            );
+        }
+    }
+
+    #[test]
     fn a_repeated_read_asks_for_the_rest(rt: HostRuntime) {
         let read = shape(Kind::Read, 600, None);
         assert_eq!(rt; span_of(&read, 256), 3);
