@@ -7,6 +7,9 @@ ghost use Rattle.hex.specs.Hex.{encode_lower};
 ghost use Rattle.script_lang.specs.Printed as text;
 ghost use Rattle.script_lang.specs.Printed.{Keeps, ended};
 
+mod laws;
+
+pub use laws::{answers_are_whole_lines, each_has_a_word_of_its_own};
 use rdma_types::{
     Answer, Completion, Keys, LeftWhy, NotWhy, ObjName, Refusal, SilentWhy, Took, WcKind, WcStatus,
     Why,
