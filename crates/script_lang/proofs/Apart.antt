@@ -1,7 +1,7 @@
 -- Each reason, refusal, kind and status has a word of its own: what reads a word back.
-use Rattle.std.proofs.Common.{◌≡◌, ℕ, ◌==◌, List, [], ◌∷◌, ◌++◌, refl, sym, ap, ◌∙◌, codes, if◌then◌else◌}
+use Rattle.std.proofs.Common.{◌≡◌, ℕ, ◌==◌, List, refl, sym, ap, ◌∙◌, codes, if◌then◌else◌}
 use Rattle.std.specs.Str.{bytes_eq}
-use Rattle.std.specs.Fmt.{decimal, digits}
+use Rattle.std.specs.Fmt.{digits}
 use Rattle.rdma_types.specs.declared.answers.LeftWhy.{LeftWhy}
 use Rattle.rdma_types.specs.declared.answers.LeftWhy.TheVariants as left
 use Rattle.rdma_types.specs.declared.answers.NotWhy.{NotWhy}
