@@ -222,3 +222,7 @@ printed answer.Aged = line (codes "aged") []
 printed (answer.Dump count bytes) = line (codes "dump") (decimal count ∷ shown_words bytes)
 printed (answer.Quiet ends) = line (codes "quiet") (decimal (length ends) ∷ []) ++ left_lines ends
 printed (answer.Refused r) = line (codes "refused") (refusal_text r ∷ [])
+
+-- whole lines: the last byte is a newline
+abbrev pub IsWhole : List ℕ → Type 0
+IsWhole text = (front : List ℕ) × (text ≡ front ++ 10 ∷ [])

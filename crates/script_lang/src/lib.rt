@@ -3,4 +3,4 @@
 
 mod print;
 
-pub use print::print_answer;
+pub use print::{answers_are_whole_lines, each_has_a_word_of_its_own, print_answer};

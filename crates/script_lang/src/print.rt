@@ -7,6 +7,9 @@ ghost use Rattle.hex.specs.Hex.{encode_lower};
 ghost use Rattle.script_lang.specs.Printed as text;
 ghost use Rattle.script_lang.specs.Printed.{Keeps, ended};
 
+mod laws;
+
+pub use laws::{answers_are_whole_lines, each_has_a_word_of_its_own};
 use rdma_types::{
     Answer, Completion, Keys, LeftWhy, NotWhy, ObjName, Refusal, SilentWhy, Took, WcKind, WcStatus,
     Why,
@@ -190,8 +193,6 @@ fn low_bytes(n: u32) -> [u8; 3]
     [high, middle, low]
 }
 
-// ---- lines of one thing told
-
 /// A line of a text and a word.
 #[tactic(auto, using(crate::proofs::Writing::keeps_after, std::proofs::lemmas::List::append_assoc))]
 fn put_told(out: &mut Vec<u8>, word: &[u8], what: &[u8]) -> Result<(), AllocError>
@@ -215,7 +216,8 @@ fn put_count(out: &mut Vec<u8>, word: &[u8], n: u64) -> Result<(), AllocError>
 /// A line of a text and bytes in hexadecimal digits.
 #[tactic(auto, using(crate::proofs::Writing::keeps_after, std::proofs::lemmas::List::append_assoc))]
 fn put_bytes(out: &mut Vec<u8>, word: &[u8], bytes: &[u8]) -> Result<(), AllocError>
-    ensures ok { OnOk result (out.new.items ≡ out.old.items ++ (word.now ++ (encode_lower bytes.now ++ 10 ∷ []))) }
+    ensures ok { OnOk result (out.new.items
+        ≡ out.old.items ++ (word.now ++ (encode_lower bytes.now ++ 10 ∷ []))) }
     ensures err { OnErr result (Keeps out.old.items out.new.items) }
 {
     put_hex(out, word, bytes)?;
@@ -224,14 +226,13 @@ fn put_bytes(out: &mut Vec<u8>, word: &[u8], bytes: &[u8]) -> Result<(), AllocEr
 
 #[tactic(auto, using(crate::proofs::Writing::keeps_after, std::proofs::lemmas::List::append_assoc))]
 fn put_region(out: &mut Vec<u8>, keys: &Keys) -> Result<(), AllocError>
-    ensures ok { OnOk result (out.new.items ≡ out.old.items ++ (codes "region " ++ (text.key_text keys.now.local ++ (32 ∷ (text.key_text keys.now.remote ++ 10 ∷ []))))) }
+    ensures ok { OnOk result (out.new.items
+        ≡ out.old.items ++ (codes "region " ++ (text.key_text keys.now.local ++ (32 ∷ (text.key_text keys.now.remote ++ 10 ∷ []))))) }
     ensures err { OnErr result (Keeps out.old.items out.new.items) }
 {
     put_hex(out, b"region ", &keys.local.to_be_bytes())?;
     put_bytes(out, b" ", &keys.remote.to_be_bytes())
 }
-
-// ---- datagrams
 
 /// The numbers of the datagrams that were sent.
 #[tactic(auto, using(crate::proofs::Writing::keeps_after, std::proofs::lemmas::List::append_assoc), unfolding(crate::specs::Printed::sent_words))]
@@ -253,7 +254,8 @@ fn put_sent(out: &mut Vec<u8>, first: u64, count: u64) -> Result<(), AllocError>
 
 #[tactic(auto, using(crate::proofs::Writing::keeps_after, std::proofs::lemmas::List::append_assoc))]
 fn put_took(out: &mut Vec<u8>, took: Took, first: u64, count: u64) -> Result<(), AllocError>
-    ensures ok { OnOk result (out.new.items ≡ out.old.items ++ (codes "took " ++ (text.took_text took ++ ended (text.sent_words first count)))) }
+    ensures ok { OnOk result (out.new.items
+        ≡ out.old.items ++ (codes "took " ++ (text.took_text took ++ ended (text.sent_words first count)))) }
     ensures err { OnErr result (Keeps out.old.items out.new.items) }
 {
     let (word, more) = took_text(took);
@@ -261,8 +263,6 @@ fn put_took(out: &mut Vec<u8>, took: Took, first: u64, count: u64) -> Result<(),
     put_pair(out, word, more)?;
     put_sent(out, first, count)
 }
-
-// ---- completions
 
 #[tactic(auto, using(crate::proofs::Writing::keeps_after, std::proofs::lemmas::List::append_assoc), unfolding(crate::specs::Printed::imm_words))]
 fn put_imm(out: &mut Vec<u8>, imm: Option<u32>) -> Result<(), AllocError>
@@ -278,7 +278,8 @@ fn put_imm(out: &mut Vec<u8>, imm: Option<u32>) -> Result<(), AllocError>
 /// The queue pair of a completion and the id of its request.
 #[tactic(auto, using(crate::proofs::Writing::keeps_after, std::proofs::lemmas::List::append_assoc))]
 fn put_request(out: &mut Vec<u8>, completion: &Completion) -> Result<(), AllocError>
-    ensures ok { OnOk result (out.new.items ≡ out.old.items ++ (codes "wc " ++ (text.qp_text completion.now.qp ++ (32 ∷ decimal completion.now.id)))) }
+    ensures ok { OnOk result (out.new.items
+        ≡ out.old.items ++ (codes "wc " ++ (text.qp_text completion.now.qp ++ (32 ∷ decimal completion.now.id)))) }
     ensures err { OnErr result (Keeps out.old.items out.new.items) }
 {
     put_hex(out, b"wc ", &low_bytes(completion.qp))?;
@@ -328,8 +329,6 @@ fn put_polled(out: &mut Vec<u8>, completions: &[Completion]) -> Result<(), Alloc
     }
 }
 
-// ---- what settling left
-
 #[tactic(auto, using(crate::proofs::Writing::keeps_after, std::proofs::lemmas::List::append_assoc))]
 fn put_object(out: &mut Vec<u8>, object: &ObjName) -> Result<(), AllocError>
     ensures ok { OnOk result (out.new.items ≡ out.old.items ++ text.object_text object.now) }
@@ -362,14 +361,13 @@ fn put_left_lines(out: &mut Vec<u8>, ends: &[(ObjName, LeftWhy)]) -> Result<(), 
 
 #[tactic(auto, using(crate::proofs::Writing::keeps_after, std::proofs::lemmas::List::append_assoc))]
 fn put_quiet(out: &mut Vec<u8>, ends: &[(ObjName, LeftWhy)]) -> Result<(), AllocError>
-    ensures ok { OnOk result (out.new.items ≡ out.old.items ++ (codes "quiet " ++ (decimal (length ends.now) ++ (10 ∷ text.left_lines ends.now)))) }
+    ensures ok { OnOk result (out.new.items
+        ≡ out.old.items ++ (codes "quiet " ++ (decimal (length ends.now) ++ (10 ∷ text.left_lines ends.now)))) }
     ensures err { OnErr result (Keeps out.old.items out.new.items) }
 {
     put_count(out, b"quiet ", ends.len() as u64)?;
     put_left_lines(out, ends)
 }
-
-// ---- dumps
 
 /// The bytes of a dump, where any are shown.
 #[tactic(auto, unfolding(crate::specs::Printed::shown_words))]
@@ -385,14 +383,13 @@ fn put_shown(out: &mut Vec<u8>, bytes: &[u8]) -> Result<(), AllocError>
 
 #[tactic(auto, using(crate::proofs::Writing::keeps_after, std::proofs::lemmas::List::append_assoc))]
 fn put_dump(out: &mut Vec<u8>, count: u64, bytes: &[u8]) -> Result<(), AllocError>
-    ensures ok { OnOk result (out.new.items ≡ out.old.items ++ (codes "dump " ++ (decimal count ++ ended (text.shown_words bytes.now)))) }
+    ensures ok { OnOk result (out.new.items
+        ≡ out.old.items ++ (codes "dump " ++ (decimal count ++ ended (text.shown_words bytes.now)))) }
     ensures err { OnErr result (Keeps out.old.items out.new.items) }
 {
     put_number(out, b"dump ", count)?;
     put_shown(out, bytes)
 }
-
-// ---- answers
 
 #[tactic(auto, using(crate::proofs::Writing::keeps_after, std::proofs::lemmas::List::append_assoc), unfolding(crate::specs::Printed::printed))]
 fn put_answer(out: &mut Vec<u8>, answer: &Answer) -> Result<(), AllocError>

@@ -1,14 +1,11 @@
 -- Texts that grow by one connection, one move or one message.
-use Rattle.std.proofs.Common.{◌≡◌, ℕ, zero, suc, ◌+◌, List, [], ◌++◌, refl, sym, ap, ◌∙◌, append_assoc, add-one, Result}
+use Rattle.std.proofs.Common.{◌≡◌, ℕ, ◌+◌, List, [], ◌++◌, refl, sym, ap, ◌∙◌, append_assoc, add-one, Result}
 use Rattle.std.specs.Prelude.{OnOk}
 use Rattle.std.proofs.lemmas.Result.{on_ok_weaker}
 use Rattle.std.proofs.lemmas.List.{append-nil}
 use Rattle.rand_core.specs.Stream.{Stream, next_u32}
-use Rattle.rand_core.specs.Steps.{stream_of, steps_u32}
-use Rattle.rand_pcg.specs.Lcg.{Lcg}
-use Rattle.rand_pcg.specs.Pcg.{pcg32}
 use Rattle.workload_gen.specs.declared.plan.Mix.{Mix}
-use Rattle.workload_gen.specs.Plan.{connection_lines, connections_lines, move_at, moves_at, message_lines, messages_lines, after_words, words_of, word_at}
+use Rattle.workload_gen.specs.Plan.{connection_lines, connections_lines, move_at, moves_at, message_lines, messages_lines, after_words, word_at}
 
 -- what is grown by a piece, behind what was there
 grown : (start mid new front piece whole : List ℕ) → mid ≡ start ++ front → new ≡ mid ++ piece → whole ≡ front ++ piece → new ≡ start ++ whole

@@ -1,5 +1,5 @@
 -- The line that sums up a run of a script.
-use Rattle.std.specs.Prelude.{ℕ, Bool, ◌+◌, ◌==◌, ◌&&◌, List, [], ◌∷◌, ◌++◌, codes, nat_eq, drop, count_by, if◌then◌else◌}
+use Rattle.std.specs.Prelude.{ℕ, Bool, ◌==◌, ◌&&◌, List, [], ◌∷◌, codes, nat_eq, drop, count_by, if◌then◌else◌}
 use Rattle.std.specs.List.{slice_split, after_first, starts_with}
 use Rattle.std.specs.Fmt.{decimal}
 use Rattle.workload_gen.specs.Lines.{line}

@@ -10,7 +10,7 @@ mod schedule;
 mod summary;
 mod writing;
 
-pub use laws::moves_stand_in_order;
+pub use laws::{messages_lie_in_their_regions, moves_stand_in_order};
 pub use plan::{Mix, plan_of};
 pub use summary::summary_of;
 

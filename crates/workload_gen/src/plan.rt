@@ -58,7 +58,8 @@ fn put_turn(out: &mut Vec<u8>, mix: &Mix, number: u32, word: u32) -> Result<(), 
 fn put_messages(out: &mut Vec<u8>, seed: u64, mix: &Mix) -> Result<(), AllocError>
     requires connections { 0 < mix.now.connections }
     requires messages { mix.now.messages ≤ 2000 }
-    ensures { OnOk result (out.new.items ≡ out.old.items ++ spec.messages_lines seed mix.now mix.now.messages) }
+    ensures { OnOk result (out.new.items
+        ≡ out.old.items ++ spec.messages_lines seed mix.now mix.now.messages) }
 {
     let mut words = Lcg64Xsh32::new(seed, 1);
     for i in 0..mix.messages {

@@ -21,7 +21,8 @@ fn put_go(out: &mut Vec<u8>, connection: u32) -> Result<(), AllocError>
 
 #[tactic(auto, using(std::proofs::lemmas::List::append_assoc))]
 fn put_expiry(out: &mut Vec<u8>, connection: u32) -> Result<(), AllocError>
-    ensures { OnOk result (out.new.items ≡ out.old.items ++ (plan.go_line connection ++ plan.expire_line connection)) }
+    ensures { OnOk result (out.new.items
+        ≡ out.old.items ++ (plan.go_line connection ++ plan.expire_line connection)) }
 {
     put_go(out, connection)?;
     put_number(out, b"expire a.q", u64::from(connection))?;
@@ -30,7 +31,8 @@ fn put_expiry(out: &mut Vec<u8>, connection: u32) -> Result<(), AllocError>
 
 #[tactic(auto, using(std::proofs::lemmas::List::append_assoc))]
 fn put_two(out: &mut Vec<u8>, connection: u32) -> Result<(), AllocError>
-    ensures { OnOk result (out.new.items ≡ out.old.items ++ (plan.go_line connection ++ plan.go_line connection)) }
+    ensures { OnOk result (out.new.items
+        ≡ out.old.items ++ (plan.go_line connection ++ plan.go_line connection)) }
 {
     put_go(out, connection)?;
     put_go(out, connection)

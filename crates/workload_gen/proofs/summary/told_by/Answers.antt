@@ -1,4 +1,4 @@
-use Rattle.std.proofs.Common.{◌≡◌, ℕ, ◌+◌, Bool, if◌then◌else◌, ap, ◌∙◌}
+use Rattle.std.proofs.Common.{◌≡◌, ◌+◌, Bool, if◌then◌else◌, ap, ◌∙◌}
 use Rattle.workload_gen.proofs.Lines.{count_more, left_more, left_done, room_more}
 use Rattle.workload_gen.specs.Summary.{is_completion, is_success}
 use Rattle.workload_gen.proofs.summary.told_by.Goals as goal
