@@ -6,7 +6,7 @@ use Rattle.rdma_types.specs.declared.requests.Address.{Address}
 use Rattle.rdma_types.specs.declared.requests.Terms.{Terms}
 use Rattle.rdma_types.specs.declared.rights.Rights.{Rights}
 use Rattle.script_lang.specs.declared.lines.LineWhy.TheVariants as why
-use Rattle.script_lang.specs.Texts.{greatest_u32, greatest_u64, name_of, object_of, own_name, number_in, mtu_of, hex_number, rights_of, address_of}
+use Rattle.script_lang.specs.Texts.{greatest_u32, greatest_u64, name_of, object_of, own_name, number_in, mtu_of, hex_number, bytes_of, rights_of, address_of}
 use Rattle.script_lang.specs.Words.{Reads, ◌>>=◌, done, a_field, an_option}
 
 -- ---- one word
@@ -51,6 +51,10 @@ a_key = a_field (hex_number 4) why.Hex
 -- a queue pair number, of six hexadecimal digits
 unfoldable pub a_queue_pair : Reads ℕ
 a_queue_pair = a_field (hex_number 3) why.Hex
+
+-- bytes of 2 to 8,192 hexadecimal digits
+unfoldable pub some_bytes : Reads (List ℕ)
+some_bytes = a_field bytes_of why.Hex
 
 -- rights
 unfoldable pub some_rights : Reads Rights

@@ -1,13 +1,14 @@
 //! Readers of one field of a line, and of fields that stand together.
 
 ghost use Rattle.std.specs.Prelude.{◌≡◌, ◌≤◌, ℕ, IfOk};
-ghost use Rattle.script_lang.specs.Words.{Gives};
+ghost use Rattle.script_lang.specs.Words.{Gives, GivesOr};
 ghost use Rattle.script_lang.specs.Fields as fields;
 
-use crate::lines::{LineWhy, Offence};
+use crate::lines::{LineFault, LineWhy, Offence};
 use crate::texts;
 use crate::words::Words;
-use rdma_types::{Address, Name, ObjName, Rights, Terms};
+use rdma_types::{Address, Items, Name, ObjName, Rights, Terms};
+use std::alloc::Global;
 
 impl Words<'_> {
     /// A name.
@@ -93,6 +94,18 @@ impl Words<'_> {
     {
         let word = self.word()?;
         texts::queue_pair(word.text).ok_or(word.bad(LineWhy::Hex))
+    }
+
+    /// Bytes of hexadecimal digits.
+    #[tactic(auto, unfolding(crate::specs::Fields::some_bytes))]
+    pub fn bytes(&mut self, alloc: Global) -> Result<Items<u8>, LineFault>
+        ensures { GivesOr result self.new (fields.some_bytes self.old) }
+    {
+        let word = self.word()?;
+        match texts::bytes(alloc, word.text)? {
+            Some(bytes) => Ok(bytes),
+            None => Err(word.bad(LineWhy::Hex).into()),
+        }
     }
 
     /// Rights.

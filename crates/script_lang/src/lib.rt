@@ -5,8 +5,10 @@
 #![tactic(auto)]
 
 mod fields;
+mod forms;
 mod lines;
 mod texts;
+mod verbs;
 mod words;
 
 pub use lines::{Line, LineFault, LineWhy, NodeLine};
