@@ -2,3 +2,4 @@ pub mod Texts
 pub mod Words
 pub mod Fields
 pub mod Verbs
+pub mod Lines

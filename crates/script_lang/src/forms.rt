@@ -3,6 +3,7 @@
 ghost use Rattle.std.specs.Prelude.{◌≡◌};
 ghost use Rattle.std.specs.Str.{bytes_eq};
 ghost use Rattle.script_lang.specs.Verbs as verbs;
+ghost use Rattle.script_lang.specs.Lines as lines;
 
 /// The lines of verbs that scripts of a world and of a node share.
 #[derive(Clone, Copy)]
@@ -66,7 +67,7 @@ fn spells(word: &[u8], text: &[u8]) -> bool
 
 /// The verb that a first word names.
 #[tactic(auto, unfolding(crate::specs::Verbs::verb_form))]
-fn verb_form(word: &[u8]) -> Option<VerbForm>
+fn verb_form_of(word: &[u8]) -> Option<VerbForm>
     ensures { result ≡ verbs.verb_form word.now }
 {
     let form = match word {
@@ -84,6 +85,57 @@ fn verb_form(word: &[u8]) -> Option<VerbForm>
         _ if spells(word, b"add") => VerbForm::FetchAdd,
         _ if spells(word, b"recv") => VerbForm::Recv,
         _ if spells(word, b"poll") => VerbForm::Poll,
+        _ => return None,
+    };
+    Some(form)
+}
+
+/// The line of a script of a world that a first word names.
+#[tactic(auto, unfolding(crate::specs::Lines::form_of))]
+pub fn form_of(word: &[u8]) -> Option<Form>
+    ensures { result ≡ lines.form_of word.now }
+{
+    if let Some(verb) = verb_form_of(word) {
+        return Some(Form::Verb(verb));
+    }
+    let form = match word {
+        _ if spells(word, b"device") => Form::Device,
+        _ if spells(word, b"context") => Form::Context,
+        _ if spells(word, b"connect") => Form::Connect,
+        _ if spells(word, b"go") => Form::Go,
+        _ if spells(word, b"deliver") => Form::Deliver,
+        _ if spells(word, b"lose") => Form::Lose,
+        _ if spells(word, b"wire") => Form::Wire,
+        _ if spells(word, b"expire") => Form::Expire,
+        _ if spells(word, b"rnr") => Form::Rnr,
+        _ if spells(word, b"stop") => Form::Stop,
+        _ if spells(word, b"restore") => Form::Restore,
+        _ if spells(word, b"release") => Form::Release,
+        _ if spells(word, b"dump") => Form::Dump,
+        _ if spells(word, b"settle") => Form::Settle,
+        _ => return None,
+    };
+    Some(form)
+}
+
+/// The line of a script of a node that a first word names.
+#[tactic(auto, unfolding(crate::specs::Lines::node_form_of))]
+pub fn node_form_of(word: &[u8]) -> Option<NodeForm>
+    ensures { result ≡ lines.node_form_of word.now }
+{
+    if let Some(verb) = verb_form_of(word) {
+        return Some(NodeForm::Verb(verb));
+    }
+    let form = match word {
+        _ if spells(word, b"context") => NodeForm::Context,
+        _ if spells(word, b"link") => NodeForm::Link,
+        _ if spells(word, b"go") => NodeForm::Go,
+        _ if spells(word, b"expire") => NodeForm::Expire,
+        _ if spells(word, b"rnr") => NodeForm::Rnr,
+        _ if spells(word, b"stop") => NodeForm::Stop,
+        _ if spells(word, b"restore") => NodeForm::Restore,
+        _ if spells(word, b"release") => NodeForm::Release,
+        _ if spells(word, b"serve") => NodeForm::Serve,
         _ => return None,
     };
     Some(form)

@@ -7,8 +7,12 @@
 mod fields;
 mod forms;
 mod lines;
+mod node;
+mod reading;
 mod texts;
 mod verbs;
 mod words;
 
 pub use lines::{Line, LineFault, LineWhy, NodeLine};
+pub use node::parse_node_line;
+pub use reading::parse_line;
