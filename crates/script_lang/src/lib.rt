@@ -9,6 +9,8 @@ mod forms;
 mod lines;
 mod node;
 mod reading;
+#[cfg(test)]
+mod tests;
 mod texts;
 mod verbs;
 mod words;
