@@ -3,3 +3,4 @@ pub mod Words
 pub mod Fields
 pub mod Verbs
 pub mod Lines
+pub mod Ranges

@@ -216,10 +216,14 @@ abbrev pub named : {F L : Type 0} → (F → Reads L) → Option F → Word → 
 named reads (Some f) w i = said (whole (reads f) i)
 named reads None w i = Err (offence w.column why.Word)
 
--- a line by its words: blank without any, and where the first begins with `#`
+-- a line by its first word and those behind it: a comment where the first begins with `#`
+abbrev pub begun : {F L : Type 0} → L → (List ℕ → Option F) → (F → Reads L) → Word → Input → Result L Offence
+begun blank form reads w i = if slice_index w.text 0 == 35 then Ok blank else named reads (form w.text) w i
+
+-- a line by its words: blank without any
 abbrev pub reading_of_words : {F L : Type 0} → L → (List ℕ → Option F) → (F → Reads L) → List Word → ℕ → Result L Offence
 reading_of_words blank form reads [] past = Ok blank
-reading_of_words blank form reads (w ∷ ws) past = if slice_index w.text 0 == 35 then Ok blank else named reads (form w.text) w (record { words = ws; past = past })
+reading_of_words blank form reads (w ∷ ws) past = begun blank form reads w (record { words = ws; past = past })
 
 -- the first of two checks
 abbrev pub unless : {L : Type 0} → Option Offence → Result L Offence → Result L Offence

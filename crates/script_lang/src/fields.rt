@@ -1,8 +1,10 @@
 //! Readers of one field of a line, and of fields that stand together.
 
-ghost use Rattle.std.specs.Prelude.{◌≡◌, ◌≤◌, ℕ, IfOk};
+ghost use Rattle.std.specs.Prelude.{◌≡◌, ◌<◌, ◌≤◌, ◌^◌, ℕ, true, IfOk};
 ghost use Rattle.script_lang.specs.Words.{Gives, GivesOr};
 ghost use Rattle.script_lang.specs.Fields as fields;
+ghost use Rattle.script_lang.specs.Ranges.{IsIn};
+ghost use Rattle.rdma_types.specs.Limits.{is_mtu, AreTerms};
 
 use crate::lines::{LineFault, LineWhy, Offence};
 use crate::texts;
@@ -64,7 +66,8 @@ impl Words<'_> {
 
     /// The id of a device.
     pub fn device(&mut self) -> Result<u8, Offence>
-        ensures { Gives result self.new (fields.a_device self.old) }
+        ensures value { Gives result self.new (fields.a_device self.old) }
+        ensures within { IfOk result (IsIn 1 255) }
     {
         Ok(self.number(1, 255)? as u8)
     }
@@ -72,7 +75,8 @@ impl Words<'_> {
     /// An MTU.
     #[tactic(auto, unfolding(crate::specs::Fields::an_mtu))]
     fn mtu(&mut self) -> Result<u32, Offence>
-        ensures { Gives result self.new (fields.an_mtu self.old) }
+        ensures value { Gives result self.new (fields.an_mtu self.old) }
+        ensures one { IfOk result (λ n. is_mtu n ≡ true) }
     {
         let word = self.word()?;
         texts::mtu(word.text).ok_or(word.bad(LineWhy::Number))
@@ -90,7 +94,8 @@ impl Words<'_> {
     /// The number of a queue pair.
     #[tactic(auto, unfolding(crate::specs::Fields::a_queue_pair))]
     pub fn queue_pair(&mut self) -> Result<u32, Offence>
-        ensures { Gives result self.new (fields.a_queue_pair self.old) }
+        ensures value { Gives result self.new (fields.a_queue_pair self.old) }
+        ensures small { IfOk result (λ n. n < 2 ^ 24) }
     {
         let word = self.word()?;
         texts::queue_pair(word.text).ok_or(word.bad(LineWhy::Hex))
@@ -111,7 +116,8 @@ impl Words<'_> {
     /// Rights.
     #[tactic(auto, unfolding(crate::specs::Fields::some_rights))]
     pub fn rights(&mut self) -> Result<Rights, Offence>
-        ensures { Gives result self.new (fields.some_rights self.old) }
+        ensures value { Gives result self.new (fields.some_rights self.old) }
+        ensures four { IfOk result (λ r. r.0 ≤ 15) }
     {
         let word = self.word()?;
         texts::rights(word.text).ok_or(word.bad(LineWhy::Rights))
@@ -152,7 +158,8 @@ impl Words<'_> {
     /// `mtu` m `psn` own peer `retry` r `rnr` w `reads` n
     #[tactic(auto, unfolding(crate::specs::Fields::some_terms))]
     pub fn terms(&mut self) -> Result<Terms, Offence>
-        ensures { Gives result self.new (fields.some_terms self.old) }
+        ensures value { Gives result self.new (fields.some_terms self.old) }
+        ensures lawful { IfOk result AreTerms }
     {
         self.fixed(b"mtu")?;
         let mtu = self.mtu()?;

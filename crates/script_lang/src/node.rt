@@ -1,25 +1,27 @@
 //! What a line of a script of a node says.
 
-ghost use Rattle.std.specs.Prelude.{◌≡◌, ◌+◌, Err, length};
+ghost use Rattle.std.specs.Prelude.{◌≡◌, IfOk, ◌+◌, Some, Err, length};
 ghost use Rattle.script_lang.specs.declared.forms.NodeForm.TheVariants as form_is;
 ghost use Rattle.script_lang.specs.declared.forms.VerbForm.TheVariants as verb_is;
 ghost use Rattle.script_lang.specs.declared.lines.LineFault.TheVariants as fault;
 ghost use Rattle.script_lang.specs.declared.lines.NodeLine.TheVariants as line_is;
 ghost use Rattle.script_lang.specs.Lines as lines;
-ghost use Rattle.script_lang.specs.Lines.{node_reading_of, reading_of_words, said, whole, Says, Begins};
+ghost use Rattle.script_lang.specs.Lines.{node_reading_of, reading_of_words, begun, said, whole, Says, Begins};
+ghost use Rattle.script_lang.specs.Ranges.{IsLawfulNodeLine};
 ghost use Rattle.script_lang.specs.Words.{Gives, GivesOr, words_from};
 
 use crate::forms::{self, NodeForm};
 use crate::lines::{LineFault, LineWhy, NodeLine, Offence};
 use crate::reading::check_bytes;
 use crate::verbs;
-use crate::words::Words;
+use crate::words::{Word, Words};
 use std::alloc::Global;
 
 /// `link` O number address `mtu` m `psn` own peer `retry` r `rnr` w `reads` n
 #[tactic(auto, unfolding(crate::specs::Lines::link_line))]
 fn link(words: &mut Words<'_>) -> Result<NodeLine, Offence>
-    ensures { Gives result words.new (lines.link_line words.old) }
+    ensures value { Gives result words.new (lines.link_line words.old) }
+    ensures lawful { IfOk result IsLawfulNodeLine }
 {
     let end = words.object()?;
     let peer = words.queue_pair()?;
@@ -36,7 +38,8 @@ fn link(words: &mut Words<'_>) -> Result<NodeLine, Offence>
 /// `stop` N file
 #[tactic(auto, unfolding(crate::specs::Lines::stop_line))]
 fn stop(words: &mut Words<'_>) -> Result<NodeLine, Offence>
-    ensures { Gives result words.new (lines.stop_line words.old) }
+    ensures value { Gives result words.new (lines.stop_line words.old) }
+    ensures lawful { IfOk result IsLawfulNodeLine }
 {
     let name = words.name()?;
     let file = words.name()?;
@@ -46,7 +49,8 @@ fn stop(words: &mut Words<'_>) -> Result<NodeLine, Offence>
 /// `serve` turns
 #[tactic(auto, unfolding(crate::specs::Lines::serve_line))]
 fn serve(words: &mut Words<'_>) -> Result<NodeLine, Offence>
-    ensures { Gives result words.new (lines.serve_line words.old) }
+    ensures value { Gives result words.new (lines.serve_line words.old) }
+    ensures lawful { IfOk result IsLawfulNodeLine }
 {
     let turns = words.number(1, 100_000)? as u32;
     Ok(NodeLine::Serve(turns))
@@ -56,6 +60,7 @@ fn serve(words: &mut Words<'_>) -> Result<NodeLine, Offence>
 #[tactic(auto, unfolding(crate::specs::Lines::node_line_of))]
 fn line_of(alloc: Global, form: NodeForm, words: &mut Words<'_>) -> Result<NodeLine, LineFault>
     ensures value { GivesOr result words.new (lines.node_line_of form words.old) }
+    ensures lawful { IfOk result IsLawfulNodeLine }
     ensures memory { result ≡ Err fault.OutOfMemory → form ≡ form_is.Verb verb_is.Store }
 {
     let line = match form {
@@ -78,6 +83,7 @@ fn line_of(alloc: Global, form: NodeForm, words: &mut Words<'_>) -> Result<NodeL
 /// What the words behind the first say, where none is left.
 fn whole_line(alloc: Global, form: NodeForm, words: &mut Words<'_>) -> Result<NodeLine, LineFault>
     ensures value { Says result (said (whole (lines.node_line_of form) words.old)) }
+    ensures lawful { IfOk result IsLawfulNodeLine }
     ensures memory { result ≡ Err fault.OutOfMemory → form ≡ form_is.Verb verb_is.Store }
 {
     let line = line_of(alloc, form, words)?;
@@ -85,22 +91,32 @@ fn whole_line(alloc: Global, form: NodeForm, words: &mut Words<'_>) -> Result<No
     Ok(line)
 }
 
-/// What a line says whose bytes may stand in one.
-fn read_words(alloc: Global, line: &[u8]) -> Result<NodeLine, LineFault>
-    ensures value { Says result (reading_of_words line_is.Blank lines.node_form_of lines.node_line_of (words_from 1 line.now) (length line.now + 1)) }
-    ensures memory { result ≡ Err fault.OutOfMemory → Begins lines.node_form_of (form_is.Verb verb_is.Store) (words_from 1 line.now) }
+/// What a line says that begins with this word.
+fn read_from(alloc: Global, first: Word<'_>, words: &mut Words<'_>) -> Result<NodeLine, LineFault>
+    ensures value { Says result (begun line_is.Blank lines.node_form_of lines.node_line_of (record { column = first.entry.column; text = first.entry.text.now }) words.old) }
+    ensures lawful { IfOk result IsLawfulNodeLine }
+    ensures memory { result ≡ Err fault.OutOfMemory → lines.node_form_of first.entry.text.now ≡ Some (form_is.Verb verb_is.Store) }
 {
-    let mut words = Words::new(line);
-    let Some(first) = words.next_word() else {
-        return Ok(NodeLine::Blank)
-    };
     if let [b'#', ..] = first.text {
         return Ok(NodeLine::Blank);
     }
     let Some(form) = forms::node_form_of(first.text) else {
         return Err(first.bad(LineWhy::Word).into())
     };
-    whole_line(alloc, form, &mut words)
+    whole_line(alloc, form, words)
+}
+
+/// What a line says whose bytes may stand in one.
+fn read_words(alloc: Global, line: &[u8]) -> Result<NodeLine, LineFault>
+    ensures value { Says result (reading_of_words line_is.Blank lines.node_form_of lines.node_line_of (words_from 1 line.now) (length line.now + 1)) }
+    ensures lawful { IfOk result IsLawfulNodeLine }
+    ensures memory { result ≡ Err fault.OutOfMemory → Begins lines.node_form_of (form_is.Verb verb_is.Store) (words_from 1 line.now) }
+{
+    let mut words = Words::new(line);
+    let Some(first) = words.next_word() else {
+        return Ok(NodeLine::Blank)
+    };
+    read_from(alloc, first, &mut words)
 }
 
 /// What a line of a script of a node says. The line comes without its newline, and without the carriage return before
@@ -113,6 +129,7 @@ fn read_words(alloc: Global, line: &[u8]) -> Result<NodeLine, LineFault>
 #[tactic(auto, unfolding(crate::specs::Lines::node_reading_of))]
 pub fn parse_node_line(alloc: Global, line: &[u8]) -> Result<NodeLine, LineFault>
     ensures value { Says result (node_reading_of line.now) }
+    ensures lawful { IfOk result IsLawfulNodeLine }
     ensures memory { result ≡ Err fault.OutOfMemory → Begins lines.node_form_of (form_is.Verb verb_is.Store) (words_from 1 line.now) }
 {
     check_bytes(line)?;

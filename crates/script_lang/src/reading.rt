@@ -7,13 +7,14 @@ ghost use Rattle.script_lang.specs.declared.forms.VerbForm.TheVariants as verb_i
 ghost use Rattle.script_lang.specs.declared.lines.Line.TheVariants as line_is;
 ghost use Rattle.script_lang.specs.declared.lines.LineFault.TheVariants as fault;
 ghost use Rattle.script_lang.specs.Lines as lines;
-ghost use Rattle.script_lang.specs.Lines.{bytes_offence, is_printable, printable_before, reading_of, reading_of_words, said, whole, Says, Begins};
+ghost use Rattle.script_lang.specs.Lines.{bytes_offence, is_printable, printable_before, reading_of, reading_of_words, begun, said, whole, Says, Begins};
+ghost use Rattle.script_lang.specs.Ranges.{IsLawfulLine};
 ghost use Rattle.script_lang.specs.Words.{Gives, GivesOr, words_from};
 
 use crate::forms::{self, Form};
 use crate::lines::{Line, LineFault, LineWhy, Offence};
 use crate::verbs;
-use crate::words::Words;
+use crate::words::{Word, Words};
 use rdma_types::Verb;
 use std::alloc::Global;
 
@@ -63,7 +64,8 @@ pub fn check_bytes(line: &[u8]) -> Result<(), Offence>
 /// `device` id address
 #[tactic(auto, unfolding(crate::specs::Lines::device_line))]
 fn device(words: &mut Words<'_>) -> Result<Line, Offence>
-    ensures { Gives result words.new (lines.device_line words.old) }
+    ensures value { Gives result words.new (lines.device_line words.old) }
+    ensures lawful { IfOk result IsLawfulLine }
 {
     let id = words.device()?;
     let address = words.address()?;
@@ -73,7 +75,8 @@ fn device(words: &mut Words<'_>) -> Result<Line, Offence>
 /// `connect` O O `mtu` m `psn` x y `retry` r `rnr` w `reads` n
 #[tactic(auto, unfolding(crate::specs::Lines::connect_line))]
 fn connect(words: &mut Words<'_>) -> Result<Line, Offence>
-    ensures { Gives result words.new (lines.connect_line words.old) }
+    ensures value { Gives result words.new (lines.connect_line words.old) }
+    ensures lawful { IfOk result IsLawfulLine }
 {
     let one = words.object()?;
     let two = words.object()?;
@@ -84,7 +87,8 @@ fn connect(words: &mut Words<'_>) -> Result<Line, Offence>
 /// A line of moving: a name and a device.
 #[tactic(auto, unfolding(crate::specs::Lines::line_of))]
 fn context(words: &mut Words<'_>) -> Result<Line, Offence>
-    ensures { Gives result words.new (lines.line_of form_is.Context words.old) }
+    ensures value { Gives result words.new (lines.line_of form_is.Context words.old) }
+    ensures lawful { IfOk result IsLawfulLine }
 {
     let name = words.name()?;
     let device = words.device()?;
@@ -94,7 +98,8 @@ fn context(words: &mut Words<'_>) -> Result<Line, Offence>
 /// `restore` N id
 #[tactic(auto, unfolding(crate::specs::Lines::line_of))]
 fn restore(words: &mut Words<'_>) -> Result<Line, Offence>
-    ensures { Gives result words.new (lines.line_of form_is.Restore words.old) }
+    ensures value { Gives result words.new (lines.line_of form_is.Restore words.old) }
+    ensures lawful { IfOk result IsLawfulLine }
 {
     let name = words.name()?;
     let device = words.device()?;
@@ -104,7 +109,8 @@ fn restore(words: &mut Words<'_>) -> Result<Line, Offence>
 /// `release` N id
 #[tactic(auto, unfolding(crate::specs::Lines::line_of))]
 fn release(words: &mut Words<'_>) -> Result<Line, Offence>
-    ensures { Gives result words.new (lines.line_of form_is.Release words.old) }
+    ensures value { Gives result words.new (lines.line_of form_is.Release words.old) }
+    ensures lawful { IfOk result IsLawfulLine }
 {
     let name = words.name()?;
     let device = words.device()?;
@@ -115,6 +121,7 @@ fn release(words: &mut Words<'_>) -> Result<Line, Offence>
 #[tactic(auto, unfolding(crate::specs::Lines::line_of))]
 fn line_of(alloc: Global, form: Form, words: &mut Words<'_>) -> Result<Line, LineFault>
     ensures value { GivesOr result words.new (lines.line_of form words.old) }
+    ensures lawful { IfOk result IsLawfulLine }
     ensures memory { result ≡ Err fault.OutOfMemory → form ≡ form_is.Verb verb_is.Store }
 {
     let line = match form {
@@ -140,6 +147,7 @@ fn line_of(alloc: Global, form: Form, words: &mut Words<'_>) -> Result<Line, Lin
 /// What the words behind the first say, where none is left.
 fn whole_line(alloc: Global, form: Form, words: &mut Words<'_>) -> Result<Line, LineFault>
     ensures value { Says result (said (whole (lines.line_of form) words.old)) }
+    ensures lawful { IfOk result IsLawfulLine }
     ensures memory { result ≡ Err fault.OutOfMemory → form ≡ form_is.Verb verb_is.Store }
 {
     let line = line_of(alloc, form, words)?;
@@ -147,22 +155,32 @@ fn whole_line(alloc: Global, form: Form, words: &mut Words<'_>) -> Result<Line, 
     Ok(line)
 }
 
-/// What a line says whose bytes may stand in one.
-fn read_words(alloc: Global, line: &[u8]) -> Result<Line, LineFault>
-    ensures value { Says result (reading_of_words line_is.Blank lines.form_of lines.line_of (words_from 1 line.now) (length line.now + 1)) }
-    ensures memory { result ≡ Err fault.OutOfMemory → Begins lines.form_of (form_is.Verb verb_is.Store) (words_from 1 line.now) }
+/// What a line says that begins with this word.
+fn read_from(alloc: Global, first: Word<'_>, words: &mut Words<'_>) -> Result<Line, LineFault>
+    ensures value { Says result (begun line_is.Blank lines.form_of lines.line_of (record { column = first.entry.column; text = first.entry.text.now }) words.old) }
+    ensures lawful { IfOk result IsLawfulLine }
+    ensures memory { result ≡ Err fault.OutOfMemory → lines.form_of first.entry.text.now ≡ Some (form_is.Verb verb_is.Store) }
 {
-    let mut words = Words::new(line);
-    let Some(first) = words.next_word() else {
-        return Ok(Line::Blank)
-    };
     if let [b'#', ..] = first.text {
         return Ok(Line::Blank);
     }
     let Some(form) = forms::form_of(first.text) else {
         return Err(first.bad(LineWhy::Word).into())
     };
-    whole_line(alloc, form, &mut words)
+    whole_line(alloc, form, words)
+}
+
+/// What a line says whose bytes may stand in one.
+fn read_words(alloc: Global, line: &[u8]) -> Result<Line, LineFault>
+    ensures value { Says result (reading_of_words line_is.Blank lines.form_of lines.line_of (words_from 1 line.now) (length line.now + 1)) }
+    ensures lawful { IfOk result IsLawfulLine }
+    ensures memory { result ≡ Err fault.OutOfMemory → Begins lines.form_of (form_is.Verb verb_is.Store) (words_from 1 line.now) }
+{
+    let mut words = Words::new(line);
+    let Some(first) = words.next_word() else {
+        return Ok(Line::Blank)
+    };
+    read_from(alloc, first, &mut words)
 }
 
 /// What a line of a script of a world says. The line comes without its newline, and without the carriage return before
@@ -176,6 +194,7 @@ fn read_words(alloc: Global, line: &[u8]) -> Result<Line, LineFault>
 #[tactic(auto, unfolding(crate::specs::Lines::reading_of))]
 pub fn parse_line(alloc: Global, line: &[u8]) -> Result<Line, LineFault>
     ensures value { Says result (reading_of line.now) }
+    ensures lawful { IfOk result IsLawfulLine }
     ensures memory { result ≡ Err fault.OutOfMemory → Begins lines.form_of (form_is.Verb verb_is.Store) (words_from 1 line.now) }
 {
     check_bytes(line)?;

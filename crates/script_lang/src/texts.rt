@@ -2,6 +2,7 @@
 
 ghost use Rattle.std.specs.Prelude.{◌≡◌, ◌==◌, ℕ, ◌+◌, ◌-◌, ◌*◌, ◌<◌, ◌≤◌, ◌^◌, true, length, nat_lt, [], ◌∷◌, Option, Some, None, IfSome, IfNone, IfOk, if◌then◌else◌, option_copied, option_map};
 ghost use Rattle.std.specs.List.{list_all, position_or_len};
+ghost use Rattle.rdma_types.specs.Limits.{is_mtu};
 ghost use Rattle.script_lang.specs.Texts as texts;
 ghost use Rattle.script_lang.specs.Texts.{is_digit, digits_after, is_decimal, number_in, mtu_of, hex_number, bytes_of, cut_at, Letters, with_letter};
 
@@ -64,7 +65,8 @@ pub fn number(text: &[u8], low: u64, high: u64) -> Option<u64>
 /// The MTU of a word.
 #[tactic(auto, unfolding(crate::specs::Texts::mtu_of))]
 pub fn mtu(text: &[u8]) -> Option<u32>
-    ensures { result ≡ mtu_of text.now }
+    ensures value { result ≡ mtu_of text.now }
+    ensures one { IfSome result (λ n. is_mtu n ≡ true) }
 {
     let n = number(text, 256, 4096)? as u32;
     matches!(n, 256 | 512 | 1024 | 2048 | 4096).then_some(n)
@@ -86,7 +88,8 @@ pub fn key(text: &[u8]) -> Option<u32>
 /// The number of a word of six hexadecimal digits.
 #[tactic(auto, unfolding(crate::specs::Texts::hex_number))]
 pub fn queue_pair(text: &[u8]) -> Option<u32>
-    ensures { result ≡ hex_number 3 text.now }
+    ensures value { result ≡ hex_number 3 text.now }
+    ensures small { IfSome result (λ n. n < 2 ^ 24) }
 {
     if text.len() != 6 {
         return None;
@@ -176,7 +179,8 @@ fn letter(letter: u8, right: u8, sum: u8, rest: &[u8]) -> (u8, &[u8])
 /// The rights of a word.
 #[tactic(auto, unfolding(crate::specs::Texts::rights_of, crate::specs::Texts::letters_of))]
 pub fn rights(text: &[u8]) -> Option<Rights>
-    ensures { result ≡ texts.rights_of text.now }
+    ensures value { result ≡ texts.rights_of text.now }
+    ensures four { IfSome result (λ r. r.0 ≤ 15) }
 {
     if text == b"-".as_slice() {
         return Some(Rights(0));

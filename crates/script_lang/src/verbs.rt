@@ -1,8 +1,10 @@
 //! The lines of verbs, which scripts of a world and of a node share.
 
-ghost use Rattle.std.specs.Prelude.{◌≡◌, Ok, Err};
+ghost use Rattle.std.specs.Prelude.{◌≡◌, Ok, Err, IfOk};
 ghost use Rattle.script_lang.specs.declared.lines.LineFault.TheVariants as fault;
 ghost use Rattle.script_lang.specs.declared.forms.VerbForm.TheVariants as form_is;
+ghost use Rattle.rdma_types.specs.Shapes.{IsLawfulShape};
+ghost use Rattle.script_lang.specs.Ranges.{IsLawfulVerb, IsOfNode};
 ghost use Rattle.script_lang.specs.Verbs as verbs;
 ghost use Rattle.script_lang.specs.Words.{Gives, GivesOr};
 
@@ -15,7 +17,9 @@ use std::alloc::Global;
 /// `domain` O
 #[tactic(auto, unfolding(crate::specs::Verbs::domain_line))]
 fn domain(words: &mut Words<'_>) -> Result<Verb, Offence>
-    ensures { Gives result words.new (verbs.domain_line words.old) }
+    ensures value { Gives result words.new (verbs.domain_line words.old) }
+    ensures lawful { IfOk result IsLawfulVerb }
+    ensures shared { IfOk result IsOfNode }
 {
     let name = words.object()?;
     Ok(Verb::MakeDomain { name })
@@ -24,7 +28,9 @@ fn domain(words: &mut Words<'_>) -> Result<Verb, Offence>
 /// `region` O domain base length rights
 #[tactic(auto, unfolding(crate::specs::Verbs::region_line))]
 fn region(words: &mut Words<'_>) -> Result<Verb, Offence>
-    ensures { Gives result words.new (verbs.region_line words.old) }
+    ensures value { Gives result words.new (verbs.region_line words.old) }
+    ensures lawful { IfOk result IsLawfulVerb }
+    ensures shared { IfOk result IsOfNode }
 {
     let name = words.object()?;
     let domain = words.own(&name)?;
@@ -43,7 +49,9 @@ fn region(words: &mut Words<'_>) -> Result<Verb, Offence>
 /// `cq` O capacity
 #[tactic(auto, unfolding(crate::specs::Verbs::cq_line))]
 fn cq(words: &mut Words<'_>) -> Result<Verb, Offence>
-    ensures { Gives result words.new (verbs.cq_line words.old) }
+    ensures value { Gives result words.new (verbs.cq_line words.old) }
+    ensures lawful { IfOk result IsLawfulVerb }
+    ensures shared { IfOk result IsOfNode }
 {
     let name = words.object()?;
     let capacity = words.number(1, 16_384)? as u32;
@@ -53,7 +61,9 @@ fn cq(words: &mut Words<'_>) -> Result<Verb, Offence>
 /// `qp` O domain sendcq recvcq sdepth rdepth
 #[tactic(auto, unfolding(crate::specs::Verbs::qp_line))]
 fn qp(words: &mut Words<'_>) -> Result<Verb, Offence>
-    ensures { Gives result words.new (verbs.qp_line words.old) }
+    ensures value { Gives result words.new (verbs.qp_line words.old) }
+    ensures lawful { IfOk result IsLawfulVerb }
+    ensures shared { IfOk result IsOfNode }
 {
     let name = words.object()?;
     let domain = words.own(&name)?;
@@ -74,7 +84,9 @@ fn qp(words: &mut Words<'_>) -> Result<Verb, Offence>
 /// `drop` O
 #[tactic(auto, unfolding(crate::specs::Verbs::drop_line))]
 fn drop_region(words: &mut Words<'_>) -> Result<Verb, Offence>
-    ensures { Gives result words.new (verbs.drop_line words.old) }
+    ensures value { Gives result words.new (verbs.drop_line words.old) }
+    ensures lawful { IfOk result IsLawfulVerb }
+    ensures shared { IfOk result IsOfNode }
 {
     let name = words.object()?;
     Ok(Verb::DropRegion { name })
@@ -83,7 +95,9 @@ fn drop_region(words: &mut Words<'_>) -> Result<Verb, Offence>
 /// `store` region address bytes
 #[tactic(auto, unfolding(crate::specs::Verbs::store_line))]
 fn store(alloc: Global, words: &mut Words<'_>) -> Result<Verb, LineFault>
-    ensures { GivesOr result words.new (verbs.store_line words.old) }
+    ensures value { GivesOr result words.new (verbs.store_line words.old) }
+    ensures lawful { IfOk result IsLawfulVerb }
+    ensures shared { IfOk result IsOfNode }
 {
     let region = words.object()?;
     let at = words.long()?;
@@ -94,7 +108,9 @@ fn store(alloc: Global, words: &mut Words<'_>) -> Result<Verb, LineFault>
 /// `load` region address length
 #[tactic(auto, unfolding(crate::specs::Verbs::load_line))]
 fn load(words: &mut Words<'_>) -> Result<Verb, Offence>
-    ensures { Gives result words.new (verbs.load_line words.old) }
+    ensures value { Gives result words.new (verbs.load_line words.old) }
+    ensures lawful { IfOk result IsLawfulVerb }
+    ensures shared { IfOk result IsOfNode }
 {
     let region = words.object()?;
     let at = words.long()?;
@@ -105,7 +121,10 @@ fn load(words: &mut Words<'_>) -> Result<Verb, Offence>
 /// A request of this shape, with its options.
 #[tactic(auto, unfolding(crate::specs::Verbs::posted))]
 fn posted(words: &mut Words<'_>, end: ObjName, id: u64, lkey: u32, local: u64, shape: Shape) -> Verb
-    ensures { verbs.posted end id lkey local shape words.old ≡ Ok (result, words.new) }
+    requires { IsLawfulShape shape }
+    ensures value { verbs.posted end id lkey local shape words.old ≡ Ok (result, words.new) }
+    ensures lawful { IsLawfulVerb result }
+    ensures shared { IsOfNode result }
 {
     let fence = words.option(b"fence");
     let quiet = words.option(b"quiet");
@@ -123,7 +142,9 @@ fn posted(words: &mut Words<'_>, end: ObjName, id: u64, lkey: u32, local: u64, s
 /// `write` O id lkey address length raddress rkey, and perhaps `imm` i, `fence`, `quiet`
 #[tactic(auto, unfolding(crate::specs::Verbs::write_line))]
 fn write(words: &mut Words<'_>) -> Result<Verb, Offence>
-    ensures { Gives result words.new (verbs.write_line words.old) }
+    ensures value { Gives result words.new (verbs.write_line words.old) }
+    ensures lawful { IfOk result IsLawfulVerb }
+    ensures shared { IfOk result IsOfNode }
 {
     let end = words.object()?;
     let id = words.long()?;
@@ -148,7 +169,9 @@ fn write(words: &mut Words<'_>) -> Result<Verb, Offence>
 /// `send` O id lkey address length, and perhaps `imm` i, `fence`, `quiet`
 #[tactic(auto, unfolding(crate::specs::Verbs::send_line))]
 fn send(words: &mut Words<'_>) -> Result<Verb, Offence>
-    ensures { Gives result words.new (verbs.send_line words.old) }
+    ensures value { Gives result words.new (verbs.send_line words.old) }
+    ensures lawful { IfOk result IsLawfulVerb }
+    ensures shared { IfOk result IsOfNode }
 {
     let end = words.object()?;
     let id = words.long()?;
@@ -171,7 +194,9 @@ fn send(words: &mut Words<'_>) -> Result<Verb, Offence>
 /// `read` O id lkey address length raddress rkey, and perhaps `fence`, `quiet`
 #[tactic(auto, unfolding(crate::specs::Verbs::read_line))]
 fn read(words: &mut Words<'_>) -> Result<Verb, Offence>
-    ensures { Gives result words.new (verbs.read_line words.old) }
+    ensures value { Gives result words.new (verbs.read_line words.old) }
+    ensures lawful { IfOk result IsLawfulVerb }
+    ensures shared { IfOk result IsOfNode }
 {
     let end = words.object()?;
     let id = words.long()?;
@@ -195,7 +220,9 @@ fn read(words: &mut Words<'_>) -> Result<Verb, Offence>
 /// `cas` O id lkey address raddress rkey compare swap, and perhaps `fence`, `quiet`
 #[tactic(auto, unfolding(crate::specs::Verbs::cas_line))]
 fn cas(words: &mut Words<'_>) -> Result<Verb, Offence>
-    ensures { Gives result words.new (verbs.cas_line words.old) }
+    ensures value { Gives result words.new (verbs.cas_line words.old) }
+    ensures lawful { IfOk result IsLawfulVerb }
+    ensures shared { IfOk result IsOfNode }
 {
     let end = words.object()?;
     let id = words.long()?;
@@ -220,7 +247,9 @@ fn cas(words: &mut Words<'_>) -> Result<Verb, Offence>
 /// `add` O id lkey address raddress rkey value, and perhaps `fence`, `quiet`
 #[tactic(auto, unfolding(crate::specs::Verbs::add_line))]
 fn add(words: &mut Words<'_>) -> Result<Verb, Offence>
-    ensures { Gives result words.new (verbs.add_line words.old) }
+    ensures value { Gives result words.new (verbs.add_line words.old) }
+    ensures lawful { IfOk result IsLawfulVerb }
+    ensures shared { IfOk result IsOfNode }
 {
     let end = words.object()?;
     let id = words.long()?;
@@ -244,7 +273,9 @@ fn add(words: &mut Words<'_>) -> Result<Verb, Offence>
 /// `recv` O id lkey address length
 #[tactic(auto, unfolding(crate::specs::Verbs::recv_line))]
 fn recv(words: &mut Words<'_>) -> Result<Verb, Offence>
-    ensures { Gives result words.new (verbs.recv_line words.old) }
+    ensures value { Gives result words.new (verbs.recv_line words.old) }
+    ensures lawful { IfOk result IsLawfulVerb }
+    ensures shared { IfOk result IsOfNode }
 {
     let end = words.object()?;
     let id = words.long()?;
@@ -263,7 +294,9 @@ fn recv(words: &mut Words<'_>) -> Result<Verb, Offence>
 /// `poll` cq max
 #[tactic(auto, unfolding(crate::specs::Verbs::poll_line))]
 fn poll(words: &mut Words<'_>) -> Result<Verb, Offence>
-    ensures { Gives result words.new (verbs.poll_line words.old) }
+    ensures value { Gives result words.new (verbs.poll_line words.old) }
+    ensures lawful { IfOk result IsLawfulVerb }
+    ensures shared { IfOk result IsOfNode }
 {
     let cq = words.object()?;
     let max = words.number(1, 256)? as u32;
@@ -277,6 +310,8 @@ fn poll(words: &mut Words<'_>) -> Result<Verb, Offence>
 /// The first offence, or want of memory, which only `store` takes.
 pub fn verb(alloc: Global, form: VerbForm, words: &mut Words<'_>) -> Result<Verb, LineFault>
     ensures value { GivesOr result words.new (verbs.verb_line form words.old) }
+    ensures lawful { IfOk result IsLawfulVerb }
+    ensures shared { IfOk result IsOfNode }
     ensures memory { result ≡ Err fault.OutOfMemory → form ≡ form_is.Store }
 {
     let verb = match form {

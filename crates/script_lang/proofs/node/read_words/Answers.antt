@@ -1,4 +1,4 @@
-use Rattle.std.proofs.Common.{◌≡◌, ◌∷◌, List, subst, sym, ap, ◌∙◌, Some}
+use Rattle.std.proofs.Common.{◌≡◌, ◌∷◌, List, subst, sym, ap, ◌∙◌}
 use Rattle.script_lang.specs.declared.forms.NodeForm.TheVariants as form_is
 use Rattle.script_lang.specs.declared.forms.VerbForm.TheVariants as verb_is
 use Rattle.script_lang.specs.Lines.{Begins, node_form_of}
@@ -7,8 +7,7 @@ use Rattle.script_lang.proofs.node.read_words.Goals as goal
 
 pub returns-clause-memory : goal.returns-clause-memory
 returns-clause-memory c = λ h.
-    let store = c.whole_line.ensures.memory h in
+    let store = c.read_from.ensures.memory h in
     let words : words_from 1 c.args.line.now ≡ record { column = c.in-Some.first.column; text = c.in-Some.first.text.now } ∷ c.next_word.new.self.words = ap (λ (i : Input). i.words) (sym c.new-words.ensures) ∙ c.in-Some.ensures.word in
-    let form : node_form_of c.in-Some.first.text.now ≡ Some (form_is.Verb verb_is.Store) = cc (c.node_form_of.ensures) in
     let P : List Word → Type 0 = λ ws. Begins node_form_of (form_is.Verb verb_is.Store) ws in
-    subst P (sym words) form
+    subst P (sym words) store
