@@ -1,1 +1,7 @@
+pub mod Texts
+pub mod Words
+pub mod Fields
+pub mod Verbs
+pub mod Lines
+pub mod Ranges
 pub mod Printed

@@ -1,0 +1,33 @@
+-- Numbers that digits spell.
+use Rattle.std.proofs.Common.{◌≡◌, ℕ, ◌+◌, ◌-◌, ◌*◌, ◌<◌, ◌≤◌, List, [], ◌∷◌, length, drop, get_or, nat_lt, Some, None, if◌then◌else◌, sym, ap, arith, add-one, drop-cons}
+use Rattle.std.proofs.lemmas.Bool.Decides.{nat_tests}
+use Rattle.std.proofs.lemmas.List.{drop_all}
+use Rattle.script_lang.specs.Texts.{digits_after}
+
+-- more digits never make a number less
+pub grows : (n : ℕ) (bs : List ℕ) → n ≤ digits_after n bs
+grows n [] = omega arith
+grows n (b ∷ bs) = let g = grows (n * 10 + (b - 48)) bs in omega (arith, g)
+
+-- one digit of those that are left
+pub digit_passed : (n : ℕ) (word : List ℕ) (i : ℕ) → i < length word → digits_after (n * 10 + (get_or word i 0 - 48)) (drop (i + 1) word) ≡ digits_after n (drop i word)
+digit_passed n word i h = rw add-one (sym (ap (digits_after n) (drop-cons word i 0 h)))
+
+-- a number that is over a limit after some digits is over it after all
+pub stays_over : (n limit all : ℕ) (word : List ℕ) (i : ℕ) → i < length word → limit ≤ n * 10 + (get_or word i 0 - 48) → digits_after n (drop i word) ≡ all → limit ≤ all
+stays_over n limit all word i h over e =
+    let g = grows (n * 10 + (get_or word i 0 - 48)) (drop (i + 1) word) in
+    let p = digit_passed n word i h in
+    omega (arith, g, p, e)
+
+-- a number at the limit or over it is refused
+pub refused_over : (m limit : ℕ) → limit ≤ m → (if nat_lt m limit then Some m else None) ≡ None
+refused_over m limit h = grind (arith, nat_tests)
+
+-- a number below the limit is told
+pub told_below : (m limit : ℕ) → m < limit → (if nat_lt m limit then Some m else None) ≡ Some m
+told_below m limit h = grind (arith, nat_tests)
+
+-- after all digits the number stands
+pub digits_done : (n : ℕ) (word : List ℕ) (i : ℕ) → length word ≤ i → digits_after n (drop i word) ≡ n
+digits_done n word i h = ap (digits_after n) (drop_all i word h)

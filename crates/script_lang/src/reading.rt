@@ -1,0 +1,202 @@
+//! What a line of a script of a world says.
+
+ghost use Rattle.std.specs.Prelude.{◌≡◌, ◌+◌, ℕ, not, Some, None, Ok, Err, OnOk, IfErr, IfOk, length};
+ghost use Rattle.std.specs.List.{position_or_len};
+ghost use Rattle.script_lang.specs.declared.forms.Form.TheVariants as form_is;
+ghost use Rattle.script_lang.specs.declared.forms.VerbForm.TheVariants as verb_is;
+ghost use Rattle.script_lang.specs.declared.lines.Line.TheVariants as line_is;
+ghost use Rattle.script_lang.specs.declared.lines.LineFault.TheVariants as fault;
+ghost use Rattle.script_lang.specs.Lines as lines;
+ghost use Rattle.script_lang.specs.Lines.{bytes_offence, is_printable, printable_before, reading_of, reading_of_words, begun, said, whole, Says, Begins};
+ghost use Rattle.script_lang.specs.Ranges.{IsLawfulLine};
+ghost use Rattle.script_lang.specs.Words.{Gives, GivesOr, words_from};
+
+use crate::forms::{self, Form};
+use crate::lines::{Line, LineFault, LineWhy, Offence};
+use crate::verbs;
+use crate::words::{Word, Words};
+use rdma_types::Verb;
+use std::alloc::Global;
+
+/// Bytes of a line at most (this project's choice).
+const LONGEST_LINE: usize = 8400;
+
+fn printable(b: u8) -> bool
+    ensures { result ≡ is_printable b }
+{
+    (32..=126).contains(&b)
+}
+
+/// How many bytes stand before the first that may not stand in a line.
+fn length_printable(line: &[u8]) -> usize
+    ensures { result ≡ printable_before line.now }
+{
+    for (i, b) in line.iter().enumerate() {
+        if !printable(*b) {
+            return i;
+        }
+    }
+    line.len()
+}
+
+/// The bytes of a line may stand in one, and are not too many.
+#[tactic(auto, unfolding(crate::specs::Lines::bytes_offence))]
+pub fn check_bytes(line: &[u8]) -> Result<(), Offence>
+    ensures good { OnOk result (bytes_offence line.now ≡ None) }
+    ensures bad { IfErr result (λ e. bytes_offence line.now ≡ Some e) }
+{
+    if line.len() > LONGEST_LINE {
+        return Err(Offence {
+            column: LONGEST_LINE + 1,
+            why: LineWhy::Long,
+        });
+    }
+    let place = length_printable(line);
+    if place < line.len() {
+        return Err(Offence {
+            column: place + 1,
+            why: LineWhy::Ascii,
+        });
+    }
+    Ok(())
+}
+
+/// `device` id address
+#[tactic(auto, unfolding(crate::specs::Lines::device_line))]
+fn device(words: &mut Words<'_>) -> Result<Line, Offence>
+    ensures value { Gives result words.new (lines.device_line words.old) }
+    ensures lawful { IfOk result IsLawfulLine }
+{
+    let id = words.device()?;
+    let address = words.address()?;
+    Ok(Line::Device { id, address })
+}
+
+/// `connect` O O `mtu` m `psn` x y `retry` r `rnr` w `reads` n
+#[tactic(auto, unfolding(crate::specs::Lines::connect_line))]
+fn connect(words: &mut Words<'_>) -> Result<Line, Offence>
+    ensures value { Gives result words.new (lines.connect_line words.old) }
+    ensures lawful { IfOk result IsLawfulLine }
+{
+    let one = words.object()?;
+    let two = words.object()?;
+    let terms = words.terms()?;
+    Ok(Line::Verb(Verb::Connect { one, two, terms }))
+}
+
+/// A line of moving: a name and a device.
+#[tactic(auto, unfolding(crate::specs::Lines::line_of))]
+fn context(words: &mut Words<'_>) -> Result<Line, Offence>
+    ensures value { Gives result words.new (lines.line_of form_is.Context words.old) }
+    ensures lawful { IfOk result IsLawfulLine }
+{
+    let name = words.name()?;
+    let device = words.device()?;
+    Ok(Line::Context { name, device })
+}
+
+/// `restore` N id
+#[tactic(auto, unfolding(crate::specs::Lines::line_of))]
+fn restore(words: &mut Words<'_>) -> Result<Line, Offence>
+    ensures value { Gives result words.new (lines.line_of form_is.Restore words.old) }
+    ensures lawful { IfOk result IsLawfulLine }
+{
+    let name = words.name()?;
+    let device = words.device()?;
+    Ok(Line::Restore { name, device })
+}
+
+/// `release` N id
+#[tactic(auto, unfolding(crate::specs::Lines::line_of))]
+fn release(words: &mut Words<'_>) -> Result<Line, Offence>
+    ensures value { Gives result words.new (lines.line_of form_is.Release words.old) }
+    ensures lawful { IfOk result IsLawfulLine }
+{
+    let name = words.name()?;
+    let device = words.device()?;
+    Ok(Line::Release { name, device })
+}
+
+/// What the words behind the first say.
+#[tactic(auto, unfolding(crate::specs::Lines::line_of))]
+fn line_of(alloc: Global, form: Form, words: &mut Words<'_>) -> Result<Line, LineFault>
+    ensures value { GivesOr result words.new (lines.line_of form words.old) }
+    ensures lawful { IfOk result IsLawfulLine }
+    ensures memory { result ≡ Err fault.OutOfMemory → form ≡ form_is.Verb verb_is.Store }
+{
+    let line = match form {
+        Form::Verb(verb) => Line::Verb(verbs::verb(alloc, verb, words)?),
+        Form::Device => device(words)?,
+        Form::Context => context(words)?,
+        Form::Connect => connect(words)?,
+        Form::Go => Line::Go(words.object()?),
+        Form::Deliver => Line::Deliver(words.long()?),
+        Form::Lose => Line::Lose(words.long()?),
+        Form::Wire => Line::Wire(words.long()?),
+        Form::Expire => Line::Expire(words.object()?),
+        Form::Rnr => Line::Rnr(words.object()?),
+        Form::Stop => Line::Stop(words.name()?),
+        Form::Restore => restore(words)?,
+        Form::Release => release(words)?,
+        Form::Dump => Line::Dump(words.name()?),
+        Form::Settle => Line::Settle,
+    };
+    Ok(line)
+}
+
+/// What the words behind the first say, where none is left.
+fn whole_line(alloc: Global, form: Form, words: &mut Words<'_>) -> Result<Line, LineFault>
+    ensures value { Says result (said (whole (lines.line_of form) words.old)) }
+    ensures lawful { IfOk result IsLawfulLine }
+    ensures memory { result ≡ Err fault.OutOfMemory → form ≡ form_is.Verb verb_is.Store }
+{
+    let line = line_of(alloc, form, words)?;
+    words.end()?;
+    Ok(line)
+}
+
+/// What a line says that begins with this word.
+fn read_from(alloc: Global, first: Word<'_>, words: &mut Words<'_>) -> Result<Line, LineFault>
+    ensures value { Says result (begun line_is.Blank lines.form_of lines.line_of (record { column = first.entry.column; text = first.entry.text.now }) words.old) }
+    ensures lawful { IfOk result IsLawfulLine }
+    ensures memory { result ≡ Err fault.OutOfMemory → lines.form_of first.entry.text.now ≡ Some (form_is.Verb verb_is.Store) }
+{
+    if let [b'#', ..] = first.text {
+        return Ok(Line::Blank);
+    }
+    let Some(form) = forms::form_of(first.text) else {
+        return Err(first.bad(LineWhy::Word).into())
+    };
+    whole_line(alloc, form, words)
+}
+
+/// What a line says whose bytes may stand in one.
+fn read_words(alloc: Global, line: &[u8]) -> Result<Line, LineFault>
+    ensures value { Says result (reading_of_words line_is.Blank lines.form_of lines.line_of (words_from 1 line.now) (length line.now + 1)) }
+    ensures lawful { IfOk result IsLawfulLine }
+    ensures memory { result ≡ Err fault.OutOfMemory → Begins lines.form_of (form_is.Verb verb_is.Store) (words_from 1 line.now) }
+{
+    let mut words = Words::new(line);
+    let Some(first) = words.next_word() else {
+        return Ok(Line::Blank)
+    };
+    read_from(alloc, first, &mut words)
+}
+
+/// What a line of a script of a world says. The line comes without its newline, and without the carriage return before
+/// that.
+///
+/// # Errors
+///
+/// The first word that is wrong and why, of these in order (this project's choice): `Long`, over 8,400 bytes; `Ascii`, a
+/// byte outside 32 to 126; `Word`, no line begins so; then word by word `Missing`, `Name`, `Number`, `Hex`, `Rights`,
+/// `Address` or `BadOption`; last `Extra`. Want of memory, which only `store` takes.
+#[tactic(auto, unfolding(crate::specs::Lines::reading_of))]
+pub fn parse_line(alloc: Global, line: &[u8]) -> Result<Line, LineFault>
+    ensures value { Says result (reading_of line.now) }
+    ensures lawful { IfOk result IsLawfulLine }
+    ensures memory { result ≡ Err fault.OutOfMemory → Begins lines.form_of (form_is.Verb verb_is.Store) (words_from 1 line.now) }
+{
+    check_bytes(line)?;
+    read_words(alloc, line)
+}
