@@ -1,10 +1,10 @@
 -- Pages of one size, joined.
 use Rattle.std.proofs.Common.{◌≡◌, ℕ, zero, suc, ◌+◌, ◌-◌, ◌*◌, ◌<◌, ◌≤◌, ◌≢◌, List, [], ◌∷◌, ◌++◌, length, take, drop, get_or, arith, rules, refl, ap, sym, ◌∙◌, zero-add}
 use Rattle.std.specs.List.{flat_map}
-use Rattle.std.proofs.lemmas.List.{places, same_lists, length-take, length-drop, length-append, append_assoc, take_all, get_or-take, get_or-drop}
+use Rattle.std.proofs.lemmas.List.{take-append-drop, places, same_lists, length-take, length-drop, length-append, append_assoc, take_all, get_or-take, get_or-drop}
 use Rattle.std.proofs.lemmas.List.Concat.{flat_map-append, flat_map-cons}
 use Rattle.rdma_types.specs.Memory.{cut, put}
-use Rattle.byte_run.proofs.Cuts.{cut-middle, put-middle}
+use Rattle.byte_run.proofs.Cuts.{cut-middle, cut-whole, put-middle}
 
 module _ {X : Type 0} where
   -- each page has so many bytes
@@ -74,3 +74,24 @@ module _ {X Y : Type 0} where
           let b : suc i + j < length xs = omega (arith, length-drop {A = X}) in
           let n : suc i + j ≢ i = omega arith in
           rw (get_or-drop (suc i) ys j e, get_or-drop (suc i) xs j d) (others (suc i + j) b n)
+
+module _ {X : Type 0} where
+  even-part : (f : X → List ℕ) (c : ℕ) (d : X) (xs : List X) (a n : ℕ) → AreEven f c d xs → a + n ≤ length xs → AreEven f c d (take n (drop a xs))
+  even-part f c d xs a n h l i k =
+    let size : length (take n (drop a xs)) ≡ n = simp (length-take, length-drop) (omega arith) in
+    let below : i < n = omega arith in
+    ap (λ x. length (f x)) (get_or-take n (drop a xs) i d below ∙ get_or-drop a xs i d) ∙ h (a + i) (omega arith)
+
+  -- some pages in a row
+  pub joined-part : (f : X → List ℕ) (c : ℕ) (d : X) (xs : List X) (a n : ℕ) → AreEven f c d xs → a + n ≤ length xs → flat_map f (take n (drop a xs)) ≡ cut (c * a) (c * n) (flat_map f xs)
+  joined-part f c d xs a n h l =
+    let before : length (flat_map f (take a xs)) ≡ c * a = length-before f c d xs a h (omega arith) in
+    let size : length (take n (drop a xs)) ≡ n = simp (length-take, length-drop) (omega arith) in
+    let part : length (flat_map f (take n (drop a xs))) ≡ c * n = length-joined f c d (take n (drop a xs)) (even-part f c d xs a n h l) ∙ ap (λ k. c * k) size in
+    let whole : flat_map f xs ≡ flat_map f (take a xs) ++ (flat_map f (take n (drop a xs)) ++ flat_map f (drop n (drop a xs))) =
+      ap (flat_map f) (sym (take-append-drop a xs)) ∙ (flat_map-append f (take a xs) (drop a xs) ∙ ap (λ ys. flat_map f (take a xs) ++ ys) (ap (flat_map f) (sym (take-append-drop n (drop a xs))) ∙ flat_map-append f (take n (drop a xs)) (drop n (drop a xs)))) in
+    let at : c * a ≡ length (flat_map f (take a xs)) + 0 = omega arith in
+    sym (ap (λ k. cut k (c * n) (flat_map f xs)) at
+    ∙ (ap (cut (length (flat_map f (take a xs)) + 0) (c * n)) whole
+    ∙ (cut-middle (flat_map f (take a xs)) (flat_map f (take n (drop a xs))) (flat_map f (drop n (drop a xs))) 0 (c * n) (omega arith)
+    ∙ cut-whole (flat_map f (take n (drop a xs))) (c * n) (omega arith))))
