@@ -1,7 +1,7 @@
 -- What the rules say of every datagram ever sent, they say of the list whose forgotten datagrams are blank.
 use Rattle.std.proofs.Common.{◌≡◌, ℕ, zero, suc, ◌+◌, ◌-◌, ◌<◌, ◌≤◌, true, false, List, [], ◌∷◌, ◌++◌, length, take, drop, replicate, Option, refl, sym, ap, ◌∙◌, arith, map, inl, inr, length-append, length-drop, append_assoc}
 use Rattle.std.proofs.lemmas.Bool.{cases_Bool, false_from_ne_true}
-use Rattle.std.proofs.lemmas.List.{length-replicate, length-take-le, take-append-drop, append-nil, drop_at, drop-drop, drop-append-le}
+use Rattle.std.proofs.lemmas.List.{length-replicate, length-take-le, take-append-drop, append-nil, drop_at, drop-drop, drop-append-le, map-append}
 use Rattle.std.specs.List.{slice_get}
 use Rattle.rdma_types.specs.declared.answers.Sent.{Sent}
 use Rattle.rdma_types.specs.declared.requests.Address.{Address}
@@ -111,6 +111,21 @@ losing-forgetting sent k = marked-forgetting marked_lost sent k
 pub sending-forgetting : (sent : List Flight) (from : Address) (more : List Sent) → forgetting (sending (forgetting sent) from more) ≡ forgetting (sending sent from more)
 unfolding sending
 sending-forgetting sent from more = forgetting-append sent (map (flight_of from) more)
+
+-- and more behind those
+pub sending-one_by_one : (sent : List Flight) (from : Address) (some more : List Sent) → forgetting (sending (forgetting (sending sent from some)) from more) ≡ forgetting (sending sent from (some ++ more))
+unfolding sending
+sending-one_by_one sent from some more =
+    rw (map-append (flight_of from) some more, ← append_assoc sent (map (flight_of from) some) (map (flight_of from) more)) (forgetting-append (sent ++ map (flight_of from) some) (map (flight_of from) more))
+
+-- a mark changes no count
+pub length-took : (sent : List Flight) (k : ℕ) → length (took sent k) ≡ length sent
+unfolding took
+length-took sent k = elim (cases_Bool (is_kept (length sent) k)) [ inl kept ↦ rw kept (length-changed_at marked_taken (k - 1) sent) | inr none ↦ rw none refl ]
+
+pub length-losing : (sent : List Flight) (k : ℕ) → length (losing sent k) ≡ length sent
+unfolding losing
+length-losing sent k = elim (cases_Bool (is_kept (length sent) k)) [ inl kept ↦ rw kept (length-changed_at marked_lost (k - 1) sent) | inr none ↦ rw none refl ]
 
 -- no number that is forgotten is kept
 forgotten : (count n j : ℕ) → n ≡ count - 16384 → j < 1 + n → is_kept count j ≡ false

@@ -1,6 +1,6 @@
 //! What the store forgets.
 
-ghost use Rattle.std.specs.Prelude.{ℕ, List, [], ◌≡◌, length};
+ghost use Rattle.std.specs.Prelude.{ℕ, List, [], ◌≡◌, ◌++◌, length};
 ghost use Rattle.rdma_types.specs.declared.answers.Sent.{Sent};
 ghost use Rattle.rdma_types.specs.declared.requests.Address.{Address};
 ghost use Rattle.protocol.specs.State.{Flight};
@@ -18,6 +18,8 @@ pub fn nothing_asked_for_is_forgotten()
     ensures pending { (sent : List Flight) → rules.pending (forgetting sent) ≡ rules.pending sent }
     ensures sending { (sent : List Flight) (from : Address) (more : List Sent)
         → forgetting (rules.sending (forgetting sent) from more) ≡ forgetting (rules.sending sent from more) }
+    ensures one_by_one { (sent : List Flight) (from : Address) (some more : List Sent)
+        → forgetting (rules.sending (forgetting (rules.sending sent from some)) from more) ≡ forgetting (rules.sending sent from (some ++ more)) }
     ensures took { (sent : List Flight) (k : ℕ) → rules.took (forgetting sent) k ≡ forgetting (rules.took sent k) }
     ensures losing { (sent : List Flight) (k : ℕ) → rules.losing (forgetting sent) k ≡ forgetting (rules.losing sent k) }
     ensures again { (sent : List Flight) → forgetting (forgetting sent) ≡ forgetting sent }

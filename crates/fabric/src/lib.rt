@@ -22,9 +22,9 @@ use std::marker::Model;
 /// How many datagrams are kept.
 const ROOM: usize = 16_384;
 
-/// The datagrams that were sent, of which the last 16,384 are kept. Only `make` takes memory. Each call takes constant
-/// time, but that the place of the least pending number moves on over datagrams that are lost or taken, over each
-/// once.
+/// The datagrams that were sent, of which the last 16,384 are kept. Contracts see them all, with a blank in the place of
+/// each that is not kept any more. Only `make` takes memory. Each call takes constant time, except that the place of
+/// the least pending number passes once over each datagram that is lost or taken.
 #[derive(Drop)]
 pub struct Fabric {
     gone: u64,
@@ -75,6 +75,7 @@ impl Fabric {
         requires { length self.old + 1 < 2 ^ 63 }
         ensures number { result ≡ length self.old + 1 }
         ensures sent { self.new ≡ forgetting (rules.sending self.old from (s ∷ [])) }
+        ensures count { length self.new ≡ length self.old + 1 }
     {
         let forgotten = forget_oldest(&mut self.ring);
         self.gone += forgotten as u64;
@@ -104,7 +105,8 @@ impl Fabric {
 
     /// Datagram `k` is taken, where it is kept.
     pub fn took(&mut self, k: u64)
-        ensures { self.new ≡ rules.took self.old k }
+        ensures taken { self.new ≡ rules.took self.old k }
+        ensures count { length self.new ≡ length self.old }
     {
         if let Some(place) = place_of(k, self.gone, self.ring.len()) {
             self.ring[place].take();
@@ -116,6 +118,7 @@ impl Fabric {
     pub fn lose(&mut self, k: u64) -> bool
         ensures lost { self.new ≡ rules.losing self.old k }
         ensures known { result ≡ is_some (rules.kept_flight self.old k) }
+        ensures count { length self.new ≡ length self.old }
     {
         let Some(place) = place_of(k, self.gone, self.ring.len()) else {
             return false;

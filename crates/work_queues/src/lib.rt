@@ -1,10 +1,17 @@
 //! Work that was posted to a queue pair, in posting order (IBA chapter 10).
 #![tactic(auto)]
 
+mod laws;
+mod posted;
 mod queue;
 
+pub use laws::requests_stay_as_posted;
+pub use posted::Posted;
 pub use queue::WorkQueue;
 use rdma_types::Receive;
+
+/// The requests of a queue pair that are not told yet.
+pub type SendQueue = WorkQueue<Posted>;
 
 /// The unused receives of a queue pair.
 pub type RecvQueue = WorkQueue<Receive>;

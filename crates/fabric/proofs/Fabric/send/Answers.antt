@@ -1,4 +1,4 @@
-use Rattle.std.proofs.Common.{◌≡◌, ◌+◌, ◌<◌, [], ◌∷◌, ◌++◌, drop, length, refl, ap, arith}
+use Rattle.std.proofs.Common.{length-append, length-drop, ◌≡◌, ◌+◌, ◌<◌, [], ◌∷◌, ◌++◌, drop, length, refl, ap, arith}
 use Rattle.protocol.specs.Fabric.{flight_of, sending}
 use Rattle.fabric.proofs.Stores.{length-after_blanks, settled_within-send, is_store-send, forgetting-send}
 use Rattle.fabric.proofs.Fabric.send.Goals as goal
@@ -26,3 +26,10 @@ returns-clause-sent c =
     let n = c.forget_oldest-forgotten.result in
     let same : c.push_back_reserved.new.self.items ≡ drop n f.ring.items ++ flight_of c.args.from c.args.s ∷ [] = rw (c.push_back_reserved.ensures.items, c.forget_oldest-forgotten.ensures.rest, c.new.ensures) refl in
     rw (same, ← c.self.view_is) (forgetting-send f.gone n f.ring.items (flight_of c.args.from c.args.s) c.self.invariant.0.room c.self.invariant.0.full c.forget_oldest-forgotten.ensures.count)
+
+pub returns-clause-count : goal.returns-clause-count
+returns-clause-count c =
+    let f = c.self.inside in
+    let n = c.forget_oldest-forgotten.result in
+    let same : c.push_back_reserved.new.self.items ≡ drop n f.ring.items ++ flight_of c.args.from c.args.s ∷ [] = rw (c.push_back_reserved.ensures.items, c.forget_oldest-forgotten.ensures.rest, c.new.ensures) refl in
+    omega (arith, length-after_blanks (f.gone + n) c.push_back_reserved.new.self.items, length-after_blanks f.gone f.ring.items, ap length c.self.view_is, ap length same, length-append (drop n f.ring.items) (flight_of c.args.from c.args.s ∷ []), length-drop n f.ring.items, c.self.invariant.0.room)

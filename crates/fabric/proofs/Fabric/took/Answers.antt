@@ -13,15 +13,15 @@ invariant_of-self c =
     let f = c.self.inside in
     (rw c.take.ensures (is_store-set f.gone f.settled _ c.in-Some.place f.ring.items _ c.self.invariant.0 (is_settled-taken c.index_mut.result.now) (rw (← c.take.ensures) c.unsettled_from-self-inside.ensures)), c.self.invariant.1)
 
-pub returns-in-Some : goal.returns-in-Some
+pub returns-in-Some-clause-taken : goal.returns-in-Some-clause-taken
 unfolding took
-returns-in-Some c =
+returns-in-Some-clause-taken c =
     let f = c.self.inside in
     let here = marked-here marked_taken f.gone f.ring.items c.args.k c.in-Some.place c.index_mut.result.now c.self.invariant.0.room c.self.invariant.0.full (omega (arith, c.in-Some.ensures)) (omega (arith, c.in-Some.ensures)) c.index_mut.ensures.value in
     rw (c.take.ensures, ← c.self.view_is) here
 
-pub returns-in_default : goal.returns-in_default
+pub returns-in_default-clause-taken : goal.returns-in_default-clause-taken
 unfolding took
-returns-in_default c =
+returns-in_default-clause-taken c =
     let f = c.self.inside in
     rw (← c.self.view_is) (marked-gone marked_taken f.gone c.len.result f.ring.items c.args.k c.self.invariant.0.full (omega arith) c.in_default.ensures)

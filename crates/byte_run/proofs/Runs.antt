@@ -1,0 +1,147 @@
+-- Runs of bytes in pages.
+use Rattle.std.proofs.Common.{◌≡◌, ℕ, ◌+◌, ◌-◌, ◌*◌, ◌/◌, ◌%◌, ◌<◌, ◌≤◌, ◌≢◌, min, List, [], ◌∷◌, ◌++◌, length, take, drop, get_or, set, arith, rules, refl, ap, sym, ◌∙◌}
+use Rattle.std.specs.Prelude.{All}
+use Rattle.std.specs.List.{flat_map}
+use Rattle.std.specs.declared.boxed.Box.{Box}
+use Rattle.std.proofs.lemmas.List.{places, same_lists, length-take, length-set, length-append, take_at, take_all, take-take, take-append-le, length-take-le, length-drop, drop-drop, get_or_default, get_or-set_same, get_or-set_other, append-nil}
+use Rattle.std.proofs.lemmas.Slice.{take-put_mid}
+use Rattle.std.proofs.Common.{Result, Ok, Err}
+use Rattle.std.specs.Prelude.{OnErr}
+use borrow.Rule.Slice.PartMut.{put_mid, mid_of}
+use Rattle.std.proofs.lemmas.List.Elements.{All-get_or}
+use Rattle.std.proofs.lemmas.List.Concat.{flat_map-append}
+use Rattle.rdma_types.specs.Memory.{cut, put}
+use Rattle.byte_run.specs.Pages.{joined, ArePages, IsRun, Grows}
+use Rattle.byte_run.proofs.Joined.{AreEven, length-joined, cut-joined, put-joined}
+use Rattle.byte_run.proofs.Cuts.{length-put, length-cut, put-meet, cut-meet}
+
+-- a part of a front
+pub cut-take : (a n m : ℕ) (bytes : List ℕ) → a + n ≤ m → m ≤ length bytes → cut a n (take m bytes) ≡ cut a n bytes
+unfolding cut
+cut-take a n m bytes h k = same_lists _ _ (simp (length-take, length-drop) (omega arith)) (λ i d l. grind (arith, places))
+
+-- a front with its next bytes
+pub take-meet : (a n : ℕ) (bytes : List ℕ) → a + n ≤ length bytes → take a bytes ++ cut a n bytes ≡ take (a + n) bytes
+unfolding cut
+take-meet a n bytes h = same_lists _ _ (simp (length-append, length-take, length-drop) (omega arith)) (λ i d l. grind (arith, places))
+
+-- bytes written at the end of a front
+pub take-put : (a : ℕ) (w bytes : List ℕ) → a + length w ≤ length bytes → take (a + length w) (put bytes a w) ≡ take a bytes ++ w
+unfolding put
+take-put a w bytes h = same_lists _ _ (simp (length-append, length-take, length-drop) (omega arith)) (λ i d l. grind (arith, places))
+
+module _ {A : Type 0} where
+  even : (pages : List (Box (List ℕ) A)) (d : Box (List ℕ) A) → ArePages pages → AreEven (λ page. page.value) 4096 d pages
+  even pages d h i l = All-get_or (λ page. length page.value ≡ 4096) pages i d l h
+
+  pub length-pages : (pages : List (Box (List ℕ) A)) → ArePages pages → length (joined pages) ≡ 4096 * length pages
+  length-pages [] h = refl
+  length-pages (p ∷ ps) h = length-joined (λ page. page.value) 4096 p (p ∷ ps) (even (p ∷ ps) p h)
+
+  pub length-run : (pages : List (Box (List ℕ) A)) (n : ℕ) → IsRun pages n → length (take n (joined pages)) ≡ n
+  length-run pages n h =
+    let whole : length (joined pages) ≡ 4096 * length pages = length-pages pages h.even in
+    let room : n ≤ 4096 * length pages = h.room in
+    simp length-take (omega arith)
+
+  -- a piece of one page
+  pub piece_is : (pages : List (Box (List ℕ) A)) (n at count : ℕ) (d : Box (List ℕ) A) → IsRun pages n → at < n → at + count ≤ n → at % 4096 + count ≤ 4096 → cut at count (take n (joined pages)) ≡ cut (at % 4096) count (get_or pages (at / 4096) d).value
+  piece_is pages n at count d h l k page =
+    let whole : length (joined pages) ≡ 4096 * length pages = length-pages pages h.even in
+    let room : n ≤ 4096 * length pages = h.room in
+    let place : at / 4096 < length pages = omega arith in
+    let split : at ≡ 4096 * (at / 4096) + at % 4096 = omega arith in
+    cut-take at count n (joined pages) k (omega arith)
+    ∙ (ap (λ a. cut a count (joined pages)) split
+    ∙ cut-joined (λ p. p.value) 4096 d pages (at / 4096) (at % 4096) count (even pages d h.even) place page)
+
+  -- a piece written in one page
+  pub piece_put : (pages later : List (Box (List ℕ) A)) (at : ℕ) (w : List ℕ) (d : Box (List ℕ) A) → ArePages pages → at / 4096 < length pages → at % 4096 + length w ≤ 4096 → later ≡ set pages (at / 4096) d → d.value ≡ put (get_or pages (at / 4096) d).value (at % 4096) w → joined later ≡ put (joined pages) at w
+  piece_put pages later at w d h place page e v =
+    let split : 4096 * (at / 4096) + at % 4096 ≡ at = omega arith in
+    rw e (put-joined (λ p. p.value) (λ p. p.value) 4096 d d pages (set pages (at / 4096) d) (at / 4096) (at % 4096) w (even pages d h) place page (length-set pages (at / 4096) d)
+      (ap (λ (p : Box (List ℕ) A). p.value) (get_or-set_same pages (at / 4096) d d place) ∙ v)
+      (λ j l n. ap (λ (p : Box (List ℕ) A). p.value) (get_or-set_other pages (at / 4096) j d d n))
+    ∙ ap (λ a. put (joined pages) a w) split)
+
+  -- more pages at the end leave what stands in the first ones
+  pub take-grown : (pages later : List (Box (List ℕ) A)) (n : ℕ) → IsRun pages n → Grows pages later → take n (joined later) ≡ take n (joined pages)
+  take-grown pages later n h g =
+    let whole : length (joined pages) ≡ 4096 * length pages = length-pages pages h.even in
+    let room : n ≤ length (joined pages) = omega (arith, h.room) in
+    rw (g.grown, flat_map-append (λ (p : Box (List ℕ) A). p.value) pages g.more) (take-append-le n (joined pages) (joined g.more) room)
+
+-- the front of a part
+pub take-cut : (a n m : ℕ) (bytes : List ℕ) → n ≤ m → take n (cut a m bytes) ≡ cut a n bytes
+unfolding cut
+take-cut a n m bytes h = take-take n m (drop a bytes) h
+
+-- one more piece of a copy
+pub copied-more : (out self piece new : List ℕ) (at done count k j : ℕ) → done + count ≤ length out → count ≤ length piece → piece ≡ cut (at + done) (length piece) self → at + done + length piece ≤ length self → new ≡ take k piece → k ≡ count → j ≡ count → take done out ≡ cut at done self → take (done + count) (put_mid done j out new) ≡ cut at (done + count) self
+copied-more out self piece new at done count k j room within is inside e ke je before =
+    let front : take count piece ≡ cut (at + done) count self = ap (take count) is ∙ take-cut (at + done) count (length piece) self within in
+    let new_is : new ≡ cut (at + done) count self = e ∙ (ap (λ i. take i piece) ke ∙ front) in
+    let size : length new ≡ count = ap length new_is ∙ length-cut (at + done) count self (omega arith) in
+    take-put_mid done j out new (done + count) (omega arith) (omega arith)
+    ∙ (ap (λ x. x ++ new) before
+    ∙ (ap (λ x. cut at done self ++ x) new_is
+    ∙ cut-meet at done count self (omega arith)))
+
+-- a part written in place
+pub put_mid-put : (xs ys zs : List ℕ) (a k : ℕ) → ys ≡ zs → k ≡ length zs → put_mid a k xs ys ≡ put xs a zs
+unfolding put
+put_mid-put xs ys zs a k e h = rw (e, h, drop-drop (length zs) a xs) refl
+
+-- one more piece of bytes written
+pub put-more : (before bytes : List ℕ) (at done count : ℕ) → at + length bytes ≤ length before → done + count ≤ length bytes → put (put before at (take done bytes)) (at + done) (cut done count bytes) ≡ put before at (take (done + count) bytes)
+put-more before bytes at done count h l =
+    let size : length (take done bytes) ≡ done = length-take-le done bytes (omega arith) in
+    let size' : length (cut done count bytes) ≡ count = length-cut done count bytes l in
+    ap (λ a. put (put before at (take done bytes)) (at + a) (cut done count bytes)) (sym size)
+    ∙ (put-meet before at (take done bytes) (cut done count bytes) (omega arith)
+    ∙ ap (put before at) (take-meet done count bytes l))
+
+-- what an Err says where it says the same of all
+pub on_err : {T E P : Type 0} (r : Result T E) → P → OnErr r P
+on_err (Ok _) p = tt
+on_err (Err _) p = p
+
+module _ {A : Type 0} where
+  -- a piece written through a box
+  pub piece_written : (pages later : List (Box (List ℕ) A)) (at k : ℕ) (w new page : List ℕ) (x d : Box (List ℕ) A) → ArePages pages → at / 4096 < length pages → at % 4096 + length w ≤ 4096 → later ≡ set pages (at / 4096) d → x ≡ get_or pages (at / 4096) x → page ≡ x.value → d.value ≡ put_mid (at % 4096) k page new → new ≡ w → k ≡ length w → joined later ≡ put (joined pages) at w
+  piece_written pages later at k w new page x d h place room e read is v new_is k_is =
+      let found : get_or pages (at / 4096) d ≡ x = get_or_default pages (at / 4096) d x place ∙ sym read in
+      piece_put pages later at w d h place room e
+        (v ∙ (put_mid-put page new w (at % 4096) k new_is k_is ∙ ap (λ p. put p (at % 4096) w) (is ∙ ap (λ (b : Box (List ℕ) A). b.value) (sym found))))
+
+  -- bytes at the end of a run
+  pub appended : (pages more later : List (Box (List ℕ) A)) (n end : ℕ) (w self : List ℕ) → IsRun pages n → Grows pages more → ArePages more → end ≤ 4096 * length more → end ≡ n + length w → joined later ≡ put (joined more) n w → take n (joined pages) ≡ self → take end (joined later) ≡ self ++ w
+  appended pages more later n end w self h g even room e written is =
+      let whole : length (joined more) ≡ 4096 * length more = length-pages more even in
+      ap (λ xs. take end xs) written
+      ∙ (ap (λ m. take m (put (joined more) n w)) e
+      ∙ (take-put n w (joined more) (omega arith)
+      ∙ ap (λ xs. xs ++ w) (take-grown pages more n h g ∙ is)))
+
+  -- a piece read from one page
+  pub piece_found : (pages : List (Box (List ℕ) A)) (n at count k : ℕ) (page self : List ℕ) (x : Box (List ℕ) A) → IsRun pages n → at < n → at + count ≤ n → at % 4096 + count ≤ 4096 → x ≡ get_or pages (at / 4096) x → page ≡ x.value → k ≡ count → take n (joined pages) ≡ self
+      → (mid_of (at % 4096) k page ≡ cut at (length (mid_of (at % 4096) k page)) self) × (length (mid_of (at % 4096) k page) ≡ count)
+  unfolding cut
+  piece_found pages n at count k page self x h l room within read is k_is view =
+      let whole : length self ≡ n = ap length (sym view) ∙ length-run pages n h in
+      let here : cut at count self ≡ cut (at % 4096) count x.value = ap (cut at count) (sym view) ∙ (piece_is pages n at count x h l room within ∙ ap (λ (b : Box (List ℕ) A). cut (at % 4096) count b.value) (sym read)) in
+      let mid : mid_of (at % 4096) k page ≡ cut at count self = rw (k_is, is) (sym here) in
+      let size : length (mid_of (at % 4096) k page) ≡ count = ap length mid ∙ length-cut at count self (omega arith) in
+      (mid ∙ ap (λ m. cut at m self) (sym size), size)
+
+-- a part as it is lent
+pub mid-cut : (a k n : ℕ) (xs : List ℕ) → k ≡ n → mid_of a k xs ≡ cut a n xs
+unfolding cut
+mid-cut a k n xs e = rw e refl
+
+-- one more piece written, where it is lent
+pub written-more : (before mid later bytes : List ℕ) (at done count k : ℕ) → at + length bytes ≤ length before → done + count ≤ length bytes → k ≡ count → mid ≡ put before at (take done bytes) → later ≡ put mid (at + done) (mid_of done k bytes) → later ≡ put before at (take (done + count) bytes)
+written-more before mid later bytes at done count k h l k_is is e =
+    e ∙ (ap (λ xs. put xs (at + done) (mid_of done k bytes)) is
+    ∙ (ap (put (put before at (take done bytes)) (at + done)) (mid-cut done k count bytes k_is)
+    ∙ put-more before bytes at done count h l))

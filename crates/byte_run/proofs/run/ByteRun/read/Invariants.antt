@@ -1,0 +1,9 @@
+use Rattle.std.proofs.Common.{◌≡◌, ◌≤◌, ◌-◌, length, take}
+use Rattle.rdma_types.specs.Memory.{cut}
+use Rattle.byte_run.proofs.run.ByteRun.read.Given as goal
+
+abbrev pub invariant-loop-done : goal.invariant-loop-done
+invariant-loop-done l = (l.done ≤ length l.initial.out) × (take l.done l.out ≡ cut l.at l.done l.self)
+
+abbrev pub decreases-loop-done : goal.decreases-loop-done
+decreases-loop-done l = length l.initial.out - l.done

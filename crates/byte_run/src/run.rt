@@ -1,0 +1,159 @@
+//! A run of bytes.
+
+ghost use Rattle.std.specs.Prelude.{◌≡◌, ℕ, ◌+◌, ◌-◌, ◌*◌, ◌%◌, ◌/◌, ◌^◌, ◌<◌, ◌≤◌, ◌++◌, [], length, min, OnOk, OnErr, IfOk};
+ghost use Rattle.rdma_types.specs.Memory.{cut, put};
+ghost use Rattle.byte_run.specs.Pages.{joined, ArePages, Grows};
+
+use crate::PAGE;
+use std::alloc::{AllocError, Global};
+use std::marker::Model;
+
+/// A list of bytes in boxed pages of 4,096 bytes.
+#[derive(Drop)]
+pub struct ByteRun {
+    pages: Vec<Box<[u8; 4096]>>,
+    len: usize,
+}
+
+impl Model for ByteRun {
+    ghost use Rattle.std.specs.Prelude.{ℕ, List, take};
+    ghost use Rattle.byte_run.specs.Pages.{joined, IsRun};
+
+    ghost Value = { List ℕ };
+
+    ghost view = { λ r. take r.len (joined r.pages.items) };
+
+    ghost invariant = { λ r. IsRun r.pages.items r.len };
+}
+
+impl ByteRun {
+    /// No bytes. It takes no memory.
+    pub fn make(alloc: Global) -> ByteRun
+        ensures { result ≡ [] }
+    {
+        ByteRun {
+            pages: Vec::new(alloc),
+            len: 0,
+        }
+    }
+
+    /// How many bytes there are.
+    pub fn len(&self) -> u64
+        ensures { result ≡ length self.now }
+    {
+        self.len as u64
+    }
+
+    /// The bytes from `at` on to the end of their page of 4,096 bytes, or to the end of the run.
+    pub fn piece(&self, at: u64) -> &[u8]
+        requires { at < length self.now }
+        ensures bytes { result.now ≡ cut at (length result.now) self.now }
+        ensures length { length result.now ≡ min (4096 - at % 4096) (length self.now - at) }
+    {
+        let at = at as usize;
+        let page = &self.pages[at / PAGE];
+        let from = at % PAGE;
+        let count = (PAGE - from).min(self.len - at);
+        &page[from..from + count]
+    }
+
+    /// Copies the bytes from `at` on into `out`, as many as it has.
+    pub fn read(&self, at: u64, out: &mut [u8])
+        requires { at + length out.old ≤ length self.now }
+        ensures { out.new ≡ cut at (length out.old) self.now }
+    {
+        let _end = self.len;
+        let mut done = 0;
+        while done < out.len() {
+            let piece = self.piece(at + done as u64);
+            let count = piece.len().min(out.len() - done);
+            out[done..done + count].copy_from_slice(&piece[..count]);
+            done += count;
+        }
+    }
+
+    /// Puts bytes at the end. After want of memory the run is as it was.
+    pub fn append(&mut self, alloc: Global, bytes: &[u8]) -> Result<(), AllocError>
+        ensures ok { OnOk result (self.new ≡ self.old ++ bytes.now) }
+        ensures err { OnErr result (self.new ≡ self.old) }
+    {
+        let end = self.len.checked_add(bytes.len()).ok_or(AllocError)?;
+        add_pages(alloc, &mut self.pages, end.div_ceil(PAGE))?;
+        put_bytes(&mut self.pages, self.len, bytes);
+        self.len = end;
+        Ok(())
+    }
+
+    /// A run of the same bytes.
+    pub fn copy(&self, alloc: Global) -> Result<ByteRun, AllocError>
+        ensures { IfOk result (λ run. run ≡ self.now) }
+    {
+        Ok(ByteRun {
+            pages: copy_pages(alloc, &self.pages)?,
+            len: self.len,
+        })
+    }
+}
+
+/// Puts pages of zeros at the end until there are `count`.
+fn add_pages(
+    alloc: Global,
+    pages: &mut Vec<Box<[u8; 4096]>>,
+    count: usize,
+) -> Result<(), AllocError>
+    requires { ArePages pages.old.items }
+    ensures kept { Grows pages.old.items pages.new.items }
+    ensures even { ArePages pages.new.items }
+    ensures enough { OnOk result (count ≤ length pages.new.items) }
+{
+    for _page in pages.len()..count {
+        pages.push(Box::new(alloc, [0; PAGE])?)?;
+    }
+    Ok(())
+}
+
+/// Writes bytes into pages that hold them.
+fn put_bytes(pages: &mut Vec<Box<[u8; 4096]>>, at: usize, bytes: &[u8])
+    requires even { ArePages pages.old.items }
+    requires room { at + length bytes.now ≤ 4096 * length pages.old.items }
+    requires end { at + length bytes.now < 2 ^ 64 }
+    ensures bytes { joined pages.new.items ≡ put (joined pages.old.items) at bytes.now }
+    ensures even { ArePages pages.new.items }
+    ensures count { length pages.new.items ≡ length pages.old.items }
+{
+    let mut done = 0;
+    while done < bytes.len() {
+        let place = at + done;
+        let count = (PAGE - place % PAGE).min(bytes.len() - done);
+        put_piece(pages, place, &bytes[done..done + count]);
+        done += count;
+    }
+}
+
+/// Writes bytes into the one page that holds them.
+fn put_piece(pages: &mut Vec<Box<[u8; 4096]>>, at: usize, bytes: &[u8])
+    requires even { ArePages pages.old.items }
+    requires page { at / 4096 < length pages.old.items }
+    requires room { at % 4096 + length bytes.now ≤ 4096 }
+    ensures bytes { joined pages.new.items ≡ put (joined pages.old.items) at bytes.now }
+    ensures even { ArePages pages.new.items }
+    ensures count { length pages.new.items ≡ length pages.old.items }
+{
+    let from = at % PAGE;
+    let page = &mut pages[at / PAGE];
+    page[from..from + bytes.len()].copy_from_slice(bytes);
+}
+
+/// Equal pages.
+fn copy_pages(alloc: Global, pages: &[Box<[u8; 4096]>]) -> Result<Vec<Box<[u8; 4096]>>, AllocError>
+    requires { ArePages pages.now }
+    ensures bytes { IfOk result (λ copies. joined copies.items ≡ joined pages.now) }
+    ensures even { IfOk result (λ copies. ArePages copies.items) }
+    ensures count { IfOk result (λ copies. length copies.items ≡ length pages.now) }
+{
+    let mut copies = Vec::with_capacity(alloc, pages.len())?;
+    for page in pages {
+        copies.push(Box::new(alloc, **page)?)?;
+    }
+    Ok(copies)
+}

@@ -1,0 +1,4 @@
+pub mod Store
+pub mod Pool
+pub mod Ledger
+pub mod Held

@@ -1,0 +1,150 @@
+//! Pages that several lists may hold, each with the count of its holders.
+
+ghost use Rattle.std.specs.Prelude.{◌≡◌, ℕ, ◌+◌, ◌-◌, ◌*◌, ◌<◌, ◌≤◌, ◌^◌, length, sum, nat_lt, replicate, slice_index, slice_set, IfOk};
+ghost use Rattle.rdma_types.specs.Memory.{cut, put};
+ghost use Rattle.page_pool.specs.Store.{IsSound, blank};
+
+use crate::PAGE;
+use crate::parts::{clear_page, copy_page, draw, put_at};
+use std::alloc::{AllocError, Global};
+use std::marker::Model;
+
+/// The pages of a pool. Those that nobody holds wait in a stack.
+#[derive(Drop)]
+pub struct Frames {
+    bytes: Vec<u8>,
+    holders: Vec<u32>,
+    stock: Vec<u32>,
+    spare: u32,
+}
+
+impl Model for Frames {
+    ghost use Rattle.std.specs.Prelude.{vec_capacity};
+    ghost use Rattle.page_pool.specs.Store.{Store, IsStock};
+
+    ghost Value = { Store };
+
+    ghost view = { λ f. record { bytes = f.bytes.items; holders = f.holders.items } };
+
+    ghost invariant = { λ f. IsStock f.bytes.items f.holders.items f.stock.items f.spare (vec_capacity f.stock) };
+}
+
+impl Frames {
+    /// Pages of zeros that nobody holds.
+    pub fn make(alloc: Global, pages: u32) -> Result<Frames, AllocError>
+        ensures { IfOk result (λ f. f ≡ record { bytes = replicate (4096 * pages) 0; holders = replicate pages 0 }) }
+    {
+        let count = pages as usize;
+        let bytes = vec![in alloc; 0; PAGE * count]?;
+        let holders = vec![in alloc; 0; count]?;
+        let mut stock = Vec::with_capacity(alloc, count)?;
+        for page in 0..pages {
+            stock.push(page)?;
+        }
+        Ok(Frames {
+            bytes,
+            holders,
+            stock,
+            spare: pages,
+        })
+    }
+
+    /// The pages less the holders of all.
+    pub fn spare(&self) -> u32
+        ensures spare { result + sum self.now.holders ≡ length self.now.holders }
+        ensures sound { IsSound self.now }
+    {
+        self.spare
+    }
+
+    /// Whether more than one list holds a page.
+    pub fn is_shared(&self, page: u32) -> bool
+        requires { page < length self.now.holders }
+        ensures { result ≡ nat_lt 1 (slice_index self.now.holders page) }
+    {
+        self.holders[page as usize] > 1
+    }
+
+    /// The bytes of a page.
+    pub fn page(&self, page: u32) -> &[u8]
+        requires { page < length self.now.holders }
+        ensures { result.now ≡ cut (4096 * page) 4096 self.now.bytes }
+    {
+        let from = page as usize * PAGE;
+        &self.bytes[from..from + PAGE]
+    }
+
+    /// Writes bytes into a page.
+    pub fn put(&mut self, page: u32, at: usize, bytes: &[u8])
+        requires page { page < length self.old.holders }
+        requires room { at + length bytes.now ≤ 4096 }
+        ensures new { self.new ≡ record self.old { bytes = put self.old.bytes (4096 * page + at) bytes.now } }
+        ensures sound { IsSound self.new }
+    {
+        put_at(&mut self.bytes, page as usize * PAGE + at, bytes);
+    }
+
+    /// One more holder of a page.
+    pub fn hold(&mut self, page: u32)
+        requires page { page < length self.old.holders }
+        requires held { 0 < slice_index self.old.holders page }
+        requires room { sum self.old.holders < length self.old.holders }
+        ensures new { self.new ≡ record self.old { holders = slice_set self.old.holders page (slice_index self.old.holders page + 1) } }
+        ensures sound { IsSound self.new }
+    {
+        self.holders[page as usize] += 1;
+        self.spare -= 1;
+    }
+
+    /// One holder of a page less.
+    pub fn release(&mut self, page: u32)
+        requires page { page < length self.old.holders }
+        requires held { 0 < slice_index self.old.holders page }
+        ensures new { self.new ≡ record self.old { holders = slice_set self.old.holders page (slice_index self.old.holders page - 1) } }
+        ensures sound { IsSound self.new }
+    {
+        let left = self.holders[page as usize] - 1;
+        self.holders[page as usize] = left;
+        self.spare += 1;
+        if left == 0 {
+            self.stock.push(page).unwrap();
+        }
+    }
+
+    /// A page of zeros that nobody held.
+    pub fn fresh(&mut self) -> u32
+        requires { sum self.old.holders < length self.old.holders }
+        ensures page { result < length self.old.holders }
+        ensures idle { slice_index self.old.holders result ≡ 0 }
+        ensures new { self.new ≡ record {
+          bytes = put self.old.bytes (4096 * result) (blank 4096);
+          holders = slice_set self.old.holders result 1;
+        } }
+        ensures sound { IsSound self.new }
+    {
+        let page = draw(&mut self.stock);
+        clear_page(&mut self.bytes, page as usize * PAGE);
+        self.holders[page as usize] = 1;
+        self.spare -= 1;
+        page
+    }
+
+    /// A copy of a page with one holder, who holds the page no longer.
+    pub fn fork(&mut self, page: u32) -> u32
+        requires page { page < length self.old.holders }
+        requires shared { 1 < slice_index self.old.holders page }
+        ensures page { result < length self.old.holders }
+        ensures idle { slice_index self.old.holders result ≡ 0 }
+        ensures new { self.new ≡ record {
+          bytes = put self.old.bytes (4096 * result) (cut (4096 * page) 4096 self.old.bytes);
+          holders = slice_set (slice_set self.old.holders page (slice_index self.old.holders page - 1)) result 1;
+        } }
+        ensures sound { IsSound self.new }
+    {
+        self.holders[page as usize] -= 1;
+        let copy = draw(&mut self.stock);
+        self.holders[copy as usize] = 1;
+        copy_page(&mut self.bytes, page as usize * PAGE, copy as usize * PAGE);
+        copy
+    }
+}

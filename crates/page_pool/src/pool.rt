@@ -1,0 +1,338 @@
+//! The pool and its lists.
+
+ghost use Rattle.std.specs.Prelude.{◌≡◌, ℕ, ◌+◌, ◌-◌, ◌*◌, ◌%◌, ◌<◌, ◌≤◌, ◌↔◌, [], length, sum, take, drop, slice_index, IsSome, Some, None, OnOk, OnErr, IfOk, IfErr, IsErrOf};
+ghost use Rattle.rdma_types.specs.Memory.{cut, put};
+ghost use Rattle.page_pool.specs.Store.{blank};
+ghost use Rattle.page_pool.specs.Ledger.{IsLedger, numbers, slot, shown, pool_of};
+ghost use Rattle.page_pool.specs.Pool.{Pool, bytes_of, bytes_in, IsIn, Puts, pages_of, free_pages, held_pages, pages_for};
+
+use crate::claims::{give_pages, hold_pages, take_pages};
+use crate::frames::Frames;
+use crate::{PAGE, PoolFault, Unlowered};
+use byte_run::ByteRun;
+use slab::Slab;
+use std::alloc::{AllocError, Global};
+use std::marker::Model;
+
+/// A list of pages of a pool, which stands for their bytes. Contracts see its number.
+#[derive(Drop)]
+pub struct PageList {
+    list: usize,
+}
+
+impl Model for PageList {
+    ghost use Rattle.std.specs.Prelude.{ℕ};
+
+    ghost Value = { ℕ };
+
+    ghost view = { λ l. l.list };
+}
+
+/// Pages of 4,096 bytes, and the lists that share them.
+#[derive(Drop)]
+pub struct PagePool {
+    frames: Frames,
+    lists: Slab<Vec<u32>>,
+}
+
+impl Model for PagePool {
+    ghost use Rattle.page_pool.specs.Pool.{Pool};
+    ghost use Rattle.page_pool.specs.Ledger.{pool_of, IsLedger};
+
+    ghost Value = { Pool };
+
+    ghost view = { λ p. pool_of p.frames p.lists.slots };
+
+    ghost invariant = { λ p. IsLedger p.frames p.lists.slots };
+}
+
+impl PagePool {
+    /// A pool of free pages.
+    pub fn make(alloc: Global, pages: u32) -> Result<PagePool, AllocError>
+        ensures { IfOk result (λ p. p ≡ record { pages = pages; lists = [] }) }
+    {
+        Ok(PagePool {
+            frames: Frames::make(alloc, pages)?,
+            lists: Slab::new(alloc),
+        })
+    }
+
+    /// How many pages are free: those of the pool less those of all lists, where a page of two lists counts twice.
+    pub fn free(&self) -> u32
+        ensures free { result ≡ free_pages self.now }
+        ensures all { result + held_pages self.now ≡ self.now.pages }
+    {
+        self.frames.spare()
+    }
+
+    /// How many bytes a list has.
+    pub fn size(&self, list: &PageList) -> u64
+        requires { IsIn self.now list.now }
+        ensures size { result ≡ length (bytes_in self.now list.now) }
+        ensures pages { 4096 * pages_of (bytes_of self.now list.now) ≡ result }
+    {
+        (self.lists[list.list].len() * PAGE) as u64
+    }
+
+    /// A list of `n` new pages of zeros. `NoPage` comes exactly where fewer are free.
+    pub fn take(&mut self, alloc: Global, n: u32) -> Result<PageList, PoolFault>
+        ensures new { IfOk result (λ list. bytes_of self.old list ≡ None) }
+        ensures puts { IfOk result (λ list. Puts self.old self.new list (Some (blank (4096 * n)))) }
+        ensures free { OnOk result (free_pages self.new + n ≡ free_pages self.old) }
+        ensures no_page { IsErrOf result PoolFault.NoPage ↔ (free_pages self.old < n) }
+        ensures err { OnErr result (self.new ≡ self.old) }
+    {
+        if self.frames.spare() < n {
+            return Err(PoolFault::NoPage);
+        }
+        let mut numbers = Vec::with_capacity(alloc, n as usize)?;
+        self.lists.reserve(1)?;
+        take_pages(&mut self.frames, &mut numbers, n);
+        let list = self.lists.insert_reserved(numbers);
+        Ok(PageList { list })
+    }
+
+    /// A list of `count` pages of another list from page `first` on, which both share from now on. `NoPage` comes exactly
+    /// where fewer than `count` are free.
+    pub fn share(
+        &mut self,
+        alloc: Global,
+        list: &PageList,
+        first: u32,
+        count: u32,
+    ) -> Result<PageList, PoolFault>
+        requires held { IsIn self.old list.now }
+        requires inside { first + count ≤ pages_of (bytes_of self.old list.now) }
+        ensures new { IfOk result (λ other. bytes_of self.old other ≡ None) }
+        ensures puts { IfOk result (λ other. Puts self.old self.new other (Some (cut (4096 * first) (4096 * count) (bytes_in self.old list.now)))) }
+        ensures free { OnOk result (free_pages self.new + count ≡ free_pages self.old) }
+        ensures no_page { IsErrOf result PoolFault.NoPage ↔ (free_pages self.old < count) }
+        ensures err { OnErr result (self.new ≡ self.old) }
+    {
+        if self.frames.spare() < count {
+            return Err(PoolFault::NoPage);
+        }
+        let numbers = part_of(
+            alloc,
+            &self.lists[list.list],
+            first as usize,
+            count as usize,
+        )?;
+        self.lists.reserve(1)?;
+        hold_pages(&mut self.frames, &numbers);
+        let list = self.lists.insert_reserved(numbers);
+        Ok(PageList { list })
+    }
+
+    /// Ends a list: its pages are free again, but for those of other lists. It takes no memory.
+    pub fn give(&mut self, list: PageList)
+        requires { IsIn self.old list }
+        ensures puts { Puts self.old self.new list None }
+        ensures free { free_pages self.new ≡ free_pages self.old + pages_of (bytes_of self.old list) }
+    {
+        let numbers = self.lists.remove(list.list);
+        give_pages(&mut self.frames, &numbers);
+    }
+
+    /// The bytes of a list from `at` on to the end of their page of 4,096 bytes.
+    pub fn piece(&self, list: &PageList, at: u64) -> &[u8]
+        requires held { IsIn self.now list.now }
+        requires inside { at < length (bytes_in self.now list.now) }
+        ensures bytes { result.now ≡ cut at (4096 - at % 4096) (bytes_in self.now list.now) }
+        ensures length { length result.now ≡ 4096 - at % 4096 }
+    {
+        let at = at as usize;
+        let number = self.lists[list.list][at / PAGE];
+        rest_of(self.frames.page(number), at % PAGE)
+    }
+
+    /// Copies the bytes of a list from `at` on into `out`, as many as it has. It takes no memory.
+    pub fn read(&self, list: &PageList, at: u64, out: &mut [u8])
+        requires held { IsIn self.now list.now }
+        requires inside { at + length out.old ≤ length (bytes_in self.now list.now) }
+        ensures { out.new ≡ cut at (length out.old) (bytes_in self.now list.now) }
+    {
+        let _size = self.size(list);
+        let mut done = 0;
+        while done < out.len() {
+            let piece = self.piece(list, at + done as u64);
+            let count = piece.len().min(out.len() - done);
+            out[done..done + count].copy_from_slice(&piece[..count]);
+            done += count;
+        }
+    }
+
+    /// Writes bytes into a list from `at` on. A page that another list holds is copied first, and there is always a page
+    /// for the copy. It takes no memory.
+    pub fn write(&mut self, list: &mut PageList, at: u64, bytes: &[u8])
+        requires held { IsIn self.old list.old }
+        requires inside { at + length bytes.now ≤ length (bytes_in self.old list.old) }
+        ensures puts { Puts self.old self.new list.old (Some (put (bytes_in self.old list.old) at bytes.now)) }
+        ensures list { list.new ≡ list.old }
+        ensures free { free_pages self.new ≡ free_pages self.old }
+    {
+        let _size = self.size(list);
+        let mut done = 0;
+        while done < bytes.len() {
+            let place = at as usize + done;
+            let count = (PAGE - place % PAGE).min(bytes.len() - done);
+            self.write_piece(list, place, &bytes[done..done + count]);
+            done += count;
+        }
+    }
+
+    /// Takes bytes of a list out, and ends the list. The list comes back, and the pool is as it was, for want of memory
+    /// alone.
+    pub fn lift(
+        &mut self,
+        alloc: Global,
+        list: PageList,
+        first: u64,
+        count: u32,
+    ) -> Result<ByteRun, PageList>
+        requires held { IsIn self.old list }
+        requires inside { first + count ≤ length (bytes_in self.old list) }
+        ensures bytes { IfOk result (λ run. run ≡ cut first count (bytes_in self.old list)) }
+        ensures puts { OnOk result (Puts self.old self.new list None) }
+        ensures free { OnOk result (free_pages self.new ≡ free_pages self.old + pages_of (bytes_of self.old list)) }
+        ensures back { IfErr result (λ other. other ≡ list) }
+        ensures err { OnErr result (self.new ≡ self.old) }
+    {
+        match self.run_of(alloc, &list, first, count as usize) {
+            Ok(run) => {
+                self.give(list);
+                Ok(run)
+            }
+            Err(_) => Err(list),
+        }
+    }
+
+    /// A copy of bytes of a list.
+    fn run_of(
+        &self,
+        alloc: Global,
+        list: &PageList,
+        first: u64,
+        count: usize,
+    ) -> Result<ByteRun, AllocError>
+        requires held { IsIn self.now list.now }
+        requires inside { first + count ≤ length (bytes_in self.now list.now) }
+        ensures { IfOk result (λ run. run ≡ cut first count (bytes_in self.now list.now)) }
+    {
+        let _size = self.size(list);
+        let mut run = ByteRun::make(alloc);
+        let mut done = 0;
+        while done < count {
+            let piece = self.piece(list, first + done as u64);
+            let taken = piece.len().min(count - done);
+            run.append(alloc, &piece[..taken])?;
+            done += taken;
+        }
+        Ok(run)
+    }
+
+    /// A list of the fewest pages that hold `first` and the bytes: the bytes from `first` on, and zeros elsewhere. After a
+    /// refusal the pool is as it was, and the bytes come back; `NoPage` comes exactly where fewer pages are free.
+    pub fn lower(
+        &mut self,
+        alloc: Global,
+        bytes: ByteRun,
+        first: u64,
+    ) -> Result<PageList, Unlowered>
+        requires { first < 4096 }
+        ensures new { IfOk result (λ list. bytes_of self.old list ≡ None) }
+        ensures puts { IfOk result (λ list. Puts self.old self.new list (Some (put (blank (4096 * pages_for (first + length bytes))) first bytes))) }
+        ensures free { OnOk result (free_pages self.new + pages_for (first + length bytes) ≡ free_pages self.old) }
+        ensures back { IfErr result (λ unlowered. unlowered.bytes ≡ bytes) }
+        ensures no_page { IfErr result (λ unlowered. (unlowered.why ≡ PoolFault.NoPage) ↔ (free_pages self.old < pages_for (first + length bytes))) }
+        ensures enough { OnOk result (pages_for (first + length bytes) ≤ free_pages self.old) }
+        ensures err { OnErr result (self.new ≡ self.old) }
+    {
+        let room = u64::from(self.free()) * 4096;
+        if room < first || room - first < bytes.len() {
+            let why = PoolFault::NoPage;
+            return Err(Unlowered { bytes, why });
+        }
+        let pages = (first + bytes.len()).div_ceil(4096) as u32;
+        match self.take(alloc, pages) {
+            Ok(mut list) => {
+                self.write_run(&mut list, first, &bytes);
+                Ok(list)
+            }
+            Err(why) => Err(Unlowered { bytes, why }),
+        }
+    }
+
+    /// Writes a run of bytes into a list from `at` on.
+    fn write_run(&mut self, list: &mut PageList, at: u64, bytes: &ByteRun)
+        requires held { IsIn self.old list.old }
+        requires inside { at + length bytes.now ≤ length (bytes_in self.old list.old) }
+        ensures puts { Puts self.old self.new list.old (Some (put (bytes_in self.old list.old) at bytes.now)) }
+        ensures list { list.new ≡ list.old }
+        ensures free { free_pages self.new ≡ free_pages self.old }
+    {
+        let _size = self.size(list);
+        let count = bytes.len();
+        let mut done = 0;
+        while done < count {
+            let piece = bytes.piece(done);
+            self.write(list, at + done, piece);
+            done += piece.len() as u64;
+        }
+    }
+
+    /// Writes bytes into one page of a list.
+    fn write_piece(&mut self, list: &PageList, at: usize, bytes: &[u8])
+        requires held { IsIn self.old list.now }
+        requires inside { at < length (bytes_in self.old list.now) }
+        requires page { at % 4096 + length bytes.now ≤ 4096 }
+        ensures puts { Puts self.old self.new list.now (Some (put (bytes_in self.old list.now) at bytes.now)) }
+        ensures free { free_pages self.new ≡ free_pages self.old }
+    {
+        let number = own_page(&mut self.frames, &mut self.lists, list.list, at / PAGE);
+        self.frames.put(number, at % PAGE, bytes);
+    }
+}
+
+/// The bytes from a place on.
+fn rest_of(bytes: &[u8], from: usize) -> &[u8]
+    requires { from ≤ length bytes.now }
+    ensures { result.now ≡ drop from bytes.now }
+{
+    &bytes[from..]
+}
+
+/// Some numbers in a row.
+fn part_of(
+    alloc: Global,
+    numbers: &[u32],
+    first: usize,
+    count: usize,
+) -> Result<Vec<u32>, AllocError>
+    requires { first + count ≤ length numbers.now }
+    ensures { IfOk result (λ part. part.items ≡ take count (drop first numbers.now)) }
+{
+    Vec::from_slice(alloc, &numbers[first..first + count])
+}
+
+/// The page at a place of a list, which no other list holds: a copy, where another list held it.
+fn own_page(frames: &mut Frames, lists: &mut Slab<Vec<u32>>, list: usize, place: usize) -> u32
+    requires ledger { IsLedger frames.old lists.old.slots }
+    requires held { IsSome (slot lists.old.slots list) }
+    requires inside { place < length (numbers (slot lists.old.slots list)) }
+    ensures ledger { IsLedger frames.new lists.new.slots }
+    ensures number { slice_index (numbers (slot lists.new.slots list)) place ≡ result }
+    ensures len { length (numbers (slot lists.new.slots list)) ≡ length (numbers (slot lists.old.slots list)) }
+    ensures alone { slice_index frames.new.holders result ≡ 1 }
+    ensures same { Puts (pool_of frames.old lists.old.slots) (pool_of frames.new lists.new.slots) list (shown frames.old.bytes (slot lists.old.slots list)) }
+    ensures total { sum frames.new.holders ≡ sum frames.old.holders }
+{
+    let number = lists[list][place];
+    if !frames.is_shared(number) {
+        return number;
+    }
+    let copy = frames.fork(number);
+    let numbers = &mut lists[list];
+    numbers[place] = copy;
+    copy
+}

@@ -1,0 +1,13 @@
+//! Posted requests.
+
+use page_pool::Payload;
+use rdma_types::Request;
+
+/// A request of the send queue, and the bytes of a Write or Send as they were when it was posted (this project's choice:
+/// inline data, of any length).
+#[derive(Drop)]
+pub struct Posted {
+    pub request: Request,
+    /// It has no bytes for a Read or an atomic.
+    pub payload: Payload,
+}
