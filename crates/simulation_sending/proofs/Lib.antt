@@ -1,0 +1,10 @@
+pub mod GoUnheard
+pub mod GoTables
+pub mod GoNet
+pub mod GoStands
+pub mod GoEnd
+pub mod GoLive
+pub mod GoFound
+pub mod GoNumbers
+pub mod GoSound
+pub mod EventRnrOver
