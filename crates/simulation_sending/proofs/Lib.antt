@@ -7,4 +7,7 @@ pub mod GoLive
 pub mod GoFound
 pub mod GoNumbers
 pub mod GoSound
+pub mod GoOver
+pub mod GoEnding
 pub mod EventRnrOver
+pub mod EventExpire
