@@ -26,10 +26,12 @@ unfolding has_end
 found_linked w m o s live there h =
     let ends = later_no refusals.Stopped _ _ (later_no refusals.NoSuch _ _ h) in
     let found : refusing.has_end (live_of w o.context) o.name ≡ true = not_lacking _ (first_no refusals.NoSuch _ _ ends) in
-    let by = linked_by (end_there_of w o).link (first_no refusals.BadState _ _ (later_no refusals.NoSuch _ _ ends)) in
-    (by.0, record {
-      live = live;
-      there = there;
-      found = sym (end_there o.name (live_of w o.context).ends (machine.context_of m o.context).ends (live_same w m o.context s live).ends) ∙ found;
-      linked = by.1;
-    })
+    let by = linked_by (end_there_of w o).link (first_no refusals.BadState _ _ (later_no refusals.NoSuch _ _ ends)) in (
+      by.0,
+      record {
+        live = live;
+        there = there;
+        found = sym (end_there o.name (live_of w o.context).ends (machine.context_of m o.context).ends (live_same w m o.context s live).ends) ∙ found;
+        linked = by.1;
+      },
+    )

@@ -51,7 +51,7 @@ module _ (w w' : World) (m m' : Machine) (o : ObjName) (x : state.Context) (y : 
   abbrev f : End
   f = machine.end_of m o
 
-  link_after : (end_of w' o).link ≡ Some l
+  pub link_after : (end_of w' o).link ≡ Some l
   link_after = ap (λ z. z.link) (end_stored_here w w' o x e t.changed_there t.ends t.named_there) ∙ t.link
 
   pub side_after : side_of w' o ≡ with_link (side_of w o) l

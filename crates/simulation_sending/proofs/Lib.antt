@@ -11,3 +11,8 @@ pub mod GoOver
 pub mod GoEnding
 pub mod EventRnrOver
 pub mod EventExpire
+pub mod GoPieces
+pub mod GoWritten
+pub mod GoTransmit
+pub mod GoSent
+pub mod EventTransmit
