@@ -11,7 +11,7 @@ use Rattle.rdma_types.specs.declared.answers.Refusal.{Refusal}
 use Rattle.rdma_types.specs.declared.answers.Refusal.TheVariants as refusals
 use Rattle.rdma_types.specs.Causes.{first_cause}
 use Rattle.rdma_types.specs.Limits.{AreTerms}
-use Rattle.rdma_types.specs.Lists.{named, has_name}
+use Rattle.rdma_types.specs.Lists.{named, has_name, has_word}
 use Rattle.protocol.specs.declared.events.Event.TheVariants as events
 use Rattle.protocol.specs.declared.events.WorldEvent.TheVariants as world_events
 use Rattle.protocol.specs.State as state
@@ -41,7 +41,7 @@ use Rattle.simulation.proofs.Connecting.{live_place, live_not_carried, end_store
 use Rattle.simulation.proofs.Live.{live_of, live_same, home_counts}
 use Rattle.simulation.proofs.Refusing.{Matches, is_known, matches_cause, matches_unknown, matches_none, first_no, later_no, not_lacking}
 use Rattle.simulation.proofs.Verbs.{done_reached, by_refusal_reached}
-use Rattle.simulation.proofs.Linked.{end_there_of, linked_of, connected_world, connects, placed_world, linked_changed, live_kept, home_kept, context_with, end_changed, machine_here, machine_other, listed, there_kept, side_connected, connected_sound, linked_ends}
+use Rattle.simulation.proofs.Linked.{end_there_of, linked_of, connected_world, connects, placed_world, linked_changed, live_kept, home_kept, context_with, end_changed, machine_here, machine_other, listed, there_kept, side_connected, connected_sound, domain_there, linked_ends}
 
 -- ---- both ends are connected
 
@@ -284,16 +284,18 @@ module _ (w : World) (m : Machine) (one two : ObjName) (terms : Terms) (range : 
       name_two (ap owned_there end_two ∙ both two live2 found2) (ap (λ e. e.link) end_two ∙ lone2) refl refl refl) same1
 
   sound1 : (k : Name) → IsContextSound m1.keys (machine.context_of m1 k)
+  unfolding verbing.joined
   sound1 = sound_kept m m1 one.context (context_with m one g1) cm1 (λ k h. subst (λ ks. Contains ks k) (sym keys_are1) h)
       (subst (λ ks. IsContextSound ks (context_with m one g1)) (sym keys_are1)
-      (connected_sound m.keys (machine.context_of m one.context) one.name (nobody one) g1 (in_list one found1) named1 (joined_sound _ _ f1 two terms (sound_end one found1)) (s.sound one.context))) s.sound
+      (connected_sound m.keys (machine.context_of m one.context) one.name (nobody one) g1 (in_list one found1) named1 (domain_there m one (in_list one found1) (s.sound one.context)) (joined_sound _ _ f1 two terms (sound_end one found1)) (s.sound one.context))) s.sound
 
   sound2 : (k : Name) → IsContextSound m2.keys (machine.context_of m2 k)
+  unfolding verbing.joined
   sound2 =
       let ends : IsEndSound (regions_of m1 two.context) (map (λ q. q.name) (machine.context_of m1 two.context).queues) f2 = subst (λ c. IsEndSound c.regions (map (λ q. q.name) c.queues) f2) (sym context_two) (sound_end two found2) in
       sound_kept m1 m2 two.context (context_with m1 two g2) cm2 (λ k h. subst (λ ks. Contains ks k) (keys_are1 ∙ sym keys_are) h)
       (subst (λ ks. IsContextSound ks (context_with m1 two g2)) (keys_are1 ∙ sym keys_are)
-      (connected_sound m1.keys (machine.context_of m1 two.context) two.name (nobody two) g2 found2' named2 (joined_sound _ _ f2 one terms ends) (sound1 two.context))) sound1
+      (connected_sound m1.keys (machine.context_of m1 two.context) two.name (nobody two) g2 found2' named2 (subst (λ c. has_word f2.domain c.domains ≡ true) (sym context_two) (domain_there m two (in_list two found2) (s.sound two.context))) (joined_sound _ _ f2 one terms ends) (sound1 two.context))) sound1
 
   regions_same : (k : Name) → regions_of m2 k ≡ regions_of m k
   regions_same k = machines.part_same m1 m2 two.context (context_with m1 two g2) cm2 (λ c. c.regions) k refl ∙ machines.part_same m m1 one.context (context_with m one g1) cm1 (λ c. c.regions) k refl

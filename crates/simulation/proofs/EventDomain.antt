@@ -1,5 +1,8 @@
 -- The machine follows the making of a domain.
-use Rattle.std.proofs.Common.{◌≡◌, [], ◌∷◌, ◌++◌, true, refl, ap}
+use Rattle.std.proofs.Common.{◌≡◌, List, [], ◌∷◌, ◌++◌, true, refl, ap, ◌∙◌}
+use Rattle.std.specs.Prelude.{◌||◌, bytes_eq}
+use Rattle.std.proofs.lemmas.List.Elements.{All-weaker}
+use Rattle.rdma_types.specs.declared.names.Name.{Name}
 use Rattle.rdma_types.specs.declared.names.ObjName.{ObjName}
 use Rattle.rdma_types.specs.declared.verbs.Verb.TheVariants as verbs
 use Rattle.rdma_types.specs.declared.answers.Answer.TheVariants as answers
@@ -19,11 +22,16 @@ use Rattle.ideal_model.specs.Verbs as verbing
 use Rattle.simulation.specs.Kept as kept
 use Rattle.simulation.specs.Stands.{Stands}
 use Rattle.simulation.specs.Law.{Follows}
+use Rattle.simulation.proofs.Tables.{has_name-push}
 use Rattle.simulation.proofs.Machines.{context_name}
 use Rattle.simulation.proofs.Nets.{same_quiet}
 use Rattle.simulation.proofs.Refusing.{Matches, matches_cause, matches_unknown, matches_none, first_yes}
 use Rattle.simulation.proofs.Live.{live_of, live_name, live_same, within_matches, changed_stands}
 use Rattle.simulation.proofs.Verbs.{IsDone, verb_follows}
+
+-- a name that is there stays with one more
+more_words : (n k : Name) (ns : List Name) → has_word n ns ≡ true → has_word n (ns ++ k ∷ []) ≡ true
+more_words n k ns h = has_name-push (λ x. x) n ns k ∙ ap (λ b. b || bytes_eq k n) h
 
 module _ (w : World) (m : Machine) (o : ObjName) (s : Stands w m) where
   matches : is_live w o.context ≡ true → has_context m o.context ≡ true → Matches (refusing.refusal_of (home w o.context) (events.MakeDomain o)) (verbing.refusal_of m (verbs.MakeDomain o))
@@ -38,6 +46,7 @@ module _ (w : World) (m : Machine) (o : ObjName) (s : Stands w m) where
   does live there =
       let same = live_same w m o.context s live in
       let sound = s.sound o.context in
+      let domains : List Name = (machine.context_of m o.context).domains in
       record {
         given = 0;
         may = refl;
@@ -46,7 +55,16 @@ module _ (w : World) (m : Machine) (o : ObjName) (s : Stands w m) where
         stands = changed_stands w m o.context (device.with_domain (live_of w o.context) o.name) (record (machine.context_of m o.context) { domains = (machine.context_of m o.context).domains ++ o.name ∷ [] }) answers.Done s live there
             (live_name w o.context live) (context_name m o.context) (same_quiet _ _ _ _ refl refl)
             (record { domains = ap (λ ds. ds ++ o.name ∷ []) same.domains; regions = same.regions; queues = same.queues; ends = same.ends })
-            (record { whole = sound.whole; bytes = sound.bytes; keyed = sound.keyed; keyed_once = sound.keyed_once; named_once = sound.named_once; ends = sound.ends })
+            (record {
+              whole = sound.whole;
+              bytes = sound.bytes;
+              keyed = sound.keyed;
+              keyed_once = sound.keyed_once;
+              named_once = sound.named_once;
+              ends = sound.ends;
+              regions_in = All-weaker (λ r. has_word r.domain domains ≡ true) (λ r. has_word r.domain (domains ++ o.name ∷ []) ≡ true) (λ r h. more_words r.domain o.name domains h) (machine.context_of m o.context).regions sound.regions_in;
+              ends_in = All-weaker (λ e. has_word e.domain domains ≡ true) (λ e. has_word e.domain (domains ++ o.name ∷ []) ≡ true) (λ e h. more_words e.domain o.name domains h) (machine.context_of m o.context).ends sound.ends_in;
+            })
             (λ q domain p h. h);
       }
 

@@ -27,7 +27,7 @@ use Rattle.rdma_types.specs.declared.names.ObjName.{ObjName}
 use Rattle.rdma_types.specs.declared.verbs.Verb.TheVariants as verbs
 use Rattle.rdma_types.specs.declared.answers.Answer.TheVariants as answers
 use Rattle.rdma_types.specs.declared.answers.Refusal.TheVariants as refusals
-use Rattle.rdma_types.specs.Lists.{has_name, named}
+use Rattle.rdma_types.specs.Lists.{has_name, has_word, named}
 use Rattle.rdma_types.specs.Objects.{Region, no_region}
 use Rattle.protocol.specs.declared.events.Event.TheVariants as events
 use Rattle.protocol.specs.declared.events.WorldEvent.TheVariants as world_events
@@ -121,6 +121,8 @@ drop_sound m keys y n unused s = record {
   named_once = s.named_once;
   ends = All-zip (IsEndSound y.regions (map (λ q. q.name) y.queues)) (λ e. verbing.is_used_by m (region_in y.regions n) e ≡ false) (IsEndSound (without (λ r. r.name) n y.regions) (map (λ q. q.name) y.queues))
       (λ e h k. end_dropped m n y.regions (map (λ q. q.name) y.queues) e k h) y.ends s.ends (any_none (verbing.is_used_by m (region_in y.regions n)) y.ends unused);
+  regions_in = All-without (λ r. has_word r.domain y.domains ≡ true) (λ r. r.name) n y.regions s.regions_in;
+  ends_in = s.ends_in;
 }
 
 -- ---- what is in progress stays so

@@ -91,6 +91,12 @@ unfolding verbing.lacks_queue
 queue_named m c None h = absurd (cc)
 queue_named m c (Some q) h = not_lacking _ h
 
+-- a word that is not lacking names a domain that is there
+domain_named : (m : Machine) (c : Name) (d : Option Name) → verbing.lacks_domain m c d ≡ false → has_word (verbing.word_or_none d) (machine.context_of m c).domains ≡ true
+unfolding verbing.lacks_domain
+domain_named m c None h = absurd (cc)
+domain_named m c (Some d) h = not_lacking _ h
+
 name_differs : (k o : ObjName) → k.context ≡ o.context → (k ≢ o) → k.name ≢ o.name
 name_differs k o c ne h = ne (λ i. record { context = c i; name = h i })
 
@@ -171,7 +177,7 @@ module _ (w : World) (m : Machine) (o : ObjName) (domain send_cq recv_cq : Optio
       }
 
   -- the end is not there before
-  module _ (live : is_live w o.context ≡ true) (there : has_context m o.context ≡ true) (few : (home w o.context).qp_count < 65535) (new : has_name (λ z. z.name) o.name old.ends ≡ false) (sends : has_name (λ q. q.name) (verbing.word_or_none send_cq) old.queues ≡ true) (receives : has_name (λ q. q.name) (verbing.word_or_none recv_cq) old.queues ≡ true) where
+  module _ (live : is_live w o.context ≡ true) (there : has_context m o.context ≡ true) (few : (home w o.context).qp_count < 65535) (new : has_name (λ z. z.name) o.name old.ends ≡ false) (sends : has_name (λ q. q.name) (verbing.word_or_none send_cq) old.queues ≡ true) (receives : has_name (λ q. q.name) (verbing.word_or_none recv_cq) old.queues ≡ true) (inside : has_word (verbing.word_or_none domain) old.domains ≡ true) where
     pushed : store_named (λ z. z.name) o.name f old.ends ≡ old.ends ++ f ∷ []
     pushed = store_named-new (λ z. z.name) o.name f old.ends new
 
@@ -205,6 +211,8 @@ module _ (w : World) (m : Machine) (o : ObjName) (domain send_cq recv_cq : Optio
           named_once = λ n. subst (λ es. count_by (λ z. bytes_eq z.name n) es ≤ 1) (sym pushed) (once_push (λ z. z.name) f old.ends n new (before.named_once n));
           ends = subst (All (IsEndSound old.regions names)) (sym pushed) (All-push (IsEndSound old.regions names) old.ends f before.ends
               (new_sound old.regions names o given _ _ _ send_depth recv_depth few_requests (words_there _ old.queues ∙ sends) (words_there _ old.queues ∙ receives)));
+          regions_in = before.regions_in;
+          ends_in = subst (All (λ z. has_word z.domain old.domains ≡ true)) (sym pushed) (All-push (λ z. has_word z.domain old.domains ≡ true) old.ends f before.ends_in inside);
         })
 
     -- its number is one more beside a name
@@ -329,5 +337,6 @@ module _ (w : World) (m : Machine) (o : ObjName) (domain send_cq recv_cq : Optio
         (few_numbers _ _ (first_no refusals.TooMany _ [] (later_no refusals.NumberTaken _ _ (later_no refusals.NoSuch _ _ (later_no refusals.Stopped _ _ (later_no refusals.NoSuch _ _ h))))))
         (first_no refusals.NumberTaken _ [] (later_no refusals.NoSuch _ _ received))
         (queue_named m o.context send_cq (first_no refusals.NoSuch _ _ queues))
-        (queue_named m o.context recv_cq (first_no refusals.NoSuch _ _ received));
+        (queue_named m o.context recv_cq (first_no refusals.NoSuch _ _ received))
+        (domain_named m o.context domain (first_no refusals.NoSuch _ _ (later_no refusals.NoSuch _ _ h')));
   })

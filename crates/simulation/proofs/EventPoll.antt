@@ -75,6 +75,8 @@ module _ (w : World) (m : Machine) (o : ObjName) (most : ℕ) (s : Stands w m) w
               keyed_once = sound.keyed_once;
               named_once = sound.named_once;
               ends = queues_like y.regions _ _ y.ends (map-store (λ x. x.name) (λ x. x.name) no_queue o.name (polled q most) y.queues found refl) sound.ends;
+              regions_in = sound.regions_in;
+              ends_in = sound.ends_in;
             })
             (λ q domain p h. h));
       }

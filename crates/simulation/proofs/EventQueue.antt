@@ -61,6 +61,8 @@ module _ (w : World) (m : Machine) (o : ObjName) (capacity : ℕ) (s : Stands w 
               keyed_once = sound.keyed_once;
               named_once = sound.named_once;
               ends = queues_more (machine.context_of m o.context).regions queues (new_queue o.name capacity) (machine.context_of m o.context).ends sound.ends;
+              regions_in = sound.regions_in;
+              ends_in = sound.ends_in;
             })
             (λ q domain p h. h);
       }

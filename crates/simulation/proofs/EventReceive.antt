@@ -20,7 +20,7 @@ use Rattle.rdma_types.specs.declared.names.ObjName.{ObjName}
 use Rattle.rdma_types.specs.declared.verbs.Verb.TheVariants as verbs
 use Rattle.rdma_types.specs.declared.answers.Answer.TheVariants as answers
 use Rattle.rdma_types.specs.declared.answers.Refusal.TheVariants as refusals
-use Rattle.rdma_types.specs.Lists.{has_name, named, store_named}
+use Rattle.rdma_types.specs.Lists.{has_name, has_word, named, store_named}
 use Rattle.protocol.specs.declared.events.Event.TheVariants as events
 use Rattle.protocol.specs.declared.events.WorldEvent.TheVariants as world_events
 use Rattle.protocol.specs.State as state
@@ -121,6 +121,8 @@ module _ (w : World) (m : Machine) (o : ObjName) (v : Receive) (s : Stands w m) 
         keyed_once = sound.keyed_once;
         named_once = sound.named_once;
         ends = queues_like y.regions _ _ y.ends (with_more_names y.queues f.receive_queue done q) sound.ends;
+        regions_in = sound.regions_in;
+        ends_in = sound.ends_in;
       })
       (λ q domain p h. h)))
 
@@ -154,6 +156,8 @@ module _ (w : World) (m : Machine) (o : ObjName) (v : Receive) (s : Stands w m) 
         keyed_once = sound.keyed_once;
         named_once = λ n. omega (arith, once_store (λ z. z.name) (machine.nobody o) o.name n f' y.ends found named', sound.named_once n);
         ends = All-store (IsEndSound y.regions (map (λ q. q.name) y.queues)) (λ z. z.name) o.name f' y.ends sound.ends (receiving_sound y.regions (map (λ q. q.name) y.queues) f v room granted (sound_end found));
+        regions_in = sound.regions_in;
+        ends_in = All-store (λ z. has_word z.domain y.domains ≡ true) (λ z. z.name) o.name f' y.ends sound.ends_in (All-named (λ z. has_word z.domain y.domains ≡ true) (λ z. z.name) (machine.nobody o) o.name y.ends sound.ends_in found);
       })
       (λ q domain p h. h)))
 

@@ -42,7 +42,7 @@ use Rattle.simulation.specs.Stands.{Stands}
 use Rattle.simulation.specs.Law.{Follows}
 use Rattle.simulation.proofs.Machines.{context_name}
 use Rattle.simulation.proofs.Nets.{same_quiet}
-use Rattle.simulation.proofs.Refusing.{Matches, matches_cause, matches_unknown, matches_none, first_yes, first_no, later_no}
+use Rattle.simulation.proofs.Refusing.{Matches, matches_cause, matches_unknown, matches_none, first_yes, first_no, later_no, not_lacking}
 use Rattle.simulation.proofs.Live.{live_of, live_name, live_same, within_matches}
 use Rattle.simulation.proofs.Verbs.{IsDone, verb_follows}
 
@@ -78,8 +78,8 @@ abbrev IsKeyed : List ℕ → Region → Type 0
 IsKeyed keys r = Contains keys r.keys.local × (r.keys.local % 2 ≡ 0) × (r.keys.remote ≡ suc r.keys.local)
 
 -- a context with one more region, whose key is new
-region_sound : (keys : List ℕ) (given : ℕ) (y : machine.Context) (r : Region) → r.keys.local ≡ given → given % 2 ≡ 0 → r.keys.remote ≡ suc given → All (λ k. k ≢ given) keys → IsWhole r → All (λ b. b < 256) r.bytes → IsContextSound keys y → IsContextSound (keys ++ given ∷ []) (record y { regions = y.regions ++ r ∷ [] })
-region_sound keys given y r key even remote fresh whole bytes s = record {
+region_sound : (keys : List ℕ) (given : ℕ) (y : machine.Context) (r : Region) → r.keys.local ≡ given → given % 2 ≡ 0 → r.keys.remote ≡ suc given → All (λ k. k ≢ given) keys → IsWhole r → All (λ b. b < 256) r.bytes → has_word r.domain y.domains ≡ true → IsContextSound keys y → IsContextSound (keys ++ given ∷ []) (record y { regions = y.regions ++ r ∷ [] })
+region_sound keys given y r key even remote fresh whole bytes domain s = record {
   whole = All-push IsWhole y.regions r s.whole whole;
   bytes = All-push (λ x. All (λ b. b < 256) x.bytes) y.regions r s.bytes bytes;
   keyed = All-push (IsKeyed (keys ++ given ∷ [])) y.regions r
@@ -88,7 +88,15 @@ region_sound keys given y r key even remote fresh whole bytes s = record {
   keyed_once = keyed_push r y.regions s.keyed_once (All-weaker (IsKeyed keys) (λ x. x.keys.local ≢ r.keys.local) (λ x h e. All-contains (λ k. k ≢ given) keys x.keys.local fresh h.0 (e ∙ key)) y.regions s.keyed);
   named_once = s.named_once;
   ends = ends_regions y.regions (y.regions ++ r ∷ []) _ y.ends (λ domain k place count right h. granted_push _ y.regions (r ∷ []) domain k place count right h) s.ends;
+  regions_in = All-push (λ x. has_word x.domain y.domains ≡ true) y.regions r s.regions_in domain;
+  ends_in = s.ends_in;
 }
+
+-- a word that is not lacking names a domain that is there
+domain_named : (m : Machine) (c : Name) (d : Option Name) → verbing.lacks_domain m c d ≡ false → has_word (verbing.word_or_none d) (machine.context_of m c).domains ≡ true
+unfolding verbing.lacks_domain
+domain_named m c None h = absurd (cc)
+domain_named m c (Some d) h = not_lacking _ h
 
 module _ (w : World) (m : Machine) (o : ObjName) (domain : Option Name) (base count : ℕ) (rights : Rights) (s : Stands w m) where
   lacks_is : is_live w o.context ≡ true → (domain : Option Name) → refusing.lacks (λ x. has_word x (live_of w o.context).domains) domain ≡ verbing.lacks_domain m o.context domain
@@ -153,9 +161,9 @@ module _ (w : World) (m : Machine) (o : ObjName) (domain : Option Name) (base co
         keys_used = All-push (IsKeyUsed (λ k. (device_at w' k).key_count)) m.keys given old.keys_used (omega (arith, few, there));
       }
 
-  stands : is_live w o.context ≡ true → has_context m o.context ≡ true → (home w o.context).key_count < 8388607 → Stands w' m'
+  stands : is_live w o.context ≡ true → has_context m o.context ≡ true → (home w o.context).key_count < 8388607 → has_word (verbing.word_or_none domain) (machine.context_of m o.context).domains ≡ true → Stands w' m'
   unfolding device.with_new_region
-  stands live there few =
+  stands live there few inside =
       let same = live_same w m o.context s live in
       let cw = home_changed w m o.context x counting (answers.Region (record { local = given; remote = given + 1 })) s.placed live (live_name w o.context live) refl refl in
       let cm = machine_changed there in
@@ -169,18 +177,18 @@ module _ (w : World) (m : Machine) (o : ObjName) (domain : Option Name) (base co
         keys = λ k h. subst (λ ks. Contains ks k) (sym keys_are) (Contains-append_left m.keys (given ∷ []) k h);
         counted = counted live few;
         same = record { domains = same.domains; regions = ap (λ rs. rs ++ new ∷ []) same.regions; queues = same.queues; ends = same.ends };
-        sound = subst (λ ks. IsContextSound ks y) (sym keys_are) (region_sound m.keys given (machine.context_of m o.context) new refl (omega arith) (omega arith) (fresh_key w m o.context s.placed s.counted live few) (length-replicate count 0) (All-replicate (λ b. b < 256) count 0 (omega arith)) (s.sound o.context));
+        sound = subst (λ ks. IsContextSound ks y) (sym keys_are) (region_sound m.keys given (machine.context_of m o.context) new refl (omega arith) (omega arith) (fresh_key w m o.context s.placed s.counted live few) (length-replicate count 0) (All-replicate (λ b. b < 256) count 0 (omega arith)) inside (s.sound o.context));
         progress = progress_changed (net_of w m) m m' o.context y cm (λ q d p h. progress_push q d (machine.regions_of m o.context) (new ∷ []) p h) s.progress;
       })
 
-  does : is_live w o.context ≡ true → has_context m o.context ≡ true → (home w o.context).key_count < 8388607 → IsDone w m (events.MakeRegion o domain base count rights) (verbs.MakeRegion o domain base count rights)
+  does : is_live w o.context ≡ true → has_context m o.context ≡ true → (home w o.context).key_count < 8388607 → has_word (verbing.word_or_none domain) (machine.context_of m o.context).domains ≡ true → IsDone w m (events.MakeRegion o domain base count rights) (verbs.MakeRegion o domain base count rights)
   unfolding ran step.numbered device.makes_region kept.is_unmade verbing.made_region
-  does live there few = record {
+  does live there few inside = record {
     given = given;
     may = may_be_given m.keys given (omega arith) (fresh_key w m o.context s.placed s.counted live few);
     answer = refl;
     made = refl;
-    stands = subst (λ d. Stands (ran w (device.answers (device.with_context counting (device.with_new_region (live_of w o.context) (record new { domain = d }))) (answers.Region (record { local = given; remote = given + 1 })))).world m') (sym (word_is domain)) (stands live there few);
+    stands = subst (λ d. Stands (ran w (device.answers (device.with_context counting (device.with_new_region (live_of w o.context) (record new { domain = d }))) (answers.Region (record { local = given; remote = given + 1 })))).world m') (sym (word_is domain)) (stands live there few inside);
   }
 
   few_keys : (a : Bool) (n : ℕ) → (a || nat_le 8388607 n) ≡ false → n < 8388607
@@ -194,5 +202,8 @@ module _ (w : World) (m : Machine) (o : ObjName) (domain : Option Name) (base co
     allows = λ a. refl;
     nowhere = λ h. first_yes refusals.NoSuch _ _ (rw h refl);
     matches = matches;
-    does = λ live there h h'. does live there (few_keys _ _ (first_no refusals.TooMany _ _ (later_no refusals.NumberTaken _ _ (later_no refusals.NoSuch _ _ (later_no refusals.Stopped _ _ (later_no refusals.NoSuch _ _ h))))));
+    does = λ live there h h'.
+        does live there
+        (few_keys _ _ (first_no refusals.TooMany _ _ (later_no refusals.NumberTaken _ _ (later_no refusals.NoSuch _ _ (later_no refusals.Stopped _ _ (later_no refusals.NoSuch _ _ h))))))
+        (domain_named m o.context domain (first_no refusals.NoSuch _ _ (later_no refusals.NoSuch _ _ h')));
   })

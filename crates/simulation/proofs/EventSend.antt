@@ -33,7 +33,7 @@ use Rattle.simulation.proofs.Sounds.{queue_there, queues_like}
 use Rattle.simulation.proofs.Grows.{IsConnected}
 use Rattle.simulation.proofs.Numbers.{first-rest}
 use Rattle.simulation.proofs.Connecting.{end_stored_here, end_stored_other, side_like}
-use Rattle.simulation.proofs.Linked.{context_with, end_changed, end_there_of, linked_changed, linked_ends, linked_of, listed, machine_here, machine_other, there_kept, connected_sound}
+use Rattle.simulation.proofs.Linked.{context_with, end_changed, end_there_of, linked_changed, linked_ends, linked_of, listed, machine_here, machine_other, there_kept, connected_sound, domain_there}
 use Rattle.simulation.proofs.OnePosted.{posted_end, posted_sender, posted_side, posted_sound}
 use Rattle.simulation.proofs.PostedNet.{NetPosts, requests_sound, joined_posted, progressing_posted, left_posted, sent_posted}
 use Rattle.simulation.proofs.Taken.{taken_same, taken_whole, taken_said}
@@ -256,7 +256,7 @@ module _ (w : World) (m : Machine) (o : ObjName) (p : Posted) (l : Link) (s : St
   sound : (k : Name) → IsContextSound m'.keys (machine.context_of m' k)
   sound = sound_kept m m' o.context (context_with m o (posted_end f p)) cm (λ k h. subst (λ ks. Contains ks k) (sym keys_are) h)
       (subst (λ ks. IsContextSound ks (context_with m o (posted_end f p))) (sym keys_are)
-      (connected_sound m.keys (machine.context_of m o.context) o.name (machine.nobody o) (posted_end f p) in_list name_here (end_posted_sound _ _ f p connected_here alive_here room short granted sound_here) (s.sound o.context))) s.sound
+      (connected_sound m.keys (machine.context_of m o.context) o.name (machine.nobody o) (posted_end f p) in_list name_here (domain_there m o in_list (s.sound o.context)) (end_posted_sound _ _ f p connected_here alive_here room short granted sound_here) (s.sound o.context))) s.sound
 
   number_same : (k : ObjName) → (machine.end_of m' k).number ≡ (machine.end_of m k).number
   number_same k = elim (grows.object_or_not k o) [
@@ -399,6 +399,8 @@ module _ (w : World) (m : Machine) (o : ObjName) (r : Request) (range : IsReques
         keyed_once = sound.keyed_once;
         named_once = sound.named_once;
         ends = queues_like y.regions _ _ y.ends (with_more_names y.queues g.send_queue done q) sound.ends;
+        regions_in = sound.regions_in;
+        ends_in = sound.ends_in;
       })
       (λ q domain p h. h)))
 

@@ -17,7 +17,7 @@ use Rattle.rdma_types.specs.declared.names.ObjName.{ObjName}
 use Rattle.rdma_types.specs.declared.verbs.Verb.TheVariants as verbs
 use Rattle.rdma_types.specs.declared.answers.Answer.TheVariants as answers
 use Rattle.rdma_types.specs.declared.answers.Refusal.TheVariants as refusals
-use Rattle.rdma_types.specs.Lists.{has_name, named, store_named}
+use Rattle.rdma_types.specs.Lists.{has_name, has_word, named, store_named}
 use Rattle.rdma_types.specs.Memory.{holds}
 use Rattle.rdma_types.specs.Objects.{Region, no_region}
 use Rattle.protocol.specs.declared.events.Event.TheVariants as events
@@ -81,6 +81,8 @@ store_sound keys y n a bytes there held said s =
       keyed_once = λ k. omega (arith, keyed_store n (stored_at r a bytes) y.regions k there refl, s.keyed_once k);
       named_once = s.named_once;
       ends = ends_regions y.regions _ _ y.ends (λ domain key place count right h. local_granted_store n (stored_at r a bytes) y.regions domain key place count right there (same_stored r a bytes) h) s.ends;
+      regions_in = All-store (λ x. has_word x.domain y.domains ≡ true) (λ x. x.name) n (stored_at r a bytes) y.regions s.regions_in (All-named (λ x. has_word x.domain y.domains ≡ true) (λ x. x.name) no_region n y.regions s.regions_in there);
+      ends_in = s.ends_in;
     }
 
 module _ (w : World) (m : Machine) (o : ObjName) (a : ℕ) (bytes : List ℕ) (said : All (λ b. b < 256) bytes) (s : Stands w m) where

@@ -51,6 +51,8 @@ keys_grow keys keys' y grow s = record {
   keyed_once = s.keyed_once;
   named_once = s.named_once;
   ends = s.ends;
+  regions_in = s.regions_in;
+  ends_in = s.ends_in;
 }
 
 -- what is in progress in the regions of one context stays where these change

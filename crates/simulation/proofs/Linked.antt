@@ -24,7 +24,7 @@ use Rattle.ideal_model.specs.Steps.{untold}
 use Rattle.ideal_model.specs.Verbs as verbing
 use Rattle.simulation.specs.Views.{Owned, owned, owned_there, contexts_of, context_of, link_or_none, receive_in, numbered_ends}
 use Rattle.simulation.specs.Stands.{IsPlaced, AreSame, IsContextSound, IsEndSound}
-use Rattle.simulation.proofs.Tables.{named-store_same, named-store_other, has_name-store, map-store, All-store, once_store}
+use Rattle.simulation.proofs.Tables.{named-store_same, named-store_other, has_name-store, map-store, All-named, All-store, once_store}
 use Rattle.simulation.proofs.Worlds as worlds
 use Rattle.simulation.proofs.Worlds.{WorldChanged, shapes_of, home_holds, home_context, place_same, husks_same, has_context_is, has_name-names, is_there, ran_counts}
 use Rattle.simulation.proofs.Machines as machines
@@ -159,14 +159,21 @@ side_connected x y n e f l p t same named' both lone alive idle none = record {
       ∙ ends_store n (record e { link = Some l }) (verbing.joined p t f) x.ends y.ends same.ends (owned_linked e f l p t both lone alive idle none);
 }
 
-pub connected_sound : (keys : List ℕ) (y : machine.Context) (n : Name) (none : End) (g : End) → has_name (λ z. z.name) n y.ends ≡ true → g.name ≡ n → IsEndSound y.regions (map (λ q. q.name) y.queues) g → IsContextSound keys y → IsContextSound keys (record y { ends = store_named (λ z. z.name) n g y.ends })
-connected_sound keys y n none g found named' here s = record {
+-- the domain of an end that is there
+pub domain_there : (m : Machine) (o : ObjName) → HasEnd m o → IsContextSound m.keys (machine.context_of m o.context) → has_word (machine.end_of m o).domain (machine.context_of m o.context).domains ≡ true
+unfolding machine.end_of
+domain_there m o found s = All-named (λ e. has_word e.domain (machine.context_of m o.context).domains ≡ true) (λ z. z.name) (nobody o) o.name (machine.context_of m o.context).ends s.ends_in found
+
+pub connected_sound : (keys : List ℕ) (y : machine.Context) (n : Name) (none : End) (g : End) → has_name (λ z. z.name) n y.ends ≡ true → g.name ≡ n → has_word g.domain y.domains ≡ true → IsEndSound y.regions (map (λ q. q.name) y.queues) g → IsContextSound keys y → IsContextSound keys (record y { ends = store_named (λ z. z.name) n g y.ends })
+connected_sound keys y n none g found named' domain here s = record {
   whole = s.whole;
   bytes = s.bytes;
   keyed = s.keyed;
   keyed_once = s.keyed_once;
   named_once = λ k. omega (arith, once_store (λ z. z.name) none n k g y.ends found named', s.named_once k);
   ends = All-store (IsEndSound y.regions (map (λ q. q.name) y.queues)) (λ z. z.name) n g y.ends s.ends here;
+  regions_in = s.regions_in;
+  ends_in = All-store (λ e. has_word e.domain y.domains ≡ true) (λ z. z.name) n g y.ends s.ends_in domain;
 }
 
 pub linked_ends : (w : World) (o : ObjName) (l : Link) → is_live w o.context ≡ true → (end_there_of w o).name ≡ o.name → (linked_of w o l).ends ≡ store_named (λ z. z.name) o.name (record (end_there_of w o) { link = Some l }) (context_of w o.context).ends

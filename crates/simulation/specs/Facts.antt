@@ -19,9 +19,9 @@ use Rattle.simulation.specs.Joined.{lands_untold_before}
 
 -- ---- husks
 
--- the end x is carried with that count of moves
+-- the end x is in Rts and carried, with that count of moves
 abbrev pub IsCarriedWith : Side → ℕ → Type 0
-IsCarriedWith x count = (x.carried ≡ true) × (count ≡ x.link.moving.own)
+IsCarriedWith x count = (x.carried ≡ true) × (x.rts ≡ true) × (count ≡ x.link.moving.own)
 
 -- an entry of a husk is of the end x, which the machine has as e with the peer p
 pub record IsLeft (x : Side) (e p : End) (h : HuskEntry) : Type 0 where
@@ -29,7 +29,7 @@ pub record IsLeft (x : Side) (e p : End) (h : HuskEntry) : Type 0 where
   pub connected : x.connected ≡ true
   pub number : e.number ≡ h.number
   pub peer : p.number ≡ h.peer
-  -- the count is below the end's, or the end is carried with it
+  -- the count is below the end's, or the end is in Rts and carried with it
   pub count : (h.moves < x.link.moving.own) ⊎ IsCarriedWith x h.moves
 
 -- that of the end with the entry's number

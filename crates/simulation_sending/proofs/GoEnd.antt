@@ -15,7 +15,7 @@ use Rattle.ideal_model.specs.Machine.{End}
 use Rattle.ideal_model.specs.Numbers.{due}
 use Rattle.ideal_model.specs.Steps.{front}
 use Rattle.simulation.specs.Packets.{Class, class_of, IsRequest, IsReadResponse, IsAtomicResponse, IsAck, IsSequenceNak, IsRefusal, IsReceiverNotReady, IsStopped, IsResume, IsResumeAck, IsNothing}
-use Rattle.simulation.specs.Facts.{IsLeft, IsRequestOf, IsOffered, IsOld, IsRefused, IsDry, NumberedFact, MoveFact, ClassFact, PacketFact, request_for, past_packet}
+use Rattle.simulation.specs.Facts.{IsCarriedWith, IsLeft, IsRequestOf, IsOffered, IsOld, IsRefused, IsDry, NumberedFact, MoveFact, ClassFact, PacketFact, request_for, past_packet}
 use Rattle.simulation.specs.Views.{Side}
 use Rattle.simulation.specs.Joined.{IsJoined, AreWholePieces, IsFencedIn, IsOrdered, Sends, lands_untold_before}
 use Rattle.simulation_sending.proofs.GoNet.{Goes}
@@ -57,8 +57,13 @@ lands_later q told known spent waits b j l h =
 
 -- ---- husks
 
-left_own : (x : Side) (l : Link) (q p : End) (told known spent waits : ℕ) (b : Bool) (h : HuskEntry) → l.moving.own ≡ x.link.moving.own → IsLeft x q p h → IsLeft (with_link x l) (gone_end q told known spent waits b) p h
-left_own x l q p told known spent waits b h own t = record { connected = refl; number = t.number; peer = t.peer; count = subst (λ k. (h.moves < k) ⊎ ((x.carried ≡ true) × (h.moves ≡ k))) (sym own) t.count }
+-- a count stays below the end's, or the end stays carried in Rts
+carried_still : (x : Side) (l : Link) (count : ℕ) → l.moving.own ≡ x.link.moving.own → (x.carried ≡ true → x.rts ≡ true → (with_link x l).rts ≡ true) → (count < x.link.moving.own) ⊎ IsCarriedWith x count → (count < l.moving.own) ⊎ IsCarriedWith (with_link x l) count
+carried_still x l count own stays (inl h) = inl (omega (arith, h, own))
+carried_still x l count own stays (inr h) = inr (h.0, stays h.0 h.1, h.2 ∙ sym own)
+
+left_own : (x : Side) (l : Link) (q p : End) (told known spent waits : ℕ) (b : Bool) (h : HuskEntry) → l.moving.own ≡ x.link.moving.own → (x.carried ≡ true → x.rts ≡ true → (with_link x l).rts ≡ true) → IsLeft x q p h → IsLeft (with_link x l) (gone_end q told known spent waits b) p h
+left_own x l q p told known spent waits b h own stays t = record { connected = refl; number = t.number; peer = t.peer; count = carried_still x l h.moves own stays t.count }
 
 left_peer : (y : Side) (q p : End) (told known spent waits : ℕ) (b : Bool) (h : HuskEntry) → IsLeft y p q h → IsLeft y p (gone_end q told known spent waits b) h
 left_peer y q p told known spent waits b h t = record { connected = t.connected; number = t.number; peer = t.peer; count = t.count }
@@ -96,7 +101,7 @@ module _ (x y : Side) (q p : End) (s : Sender) (ended b : Bool) (phase : Phase) 
   fact_to : (n : Option ℕ) (bytes : List ℕ) (d : Packet) → PacketFact x y q p n bytes d → PacketFact x' y q' p n bytes d
   fact_to n bytes d f = record { spelled = f.spelled; connected = refl; dest = f.dest; fact = class_to n d f.fact }
 
-  module _ (more : q.told ≤ told) (top : x.link.sender.top ≤ s.top) (rts : x'.rts ≡ true → x.rts ≡ true) where
+  module _ (more : q.told ≤ told) (top : x.link.sender.top ≤ s.top) (rts : x'.rts ≡ true → x.rts ≡ true) (stays : x.carried ≡ true → x.rts ≡ true → x'.rts ≡ true) where
     request_from : (n : ℕ) (d : Packet) → IsRequestOf x.link q n d → IsRequestOf l q' n d
     request_from n d h = record {
       packet = h.packet;
@@ -125,7 +130,7 @@ module _ (x y : Side) (q p : End) (s : Sender) (ended b : Bool) (phase : Phase) 
     move_from IsSequenceNak h = h
     move_from (IsRefusal is_access) h = h
     move_from IsReceiverNotReady h = h
-    move_from (IsStopped count) h = h
+    move_from (IsStopped count) h = carried_still x l count refl stays h
     move_from (IsResume body) h = (h.0, λ a r. h.1 a (rts r))
     move_from (IsResumeAck body) h = h
     move_from IsNothing h = h
@@ -220,15 +225,15 @@ module _ (o : ObjName) (x y : Side) (q p : End) (s : Sender) (told known spent w
     other = other_on;
     acting = λ domain regions h. h;
     taking = λ regions r h. h;
-    left = λ h. left_own x lively q p told known spent waits q.ended h refl;
+    left = λ h. left_own x lively q p told known spent waits q.ended h refl (λ c r. ap not alive);
     left_other = λ h. left_peer y q p told known spent waits q.ended h;
     to = fact_to x y q p s x.link.ended q.ended x.link.moving.phase x.link.receiver.progress told known spent waits;
-    from = fact_from x y q p s x.link.ended q.ended x.link.moving.phase x.link.receiver.progress told known spent waits more top (λ h. in_rts);
+    from = fact_from x y q p s x.link.ended q.ended x.link.moving.phase x.link.receiver.progress told known spent waits more top (λ h. in_rts) (λ c r. ap not alive);
   }
 
 -- ---- an end in Rts goes to Error
 
-module _ (o : ObjName) (x y : Side) (q p : End) (n : ℕ) (connected : x.connected ≡ true) (in_rts : x.rts ≡ true) (j : IsJoined o x y q p) (k : IsJoined q.peer y x p q) (told : q.told ≤ length q.posted)
+module _ (o : ObjName) (x y : Side) (q p : End) (n : ℕ) (connected : x.connected ≡ true) (in_rts : x.rts ≡ true) (here : x.carried ≡ false) (j : IsJoined o x y q p) (k : IsJoined q.peer y x p q) (told : q.told ≤ length q.posted)
     (end_of : n ≡ end_number q.posted q.mtu) (reach : end_number q.posted q.mtu ≤ due q + 2 ^ 20) where
   abbrev over_link : Link
   over_link = gone_link x.link (emptied_at n) true Running NoMessage
@@ -309,10 +314,10 @@ module _ (o : ObjName) (x y : Side) (q p : End) (n : ℕ) (connected : x.connect
     other = other_over;
     acting = λ domain regions h. h;
     taking = λ regions r. absurd (cc);
-    left = λ h. left_own x over_link q p (length q.posted) 0 0 0 true h refl;
+    left = λ h. left_own x over_link q p (length q.posted) 0 0 0 true h refl (λ c r. absurd (cc (c, here)));
     left_other = λ h. left_peer y q p (length q.posted) 0 0 0 true h;
     to = fact_to x y q p (emptied_at n) true true Running NoMessage (length q.posted) 0 0 0;
-    from = fact_from x y q p (emptied_at n) true true Running NoMessage (length q.posted) 0 0 0 told (omega (arith, end_of, j.ordered.top_end)) (λ h. in_rts);
+    from = fact_from x y q p (emptied_at n) true true Running NoMessage (length q.posted) 0 0 0 told (omega (arith, end_of, j.ordered.top_end)) (λ h. in_rts) (λ c r. absurd (cc (c, here)));
   }
 
 -- ---- an end begins or ends its wait for the timer
@@ -383,8 +388,8 @@ module _ (o : ObjName) (x y : Side) (q p : End) (b : Bool) (rts : x.rts ≡ not 
     };
     acting = λ domain regions h. h;
     taking = λ regions r h. h;
-    left = λ h. left_own x waiting_link q p q.told q.known q.spent q.waits q.ended h refl;
+    left = λ h. left_own x waiting_link q p q.told q.known q.spent q.waits q.ended h refl (λ c r. sym rts ∙ r);
     left_other = λ h t. t;
     to = fact_to x y q p waiting x.link.ended q.ended x.link.moving.phase x.link.receiver.progress q.told q.known q.spent q.waits;
-    from = fact_from x y q p waiting x.link.ended q.ended x.link.moving.phase x.link.receiver.progress q.told q.known q.spent q.waits (omega arith) (omega arith) (λ h. rts ∙ h);
+    from = fact_from x y q p waiting x.link.ended q.ended x.link.moving.phase x.link.receiver.progress q.told q.known q.spent q.waits (omega arith) (omega arith) (λ h. rts ∙ h) (λ c r. sym rts ∙ r);
   }

@@ -22,6 +22,7 @@ use Rattle.ideal_model.specs.Steps.{closed}
 use Rattle.simulation.specs.Views.{Side, link_or_none, owned, owned_there, requests_of, side_of}
 use Rattle.simulation.specs.Joined.{IsJoined}
 use Rattle.simulation.specs.Stands.{Stands, IsEndSound}
+use Rattle.simulation.proofs.Connecting.{live_not_carried}
 use Rattle.simulation.proofs.Live.{live_of}
 use Rattle.simulation.proofs.Linked.{end_there_of}
 use Rattle.simulation.proofs.Numbers.{first-rest}
@@ -82,7 +83,7 @@ module _ (w : World) (m : Machine) (o : ObjName) (l : Link) (s : Stands w m) (h 
       (subst (λ z. z.sender.top ≤ s'.top) (sym (link_is w m o l s h)) top) g in
       let ends : end_of_queue l.terms s' ≡ end_number f.posted f.mtu = queue_ends l s' f' (mtu_is w m o l s h) rest g.sends.first sound.sound.told_posted in
       let second : Goes o (with_link side (gone_link side.link s' side.link.ended side.link.moving.phase side.link.receiver.progress)) (with_link side (gone_link side.link (emptied_at (end_of_queue l.terms s')) true Running NoMessage)) (side_of w f.peer) (requests_of f') (requests_of (closed f')) (requests_of (machine.end_of m f.peer)) =
-      goes_over o (with_link side (gone_link side.link s' side.link.ended side.link.moving.phase side.link.receiver.progress)) (side_of w f.peer) (requests_of f') (requests_of (machine.end_of m f.peer)) (end_of_queue l.terms s') refl (ap not alive') first.own first.other sound.sound.told_posted ends
+      goes_over o (with_link side (gone_link side.link s' side.link.ended side.link.moving.phase side.link.receiver.progress)) (side_of w f.peer) (requests_of f') (requests_of (machine.end_of m f.peer)) (end_of_queue l.terms s') refl (ap not alive') (live_not_carried w m o.context s.placed h.live) first.own first.other sound.sound.told_posted ends
       (end_near f' sound.sound (subst (λ k. is_mtu k ≡ true) (joined_here w m o l s h).mtu (joined_here w m o l s h).terms.mtu) (ended_here w m o l s h ∙ alive) sound.depth) in
       steps_stand w _ m _ o _ _ e' (closed f') (ended_link l') (home_steps w m o l s h _ _ _ e' (closed f') (ended_link l') a goes) s
       (subst (λ z. Goes o side (with_link side (gone_link z (emptied_at (end_of_queue l.terms s')) true Running NoMessage)) (side_of w f.peer) (requests_of f) (requests_of (closed f')) (requests_of (machine.end_of m f.peer))) (link_is w m o l s h)

@@ -24,7 +24,7 @@ use Rattle.simulation.proofs.Machines.{MachineChanged}
 use Rattle.simulation.proofs.Kept.{counted_kept}
 use Rattle.simulation.proofs.Ends.{end_there, end_owned, ends_store}
 use Rattle.simulation.proofs.Live.{live_of, live_name, live_same, home_changed, home_counts}
-use Rattle.simulation.proofs.Linked.{end_there_of, linked_of, context_with, end_changed, connected_sound}
+use Rattle.simulation.proofs.Linked.{end_there_of, linked_of, context_with, end_changed, connected_sound, domain_there}
 use Rattle.simulation_sending.proofs.GoNet.{Goes}
 use Rattle.simulation_sending.proofs.GoStands.{Steps, steps_stand, with_link}
 use Rattle.simulation_sending.proofs.GoEnd.{Goes_on, gone_end, gone_link, goes_on, goes_waited}
@@ -204,7 +204,7 @@ module _ (w : World) (m : Machine) (o : ObjName) (l : Link) (s : Stands w m) (h 
               ap (λ k. map owned_there (store_named (λ z. z.name) k (record (end_there_of w o) { link = Some (words.with_sender l s') }) (live_of w o.context).ends)) name_there
               ∙ ends_store o.name (record (end_there_of w o) { link = Some (words.with_sender l s') }) g (live_of w o.context).ends (machine.context_of m o.context).ends before.ends (owned_gone (end_there_of w o) f l s' told known spent waits both h.linked rest);
         };
-        sound = connected_sound m.keys (machine.context_of m o.context) o.name (machine.nobody o) g in_list name_here sound (s.sound o.context);
+        sound = connected_sound m.keys (machine.context_of m o.context) o.name (machine.nobody o) g in_list name_here (domain_there m o in_list (s.sound o.context)) sound (s.sound o.context);
         regions = λ q domain p k. k;
       }
 

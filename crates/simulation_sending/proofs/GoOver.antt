@@ -9,7 +9,7 @@ use Rattle.rdma_types.specs.declared.requests.Completion.{Completion}
 use Rattle.rdma_types.specs.declared.requests.Receive.{Receive}
 use Rattle.rdma_types.specs.declared.requests.WcStatus.{WcStatus}
 use Rattle.rdma_types.specs.declared.requests.WcStatus.TheVariants as statuses
-use Rattle.rdma_types.specs.Lists.{has_name, named, store_named}
+use Rattle.rdma_types.specs.Lists.{has_name, has_word, named, store_named}
 use Rattle.rdma_types.specs.Objects.{CompletionQueue, Posted, no_queue}
 use Rattle.rdma_types.specs.Spans.{end_number}
 use Rattle.protocol.specs.State as state
@@ -22,7 +22,7 @@ use Rattle.ideal_model.specs.Steps as steps
 use Rattle.ideal_model.specs.Steps.{closed, failed_queues, failed_receives, failed_requests, receives_of, untold}
 use Rattle.simulation.specs.Views.{Owned, owned, owned_there, link_or_none, receive_in}
 use Rattle.simulation.specs.Stands.{Stands, AreSame, IsContextSound, IsEndSound}
-use Rattle.simulation.proofs.Tables.{replaced-stored, has_name-store, name-named_there, named-store_same}
+use Rattle.simulation.proofs.Tables.{All-named, replaced-stored, has_name-store, name-named_there, named-store_same}
 use Rattle.simulation.proofs.Machines as machines
 use Rattle.simulation.proofs.Machines.{MachineChanged, context_name, with_context_changed}
 use Rattle.simulation.proofs.Ends.{ends_store, queue_in, with_more, with_more_names, completing_there}
@@ -179,10 +179,17 @@ module _ (w : World) (m : Machine) (o : ObjName) (l : Link) (s : Stands w m) (h 
     ends_there : there_after.ends ≡ store_named (λ z. z.name) o.name (over_end e l') (live_of w o.context).ends
     ends_there = ap (λ k. store_named (λ z. z.name) k (over_end e l') x.ends) (name_there w m o l s h) ∙ ap (store_named (λ z. z.name) o.name (over_end e l')) live
 
+    -- the end lies in a domain that is there
+    domain_is : has_word (closed f').domain y.domains ≡ true
+    unfolding closed
+    domain_is =
+        subst (λ z. has_word z.domain y.domains ≡ true) (ap (named (λ u. u.name) (machine.nobody o) o.name) c.ends_here ∙ named-store_same (λ u. u.name) (machine.nobody o) o.name f' (machine.context_of m o.context).ends c.named_here)
+        (All-named (λ z. has_word z.domain y.domains ≡ true) (λ z. z.name) (machine.nobody o) o.name y.ends c.sound.ends_in in_context)
+
     sound_after : IsContextSound m.keys (over_context y o.name f' status)
     unfolding closed
     sound_after =
-        let before = connected_sound m.keys y o.name (machine.nobody o) (closed f') in_context c.named_here (closed_sound y.regions (map (λ q. q.name) y.queues) f' connected sound) c.sound in
+        let before = connected_sound m.keys y o.name (machine.nobody o) (closed f') in_context c.named_here domain_is (closed_sound y.regions (map (λ q. q.name) y.queues) f' connected sound) c.sound in
         record {
           whole = before.whole;
           bytes = before.bytes;
@@ -190,6 +197,8 @@ module _ (w : World) (m : Machine) (o : ObjName) (l : Link) (s : Stands w m) (h 
           keyed_once = before.keyed_once;
           named_once = before.named_once;
           ends = queues_like y.regions _ _ _ (ap (map (λ q. q.name)) queues_are ∙ both_names y.queues f'.send_queue f'.receive_queue _ _ send_there receive_there) before.ends;
+          regions_in = before.regions_in;
+          ends_in = before.ends_in;
         }
 
     pub over_goes : ContextGoes w m (steps.ended_with m' o status) o (ended_with x e l' status) (over_context y o.name f' status) (over_end e l') (closed f') (ended_link l')

@@ -1,0 +1,6 @@
+pub mod First
+pub mod Found
+pub mod Arriving
+pub mod EachKind
+pub mod Pairs
+pub mod Lifted

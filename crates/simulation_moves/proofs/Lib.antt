@@ -1,0 +1,10 @@
+pub mod Lists
+pub mod NetMoves
+pub mod Relocated
+pub mod Devices
+pub mod EventRelease
+pub mod Image
+pub mod Founds
+pub mod Movers
+pub mod EventStop
+pub mod EventRestore
