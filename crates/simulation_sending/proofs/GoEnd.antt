@@ -46,7 +46,7 @@ none_dropped test (r ∷ xs) zero k h = let same : k - 0 ≡ k = omega arith in 
 none_dropped test (r ∷ xs) (suc d) zero h = let none : 0 - suc d ≡ 0 = omega arith in ap (λ i. list_any test (take i (drop d xs))) none
 none_dropped test (r ∷ xs) (suc d) (suc k) h = let same : suc k - suc d ≡ k - d = omega arith in ap (λ i. list_any test (take i (drop d xs))) same ∙ none_dropped test xs d k (no_later (test r) (list_any test (take k xs)) h)
 
-lands_later : (q : End) (told known spent waits : ℕ) (b : Bool) (j : ℕ) → q.told ≤ told → lands_untold_before q j ≡ false → lands_untold_before (gone_end q told known spent waits b) j ≡ false
+pub lands_later : (q : End) (told known spent waits : ℕ) (b : Bool) (j : ℕ) → q.told ≤ told → lands_untold_before q j ≡ false → lands_untold_before (gone_end q told known spent waits b) j ≡ false
 lands_later q told known spent waits b j l h =
     let rest : j - q.told - (told - q.told) ≡ j - told = omega (arith, l) in
     let all : q.told + (told - q.told) ≡ told = omega (arith, l) in

@@ -85,7 +85,7 @@ completing_both x queues a b xs ys same there there' =
 abbrev pub over_context : machine.Context → Name → End → WcStatus → machine.Context
 over_context y n f status = record y { ends = store_named (λ z. z.name) n (closed f) y.ends; queues = failed_queues f status (receives_of f) y.queues }
 
-made_still : (m m' : Machine) (c : Name) (y : machine.Context) → MachineChanged m m' c y → has_context m' c ≡ true
+pub made_still : (m m' : Machine) (c : Name) (y : machine.Context) → MachineChanged m m' c y → has_context m' c ≡ true
 unfolding has_context
 made_still m m' c y cm = ap (has_name (λ x. x.name) c) cm.contexts ∙ (has_name-store (λ x. x.name) c c y m.contexts cm.there cm.named ∙ cm.there)
 

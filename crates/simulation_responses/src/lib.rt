@@ -1,0 +1,9 @@
+//! The law of responses: what is owed of each kind of response that arrives at an end in Rts, so that the machine follows
+//! its deliveries.
+//!
+//! The functions have no code. Each promises the law that it names.
+#![tactic(auto)]
+
+mod responses;
+
+pub use responses::acks_are_taken;
