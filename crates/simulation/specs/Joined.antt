@@ -63,8 +63,8 @@ pub record Sends (s : Sender) (q : End) : Type 0 where
   pub una : s.una ≡ oldest q
   -- counted expiries are equal
   pub spent : s.spent ≡ q.spent
-  -- counted waits are equal, unless waits have no limit
-  pub waits : q.rnr ≢ 7 → s.waits ≡ q.waits
+  -- counted waits are equal, and no more than the limit, unless they have none
+  pub waits : q.rnr ≢ 7 → (s.waits ≡ q.waits) × (q.waits ≤ q.rnr)
 
 -- the requester in Error: all its numbers are the end of the numbers
 pub record IsOver (s : Sender) (q : End) : Type 0 where

@@ -118,7 +118,7 @@ module _ (w : World) (m : Machine) (o : ObjName) (l : Link) (s : Stands w m) (h 
       pub top : s2.top ≡ l.sender.top
       pub una : s2.una ≡ n
       pub spent : s2.spent ≡ learn.spent
-      pub waits : f.rnr ≢ 7 → s2.waits ≡ more_waits
+      pub waits : f.rnr ≢ 7 → (s2.waits ≡ more_waits) × (more_waits ≤ f.rnr)
       pub una_next : n ≤ s2.next
       pub next_top : s2.next ≤ l.sender.top
 
@@ -196,7 +196,7 @@ module _ (w : World) (m : Machine) (o : ObjName) (l : Link) (s : Stands w m) (h 
               top = refl;
               una = refl;
               spent = sym gone.0;
-              waits = λ r. sym gone.1;
+              waits = λ r. (sym gone.1, omega (arith, gone.1));
               una_next = omega arith;
               next_top = omega (arith, u.next_top, acts, due_at_most);
             }
@@ -211,7 +211,7 @@ module _ (w : World) (m : Machine) (o : ObjName) (l : Link) (s : Stands w m) (h 
               top = refl;
               una = una_is ∙ same;
               spent = v.spent ∙ sym still.0;
-              waits = λ r. v.waits r ∙ sym still.1;
+              waits = λ r. ((v.waits r).0 ∙ sym still.1, omega (arith, (v.waits r).1, still.1));
               una_next = omega (arith, u.una_next, una_is, same);
               next_top = u.next_top;
             }
