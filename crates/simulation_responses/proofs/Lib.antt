@@ -6,3 +6,7 @@ pub mod ResponseAdvance
 pub mod ResponseArrives
 pub mod ResponseGoals
 pub mod ResponseAck
+pub mod ResponseSequenceNak
+pub mod ResponseLast
+pub mod ResponseRefusal
+pub mod ResponseNotReady

@@ -35,7 +35,7 @@ use Rattle.simulation_responses.proofs.ResponseAdvance.{near_una, una_is, due_at
 -- ---- what an acknowledgement is
 
 -- ACK, NAK 0, 1 and 2, and RNR NAK
-pub is_answer : Class → Bool
+unfoldable pub is_answer : Class → Bool
 is_answer IsAck = true
 is_answer IsSequenceNak = true
 is_answer (IsRefusal is_access) = true
@@ -68,7 +68,7 @@ unfolding is_answer aeth_class
 aeth_yes None c good e = absurd (cc (ap is_answer e, good))
 aeth_yes (Some h) c good e = (h, refl, e)
 
-acknowledge : (d : Packet) (c : Class) → is_answer c ≡ true → class_of d ≡ c → (h : Aeth) × IsAcknowledge d c h
+pub acknowledge : (d : Packet) (c : Class) → is_answer c ≡ true → class_of d ≡ c → (h : Aeth) × IsAcknowledge d c h
 unfolding class_of is_answer
 acknowledge d c good e = by_tests (is_request d.opcode) (is_read_response d.opcode) (d.opcode == 0x12) (d.opcode == 0x11) refl e
   where

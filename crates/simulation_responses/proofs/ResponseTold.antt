@@ -49,7 +49,7 @@ pub record Learned (m m' : Machine) (o : ObjName) (g : End) (more : List Complet
   pub numbers : m'.numbers ≡ m.numbers
   pub keys : m'.keys ≡ m.keys
 
-none_more : (queues : List CompletionQueue) (n : Name) → has_name (λ q. q.name) n queues ≡ true → with_more queues n [] ≡ queues
+pub none_more : (queues : List CompletionQueue) (n : Name) → has_name (λ q. q.name) n queues ≡ true → with_more queues n [] ≡ queues
 none_more queues n there =
     ap (λ es. store_named (λ q. q.name) n (record (queue_in queues n) { entries = es }) queues) (append-nil (queue_in queues n).entries)
     ∙ stored_same (λ q. q.name) no_queue n queues there

@@ -1,9 +1,27 @@
 //! The law of acknowledgements.
 
-ghost use Rattle.simulation_delivery.specs.Delivered.{AcksAreTaken};
+ghost use Rattle.simulation_delivery.specs.Delivered.{AcksAreTaken, SequenceNaksAreTaken, RefusalsAreTaken, ReceiverNotReadyIsTaken};
 
 /// The machine follows each ACK that arrives at an end in Rts: its owner learns of the numbers up to it, and of none from
 /// the barrier on.
 pub fn acks_are_taken()
     ensures { AcksAreTaken }
+{}
+
+/// The machine follows each sequence error NAK: the owner learns of the numbers before it, and of none from the barrier
+/// on.
+pub fn sequence_naks_are_taken()
+    ensures { SequenceNaksAreTaken }
+{}
+
+/// The machine follows each NAK of an invalid request or of a remote access error: the owner learns of the numbers before
+/// it, and where it speaks of the oldest number the machine's end learns that its first request is refused.
+pub fn refusals_are_taken()
+    ensures { RefusalsAreTaken }
+{}
+
+/// The machine follows each receiver-not-ready NAK: the owner learns of the numbers before it, and where it speaks of the
+/// oldest number one wait is counted.
+pub fn receiver_not_ready_is_taken()
+    ensures { ReceiverNotReadyIsTaken }
 {}
