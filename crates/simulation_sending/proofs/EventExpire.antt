@@ -1,6 +1,6 @@
 -- The machine follows an expiry: where it is counted by one Expire, and else by no step.
-use Rattle.std.proofs.Common.{arith, ◌≡◌, ◌≤◌, ◌<◌, ◌+◌, ℕ, suc, List, [], ◌∷◌, length, map, true, false, Bool, refl, sym, ap, ◌∙◌, subst, inl, inr}
-use Rattle.std.specs.Prelude.{Option, Some, None, not, ◌&&◌, ◌==◌, nat_lt, drop, if◌then◌else◌}
+use Rattle.std.proofs.Common.{arith, ◌≡◌, ◌≤◌, ◌<◌, ◌+◌, ℕ, suc, [], ◌∷◌, length, true, false, Bool, refl, sym, ap, ◌∙◌, subst, inl, inr}
+use Rattle.std.specs.Prelude.{Option, Some, None, not, ◌&&◌, ◌==◌, nat_lt, if◌then◌else◌}
 use Rattle.std.proofs.lemmas.Bool.Decides.{nat_tests, leb_tells, eqb_tells}
 use Rattle.rdma_types.specs.declared.names.ObjName.{ObjName}
 use Rattle.rdma_types.specs.declared.answers.Answer.{Answer}
@@ -11,7 +11,7 @@ use Rattle.rdma_types.specs.Lists.{store_named}
 use Rattle.rdma_types.specs.Spans.{end_number}
 use Rattle.protocol.specs.declared.events.Event.TheVariants as events
 use Rattle.protocol.specs.declared.events.WorldEvent.TheVariants as world_events
-use Rattle.protocol.specs.State.{World, Link, Sender}
+use Rattle.protocol.specs.State.{World, Link}
 use Rattle.protocol.specs.EndWords as words
 use Rattle.protocol.specs.EndWords.{is_paused, is_resuming}
 use Rattle.protocol.specs.Refusals as refusing
@@ -27,13 +27,12 @@ use Rattle.ideal_model.specs.Steps as making
 use Rattle.ideal_model.specs.Steps.{expire, expired, has_untold}
 use Rattle.simulation.specs.Kept as kept
 use Rattle.simulation.specs.Carries.{is_counted, expire_steps}
-use Rattle.simulation.specs.Stands.{Stands, IsEndSound}
+use Rattle.simulation.specs.Stands.{Stands}
 use Rattle.simulation.specs.Views.{requests_of}
-use Rattle.simulation.specs.Joined.{Sends, IsOrdered}
 use Rattle.simulation.specs.Law.{Reaches, Follows}
 use Rattle.simulation.proofs.Live.{live_of}
 use Rattle.simulation.proofs.Linked.{end_there_of, linked_of, context_with}
-use Rattle.simulation_sending.proofs.GoUnheard.{IsUnheard, unheard_follows, same_reached, nothing_heard}
+use Rattle.simulation_sending.proofs.GoUnheard.{unheard_follows, same_reached, nothing_heard}
 use Rattle.simulation_sending.proofs.GoEnd.{Goes_on, gone_end}
 use Rattle.simulation_sending.proofs.GoTables.{end_kept}
 use Rattle.simulation_sending.proofs.GoLive.{LiveEnd, ContextGoes, alone, alone_stands, link_is, sound_here, connected_here, ended_here, untold_here, sends_here, ordered_here, fenced_here, joined_here, name_there}

@@ -1,6 +1,6 @@
 -- The machine follows the end of the RNR timer: it makes no step.
-use Rattle.std.proofs.Common.{◌≡◌, ℕ, [], ◌∷◌, true, false, Bool, refl, sym, ap, ◌∙◌, subst}
-use Rattle.std.specs.Prelude.{Option, Some, None, if◌then◌else◌}
+use Rattle.std.proofs.Common.{true, false, Bool, refl, sym, subst}
+use Rattle.std.specs.Prelude.{if◌then◌else◌}
 use Rattle.rdma_types.specs.declared.names.ObjName.{ObjName}
 use Rattle.rdma_types.specs.declared.answers.Answer.TheVariants as answers
 use Rattle.protocol.specs.declared.events.Event.TheVariants as events
@@ -12,14 +12,14 @@ use Rattle.protocol.specs.Requester.{waited_out}
 use Rattle.protocol.specs.DeviceStep as device
 use Rattle.protocol.specs.WorldStep as step
 use Rattle.protocol.specs.WorldStep.{is_live, home, ran}
-use Rattle.ideal_model.specs.Machine.{Machine, has_context}
+use Rattle.ideal_model.specs.Machine.{Machine}
 use Rattle.simulation.specs.Kept as kept
 use Rattle.simulation.specs.Stands.{Stands}
 use Rattle.simulation.specs.Law.{Reaches, Follows}
 use Rattle.simulation.proofs.Live.{live_of}
 use Rattle.simulation.proofs.Linked.{end_there_of, linked_of}
 use Rattle.simulation.proofs.Verbs.{unheard_reached}
-use Rattle.simulation_sending.proofs.GoUnheard.{IsUnheard, unheard_follows, same_reached}
+use Rattle.simulation_sending.proofs.GoUnheard.{unheard_follows, same_reached}
 use Rattle.simulation_sending.proofs.GoLive.{LiveEnd, waited_stands}
 use Rattle.simulation_sending.proofs.GoFound.{found_linked}
 

@@ -1,25 +1,22 @@
 -- The machine follows a transmission: it makes no step, and what is sent is a packet of its end.
-use Rattle.std.proofs.Common.{arith, ◌≡◌, ◌≤◌, ◌<◌, ◌+◌, ◌^◌, ℕ, suc, List, [], ◌∷◌, ◌++◌, length, map, get_or, true, false, Bool, refl, sym, ap, ◌∙◌, subst}
-use Rattle.std.specs.Prelude.{Option, Some, None, not, is_some, if◌then◌else◌}
+use Rattle.std.proofs.Common.{arith, ◌≡◌, ◌≤◌, ◌<◌, ◌+◌, ◌^◌, ℕ, [], ◌∷◌, ◌++◌, length, get_or, true, false, refl, sym, ap, ◌∙◌, subst}
+use Rattle.std.specs.Prelude.{Some, None, is_some}
 use Rattle.std.proofs.lemmas.List.{append-nil}
 use Rattle.rdma_types.specs.declared.names.ObjName.{ObjName}
-use Rattle.rdma_types.specs.declared.answers.Answer.{Answer}
 use Rattle.rdma_types.specs.declared.answers.Answer.TheVariants as answers
-use Rattle.rdma_types.specs.declared.requests.Address.{Address}
 use Rattle.rdma_types.specs.Kinds.{size_of}
 use Rattle.rdma_types.specs.Limits.{is_mtu, most_bytes}
-use Rattle.rdma_types.specs.Objects.{Posted, no_posted}
+use Rattle.rdma_types.specs.Objects.{no_posted}
 use Rattle.rdma_types.specs.Spans.{Piece, end_number}
 use Rattle.protocol.specs.declared.events.Event.TheVariants as events
 use Rattle.protocol.specs.declared.events.WorldEvent.TheVariants as world_events
 use Rattle.protocol.specs.declared.wire.ResumeBody.{ResumeBody}
 use Rattle.protocol.specs.Fabric.{sending}
-use Rattle.protocol.specs.Moves.{resume_of, resume_packet}
+use Rattle.protocol.specs.Moves.{resume_of}
 use Rattle.protocol.specs.Numbers.{wire_number}
 use Rattle.protocol.specs.Segments.{packet_of_piece}
-use Rattle.protocol.specs.State as state
 use Rattle.protocol.specs.State.{World, Device, Link, Sender, Flight}
-use Rattle.protocol.specs.Wire.{Packet, packet_of, wire_of}
+use Rattle.protocol.specs.Wire.{Packet, wire_of}
 use Rattle.protocol.specs.EndWords as words
 use Rattle.protocol.specs.EndWords.{to_partner}
 use Rattle.protocol.specs.Refusals as refusing
@@ -30,11 +27,10 @@ use Rattle.protocol.specs.WorldStep.{is_live, home, ran, with_device}
 use Rattle.ideal_model.specs.Machine as machine
 use Rattle.ideal_model.specs.Machine.{Machine, End, has_context, has_end}
 use Rattle.ideal_model.specs.Numbers.{due}
-use Rattle.simulation.specs.Facts.{Fact, IsRequestOf, MoveFact, NumberedFact, ClassFact}
+use Rattle.simulation.specs.Facts.{Fact, IsRequestOf, MoveFact, NumberedFact}
 use Rattle.simulation.specs.Joined.{IsSayable}
 use Rattle.simulation.specs.Kept as kept
 use Rattle.simulation.specs.Law.{Reaches, Follows}
-use Rattle.simulation.specs.Packets.{class_of, IsRequest, IsResume}
 use Rattle.simulation.specs.Stands.{Stands, AreSent}
 use Rattle.simulation.specs.Views.{end_of, link_or_none, net_of, requests_of, side_of}
 use Rattle.simulation.proofs.Connecting.{live_place}
@@ -43,15 +39,15 @@ use Rattle.simulation.proofs.Linked.{end_there_of, linked_of}
 use Rattle.simulation.proofs.Live.{live_of}
 use Rattle.simulation.proofs.PostedNet.{requests_sound}
 use Rattle.simulation.proofs.Verbs.{ran_same, unheard_reached}
-use Rattle.simulation_sending.proofs.GoUnheard.{IsUnheard, unheard_follows, same_reached}
-use Rattle.simulation_sending.proofs.GoEnd.{Goes_on, gone_end}
+use Rattle.simulation_sending.proofs.GoUnheard.{unheard_follows, same_reached}
+use Rattle.simulation_sending.proofs.GoEnd.{Goes_on}
 use Rattle.simulation_sending.proofs.GoStands.{link_after}
 use Rattle.simulation_sending.proofs.GoTables.{end_kept}
-use Rattle.simulation_sending.proofs.GoLive.{LiveEnd, alone, alone_stands, home_steps, link_is, connected, sound_here, connected_here, ended_here, untold_here, sends_here, ordered_here, fenced_here, joined_here, mtu_is}
+use Rattle.simulation_sending.proofs.GoLive.{LiveEnd, alone, alone_stands, home_steps, link_is, connected, sound_here, ended_here, untold_here, sends_here, ordered_here, fenced_here, joined_here, mtu_is}
 use Rattle.simulation_sending.proofs.GoNumbers.{end_near, mtu_small}
 use Rattle.simulation_sending.proofs.GoFound.{found_linked}
 use Rattle.simulation_sending.proofs.GoSent.{sent_push, own_fact, peer_said, home_address}
-use Rattle.simulation_sending.proofs.GoTransmit.{IsSending, sends_is, resumes_is, ordered_after, fenced_after, request_after, piece_posted}
+use Rattle.simulation_sending.proofs.GoTransmit.{IsSending, sends_is, ordered_after, fenced_after, request_after, piece_posted}
 use Rattle.simulation_sending.proofs.GoWritten.{reads_back, fits_piece, class_piece, dest_piece, wire_number_bits, fits_resume, class_resume}
 
 module _ (w : World) (m : Machine) (o : ObjName) (s : Stands w m) (l : Link) (h : LiveEnd w m o l) where

@@ -1,6 +1,6 @@
 -- One connected end learns more, or ends, and sends more: what is to be shown of it alone.
-use Rattle.std.proofs.Common.{arith, ◌≡◌, ◌≤◌, ◌<◌, ◌+◌, ◌-◌, ◌⊎◌, ◌^◌, ℕ, zero, suc, List, [], ◌∷◌, length, true, false, Bool, refl, sym, ap, ◌∙◌, subst, inl, inr}
-use Rattle.std.specs.Prelude.{Option, Some, None, not, drop, take, ◌||◌, ◌==◌, if◌then◌else◌}
+use Rattle.std.proofs.Common.{arith, ◌≡◌, ◌≤◌, ◌<◌, ◌+◌, ◌-◌, ◌⊎◌, ◌^◌, ℕ, zero, suc, List, [], ◌∷◌, length, true, false, Bool, refl, sym, ap, ◌∙◌, inl, inr}
+use Rattle.std.specs.Prelude.{Option, Some, None, not, drop, take, ◌||◌}
 use Rattle.std.specs.List.{list_any}
 use Rattle.std.proofs.Math.Nat.{zero-mod}
 use Rattle.std.proofs.lemmas.List.{drop-drop}
@@ -15,7 +15,7 @@ use Rattle.ideal_model.specs.Machine.{End}
 use Rattle.ideal_model.specs.Numbers.{due}
 use Rattle.ideal_model.specs.Steps.{front}
 use Rattle.simulation.specs.Packets.{Class, class_of, IsRequest, IsReadResponse, IsAtomicResponse, IsAck, IsSequenceNak, IsRefusal, IsReceiverNotReady, IsStopped, IsResume, IsResumeAck, IsNothing}
-use Rattle.simulation.specs.Facts.{IsCarriedWith, IsLeft, IsRequestOf, IsOffered, IsOld, IsRefused, IsDry, NumberedFact, MoveFact, ClassFact, PacketFact, request_for, past_packet}
+use Rattle.simulation.specs.Facts.{IsCarriedWith, IsLeft, IsRequestOf, NumberedFact, MoveFact, ClassFact, PacketFact}
 use Rattle.simulation.specs.Views.{Side}
 use Rattle.simulation.specs.Joined.{IsJoined, AreWholePieces, IsFencedIn, IsOrdered, Sends, lands_untold_before}
 use Rattle.simulation_sending.proofs.GoNet.{Goes}

@@ -1,6 +1,6 @@
 -- A live end in Rts goes to Error, perhaps after its owner learned more: the relation is kept.
-use Rattle.std.proofs.Common.{arith, ◌≡◌, ◌≤◌, ◌<◌, ◌+◌, ◌^◌, ℕ, List, [], ◌∷◌, length, map, true, false, Bool, refl, sym, ap, ◌∙◌, subst}
-use Rattle.std.specs.Prelude.{Option, Some, None, not, drop}
+use Rattle.std.proofs.Common.{◌≡◌, ◌≤◌, ◌+◌, ℕ, length, map, true, false, refl, sym, ap, ◌∙◌, subst}
+use Rattle.std.specs.Prelude.{Some, not, drop}
 use Rattle.rdma_types.specs.declared.names.ObjName.{ObjName}
 use Rattle.rdma_types.specs.declared.answers.Answer.{Answer}
 use Rattle.rdma_types.specs.declared.requests.WcStatus.{WcStatus}
@@ -16,21 +16,19 @@ use Rattle.protocol.specs.WorldStep.{home, ran}
 use Rattle.ideal_model.specs.Machine as machine
 use Rattle.ideal_model.specs.Machine.{Machine, End}
 use Rattle.ideal_model.specs.Numbers.{due}
-use Rattle.ideal_model.specs.Sound.{IsSound}
 use Rattle.ideal_model.specs.Steps as steps
 use Rattle.ideal_model.specs.Steps.{closed}
-use Rattle.simulation.specs.Views.{Side, link_or_none, owned, owned_there, requests_of, side_of}
+use Rattle.simulation.specs.Views.{Side, requests_of, side_of}
 use Rattle.simulation.specs.Joined.{IsJoined}
 use Rattle.simulation.specs.Stands.{Stands, IsEndSound}
 use Rattle.simulation.proofs.Connecting.{live_not_carried}
 use Rattle.simulation.proofs.Live.{live_of}
 use Rattle.simulation.proofs.Linked.{end_there_of}
 use Rattle.simulation.proofs.Numbers.{first-rest}
-use Rattle.simulation.proofs.PostedNet.{requests_sound}
 use Rattle.simulation_sending.proofs.GoNet.{Goes}
 use Rattle.simulation_sending.proofs.GoStands.{steps_stand, with_link}
 use Rattle.simulation_sending.proofs.GoEnd.{Goes_on, gone_end, gone_link, goes_on, goes_over}
-use Rattle.simulation_sending.proofs.GoLive.{LiveEnd, ContextGoes, home_steps, owned_gone, link_is, connected, in_rts_is, joined_here, joined_other, sound_here, connected_here, ended_here, both, mtu_is}
+use Rattle.simulation_sending.proofs.GoLive.{LiveEnd, ContextGoes, home_steps, owned_gone, link_is, connected, in_rts_is, joined_here, joined_other, connected_here, ended_here, both, mtu_is}
 use Rattle.simulation_sending.proofs.GoNumbers.{end_near}
 use Rattle.simulation_sending.proofs.GoOver.{over_goes, over_end, over_context}
 

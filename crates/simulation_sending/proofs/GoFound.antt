@@ -1,6 +1,6 @@
 -- Where an event of a connected end is not refused, the end lives, and is connected.
-use Rattle.std.proofs.Common.{◌≡◌, ◌∷◌, [], true, false, Bool, refl, sym, ap, ◌∙◌}
-use Rattle.std.specs.Prelude.{Option, Some, None, not}
+use Rattle.std.proofs.Common.{◌≡◌, true, false, refl, sym, ◌∙◌}
+use Rattle.std.specs.Prelude.{Option, Some, None}
 use Rattle.rdma_types.specs.declared.names.ObjName.{ObjName}
 use Rattle.rdma_types.specs.declared.answers.Refusal.TheVariants as refusals
 use Rattle.rdma_types.specs.Causes.{first_cause}

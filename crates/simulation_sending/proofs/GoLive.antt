@@ -1,12 +1,10 @@
 -- A live connected end: what a world that stands tells of it, and what it is to change it on both sides.
-use Rattle.std.proofs.Common.{arith, ◌≡◌, ◌≤◌, ◌<◌, ◌+◌, ◌*◌, ◌^◌, ℕ, List, [], ◌∷◌, ◌++◌, length, map, true, false, Bool, refl, sym, ap, ◌∙◌, subst, inl, inr}
-use Rattle.std.specs.Prelude.{Option, Some, None, not, ◌&&◌, is_some, drop}
-use Rattle.std.proofs.lemmas.List.{length-drop}
+use Rattle.std.proofs.Common.{◌≡◌, ◌≤◌, ℕ, map, true, false, Bool, refl, sym, ap, ◌∙◌, subst}
+use Rattle.std.specs.Prelude.{Some, not, ◌&&◌, is_some, drop}
 use Rattle.rdma_types.specs.declared.names.Name.{Name}
 use Rattle.rdma_types.specs.declared.names.ObjName.{ObjName}
 use Rattle.rdma_types.specs.declared.answers.Answer.{Answer}
 use Rattle.rdma_types.specs.Lists.{has_name, named, store_named}
-use Rattle.rdma_types.specs.Objects.{Posted}
 use Rattle.protocol.specs.State as state
 use Rattle.protocol.specs.State.{World, Link, Sender, Progress, no_end}
 use Rattle.protocol.specs.EndWords as words
@@ -15,11 +13,11 @@ use Rattle.protocol.specs.WorldStep.{is_live, home, ran}
 use Rattle.ideal_model.specs.Machine as machine
 use Rattle.ideal_model.specs.Machine.{Machine, End, has_context, has_end, regions_of}
 use Rattle.ideal_model.specs.Steps.{untold}
-use Rattle.simulation.specs.Views.{Owned, Side, owned, owned_there, context_of, end_of, in_rts, link_or_none, receive_in, requests_of, side_of}
+use Rattle.simulation.specs.Views.{Owned, owned, owned_there, end_of, in_rts, link_or_none, receive_in, requests_of, side_of}
 use Rattle.simulation.specs.Joined.{IsJoined, IsProgress, Sends, IsOrdered, IsFencedIn}
 use Rattle.simulation.specs.Stands.{Stands, AreSame, IsContextSound, IsEndSound}
 use Rattle.simulation.proofs.Tables.{All-named, name-named_there, named-there}
-use Rattle.simulation.proofs.Worlds.{WorldChanged, home_context}
+use Rattle.simulation.proofs.Worlds.{home_context}
 use Rattle.simulation.proofs.Machines.{MachineChanged}
 use Rattle.simulation.proofs.Kept.{counted_kept}
 use Rattle.simulation.proofs.Ends.{end_there, end_owned, ends_store}

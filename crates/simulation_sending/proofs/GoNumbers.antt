@@ -1,6 +1,6 @@
 -- Packet numbers of an end: what is posted and untold has few of them.
 use Rattle.std.proofs.Common.{arith, ◌≡◌, ◌≤◌, ◌<◌, ◌+◌, ◌-◌, ◌*◌, ◌/◌, ◌^◌, ◌||◌, ℕ, zero, suc, List, [], ◌∷◌, length, get_or, true, false, Bool, refl, sym, ap, ◌∙◌, subst, inl, inr}
-use Rattle.std.specs.Prelude.{max, drop, ◌==◌, if◌then◌else◌}
+use Rattle.std.specs.Prelude.{max, drop, if◌then◌else◌}
 use Rattle.std.proofs.lemmas.Bool.Decides.{eqb_tells}
 use Rattle.rdma_types.specs.Kinds.{is_atomic, size_of}
 use Rattle.rdma_types.specs.Limits.{is_mtu, most_bytes}
@@ -9,7 +9,7 @@ use Rattle.rdma_types.specs.Spans.{pieces, span, span_of, first_number, end_numb
 use Rattle.ideal_model.specs.Machine.{End, untold_count}
 use Rattle.ideal_model.specs.Numbers.{due, oldest}
 use Rattle.ideal_model.specs.Sound.{IsSound}
-use Rattle.simulation.proofs.Numbers.{first-end, first-rest}
+use Rattle.simulation.proofs.Numbers.{first-rest}
 
 -- ---- one of the five MTUs
 

@@ -1,27 +1,25 @@
 -- An end goes to Error on both sides: its work is completed, and its numbers end.
-use Rattle.std.proofs.Common.{arith, ◌≡◌, ◌≤◌, ◌<◌, ◌+◌, ◌^◌, ℕ, List, [], ◌∷◌, ◌++◌, length, map, true, false, Bool, refl, sym, ap, ◌∙◌, subst}
-use Rattle.std.specs.Prelude.{Option, Some, None, not, is_some, drop, option_to_list}
+use Rattle.std.proofs.Common.{arith, ◌≡◌, ℕ, List, [], ◌∷◌, ◌++◌, length, map, true, refl, sym, ap, ◌∙◌, subst}
+use Rattle.std.specs.Prelude.{Some, None, option_to_list}
 use Rattle.std.proofs.lemmas.List.{drop_all}
 use Rattle.rdma_types.specs.declared.names.Name.{Name}
 use Rattle.rdma_types.specs.declared.names.ObjName.{ObjName}
-use Rattle.rdma_types.specs.declared.answers.Answer.{Answer}
 use Rattle.rdma_types.specs.declared.requests.Completion.{Completion}
 use Rattle.rdma_types.specs.declared.requests.Receive.{Receive}
 use Rattle.rdma_types.specs.declared.requests.WcStatus.{WcStatus}
 use Rattle.rdma_types.specs.declared.requests.WcStatus.TheVariants as statuses
 use Rattle.rdma_types.specs.Lists.{has_name, has_word, named, store_named}
 use Rattle.rdma_types.specs.Objects.{CompletionQueue, Posted, no_queue}
-use Rattle.rdma_types.specs.Spans.{end_number}
 use Rattle.protocol.specs.State as state
 use Rattle.protocol.specs.State.{World, Link, Progress, NoMessage, InSend, InWrite}
 use Rattle.protocol.specs.EndWords as words
-use Rattle.protocol.specs.Requester.{end_of_queue, ended_link, ended_with, failing}
+use Rattle.protocol.specs.Requester.{ended_link, ended_with, failing}
 use Rattle.ideal_model.specs.Machine as machine
 use Rattle.ideal_model.specs.Machine.{Machine, End, has_context, has_end, completed}
 use Rattle.ideal_model.specs.Steps as steps
 use Rattle.ideal_model.specs.Steps.{closed, failed_queues, failed_receives, failed_requests, receives_of, untold}
 use Rattle.simulation.specs.Views.{Owned, owned, owned_there, link_or_none, receive_in}
-use Rattle.simulation.specs.Stands.{Stands, AreSame, IsContextSound, IsEndSound}
+use Rattle.simulation.specs.Stands.{Stands, IsContextSound, IsEndSound}
 use Rattle.simulation.proofs.Tables.{All-named, replaced-stored, has_name-store, name-named_there, named-store_same}
 use Rattle.simulation.proofs.Machines as machines
 use Rattle.simulation.proofs.Machines.{MachineChanged, context_name, with_context_changed}

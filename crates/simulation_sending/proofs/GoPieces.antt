@@ -1,14 +1,14 @@
 -- Pieces of posted requests by their numbers, and the fence.
-use Rattle.std.proofs.Common.{arith, ◌≡◌, ◌≤◌, ◌<◌, ◌+◌, ◌-◌, ◌*◌, ◌/◌, ◌||◌, ℕ, zero, suc, List, [], ◌∷◌, length, get_or, true, false, Bool, refl, sym, ap, ◌∙◌, subst, inl, inr}
-use Rattle.std.specs.Prelude.{Option, Some, None, max, drop, take, nat_lt, nat_le, ◌⊎◌, ◌==◌, ◌&&◌, if◌then◌else◌}
+use Rattle.std.proofs.Common.{arith, ◌≡◌, ◌≤◌, ◌<◌, ◌+◌, ◌-◌, ◌/◌, ℕ, zero, suc, List, [], ◌∷◌, length, get_or, true, false, Bool, refl, sym, ap, ◌∙◌, subst, inl, inr}
+use Rattle.std.specs.Prelude.{Some, max, drop, take, nat_lt, ◌⊎◌, if◌then◌else◌}
 use Rattle.std.specs.List.{list_any}
-use Rattle.std.proofs.lemmas.Bool.Decides.{nat_tests, leb_tells, eqb_tells}
-use Rattle.rdma_types.specs.Kinds.{is_atomic, is_read, kind_of, lands, size_of}
+use Rattle.std.proofs.lemmas.Bool.Decides.{nat_tests, leb_tells}
+use Rattle.rdma_types.specs.Kinds.{is_atomic, kind_of, lands, size_of}
 use Rattle.rdma_types.specs.Limits.{is_mtu}
 use Rattle.rdma_types.specs.Objects.{Posted, no_posted}
-use Rattle.rdma_types.specs.Spans.{Piece, pieces, span, span_of, first_number, end_number, next_landing, piece_at, request_of}
-use Rattle.simulation.proofs.Numbers.{span_positive, first-end}
-use Rattle.simulation_sending.proofs.GoNumbers.{first_mono, mtu_is}
+use Rattle.rdma_types.specs.Spans.{Piece, pieces, span, span_of, first_number, next_landing, piece_at, request_of}
+use Rattle.simulation.proofs.Numbers.{span_positive}
+use Rattle.simulation_sending.proofs.GoNumbers.{mtu_is}
 
 -- ---- the piece of a number, among the untold requests and among all
 

@@ -1,12 +1,12 @@
 -- An end of the machine stays sound where its owner learns more, and where it fails.
-use Rattle.std.proofs.Common.{arith, ◌≡◌, ◌≤◌, ◌<◌, ◌+◌, ◌-◌, ℕ, List, [], length, true, false, Bool, refl, sym, ap, ◌∙◌, subst, inl, inr}
-use Rattle.std.specs.Prelude.{All, drop, Some, None}
+use Rattle.std.proofs.Common.{arith, ◌≡◌, ◌≤◌, ◌+◌, ◌-◌, ℕ, List, length, true, false, refl, sym, ap, ◌∙◌, subst}
+use Rattle.std.specs.Prelude.{All, drop}
 use Rattle.std.proofs.lemmas.List.{drop-drop, drop_all}
 use Rattle.std.proofs.lemmas.List.Elements.{All-nil, All-drop, All-weaker}
 use Rattle.rdma_types.specs.declared.names.Name.{Name}
 use Rattle.rdma_types.specs.Kinds.{is_atomic, kind_of, lands, size_of}
 use Rattle.rdma_types.specs.Memory.{is_granted, landing_right, local_key}
-use Rattle.rdma_types.specs.Objects.{Posted, Region}
+use Rattle.rdma_types.specs.Objects.{Region}
 use Rattle.ideal_model.specs.Machine.{End, posted_at, untold_count}
 use Rattle.ideal_model.specs.Sound.{IsSound, IsOfferOf}
 use Rattle.ideal_model.specs.Steps.{closed, in_place, untold}

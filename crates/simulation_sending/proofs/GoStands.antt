@@ -1,6 +1,6 @@
 -- One connected end steps, in the world and in the machine, with its context's queues and memory: the relation is kept.
-use Rattle.std.proofs.Common.{arith, ◌≡◌, ◌≢◌, ℕ, List, [], ◌∷◌, ◌++◌, map, true, false, Bool, refl, sym, ap, ◌∙◌, subst, inl, inr}
-use Rattle.std.specs.Prelude.{Option, Some, None, not, ◌&&◌, is_some, All, Contains, flat_map}
+use Rattle.std.proofs.Common.{◌≡◌, ◌≢◌, map, true, sym, ap, ◌∙◌, subst, inl, inr}
+use Rattle.std.specs.Prelude.{Some, not, ◌&&◌, is_some, All, Contains, flat_map}
 use Rattle.rdma_types.specs.declared.names.Name.{Name}
 use Rattle.rdma_types.specs.declared.names.ObjName.{ObjName}
 use Rattle.rdma_types.specs.Lists.{has_name, named, store_named}
@@ -8,9 +8,9 @@ use Rattle.protocol.specs.State as state
 use Rattle.protocol.specs.State.{World, Link, Flight, Progress, no_end}
 use Rattle.ideal_model.specs.Machine as machine
 use Rattle.ideal_model.specs.Machine.{Machine, End, has_end, nobody, regions_of}
-use Rattle.simulation.specs.Views.{Side, context_of, end_of, in_rts, link_or_none, net_of, numbered, numbered_ends, name_at, requests_of, side_of}
+use Rattle.simulation.specs.Views.{Side, context_of, end_of, in_rts, link_or_none, net_of, numbered_ends, name_at, requests_of, side_of}
 use Rattle.simulation.specs.Joined.{IsProgress}
-use Rattle.simulation.specs.Stands.{Stands, IsCounted, AreNumbered, AreProgressing, AreSame, AreLeft, AreSent, IsContextSound}
+use Rattle.simulation.specs.Stands.{Stands, IsCounted, AreNumbered, AreSame, AreLeft, AreSent, IsContextSound}
 use Rattle.simulation.proofs.Tables.{has_name-store, map-store, named-store_same, named-store_other, name-named_there}
 use Rattle.simulation.proofs.Worlds as worlds
 use Rattle.simulation.proofs.Worlds.{WorldChanged, husks_same}

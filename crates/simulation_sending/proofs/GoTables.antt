@@ -1,12 +1,12 @@
 -- What is put where it was, and what is put twice.
-use Rattle.std.proofs.Common.{arith, ◌≡◌, ℕ, List, [], ◌∷◌, true, false, Bool, refl, sym, ap, ◌∙◌}
-use Rattle.std.specs.Prelude.{◌||◌, if◌then◌else◌, bytes_eq}
+use Rattle.std.proofs.Common.{arith, ◌≡◌, ℕ, List, [], ◌∷◌, true, false, Bool, refl, ap, ◌∙◌}
+use Rattle.std.specs.Prelude.{if◌then◌else◌, bytes_eq}
 use Rattle.rdma_types.specs.declared.names.Name.{Name}
 use Rattle.rdma_types.specs.declared.names.ObjName.{ObjName}
 use Rattle.rdma_types.specs.Lists.{has_name, named, store_named}
 use Rattle.ideal_model.specs.Machine as machine
 use Rattle.ideal_model.specs.Machine.{Machine, End, has_context}
-use Rattle.simulation.proofs.Tables.{same_name, name_tells, replaced-stored}
+use Rattle.simulation.proofs.Tables.{same_name, replaced-stored}
 use Rattle.simulation.proofs.Machines.{MachineChanged, end_stored}
 use Rattle.simulation.proofs.Linked.{HasEnd}
 

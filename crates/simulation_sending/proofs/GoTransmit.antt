@@ -1,9 +1,8 @@
 -- A requester sends a piece: its numbers stay in order, the fence holds, and the packet is the machine's.
-use Rattle.std.proofs.Common.{arith, ◌≡◌, ◌≤◌, ◌<◌, ◌+◌, ◌-◌, ◌/◌, ◌^◌, ◌||◌, ℕ, zero, suc, List, [], ◌∷◌, length, get_or, true, false, Bool, refl, sym, ap, ◌∙◌, subst, inl, inr}
+use Rattle.std.proofs.Common.{arith, ◌≡◌, ◌≤◌, ◌<◌, ◌+◌, ◌-◌, ◌/◌, ◌^◌, ◌||◌, ℕ, suc, List, ◌∷◌, length, get_or, true, false, Bool, refl, sym, ap, ◌∙◌, subst, inl, inr}
 use Rattle.std.specs.Prelude.{Option, Some, None, not, max, drop, nat_lt, nat_le, ◌==◌, ◌&&◌, if◌then◌else◌}
-use Rattle.std.specs.List.{list_any}
 use Rattle.std.proofs.lemmas.Bool.Decides.{nat_tests, leb_tells, eqb_tells}
-use Rattle.rdma_types.specs.Kinds.{is_read, kind_of, lands}
+use Rattle.rdma_types.specs.Kinds.{is_read, kind_of}
 use Rattle.rdma_types.specs.Limits.{is_mtu}
 use Rattle.rdma_types.specs.Objects.{Posted, no_posted}
 use Rattle.rdma_types.specs.Spans.{Piece, piece_at, span_of, first_number, end_number, next_landing, request_of}
@@ -11,7 +10,7 @@ use Rattle.protocol.specs.EndWords.{is_paused, is_resuming}
 use Rattle.protocol.specs.Numbers.{wire_number}
 use Rattle.protocol.specs.State.{Link, Sender}
 use Rattle.protocol.specs.Segments.{packet_at, packet_of_found, packet_of_piece}
-use Rattle.protocol.specs.Requester.{Transmission, SendsResume, Waits, IsIdle, WindowIsFull, ReadsAreFull, IsFenced, Sends, transmission, next_transmission, barrier, end_of_queue, going_to, past}
+use Rattle.protocol.specs.Requester.{SendsResume, Waits, IsIdle, WindowIsFull, ReadsAreFull, IsFenced, Sends, transmission, next_transmission, barrier, going_to, past}
 use Rattle.ideal_model.specs.Machine.{End}
 use Rattle.ideal_model.specs.Numbers.{due, oldest}
 use Rattle.ideal_model.specs.Sound.{IsSound}

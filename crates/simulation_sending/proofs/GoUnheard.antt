@@ -1,5 +1,5 @@
 -- How the machine follows an event of a context that no application hears of.
-use Rattle.std.proofs.Common.{◌≡◌, ℕ, [], ◌∷◌, true, false, Bool, refl, sym, ap, ◌∙◌, subst}
+use Rattle.std.proofs.Common.{◌≡◌, [], true, false, Bool, refl, sym, ap, ◌∙◌, subst}
 use Rattle.std.specs.Prelude.{Option, Some, None, not, ◌&&◌, ◌||◌, if◌then◌else◌}
 use Rattle.rdma_types.specs.declared.names.Name.{Name}
 use Rattle.rdma_types.specs.declared.answers.Answer.{Answer}
@@ -15,11 +15,10 @@ use Rattle.protocol.specs.DeviceStep as device
 use Rattle.protocol.specs.DeviceStep.{device_step, done_by}
 use Rattle.protocol.specs.WorldStep as step
 use Rattle.protocol.specs.WorldStep.{world_step, is_live, is_carried, home, ran, runs, context_causes, context_of_event}
-use Rattle.ideal_model.specs.declared.steps.IdealStep.{IdealStep}
 use Rattle.ideal_model.specs.Machine.{Machine, has_context}
 use Rattle.simulation.specs.Kept.{kept_of, kept_verb, verb_of, verb_in}
 use Rattle.simulation.specs.Carries.{CarriesAt}
-use Rattle.simulation.specs.Stands.{Stands, IsPlaced}
+use Rattle.simulation.specs.Stands.{Stands}
 use Rattle.simulation.specs.Law.{Reaches, Follows}
 use Rattle.simulation.proofs.Worlds.{is_there}
 use Rattle.simulation.proofs.Verbs.{ran_same, unheard_reached}

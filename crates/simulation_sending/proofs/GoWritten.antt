@@ -1,25 +1,24 @@
 -- The packets of requests and of RESUME can be written, and read back.
-use Rattle.std.proofs.Common.{arith, ◌≡◌, ◌≤◌, ◌<◌, ◌+◌, ◌-◌, ◌*◌, ◌%◌, ◌^◌, ℕ, List, [], ◌∷◌, length, true, false, Bool, refl, sym, ap, ◌∙◌, subst}
-use Rattle.std.specs.Prelude.{Option, Some, None, is_some, IfSome, min, drop, ◌&&◌, ◌==◌, if◌then◌else◌}
+use Rattle.std.proofs.Common.{arith, ◌≡◌, ◌≤◌, ◌<◌, ◌*◌, ◌^◌, ℕ, List, length, true, false, Bool, refl, sym, ◌∙◌}
+use Rattle.std.specs.Prelude.{Option, Some, None, is_some, IfSome, drop, ◌&&◌, if◌then◌else◌}
 use Rattle.std.specs.Bool.{OnTrue, OnFalse}
-use Rattle.std.proofs.lemmas.List.{length-take, length-drop}
+use Rattle.std.proofs.lemmas.List.{length-take}
 use Rattle.rdma_types.specs.declared.requests.Kind.{Kind}
 use Rattle.rdma_types.specs.declared.requests.Kind.TheVariants.{Write, Send, Read, CompareSwap, FetchAdd}
-use Rattle.rdma_types.specs.Kinds.{is_atomic, is_read, is_write, kind_of, size_of}
+use Rattle.rdma_types.specs.Kinds.{is_write, kind_of, size_of}
 use Rattle.rdma_types.specs.Limits.{most_bytes}
 use Rattle.rdma_types.specs.Objects.{Posted}
 use Rattle.protocol.specs.declared.wire.Layout.{Layout}
-use Rattle.protocol.specs.declared.wire.Reth.{Reth}
 use Rattle.protocol.specs.declared.wire.ResumeBody.{ResumeBody}
 use Rattle.protocol.specs.Bytes.{bytes_at}
 use Rattle.protocol.specs.Numbers.{wire_number}
 use Rattle.protocol.specs.Moves.{resume_packet}
-use Rattle.protocol.specs.Segments.{opcode_of, message_packet, read_packet, atomic_packet, packet_of_piece, is_first_piece, is_last_piece, wrapped}
-use Rattle.protocol.specs.Wire.{Packet, Fits, FitsReth, FitsAtomic, FitsResume, layout_of, has_reth, has_imm, has_aeth, has_atomic, has_old, has_resume, is_request, packet_of, wire_of, when}
+use Rattle.protocol.specs.Segments.{opcode_of, message_packet, read_packet, atomic_packet, packet_of_piece, is_first_piece, is_last_piece}
+use Rattle.protocol.specs.Wire.{Packet, Fits, FitsReth, layout_of, has_reth, has_imm, has_aeth, has_atomic, has_old, has_resume, is_request, packet_of, wire_of, when}
 use Rattle.roce_headers.proofs.Grammar.{spelled_read}
 use Rattle.roce_headers.proofs.Written.{written_spelled}
 use Rattle.simulation.specs.Joined.{IsSayable}
-use Rattle.simulation.specs.Packets.{Class, class_of, resume_class, IsRequest, IsResume}
+use Rattle.simulation.specs.Packets.{class_of, resume_class, IsRequest, IsResume}
 
 -- what is written is read as what it was written from
 pub reads_back : (d : Packet) → Fits d → packet_of (wire_of d) ≡ Some d
