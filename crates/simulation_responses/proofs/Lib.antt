@@ -10,3 +10,8 @@ pub mod ResponseSequenceNak
 pub mod ResponseLast
 pub mod ResponseRefusal
 pub mod ResponseNotReady
+pub mod ResponseRegions
+pub mod ResponseLanding
+pub mod ResponseOld
+pub mod ResponseFound
+pub mod ResponseAtomic

@@ -35,7 +35,7 @@ use Rattle.simulation_responses.proofs.ResponseTold.{IsNext, Learned, MayTell, S
 
 -- ---- completions
 
-done_first : (number : ℕ) (r : Posted) (rs : List Posted) (entries : List Completion) → map (words.done_request number) (filter (λ p. p.request.signaled) rs) ≡ entries →
+pub done_first : (number : ℕ) (r : Posted) (rs : List Posted) (entries : List Completion) → map (words.done_request number) (filter (λ p. p.request.signaled) rs) ≡ entries →
     map (words.done_request number) (filter (λ p. p.request.signaled) (r ∷ rs)) ≡ (if r.request.signaled then words.done_request number r ∷ [] else []) ++ entries
 done_first number r rs entries h = by_signaled r.request.signaled
   where

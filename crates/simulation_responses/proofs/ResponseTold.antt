@@ -54,7 +54,7 @@ none_more queues n there =
     ap (λ es. store_named (λ q. q.name) n (record (queue_in queues n) { entries = es }) queues) (append-nil (queue_in queues n).entries)
     ∙ stored_same (λ q. q.name) no_queue n queues there
 
-more_twice : (queues : List CompletionQueue) (n : Name) (xs ys : List Completion) → has_name (λ q. q.name) n queues ≡ true → with_more (with_more queues n xs) n ys ≡ with_more queues n (xs ++ ys)
+pub more_twice : (queues : List CompletionQueue) (n : Name) (xs ys : List Completion) → has_name (λ q. q.name) n queues ≡ true → with_more (with_more queues n xs) n ys ≡ with_more queues n (xs ++ ys)
 more_twice queues n xs ys there =
     let q : CompletionQueue = record (queue_in queues n) { entries = (queue_in queues n).entries ++ xs } in
     let name : q.name ≡ n = name-named_there (λ z. z.name) no_queue n queues there in

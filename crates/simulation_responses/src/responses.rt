@@ -1,6 +1,6 @@
-//! The law of acknowledgements.
+//! The law of acknowledgements, and of answers to atomics.
 
-ghost use Rattle.simulation_delivery.specs.Delivered.{AcksAreTaken, SequenceNaksAreTaken, RefusalsAreTaken, ReceiverNotReadyIsTaken};
+ghost use Rattle.simulation_delivery.specs.Delivered.{AcksAreTaken, SequenceNaksAreTaken, RefusalsAreTaken, ReceiverNotReadyIsTaken, AtomicResponsesAreTaken};
 
 /// The machine follows each ACK that arrives at an end in Rts: its owner learns of the numbers up to it, and of none from
 /// the barrier on.
@@ -24,4 +24,10 @@ pub fn refusals_are_taken()
 /// oldest number one wait is counted.
 pub fn receiver_not_ready_is_taken()
     ensures { ReceiverNotReadyIsTaken }
+{}
+
+/// The machine follows each answer to an atomic: at the barrier all numbers before it become known, and the atomic is told
+/// with its old value; elsewhere it makes no step.
+pub fn atomic_responses_are_taken()
+    ensures { AtomicResponsesAreTaken }
 {}
