@@ -15,3 +15,5 @@ pub mod ResponseLanding
 pub mod ResponseOld
 pub mod ResponseFound
 pub mod ResponseAtomic
+pub mod ResponseLand
+pub mod ResponseRead

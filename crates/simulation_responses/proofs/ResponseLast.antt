@@ -59,7 +59,7 @@ then_one m o limit step ss t = record { tells = ss; last = step ∷ []; are = re
 
 -- ---- the request of a number
 
-request_at : (posted : List Posted) (mtu i k : ℕ) → i < length posted → k < span_of (get_or posted i no_posted) mtu → request_of posted mtu (first_number posted mtu i + k) ≡ i
+pub request_at : (posted : List Posted) (mtu i k : ℕ) → i < length posted → k < span_of (get_or posted i no_posted) mtu → request_of posted mtu (first_number posted mtu i + k) ≡ i
 unfolding request_of first_number
 request_at [] mtu i k l h = absurd (omega (arith, l))
 request_at (p ∷ posted) mtu zero k l h = grind (arith, nat_tests, leb_tells (suc (0 + k)) (span_of p mtu), h)

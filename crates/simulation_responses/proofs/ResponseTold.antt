@@ -254,7 +254,7 @@ less_tells a b h = grind (arith, nat_tests, leb_tells (suc a) b)
 most_tells : (a b : ℕ) → a ≤ b → nat_le a b ≡ true
 most_tells a b h = grind (arith, nat_tests, leb_tells a b)
 
-untold_there : (m : Machine) (o : ObjName) → (machine.end_of m o).connected ≡ true → (machine.end_of m o).ended ≡ false → (machine.end_of m o).told < length (machine.end_of m o).posted → has_untold m o ≡ true
+pub untold_there : (m : Machine) (o : ObjName) → (machine.end_of m o).connected ≡ true → (machine.end_of m o).ended ≡ false → (machine.end_of m o).told < length (machine.end_of m o).posted → has_untold m o ≡ true
 unfolding has_untold
 untold_there m o connected alive there = rw (connected, alive, less_tells _ _ there) refl
 

@@ -6,4 +6,4 @@
 
 mod responses;
 
-pub use responses::{acks_are_taken, atomic_responses_are_taken, receiver_not_ready_is_taken, refusals_are_taken, sequence_naks_are_taken};
+pub use responses::{acks_are_taken, atomic_responses_are_taken, read_responses_are_taken, receiver_not_ready_is_taken, refusals_are_taken, sequence_naks_are_taken};

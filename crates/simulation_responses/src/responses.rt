@@ -1,6 +1,6 @@
-//! The law of acknowledgements, and of answers to atomics.
+//! The law of acknowledgements, of answers to atomics, and of READ responses.
 
-ghost use Rattle.simulation_delivery.specs.Delivered.{AcksAreTaken, SequenceNaksAreTaken, RefusalsAreTaken, ReceiverNotReadyIsTaken, AtomicResponsesAreTaken};
+ghost use Rattle.simulation_delivery.specs.Delivered.{AcksAreTaken, SequenceNaksAreTaken, RefusalsAreTaken, ReceiverNotReadyIsTaken, AtomicResponsesAreTaken, ReadResponsesAreTaken};
 
 /// The machine follows each ACK that arrives at an end in Rts: its owner learns of the numbers up to it, and of none from
 /// the barrier on.
@@ -30,4 +30,10 @@ pub fn receiver_not_ready_is_taken()
 /// with its old value; elsewhere it makes no step.
 pub fn atomic_responses_are_taken()
     ensures { AtomicResponsesAreTaken }
+{}
+
+/// The machine follows each READ response: at the barrier all numbers before it become known, its bytes land, and after the
+/// last piece the Read is told; elsewhere it makes no step.
+pub fn read_responses_are_taken()
+    ensures { ReadResponsesAreTaken }
 {}
