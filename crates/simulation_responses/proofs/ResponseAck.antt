@@ -1,6 +1,6 @@
 -- An ACK arrives at a live end in Rts: the owner learns of the numbers up to it, and no further than the barrier.
-use Rattle.std.proofs.Common.{arith, ◌≡◌, ◌≤◌, ◌<◌, ◌+◌, ℕ, suc, List, [], ◌∷◌, true, false, Bool, refl, sym, ap, ◌∙◌, subst}
-use Rattle.std.specs.Prelude.{Option, Some, None, min, max, nat_lt, nat_le, ◌&&◌, ◌==◌, if◌then◌else◌}
+use Rattle.std.proofs.Common.{arith, ◌≡◌, ◌≤◌, ◌<◌, ◌+◌, ℕ, suc, List, true, false, Bool, refl, sym, ap, ◌∙◌, subst}
+use Rattle.std.specs.Prelude.{Option, Some, None, nat_lt, nat_le, ◌&&◌, ◌==◌, if◌then◌else◌}
 use Rattle.std.proofs.lemmas.Bool.Decides.{nat_tests, leb_tells}
 use Rattle.rdma_types.specs.declared.names.ObjName.{ObjName}
 use Rattle.rdma_types.specs.declared.answers.Took.TheVariants as took
@@ -8,15 +8,15 @@ use Rattle.protocol.specs.declared.wire.Aeth.{Aeth}
 use Rattle.protocol.specs.declared.wire.Syndrome.{Syndrome}
 use Rattle.protocol.specs.declared.wire.Syndrome.TheVariants.{Ack, Rnr, Nak}
 use Rattle.protocol.specs.EndWords as words
-use Rattle.protocol.specs.Requester.{acknowledged, takes_ack, takes_aeth, takes_syndrome, telling, useless}
+use Rattle.protocol.specs.Requester.{acknowledged, takes_ack, takes_syndrome, telling, useless}
 use Rattle.protocol.specs.State.{World, Link}
 use Rattle.protocol.specs.Wire.{Packet}
 use Rattle.ideal_model.specs.Machine as machine
 use Rattle.ideal_model.specs.Machine.{Machine}
 use Rattle.ideal_model.specs.Numbers.{due}
-use Rattle.simulation.specs.Carries.{CarriesNumbered, TellsUpTo, before_barrier}
-use Rattle.simulation.specs.Facts.{ClassFact, IsNumbered, MoveFact, NumberedFact}
-use Rattle.simulation.specs.Packets.{Class, class_of, syndrome_class, nak_class, IsAck, IsSequenceNak, IsRefusal, IsStopped, IsNothing}
+use Rattle.simulation.specs.Carries.{TellsUpTo, before_barrier}
+use Rattle.simulation.specs.Facts.{ClassFact, MoveFact, NumberedFact}
+use Rattle.simulation.specs.Packets.{class_of, syndrome_class, nak_class, IsAck, IsSequenceNak, IsRefusal, IsStopped, IsNothing}
 use Rattle.simulation.specs.Views.{requests_of, side_of}
 use Rattle.simulation_delivery.specs.Delivered.{Arrives, Takes, AcksAreTaken, context_there, end_there}
 use Rattle.simulation_sending.proofs.GoLive.{LiveEnd}

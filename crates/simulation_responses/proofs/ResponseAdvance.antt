@@ -1,13 +1,12 @@
 -- The owner of a live end in Rts learns that all numbers below one are in place: the machine's steps, and the requester.
-use Rattle.std.proofs.Common.{arith, ◌≡◌, ◌≢◌, ◌≤◌, ◌<◌, ◌+◌, ◌-◌, ◌/◌, ◌^◌, ◌*◌, ℕ, suc, List, [], ◌∷◌, length, true, false, Bool, refl, sym, ap, ◌∙◌, subst}
-use Rattle.std.specs.Prelude.{Option, Some, None, max, drop, nat_lt, if◌then◌else◌}
+use Rattle.std.proofs.Common.{arith, ◌≡◌, ◌≢◌, ◌≤◌, ◌<◌, ◌+◌, ◌-◌, ◌/◌, ◌^◌, ℕ, suc, true, false, Bool, refl, sym, ap, ◌∙◌, subst}
+use Rattle.std.specs.Prelude.{max, drop, nat_lt, if◌then◌else◌}
 use Rattle.std.proofs.lemmas.Bool.Decides.{nat_tests, leb_tells}
 use Rattle.rdma_types.specs.declared.names.ObjName.{ObjName}
 use Rattle.rdma_types.specs.declared.answers.Answer.{Answer}
 use Rattle.rdma_types.specs.declared.requests.WcStatus.{WcStatus}
 use Rattle.rdma_types.specs.Limits.{is_mtu}
 use Rattle.rdma_types.specs.Spans.{end_number, first_number, next_landing, request_of}
-use Rattle.protocol.specs.State as state
 use Rattle.protocol.specs.State.{World, Link, Sender}
 use Rattle.protocol.specs.EndWords as words
 use Rattle.protocol.specs.Requester as requester
@@ -27,7 +26,7 @@ use Rattle.simulation.proofs.Live.{live_of}
 use Rattle.simulation.proofs.Linked.{end_there_of}
 use Rattle.simulation.proofs.Numbers.{first-rest}
 use Rattle.simulation_sending.proofs.GoEnd.{Goes_on, gone_end, lands_later}
-use Rattle.simulation_sending.proofs.GoLive.{LiveEnd, connected_here, ended_here, fenced_here, joined_here, link_is, mtu_is, name_here, ordered_here, sends_here, sound_here, untold_here}
+use Rattle.simulation_sending.proofs.GoLive.{LiveEnd, connected_here, ended_here, fenced_here, joined_here, mtu_is, name_here, ordered_here, sends_here, sound_here, untold_here}
 use Rattle.simulation_sending.proofs.GoNumbers.{rest_small}
 use Rattle.simulation_sending.proofs.GoPieces.{first-drop}
 use Rattle.simulation_responses.proofs.ResponseLearns.{Learns, landing-drop, learns_more, learns_none}

@@ -1,6 +1,6 @@
 -- An acknowledgement arrives at a live end in Rts: its number is found, and the table of acknowledges is looked at.
-use Rattle.std.proofs.Common.{arith, ◌≡◌, ◌≤◌, ◌<◌, ◌+◌, ◌^◌, ℕ, suc, List, [], true, false, Bool, refl, sym, ap, ◌∙◌, subst, inl, inr}
-use Rattle.std.specs.Prelude.{Option, Some, None, not, nat_lt, nat_le, ◌==◌, ◌&&◌, ◌||◌, if◌then◌else◌}
+use Rattle.std.proofs.Common.{arith, ◌≡◌, ◌≤◌, ◌+◌, ℕ, suc, List, true, false, Bool, refl, sym, ap, ◌∙◌, inl, inr}
+use Rattle.std.specs.Prelude.{Option, Some, None, nat_lt, ◌==◌, ◌||◌, if◌then◌else◌}
 use Rattle.std.proofs.lemmas.Bool.Decides.{nat_tests, leb_tells, eqb_tells}
 use Rattle.rdma_types.specs.declared.names.ObjName.{ObjName}
 use Rattle.rdma_types.specs.Limits.{latest}
@@ -12,12 +12,11 @@ use Rattle.rdma_types.specs.declared.answers.SilentWhy.TheVariants as why
 use Rattle.protocol.specs.EndStep.{takes, takes_kind}
 use Rattle.protocol.specs.EndWords as words
 use Rattle.protocol.specs.Moves.{control_of, resuming_of, stopped_of}
-use Rattle.protocol.specs.Numbers.{IsNear, unwrap_near, wire_number}
+use Rattle.protocol.specs.Numbers.{unwrap_near, wire_number}
 use Rattle.protocol.specs.Requester.{takes_response, takes_aeth, takes_landing, response_at}
 use Rattle.protocol.specs.Responder.{takes_request}
-use Rattle.protocol.specs.State as state
 use Rattle.protocol.specs.State.{World, Link}
-use Rattle.protocol.specs.Wire.{Packet, Spells, packet_of, layout_of, is_nak_stopped, is_read_response, is_request, is_stopped, has_resume, when, read_resume}
+use Rattle.protocol.specs.Wire.{Packet, packet_of, layout_of, is_nak_stopped, is_read_response, is_request, is_stopped, has_resume, when, read_resume}
 use Rattle.protocol.proofs.NearNumbers.{known}
 use Rattle.roce_headers.proofs.Grammar.{read_spelled}
 use Rattle.ideal_model.specs.Machine as machine
@@ -28,9 +27,9 @@ use Rattle.simulation.specs.Packets.{Class, class_of, aeth_class, syndrome_class
 use Rattle.protocol.specs.WorldStep.{is_carried}
 use Rattle.simulation.specs.Views.{side_of}
 use Rattle.simulation.proofs.Worlds.{is_there}
-use Rattle.simulation_delivery.specs.Delivered.{Arrives, context_there, end_there, mark_at}
+use Rattle.simulation_delivery.specs.Delivered.{Arrives, context_there, end_there}
 use Rattle.simulation_sending.proofs.GoLive.{LiveEnd, link_is, ordered_here}
-use Rattle.simulation_responses.proofs.ResponseAdvance.{near_una, una_is, due_at_most}
+use Rattle.simulation_responses.proofs.ResponseAdvance.{near_una}
 
 -- ---- what an acknowledgement is
 

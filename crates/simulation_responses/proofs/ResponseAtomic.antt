@@ -1,16 +1,15 @@
 -- The answer to an atomic arrives at a live end in Rts: at the barrier its old value lands, and the atomic is told.
-use Rattle.std.proofs.Common.{arith, ◌≡◌, ◌≢◌, ◌≤◌, ◌<◌, ◌+◌, ◌-◌, ◌*◌, ◌/◌, ℕ, suc, List, [], ◌∷◌, ◌++◌, length, get_or, true, false, Bool, refl, sym, ap, ◌∙◌, subst, inl, inr}
-use Rattle.std.specs.Prelude.{Option, Some, None, All, not, max, drop, nat_lt, nat_le, slice_get, ◌⊎◌, ◌==◌, ◌&&◌, ◌||◌, if◌then◌else◌}
+use Rattle.std.proofs.Common.{arith, ◌≡◌, ◌≤◌, ◌<◌, ◌+◌, ◌-◌, ◌*◌, ℕ, suc, List, [], ◌∷◌, ◌++◌, length, get_or, true, false, Bool, refl, sym, ap, ◌∙◌, subst, inl, inr}
+use Rattle.std.specs.Prelude.{Option, Some, None, not, max, drop, nat_lt, slice_get, ◌⊎◌, ◌==◌, ◌&&◌, ◌||◌, if◌then◌else◌}
 use Rattle.std.proofs.Math.Nat.{zero-mod, zero-div}
 use Rattle.std.proofs.lemmas.Bool.Decides.{nat_tests, leb_tells, eqb_tells}
 use Rattle.std.proofs.lemmas.List.{get_or-drop, length-drop}
 use Rattle.rdma_types.specs.declared.names.ObjName.{ObjName}
 use Rattle.rdma_types.specs.declared.answers.Took.TheVariants as took
-use Rattle.rdma_types.specs.declared.requests.Completion.{Completion}
-use Rattle.rdma_types.specs.Kinds.{is_atomic, is_read, kind_of, lands, size_of}
+use Rattle.rdma_types.specs.Kinds.{is_atomic, is_read, kind_of, size_of}
 use Rattle.rdma_types.specs.Memory.{is_granted, landing_right, local_key, word_bytes}
 use Rattle.rdma_types.specs.Objects.{Posted, Region, no_posted}
-use Rattle.rdma_types.specs.Spans.{Piece, end_number, first_number, next_landing, piece_at, piece_length, request_of, span, span_of}
+use Rattle.rdma_types.specs.Spans.{Piece, end_number, first_number, piece_at, piece_length, request_of, span, span_of}
 use Rattle.protocol.specs.declared.wire.Aeth.{Aeth}
 use Rattle.protocol.specs.declared.wire.ResumeBody.{ResumeBody}
 use Rattle.protocol.specs.declared.wire.Syndrome.{Syndrome}
@@ -20,7 +19,6 @@ use Rattle.protocol.specs.Memory.{landed}
 use Rattle.protocol.specs.Moves.{control_of}
 use Rattle.protocol.specs.Requester as requester
 use Rattle.protocol.specs.Requester.{advanced, after_telling, is_this_piece, landing, old_bytes, takes_landing, takes_piece, telling, told_count, useless}
-use Rattle.protocol.specs.State as state
 use Rattle.protocol.specs.State.{World, Link, Sender}
 use Rattle.protocol.specs.Wire.{Packet, packet_of, is_read_response, is_request, has_resume, layout_of}
 use Rattle.protocol.specs.DeviceStep.{took_answer}
@@ -28,12 +26,12 @@ use Rattle.roce_headers.proofs.Grammar.{read_spelled}
 use Rattle.ideal_model.specs.declared.reply.Reply.TheVariants.{OldValue}
 use Rattle.ideal_model.specs.declared.steps.IdealStep.{IdealStep}
 use Rattle.ideal_model.specs.declared.steps.IdealStep.TheVariants as steps
-use Rattle.ideal_model.specs.Legal.{IsRun, after}
+use Rattle.ideal_model.specs.Legal.{after}
 use Rattle.ideal_model.specs.Machine as machine
 use Rattle.ideal_model.specs.Machine.{Machine, End, posted_at, put_at, regions_of}
 use Rattle.ideal_model.specs.Numbers.{due, oldest}
-use Rattle.ideal_model.specs.Steps.{front, has_untold, may_tell, success, tell, told_one, untold, with_known}
-use Rattle.simulation.specs.Carries.{LandsOld, TellsUpTo}
+use Rattle.ideal_model.specs.Steps.{front, may_tell, success, tell, told_one, untold, with_known}
+use Rattle.simulation.specs.Carries.{LandsOld}
 use Rattle.simulation.specs.Facts.{ClassFact, IsOld, MoveFact, NumberedFact}
 use Rattle.simulation.specs.Joined.{IsFencedIn, lands_untold_before}
 use Rattle.simulation.specs.Packets.{class_of, aeth_class, nak_class, resume_class, syndrome_class, IsRequest, IsReadResponse, IsAtomicResponse, IsSequenceNak, IsRefusal, IsStopped, IsNothing, IsResume, IsResumeAck}
@@ -47,7 +45,7 @@ use Rattle.simulation_sending.proofs.GoLive.{LiveEnd, fenced_here, joined_here, 
 use Rattle.simulation_sending.proofs.GoNumbers.{first_mono}
 use Rattle.simulation_sending.proofs.GoPieces.{first-drop, piece_is}
 use Rattle.simulation_sending.proofs.GoSound.{MayKnow}
-use Rattle.simulation_responses.proofs.ResponseAdvance.{barrier_same, due_at_most, end_heard, end_then, heard, learn, mtu_here, oldest_then, una_is}
+use Rattle.simulation_responses.proofs.ResponseAdvance.{end_heard, end_then, heard, learn, oldest_then}
 use Rattle.simulation_responses.proofs.ResponseArrives.{live_end}
 use Rattle.simulation_responses.proofs.ResponseFound.{found_here, found_lands, landing_control, landing_is}
 use Rattle.simulation_responses.proofs.ResponseGoals.{IsTaken, nothing_taken, taken_takes, una_barrier}
@@ -55,9 +53,9 @@ use Rattle.simulation_responses.proofs.ResponseLanding.{LearnedAt, entries_more,
 use Rattle.simulation_responses.proofs.ResponseLast.{after_then, front_of, front_there, inner_then, run_then, untold_then}
 use Rattle.simulation_responses.proofs.ResponseLearns.{first_next}
 use Rattle.simulation_responses.proofs.ResponseOld.{lands_atomic, learned_at_then, learned_old, learned_regions, old_acted, old_regions, request_begins}
-use Rattle.simulation_responses.proofs.ResponseRegions.{AreLike, landed_put, put_like, put_said, put_whole}
+use Rattle.simulation_responses.proofs.ResponseRegions.{landed_put, put_like, put_said, put_whole}
 use Rattle.simulation_responses.proofs.ResponseTelling.{Advances, stays_here}
-use Rattle.simulation_responses.proofs.ResponseTold.{Learned, Stays, entries_by, known_by, learned_stays, told_by}
+use Rattle.simulation_responses.proofs.ResponseTold.{Stays, entries_by, known_by, learned_stays, told_by}
 
 eq_same : (a b : ℕ) → (a == b) ≡ true → a ≡ b
 eq_same a b h = elim (eqb_tells a b) [ inl t ↦ t.1 | inr t ↦ absurd (cc (t.0, h)) ]

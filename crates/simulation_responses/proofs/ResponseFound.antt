@@ -1,31 +1,27 @@
 -- A response that lands arrives at a live end in Rts: its number is found, and it is looked up at the barrier alone.
-use Rattle.std.proofs.Common.{arith, ◌≡◌, ◌≤◌, ◌<◌, ◌+◌, ◌-◌, ◌%◌, ℕ, suc, List, true, false, Bool, refl, sym, ap, ◌∙◌, subst, inl, inr}
-use Rattle.std.specs.Prelude.{Option, Some, None, IsTrue, not, nat_lt, nat_le, ◌==◌, ◌&&◌, ◌||◌, if◌then◌else◌}
-use Rattle.std.proofs.lemmas.Bool.Decides.{nat_tests, leb_tells, eqb_tells}
+use Rattle.std.proofs.Common.{arith, ◌≡◌, ◌≤◌, ◌+◌, ◌-◌, ◌%◌, ℕ, List, true, false, Bool, refl, sym, ap, ◌∙◌, subst}
+use Rattle.std.specs.Prelude.{Option, Some, None, IsTrue, not, ◌==◌, ◌&&◌, ◌||◌, if◌then◌else◌}
 use Rattle.rdma_types.specs.declared.names.ObjName.{ObjName}
 use Rattle.rdma_types.specs.declared.answers.SilentWhy.TheVariants as why
-use Rattle.rdma_types.specs.Kinds.{is_read, kind_of, lands}
-use Rattle.rdma_types.specs.Spans.{Piece, end_number, first_number, piece_at, next_landing}
+use Rattle.rdma_types.specs.Kinds.{kind_of, lands}
+use Rattle.rdma_types.specs.Spans.{Piece, first_number, piece_at, next_landing}
 use Rattle.protocol.specs.declared.wire.Syndrome.TheVariants.{Ack, Rnr, Nak}
 use Rattle.protocol.specs.Bytes.{byte_at}
 use Rattle.protocol.specs.EndStep.{takes, takes_kind}
 use Rattle.protocol.specs.EndWords as words
 use Rattle.protocol.specs.Moves.{control_of, resuming_of, stopped_of}
-use Rattle.protocol.specs.Numbers.{unwrap_near}
 use Rattle.protocol.specs.Requester as requester
 use Rattle.protocol.specs.Requester.{takes_response, takes_aeth, takes_landing, takes_piece, response_at, useless}
 use Rattle.protocol.specs.Responder.{takes_request}
-use Rattle.protocol.specs.State as state
 use Rattle.protocol.specs.State.{World, Link}
-use Rattle.protocol.specs.Wire.{Packet, Spells, packet_of, has_aeth, has_resume, is_nak_stopped, is_read_response, is_request, is_stopped, is_syndrome, read_aeth, read_resume, read_syndrome, syndrome_type, when}
-use Rattle.roce_headers.proofs.Grammar.{read_spelled}
+use Rattle.protocol.specs.Wire.{Packet, Spells, has_aeth, has_resume, is_nak_stopped, is_read_response, is_request, is_stopped, is_syndrome, read_aeth, read_resume, read_syndrome, syndrome_type, when}
 use Rattle.ideal_model.specs.Machine as machine
 use Rattle.ideal_model.specs.Machine.{Machine}
 use Rattle.ideal_model.specs.Numbers.{due, oldest}
 use Rattle.simulation.specs.Facts.{IsNumbered}
 use Rattle.simulation.specs.Views.{side_of}
 use Rattle.simulation_delivery.specs.Delivered.{Arrives, context_there, end_there}
-use Rattle.simulation_sending.proofs.GoLive.{LiveEnd, mtu_is, ordered_here, sends_here, untold_here}
+use Rattle.simulation_sending.proofs.GoLive.{LiveEnd, mtu_is, sends_here, untold_here}
 use Rattle.simulation_sending.proofs.GoPieces.{piece_at-drop}
 use Rattle.simulation_responses.proofs.ResponseAdvance.{una_is}
 use Rattle.simulation_responses.proofs.ResponseArrives.{live_end, number_found}

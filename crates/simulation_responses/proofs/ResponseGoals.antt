@@ -1,37 +1,33 @@
 -- What is to be reached where a response is taken, and how: nothing happens, or the owner learns more.
-use Rattle.std.proofs.Common.{arith, ◌≡◌, ◌≤◌, ◌<◌, ◌+◌, ◌-◌, ℕ, suc, List, [], ◌∷◌, ◌++◌, true, false, Bool, refl, sym, ap, ◌∙◌, subst, inl, inr}
-use Rattle.std.specs.Prelude.{Option, Some, None, max, min, nat_lt, drop, ◌==◌, if◌then◌else◌}
-use Rattle.std.proofs.lemmas.Bool.Decides.{nat_tests, leb_tells, eqb_tells}
-use Rattle.std.proofs.lemmas.List.{append-nil}
+use Rattle.std.proofs.Common.{arith, ◌≡◌, ◌≤◌, ◌-◌, ℕ, suc, List, [], ◌∷◌, false, sym, subst}
+use Rattle.std.specs.Prelude.{Option, Some, min}
+use Rattle.std.proofs.lemmas.Bool.Decides.{nat_tests, leb_tells}
 use Rattle.rdma_types.specs.declared.names.ObjName.{ObjName}
 use Rattle.rdma_types.specs.declared.answers.SilentWhy.TheVariants as why
 use Rattle.rdma_types.specs.declared.answers.Took.{Took}
 use Rattle.rdma_types.specs.declared.answers.Took.TheVariants as took
-use Rattle.rdma_types.specs.Kinds.{kind_of, lands}
 use Rattle.rdma_types.specs.Objects.{Posted}
 use Rattle.rdma_types.specs.Spans.{next_landing, span_of}
 use Rattle.protocol.specs.EndStep.{takes}
 use Rattle.protocol.specs.EndWords as words
 use Rattle.protocol.specs.Requester as requester
 use Rattle.protocol.specs.Requester.{acknowledged, advanced, rewound, telling, useless}
-use Rattle.protocol.specs.State.{World, Link, Sender}
+use Rattle.protocol.specs.State.{World, Link}
 use Rattle.protocol.specs.Wire.{Packet}
 use Rattle.protocol.specs.DeviceStep.{ended_step, took_answer}
 use Rattle.protocol.specs.WorldStep.{home, ran}
 use Rattle.ideal_model.specs.declared.steps.IdealStep.{IdealStep}
-use Rattle.ideal_model.specs.declared.steps.IdealStep.TheVariants as steps
-use Rattle.ideal_model.specs.Legal.{IsRun, after, effect, is_enabled}
+use Rattle.ideal_model.specs.Legal.{IsRun, after}
 use Rattle.ideal_model.specs.Machine as machine
 use Rattle.ideal_model.specs.Machine.{Machine}
-use Rattle.ideal_model.specs.Numbers.{due, oldest, barrier}
-use Rattle.simulation.specs.Carries.{CarriesNumbered, OnlyTells, TellsUpTo, before_barrier}
+use Rattle.ideal_model.specs.Numbers.{due, oldest}
+use Rattle.simulation.specs.Carries.{CarriesNumbered, TellsUpTo, before_barrier}
 use Rattle.simulation.specs.Packets.{Class, class_of}
 use Rattle.simulation.specs.Stands.{Stands}
 use Rattle.simulation_delivery.specs.Delivered.{AreInner, Arrives, Takes, context_there, end_there}
 use Rattle.simulation_delivery.proofs.Arriving.{unchanged_stands}
 use Rattle.simulation_sending.proofs.GoLive.{LiveEnd, sends_here}
 use Rattle.simulation_responses.proofs.ResponseAdvance.{Knows, advanced_knows, barrier_same, due_at_most, heard, knows_stands, learn, oldest_then, una_is}
-use Rattle.simulation_responses.proofs.ResponseArrives.{live_end}
 
 -- the machine makes such inner steps, and the relation is kept where the end's step was this
 pub record IsTaken (w : World) (m : Machine) (o : ObjName) (P : List IdealStep → Type 0) (step : words.EndStep) : Type 0 where

@@ -1,14 +1,13 @@
 -- Bytes of a Read land: what changes of the machine.
-use Rattle.std.proofs.Common.{arith, ◌≡◌, ◌≤◌, ◌<◌, ◌+◌, ◌-◌, ◌*◌, ◌/◌, ◌%◌, ℕ, zero, suc, List, [], ◌∷◌, ◌++◌, length, get_or, true, false, Bool, refl, sym, ap, ◌∙◌, subst}
-use Rattle.std.specs.Prelude.{Option, Some, None, Contains, nat_lt, nat_le, slice_get, ◌==◌, ◌&&◌, if◌then◌else◌}
-use Rattle.std.proofs.lemmas.Bool.Decides.{nat_tests, leb_tells, eqb_tells}
+use Rattle.std.proofs.Common.{arith, ◌≡◌, ◌<◌, ◌+◌, ◌-◌, ◌*◌, ◌/◌, ◌%◌, ℕ, zero, suc, List, [], ◌∷◌, ◌++◌, length, get_or, true, false, Bool, refl, sym, ap, ◌∙◌, subst}
+use Rattle.std.specs.Prelude.{Some, nat_lt, slice_get, if◌then◌else◌}
 use Rattle.rdma_types.specs.declared.names.Name.{Name}
 use Rattle.rdma_types.specs.declared.names.ObjName.{ObjName}
 use Rattle.rdma_types.specs.declared.requests.Completion.{Completion}
 use Rattle.rdma_types.specs.Limits.{is_mtu}
 use Rattle.rdma_types.specs.Lists.{has_name, named, store_named}
 use Rattle.rdma_types.specs.Memory.{local_key}
-use Rattle.rdma_types.specs.Objects.{CompletionQueue, Posted, Region, no_posted, no_queue}
+use Rattle.rdma_types.specs.Objects.{CompletionQueue, Posted, Region, no_queue}
 use Rattle.rdma_types.specs.Spans.{Piece, piece_at, piece_of, span_of}
 use Rattle.ideal_model.specs.Machine as machine
 use Rattle.ideal_model.specs.Machine.{Machine, End, Offered, has_context, put_at, regions_of}
@@ -17,7 +16,7 @@ use Rattle.simulation.proofs.Tables.{has_name-store, name-named_there, named-sto
 use Rattle.simulation.proofs.Machines as machines
 use Rattle.simulation.proofs.Machines.{MachineChanged, context_name, with_context_changed}
 use Rattle.simulation.proofs.Ends.{queue_in, with_more}
-use Rattle.simulation.proofs.Linked.{HasEnd, context_with, end_changed}
+use Rattle.simulation.proofs.Linked.{end_changed}
 use Rattle.simulation_sending.proofs.GoNumbers.{mtu_is}
 use Rattle.simulation_sending.proofs.GoOver.{made_still}
 use Rattle.simulation_sending.proofs.GoTables.{changed_twice, stored_twice}

@@ -1,22 +1,20 @@
 -- Bytes land at an end in Rts, and what is told then is completed: the relation is kept.
-use Rattle.std.proofs.Common.{arith, ◌≡◌, ◌≤◌, ◌<◌, ◌+◌, ◌-◌, ℕ, zero, suc, List, [], ◌∷◌, ◌++◌, length, map, filter, true, false, Bool, refl, sym, ap, ◌∙◌, subst}
-use Rattle.std.specs.Prelude.{Option, Some, None, All, drop, take, if◌then◌else◌}
+use Rattle.std.proofs.Common.{arith, ◌≡◌, ◌≤◌, ◌<◌, ◌+◌, ℕ, zero, suc, List, ◌++◌, length, map, filter, true, false, refl, sym, ap, ◌∙◌, subst}
+use Rattle.std.specs.Prelude.{Some, All, drop, take}
 use Rattle.std.specs.Int.{byte_at, bytes_high_first}
 use Rattle.std.proofs.Math.Seq.{drop-cons}
 use Rattle.std.proofs.lemmas.List.{append-nil, append_assoc, drop-drop}
 use Rattle.std.proofs.lemmas.List.Elements.{All-nil, All-cons}
-use Rattle.rdma_types.specs.declared.names.Name.{Name}
 use Rattle.rdma_types.specs.declared.names.ObjName.{ObjName}
 use Rattle.rdma_types.specs.declared.answers.Answer.{Answer}
 use Rattle.rdma_types.specs.declared.requests.Completion.{Completion}
 use Rattle.rdma_types.specs.Lists.{has_name, store_named}
 use Rattle.rdma_types.specs.Memory.{word_bytes}
-use Rattle.rdma_types.specs.Objects.{CompletionQueue, IsWhole, Posted, Region, no_posted}
-use Rattle.rdma_types.specs.Spans.{first_number, request_of}
+use Rattle.rdma_types.specs.Objects.{IsWhole, Region, no_posted}
 use Rattle.protocol.specs.State as state
 use Rattle.protocol.specs.State.{World, Link, Sender}
 use Rattle.protocol.specs.EndWords as words
-use Rattle.protocol.specs.Requester.{after_telling, told_completions, told_count, telling}
+use Rattle.protocol.specs.Requester.{after_telling, told_completions, telling}
 use Rattle.protocol.specs.DeviceStep as device
 use Rattle.protocol.specs.WorldStep.{home, ran}
 use Rattle.ideal_model.specs.Machine as machine

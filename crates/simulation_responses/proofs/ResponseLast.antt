@@ -1,8 +1,7 @@
 -- One more step of the machine after its owner learned of all numbers before the oldest: what the first untold request is.
-use Rattle.std.proofs.Common.{arith, ◌≡◌, ◌≢◌, ◌≤◌, ◌<◌, ◌+◌, ◌-◌, ◌/◌, ◌*◌, ℕ, zero, suc, List, [], ◌∷◌, ◌++◌, length, get_or, true, false, Bool, refl, sym, ap, ◌∙◌, subst, inl, inr}
-use Rattle.std.specs.Prelude.{Option, Some, None, not, max, nat_lt, nat_le, nat_eq, slice_get, Contains, ◌⊎◌, ◌&&◌, if◌then◌else◌}
-use Rattle.std.specs.List.{list_any}
-use Rattle.std.proofs.lemmas.Bool.Decides.{nat_tests, leb_tells, eqb_tells}
+use Rattle.std.proofs.Common.{arith, ◌≡◌, ◌≤◌, ◌<◌, ◌+◌, ◌-◌, ◌/◌, ℕ, zero, suc, List, [], ◌∷◌, ◌++◌, length, get_or, true, false, Bool, refl, sym, ap, ◌∙◌, inl, inr}
+use Rattle.std.specs.Prelude.{not, nat_lt, ◌&&◌, if◌then◌else◌}
+use Rattle.std.proofs.lemmas.Bool.Decides.{nat_tests, leb_tells}
 use Rattle.std.proofs.lemmas.List.{append-nil}
 use Rattle.rdma_types.specs.declared.names.ObjName.{ObjName}
 use Rattle.rdma_types.specs.Objects.{Posted, no_posted}
@@ -11,18 +10,18 @@ use Rattle.protocol.specs.Requester as requester
 use Rattle.protocol.specs.State.{World, Link}
 use Rattle.ideal_model.specs.declared.steps.IdealStep.{IdealStep}
 use Rattle.ideal_model.specs.declared.steps.IdealStep.TheVariants as steps
-use Rattle.ideal_model.specs.Legal.{IsRun, after, effect, is_enabled}
+use Rattle.ideal_model.specs.Legal.{IsRun, after, effect}
 use Rattle.ideal_model.specs.Machine as machine
 use Rattle.ideal_model.specs.Machine.{Machine, End, posted_at}
-use Rattle.ideal_model.specs.Numbers.{due, oldest}
+use Rattle.ideal_model.specs.Numbers.{due}
 use Rattle.ideal_model.specs.Steps.{has_untold}
 use Rattle.simulation.specs.Carries.{TellsUpTo, TellsThenMaybe}
 use Rattle.simulation.specs.Stands.{Stands}
 use Rattle.simulation_delivery.specs.Delivered.{AreInner}
-use Rattle.simulation_sending.proofs.GoLive.{LiveEnd, connected_here, ended_here, sound_here}
+use Rattle.simulation_sending.proofs.GoLive.{LiveEnd, connected_here, ended_here}
 use Rattle.simulation_sending.proofs.GoNumbers.{first_mono, first_past}
 use Rattle.simulation_sending.proofs.GoPieces.{known_within}
-use Rattle.simulation_responses.proofs.ResponseAdvance.{end_heard, end_then, heard, learn, mtu_here}
+use Rattle.simulation_responses.proofs.ResponseAdvance.{end_heard, heard, learn, mtu_here}
 use Rattle.simulation_responses.proofs.ResponseLearns.{first_next}
 
 -- ---- runs

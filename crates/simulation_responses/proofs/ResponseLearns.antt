@@ -1,6 +1,6 @@
 -- What the owner of an end learns where it knows all numbers below one: which requests are told, and which bytes known.
 use Rattle.std.proofs.Common.{arith, ◌≡◌, ◌≤◌, ◌<◌, ◌+◌, ◌-◌, ◌*◌, ◌/◌, ◌%◌, ℕ, zero, suc, List, [], ◌∷◌, length, get_or, true, false, Bool, refl, sym, ap, ◌∙◌, subst, inl, inr}
-use Rattle.std.specs.Prelude.{Option, Some, None, drop, take, slice_get, nat_lt, ◌⊎◌, ◌==◌, if◌then◌else◌}
+use Rattle.std.specs.Prelude.{Option, Some, None, drop, slice_get, nat_lt, ◌==◌, if◌then◌else◌}
 use Rattle.std.proofs.lemmas.Bool.Decides.{nat_tests, leb_tells, eqb_tells}
 use Rattle.std.proofs.lemmas.List.{length-drop, get_or-drop}
 use Rattle.rdma_types.specs.declared.requests.Kind.{Kind}
@@ -22,7 +22,7 @@ use Rattle.simulation_sending.proofs.GoNumbers.{first_mono, mtu_is}
 use Rattle.simulation_sending.proofs.GoPieces.{first-drop, head_dropped, known_within}
 use Rattle.simulation_sending.proofs.GoSound.{MayKnow, known_already}
 use Rattle.simulation_responses.proofs.ResponseNumbers.{IsOfFirst, bytes_inside, bytes_less, bytes_within, none_land, part_stays, pieces_back, request_end, request_first, request_high, request_low, request_within, whole_bytes}
-use Rattle.simulation_responses.proofs.ResponseTold.{IsNext, LastOf, MayHear, MayTell, known_by, told_by}
+use Rattle.simulation_responses.proofs.ResponseTold.{LastOf, MayHear, MayTell, known_by, told_by}
 
 -- ---- kinds
 
@@ -105,14 +105,15 @@ may_tell_all : (count : ℕ) (e : End) → e.told + count ≤ e.acted → e.acte
 unfolding MayTell told_one
 may_tell_all zero e acted posted replies stays = tt
 may_tell_all (suc count) e acted posted replies stays =
-    let here : lands (kind_of (front e)) ≡ false = stays e.told (omega arith) (omega arith) in
-    (record {
-      there = omega (arith, acted, posted);
-      acted = omega (arith, acted);
-      stays = here;
-      answer = finished (front e) (slice_get e.answers e.told) (not_atomic (kind_of (front e)) here) (replies e.told (omega (arith, acted)));
-    },
-    may_tell_all count (told_one e) (omega (arith, acted)) posted replies (λ i low high. stays i (omega (arith, low)) (omega (arith, high))))
+    let here : lands (kind_of (front e)) ≡ false = stays e.told (omega arith) (omega arith) in (
+      record {
+        there = omega (arith, acted, posted);
+        acted = omega (arith, acted);
+        stays = here;
+        answer = finished (front e) (slice_get e.answers e.told) (not_atomic (kind_of (front e)) here) (replies e.told (omega (arith, acted)));
+      },
+      may_tell_all count (told_one e) (omega (arith, acted)) posted replies (λ i low high. stays i (omega (arith, low)) (omega (arith, high))),
+    )
 
 -- ---- what is learned
 
@@ -226,28 +227,28 @@ module _ (f : End) (sound : IsSound f) (mtu : is_mtu f.mtu ≡ true) (alive : f.
     whole_request : first_number us f.mtu j ≡ m → Learns f n
     unfolding known_by LastOf oldest left
     whole_request e = record {
-        count = j;
-        last = None;
-        known = left f.known j;
-        spent = left f.spent j;
-        waits = left f.waits j;
-        is = told_as f j;
-        may = may_all;
-        last_may = tt;
-        count_is = refl;
-        knows = subst (MayKnow f (f.told + j)) (sym (gone f.known)) (record {
-          more = omega arith;
-          acted = acted_after;
-          there = λ h. omega arith;
-          within = omega arith;
-          unlanded = λ h k. refl;
-          whole = λ h. refl;
-        });
-        oldest_is = omega (arith, begins, e, low, ap (λ k. k / f.mtu) (gone f.known), zero_bytes f.mtu mtu);
-        telling = subst (AreWholePieces f.mtu (posted_at f.posted (f.told + j))) (sym (gone f.known)) (zero_whole f.mtu mtu, inl refl);
-        fresh = λ h. (gone f.spent, gone f.waits);
-        still = λ h. absurd (omega (arith, h, more));
-      }
+      count = j;
+      last = None;
+      known = left f.known j;
+      spent = left f.spent j;
+      waits = left f.waits j;
+      is = told_as f j;
+      may = may_all;
+      last_may = tt;
+      count_is = refl;
+      knows = subst (MayKnow f (f.told + j)) (sym (gone f.known)) (record {
+        more = omega arith;
+        acted = acted_after;
+        there = λ h. omega arith;
+        within = omega arith;
+        unlanded = λ h k. refl;
+        whole = λ h. refl;
+      });
+      oldest_is = omega (arith, begins, e, low, ap (λ k. k / f.mtu) (gone f.known), zero_bytes f.mtu mtu);
+      telling = subst (AreWholePieces f.mtu (posted_at f.posted (f.told + j))) (sym (gone f.known)) (zero_whole f.mtu mtu, inl refl);
+      fresh = λ h. (gone f.spent, gone f.waits);
+      still = λ h. absurd (omega (arith, h, more));
+    }
       where
         some : (c : ℕ) → j ≡ c → 1 ≤ j
         some zero h = absurd (omega (arith, e, past_known, ap (first_number us f.mtu) h, first_zero us f.mtu))

@@ -1,6 +1,6 @@
 -- A receiver-not-ready NAK arrives at a live end in Rts: the owner learns of the numbers before it, and where it speaks of the
 -- oldest number a wait is counted, of which the last one ends the end.
-use Rattle.std.proofs.Common.{arith, ◌≡◌, ◌≢◌, ◌≤◌, ◌<◌, ◌+◌, ℕ, suc, List, [], ◌∷◌, ◌++◌, length, true, false, Bool, refl, sym, ap, ◌∙◌, subst, inl, inr}
+use Rattle.std.proofs.Common.{arith, ◌≡◌, ◌≢◌, ◌≤◌, ◌<◌, ◌+◌, ℕ, suc, List, [], ◌∷◌, ◌++◌, true, false, Bool, refl, sym, ap, ◌∙◌, subst, inl, inr}
 use Rattle.std.specs.Prelude.{Option, Some, None, not, min, nat_lt, nat_le, nat_eq, Contains, ◌&&◌, ◌==◌, if◌then◌else◌}
 use Rattle.std.specs.List.{list_any}
 use Rattle.std.proofs.lemmas.Bool.Decides.{nat_tests, leb_tells, eqb_tells}
@@ -24,7 +24,7 @@ use Rattle.protocol.specs.DeviceStep.{ended_step, took_answer}
 use Rattle.protocol.specs.WorldStep.{home, ran}
 use Rattle.ideal_model.specs.declared.steps.IdealStep.{IdealStep}
 use Rattle.ideal_model.specs.declared.steps.IdealStep.TheVariants as steps
-use Rattle.ideal_model.specs.Legal.{IsRun, after}
+use Rattle.ideal_model.specs.Legal.{after}
 use Rattle.ideal_model.specs.Machine as machine
 use Rattle.ideal_model.specs.Machine.{Machine, End}
 use Rattle.ideal_model.specs.Numbers.{due}
@@ -32,7 +32,7 @@ use Rattle.ideal_model.specs.Steps as making
 use Rattle.ideal_model.specs.Steps.{may_wait, wait}
 use Rattle.simulation.specs.Carries.{TellsThenMaybe, before_barrier}
 use Rattle.simulation.specs.Facts.{ClassFact, IsDry, MoveFact, NumberedFact}
-use Rattle.simulation.specs.Packets.{class_of, syndrome_class, nak_class, IsAck, IsSequenceNak, IsRefusal, IsReceiverNotReady, IsStopped, IsNothing}
+use Rattle.simulation.specs.Packets.{class_of, syndrome_class, nak_class, IsSequenceNak, IsRefusal, IsReceiverNotReady, IsStopped, IsNothing}
 use Rattle.simulation.specs.Stands.{Stands}
 use Rattle.simulation.specs.Views.{requests_of, side_of}
 use Rattle.simulation.proofs.Linked.{end_changed}

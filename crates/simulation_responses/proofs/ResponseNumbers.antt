@@ -1,6 +1,6 @@
 -- Which request a number is of, and that none lands before the barrier.
-use Rattle.std.proofs.Common.{arith, ◌≡◌, ◌≤◌, ◌<◌, ◌+◌, ◌-◌, ◌*◌, ◌/◌, ◌%◌, ℕ, zero, suc, List, [], ◌∷◌, length, get_or, true, false, Bool, refl, sym, ap, ◌∙◌, subst, inl, inr}
-use Rattle.std.specs.Prelude.{Option, Some, None, max, drop, take, nat_lt, nat_le, ◌⊎◌, if◌then◌else◌}
+use Rattle.std.proofs.Common.{arith, ◌≡◌, ◌≤◌, ◌<◌, ◌+◌, ◌-◌, ◌*◌, ◌/◌, ◌%◌, ℕ, zero, suc, List, [], ◌∷◌, length, get_or, true, false, Bool, refl, ap, ◌∙◌, subst, inl, inr}
+use Rattle.std.specs.Prelude.{max, nat_lt, ◌⊎◌, if◌then◌else◌}
 use Rattle.std.proofs.lemmas.Bool.Decides.{nat_tests, leb_tells}
 use Rattle.rdma_types.specs.Kinds.{is_atomic, kind_of, lands, size_of}
 use Rattle.rdma_types.specs.Limits.{is_mtu}

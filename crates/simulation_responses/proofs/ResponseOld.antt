@@ -1,6 +1,6 @@
 -- An atomic is told with its old value: what changes of the machine.
-use Rattle.std.proofs.Common.{arith, ◌≡◌, ◌≤◌, ◌<◌, ◌+◌, ◌-◌, ◌/◌, ◌⊎◌, ℕ, zero, suc, List, [], ◌∷◌, ◌++◌, length, true, false, Bool, refl, sym, ap, ◌∙◌, subst, inl, inr}
-use Rattle.std.specs.Prelude.{Option, Some, None, nat_lt, slice_get, if◌then◌else◌}
+use Rattle.std.proofs.Common.{arith, ◌≡◌, ◌≤◌, ◌<◌, ◌+◌, ◌-◌, ◌⊎◌, ℕ, zero, suc, List, [], ◌∷◌, ◌++◌, length, true, false, Bool, refl, sym, ap, ◌∙◌, subst, inl, inr}
+use Rattle.std.specs.Prelude.{Some, nat_lt, slice_get, if◌then◌else◌}
 use Rattle.std.proofs.lemmas.Bool.Decides.{nat_tests, leb_tells, eqb_tells}
 use Rattle.rdma_types.specs.declared.names.Name.{Name}
 use Rattle.rdma_types.specs.declared.names.ObjName.{ObjName}
@@ -13,7 +13,7 @@ use Rattle.rdma_types.specs.Memory.{local_key, word_bytes}
 use Rattle.rdma_types.specs.Objects.{Posted, Region}
 use Rattle.rdma_types.specs.Spans.{Piece, first_number, next_landing, piece_at, request_of, span_of}
 use Rattle.ideal_model.specs.declared.reply.Reply.{Reply}
-use Rattle.ideal_model.specs.declared.reply.Reply.TheVariants.{Finished, OldValue, Denied}
+use Rattle.ideal_model.specs.declared.reply.Reply.TheVariants.{OldValue}
 use Rattle.ideal_model.specs.Machine as machine
 use Rattle.ideal_model.specs.Machine.{Machine, End, put_at, regions_of}
 use Rattle.ideal_model.specs.Sound.{IsDenial}
@@ -21,7 +21,7 @@ use Rattle.ideal_model.specs.Steps.{front, put_old, putting, success, tell, tell
 use Rattle.simulation.proofs.Machines as machines
 use Rattle.simulation.proofs.Machines.{MachineChanged, context_name, with_context_changed, queue_stored}
 use Rattle.simulation.proofs.Ends.{with_more}
-use Rattle.simulation.proofs.Linked.{HasEnd, context_with, end_changed}
+use Rattle.simulation.proofs.Linked.{end_changed}
 use Rattle.simulation.proofs.Numbers.{span_positive}
 use Rattle.simulation_sending.proofs.GoOver.{made_still}
 use Rattle.simulation_sending.proofs.GoTables.{changed_twice, stored_twice}

@@ -1,20 +1,19 @@
 -- A READ response arrives at a live end in Rts: at the barrier its bytes land, and after its last piece the Read is told.
-use Rattle.std.proofs.Common.{arith, ◌≡◌, ◌≢◌, ◌≤◌, ◌<◌, ◌+◌, ◌-◌, ◌*◌, ◌/◌, ℕ, suc, List, [], ◌∷◌, ◌++◌, length, get_or, true, false, Bool, refl, sym, ap, ◌∙◌, subst, inl, inr}
-use Rattle.std.specs.Prelude.{Option, Some, None, All, Contains, min, not, max, drop, nat_lt, nat_le, slice_get, ◌⊎◌, ◌==◌, ◌&&◌, ◌||◌, if◌then◌else◌}
+use Rattle.std.proofs.Common.{arith, ◌≡◌, ◌≢◌, ◌≤◌, ◌<◌, ◌+◌, ◌-◌, ◌*◌, ◌/◌, ℕ, suc, List, [], ◌∷◌, ◌++◌, length, true, false, Bool, refl, sym, ap, ◌∙◌, subst, inl, inr}
+use Rattle.std.specs.Prelude.{Option, Some, None, All, min, not, max, drop, nat_lt, nat_le, slice_get, ◌⊎◌, ◌==◌, ◌&&◌, ◌||◌, if◌then◌else◌}
 use Rattle.std.proofs.Math.Nat.{zero-mod, zero-div}
 use Rattle.std.proofs.lemmas.Bool.Decides.{nat_tests, leb_tells, eqb_tells}
 use Rattle.std.proofs.lemmas.List.Elements.{All-contains}
-use Rattle.std.proofs.lemmas.List.{append-nil, append_assoc, get_or-drop, length-drop}
+use Rattle.std.proofs.lemmas.List.{append-nil, get_or-drop, length-drop}
 use Rattle.rdma_types.specs.declared.names.ObjName.{ObjName}
 use Rattle.rdma_types.specs.declared.answers.Took.TheVariants as took
-use Rattle.rdma_types.specs.declared.requests.Completion.{Completion}
 use Rattle.rdma_types.specs.declared.requests.Kind.{Kind}
 use Rattle.rdma_types.specs.declared.requests.Kind.TheVariants.{Write, Send, Read, CompareSwap, FetchAdd}
 use Rattle.rdma_types.specs.Limits.{is_mtu}
 use Rattle.rdma_types.specs.Kinds.{is_atomic, is_read, kind_of, lands, size_of}
-use Rattle.rdma_types.specs.Memory.{is_granted, landing_right, local_key, word_bytes}
+use Rattle.rdma_types.specs.Memory.{is_granted, landing_right, local_key}
 use Rattle.rdma_types.specs.Objects.{Posted, Region, no_posted}
-use Rattle.rdma_types.specs.Spans.{Piece, end_number, first_number, next_landing, piece_at, piece_length, piece_of, pieces, request_of, span, span_of}
+use Rattle.rdma_types.specs.Spans.{Piece, end_number, first_number, piece_at, piece_length, piece_of, pieces, request_of, span, span_of}
 use Rattle.protocol.specs.declared.wire.Aeth.{Aeth}
 use Rattle.protocol.specs.declared.wire.ResumeBody.{ResumeBody}
 use Rattle.protocol.specs.declared.wire.Syndrome.{Syndrome}
@@ -24,7 +23,6 @@ use Rattle.protocol.specs.Memory as memory
 use Rattle.protocol.specs.Moves.{control_of}
 use Rattle.protocol.specs.Requester as requester
 use Rattle.protocol.specs.Requester.{advanced, after_telling, is_this_piece, landing, old_bytes, takes_landing, takes_piece, telling, told_count, useless}
-use Rattle.protocol.specs.State as state
 use Rattle.protocol.specs.State.{World, Link, Sender}
 use Rattle.protocol.specs.Wire.{Packet, packet_of, is_read_response, is_request, has_resume, layout_of}
 use Rattle.protocol.specs.DeviceStep.{took_answer}
@@ -39,7 +37,7 @@ use Rattle.ideal_model.specs.Machine as machine
 use Rattle.ideal_model.specs.Machine.{Machine, End, Offered, posted_at, put_at, regions_of}
 use Rattle.ideal_model.specs.Numbers.{due, oldest}
 use Rattle.ideal_model.specs.Steps.{front, has_untold, landed, may_land, may_land_offer, may_tell, success, tell, told_one, untold, with_known}
-use Rattle.simulation.specs.Carries.{Lands, TellsUpTo, land_steps, tell_steps}
+use Rattle.simulation.specs.Carries.{Lands, land_steps, tell_steps}
 use Rattle.simulation.specs.Facts.{ClassFact, IsOffered, MoveFact, NumberedFact}
 use Rattle.simulation.specs.Joined.{AreWholePieces, IsFencedIn, lands_untold_before}
 use Rattle.simulation.specs.Packets.{class_of, aeth_class, nak_class, resume_class, syndrome_class, IsRequest, IsReadResponse, IsAtomicResponse, IsSequenceNak, IsRefusal, IsStopped, IsNothing, IsResume, IsResumeAck}
@@ -47,24 +45,23 @@ use Rattle.simulation.specs.Stands.{Stands}
 use Rattle.simulation.specs.Views.{requests_of, side_of}
 use Rattle.simulation.proofs.Live.{live_same}
 use Rattle.simulation_delivery.specs.Delivered.{AreInner, Arrives, Takes, ReadResponsesAreTaken, context_there, end_there}
-use Rattle.simulation.proofs.Numbers.{span_positive}
 use Rattle.simulation_sending.proofs.GoEnd.{Goes_on, gone_end, lands_later}
 use Rattle.simulation_sending.proofs.GoLive.{LiveEnd, connected_here, ended_here, fenced_here, joined_here, name_here, ordered_here, sends_here, sound_here, untold_here}
 use Rattle.simulation_sending.proofs.GoLive as live
 use Rattle.simulation_sending.proofs.GoNumbers.{first_mono, mtu_is, mtu_positive}
 use Rattle.simulation_sending.proofs.GoPieces.{first-drop, piece_is}
 use Rattle.simulation_sending.proofs.GoSound.{MayKnow}
-use Rattle.simulation_responses.proofs.ResponseAdvance.{barrier_same, due_at_most, end_heard, end_then, heard, learn, mtu_here, oldest_then, una_is}
+use Rattle.simulation_responses.proofs.ResponseAdvance.{end_heard, end_then, heard, learn, mtu_here, oldest_then}
 use Rattle.simulation_responses.proofs.ResponseArrives.{live_end}
-use Rattle.simulation_responses.proofs.ResponseFound.{found_here, found_lands, landing_control, landing_is}
+use Rattle.simulation_responses.proofs.ResponseFound.{found_here, landing_control, landing_is}
 use Rattle.simulation_responses.proofs.ResponseGoals.{IsTaken, nothing_taken, taken_takes, una_barrier}
 use Rattle.simulation_responses.proofs.ResponseLand.{at_end, at_stays, at_then, got_at, landed_regions, learned_landed, learned_same, piece_found, whole_is}
 use Rattle.simulation_responses.proofs.ResponseLanding.{LearnedAt, entries_more, landing_stands}
 use Rattle.simulation_responses.proofs.ResponseLast.{after_then, front_of, front_there, inner_then, request_at, run_then, untold_then}
-use Rattle.simulation_responses.proofs.ResponseLearns.{first_next, not_atomic}
+use Rattle.simulation_responses.proofs.ResponseLearns.{first_next}
 use Rattle.simulation_responses.proofs.ResponseNumbers.{bytes_inside, pieces_back, request_high, whole_bytes}
-use Rattle.simulation_responses.proofs.ResponseOld.{lands_atomic, learned_at_then, learned_regions, request_begins}
-use Rattle.simulation_responses.proofs.ResponseRegions.{AreLike, landed_put, put_like, put_nothing, put_said, put_whole}
+use Rattle.simulation_responses.proofs.ResponseOld.{learned_at_then, learned_regions, request_begins}
+use Rattle.simulation_responses.proofs.ResponseRegions.{landed_put, put_like, put_nothing, put_said, put_whole}
 use Rattle.simulation_responses.proofs.ResponseTelling.{Advances, stays_here}
 use Rattle.simulation_responses.proofs.ResponseTold.{Learned, Stays, entries_by, known_by, learned_none, learned_stays, learned_told, told_by, untold_there}
 

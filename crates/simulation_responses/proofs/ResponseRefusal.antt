@@ -1,6 +1,6 @@
 -- A NAK of an invalid request or a remote access error arrives at a live end in Rts: the owner learns of the numbers before
 -- it, and where it speaks of the oldest number the end goes to Error with its status.
-use Rattle.std.proofs.Common.{arith, ◌≡◌, ◌≤◌, ◌<◌, ◌+◌, ℕ, suc, List, [], ◌∷◌, ◌++◌, length, true, false, Bool, refl, sym, ap, ◌∙◌, subst, inl, inr}
+use Rattle.std.proofs.Common.{arith, ◌≡◌, ◌≤◌, ◌<◌, ◌+◌, ℕ, suc, List, [], ◌∷◌, ◌++◌, true, false, Bool, refl, sym, ap, ◌∙◌, subst, inl, inr}
 use Rattle.std.specs.Prelude.{Option, Some, None, nat_lt, nat_le, slice_get, ◌&&◌, ◌==◌, if◌then◌else◌}
 use Rattle.std.proofs.lemmas.Bool.Decides.{nat_tests, leb_tells, eqb_tells}
 use Rattle.rdma_types.specs.declared.names.ObjName.{ObjName}
@@ -20,11 +20,10 @@ use Rattle.protocol.specs.State as state
 use Rattle.protocol.specs.State.{World, Link}
 use Rattle.protocol.specs.Wire.{Packet}
 use Rattle.protocol.specs.DeviceStep.{took_answer}
-use Rattle.ideal_model.specs.declared.reply.Reply.{Reply}
-use Rattle.ideal_model.specs.declared.reply.Reply.TheVariants.{Finished, OldValue, Denied}
+use Rattle.ideal_model.specs.declared.reply.Reply.TheVariants.{Denied}
 use Rattle.ideal_model.specs.declared.steps.IdealStep.{IdealStep}
 use Rattle.ideal_model.specs.declared.steps.IdealStep.TheVariants as steps
-use Rattle.ideal_model.specs.Legal.{IsRun, after}
+use Rattle.ideal_model.specs.Legal.{after}
 use Rattle.ideal_model.specs.Machine as machine
 use Rattle.ideal_model.specs.Machine.{Machine, End}
 use Rattle.ideal_model.specs.Numbers.{due}
@@ -32,7 +31,7 @@ use Rattle.ideal_model.specs.Steps as making
 use Rattle.ideal_model.specs.Steps.{bounce, bounce_status, is_denied, may_bounce}
 use Rattle.simulation.specs.Carries.{TellsThenMaybe, before_barrier}
 use Rattle.simulation.specs.Facts.{ClassFact, IsRefused, MoveFact, NumberedFact, is_access_denied}
-use Rattle.simulation.specs.Packets.{class_of, syndrome_class, nak_class, IsAck, IsSequenceNak, IsRefusal, IsReceiverNotReady, IsStopped, IsNothing}
+use Rattle.simulation.specs.Packets.{class_of, syndrome_class, nak_class, IsSequenceNak, IsRefusal, IsStopped, IsNothing}
 use Rattle.simulation.specs.Stands.{Stands}
 use Rattle.simulation.specs.Views.{requests_of, side_of}
 use Rattle.simulation_delivery.specs.Delivered.{Arrives, Takes, RefusalsAreTaken, context_there, end_there}

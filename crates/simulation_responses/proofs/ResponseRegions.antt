@@ -1,24 +1,24 @@
 -- Bytes land in regions of the owner: the protocol and the machine put the same, and nothing else of the regions changes.
-use Rattle.std.proofs.Common.{arith, ◌≡◌, ◌≢◌, ◌<◌, ◌≤◌, ◌+◌, ◌-◌, ◌%◌, ℕ, zero, suc, List, [], ◌∷◌, ◌++◌, length, map, true, false, Bool, refl, sym, ap, ◌∙◌, subst, inl, inr}
+use Rattle.std.proofs.Common.{arith, ◌≡◌, ◌<◌, ◌≤◌, ◌+◌, ◌-◌, ◌%◌, ℕ, suc, List, [], ◌∷◌, ◌++◌, length, true, false, Bool, refl, sym, ap, ◌∙◌, subst, inl, inr}
 use Rattle.std.specs.Prelude.{Option, Some, None, is_some, if◌then◌else◌, ◌==◌, ◌&&◌, ◌||◌, All, Contains, take, drop, bytes_eq}
 use Rattle.std.specs.List.{count_by}
 use Rattle.std.proofs.lemmas.Bool.Decides.{nat_tests, leb_tells, eqb_tells}
 use Rattle.std.proofs.lemmas.List.{length-append, length-take, length-drop, take-append-drop}
-use Rattle.std.proofs.lemmas.List.Elements.{All-nil, All-cons, All-head, All-tail, All-append, All-take, All-drop}
+use Rattle.std.proofs.lemmas.List.Elements.{All-cons, All-head, All-tail, All-append, All-take, All-drop}
 use Rattle.rdma_types.specs.declared.names.Name.{Name}
 use Rattle.rdma_types.specs.Lists.{at, has, has_word, store, first_that}
-use Rattle.rdma_types.specs.Memory.{Right, allows, cut, put, grants, granted, holds, is_granted, local_key, remote_key}
+use Rattle.rdma_types.specs.Memory.{Right, allows, put, grants, granted, holds, is_granted, local_key, remote_key}
 use Rattle.rdma_types.specs.Objects.{IsWhole, Region, no_region}
 use Rattle.protocol.specs.State as state
 use Rattle.protocol.specs.State.{Progress, NoMessage, InSend, InWrite}
 use Rattle.protocol.specs.Memory.{landed, written, with_region, stored, region_of_key}
 use Rattle.ideal_model.specs.Machine as machine
 use Rattle.ideal_model.specs.Machine.{End, put_at, bytes_at, is_at}
-use Rattle.simulation.specs.Joined.{IsProgress, IsWriting, is_granted_in}
-use Rattle.simulation.specs.Stands.{IsContextSound, IsEndSound}
+use Rattle.simulation.specs.Joined.{IsProgress, is_granted_in}
+use Rattle.simulation.specs.Stands.{IsContextSound}
 use Rattle.simulation.proofs.Grants.{SamePlace, contains_cases, contains_here, contains_later}
 use Rattle.simulation.proofs.Sounds.{ends_regions}
-use Rattle.simulation.proofs.Tables.{at-found, count_by-cons, once_later, found_number}
+use Rattle.simulation.proofs.Tables.{at-found, count_by-cons}
 use Rattle.simulation_delivery.proofs.First.{first_passes}
 
 -- ---- regions that differ in their bytes alone
@@ -80,8 +80,7 @@ unfolding is_granted_in
 like_progress q domain rs rs' NoMessage s h = h
 like_progress q domain rs rs' (InSend bytes receive) s h = h
 like_progress q domain rs rs' (InWrite region off count bytes) s h =
-    let f = like_contains h.5.region rs rs' s h.5.there in
-    (
+    let f = like_contains h.5.region rs rs' s h.5.there in (
       h.0,
       h.1,
       h.2,

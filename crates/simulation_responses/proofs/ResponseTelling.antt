@@ -1,6 +1,6 @@
 -- What is told is completed alike on both sides, and the relation is kept.
-use Rattle.std.proofs.Common.{arith, ◌≡◌, ◌≤◌, ◌<◌, ◌+◌, ◌-◌, ℕ, zero, suc, List, [], ◌∷◌, ◌++◌, length, map, filter, true, false, Bool, refl, sym, ap, ◌∙◌, subst}
-use Rattle.std.specs.Prelude.{Option, Some, None, drop, take, if◌then◌else◌}
+use Rattle.std.proofs.Common.{arith, ◌≡◌, ◌≤◌, ◌+◌, ℕ, zero, suc, List, [], ◌∷◌, ◌++◌, map, filter, true, false, Bool, refl, sym, ap, ◌∙◌, subst}
+use Rattle.std.specs.Prelude.{Some, drop, take, if◌then◌else◌}
 use Rattle.std.proofs.Math.Seq.{drop-cons}
 use Rattle.std.proofs.lemmas.List.{drop-drop}
 use Rattle.rdma_types.specs.declared.names.Name.{Name}
@@ -10,7 +10,6 @@ use Rattle.rdma_types.specs.declared.requests.Completion.{Completion}
 use Rattle.rdma_types.specs.declared.requests.WcStatus.{WcStatus}
 use Rattle.rdma_types.specs.Lists.{has_name, store_named}
 use Rattle.rdma_types.specs.Objects.{CompletionQueue, Posted, no_posted}
-use Rattle.rdma_types.specs.Spans.{first_number, request_of}
 use Rattle.protocol.specs.State as state
 use Rattle.protocol.specs.State.{World, Link, Sender}
 use Rattle.protocol.specs.EndWords as words
@@ -28,10 +27,10 @@ use Rattle.simulation.proofs.Live.{live_of, live_name, live_same}
 use Rattle.simulation.proofs.Linked.{end_there_of, connected_sound, domain_there}
 use Rattle.simulation.proofs.Sounds.{queue_there, queues_like}
 use Rattle.simulation_sending.proofs.GoEnd.{Goes_on, gone_end}
-use Rattle.simulation_sending.proofs.GoLive.{LiveEnd, ContextGoes, both, connected_here, ended_here, goes_on_here, name_here, name_there, owned_gone, sound_here, untold_here, mtu_is}
+use Rattle.simulation_sending.proofs.GoLive.{LiveEnd, ContextGoes, both, connected_here, ended_here, goes_on_here, name_here, name_there, owned_gone, sound_here, untold_here}
 use Rattle.simulation_sending.proofs.GoEnding.{over_stands}
 use Rattle.simulation_sending.proofs.GoSound.{MayKnow, gone_sound}
-use Rattle.simulation_responses.proofs.ResponseTold.{IsNext, Learned, MayTell, Stays, entries_by, learned_context}
+use Rattle.simulation_responses.proofs.ResponseTold.{Learned, MayTell, Stays, entries_by, learned_context}
 
 -- ---- completions
 

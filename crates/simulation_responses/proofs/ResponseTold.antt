@@ -1,6 +1,6 @@
 -- The machine's owner learns more: requests are told, and bytes become known. What changes of the machine.
-use Rattle.std.proofs.Common.{arith, ◌≡◌, ◌≤◌, ◌<◌, ◌+◌, ℕ, zero, suc, List, [], ◌∷◌, ◌++◌, length, map, true, false, Bool, refl, sym, ap, ◌∙◌, subst}
-use Rattle.std.specs.Prelude.{Option, Some, None, not, ◌&&◌, ◌||◌, ◌==◌, nat_lt, nat_le, slice_get, if◌then◌else◌}
+use Rattle.std.proofs.Common.{arith, ◌≡◌, ◌≤◌, ◌<◌, ℕ, zero, suc, List, [], ◌∷◌, ◌++◌, length, true, false, refl, sym, ap, ◌∙◌, subst}
+use Rattle.std.specs.Prelude.{Option, Some, None, nat_lt, nat_le, slice_get}
 use Rattle.std.proofs.lemmas.Bool.Decides.{nat_tests, leb_tells}
 use Rattle.std.proofs.lemmas.List.{append-nil, append_assoc}
 use Rattle.rdma_types.specs.declared.names.Name.{Name}
@@ -8,24 +8,22 @@ use Rattle.rdma_types.specs.declared.names.ObjName.{ObjName}
 use Rattle.rdma_types.specs.declared.requests.Completion.{Completion}
 use Rattle.rdma_types.specs.declared.requests.Kind.{Kind}
 use Rattle.rdma_types.specs.declared.requests.Kind.TheVariants.{Write, Send, Read, CompareSwap, FetchAdd}
-use Rattle.rdma_types.specs.Kinds.{is_atomic, is_read, kind_of, lands}
+use Rattle.rdma_types.specs.Kinds.{is_read, kind_of, lands}
 use Rattle.rdma_types.specs.Lists.{has_name, named, store_named}
-use Rattle.rdma_types.specs.Objects.{CompletionQueue, Posted, no_queue}
-use Rattle.ideal_model.specs.declared.reply.Reply.{Reply}
-use Rattle.ideal_model.specs.declared.reply.Reply.TheVariants.{Finished, OldValue, Denied}
+use Rattle.rdma_types.specs.Objects.{CompletionQueue, no_queue}
+use Rattle.ideal_model.specs.declared.reply.Reply.TheVariants.{Finished}
 use Rattle.ideal_model.specs.declared.steps.IdealStep.{IdealStep}
 use Rattle.ideal_model.specs.declared.steps.IdealStep.TheVariants as steps
 use Rattle.ideal_model.specs.Legal.{IsRun, after}
 use Rattle.ideal_model.specs.Machine as machine
 use Rattle.ideal_model.specs.Machine.{Machine, End, has_context, posted_at}
-use Rattle.ideal_model.specs.Sound.{IsReplyTo}
 use Rattle.ideal_model.specs.Steps.{front, has_untold, in_place, knowing, may_know, may_tell, put_old, success, tell, tell_at, told_one, with_known}
 use Rattle.simulation.specs.Carries.{OnlyTells}
 use Rattle.simulation.proofs.Tables.{has_name-store, name-named_there, named-store_same}
 use Rattle.simulation.proofs.Machines as machines
 use Rattle.simulation.proofs.Machines.{MachineChanged, context_name, with_context_changed, queue_stored}
 use Rattle.simulation.proofs.Ends.{queue_in, with_more}
-use Rattle.simulation.proofs.Linked.{HasEnd, context_with, end_changed}
+use Rattle.simulation.proofs.Linked.{HasEnd, end_changed}
 use Rattle.simulation_delivery.specs.Delivered.{AreInner}
 use Rattle.simulation_sending.proofs.GoOver.{made_still}
 use Rattle.simulation_sending.proofs.GoTables.{stored_same, stored_twice, changed_twice}
@@ -74,8 +72,8 @@ learned_none m o s =
         named = context_name m o.context;
         there = s.there;
         contexts = sym (ap (λ es. store_named (λ x. x.name) o.context (record y { ends = es; queues = with_more y.queues (machine.end_of m o).send_queue [] }) m.contexts) ends
-        ∙ (ap (λ qs. store_named (λ x. x.name) o.context (record y { queues = qs }) m.contexts) queues
-        ∙ stored_same (λ x. x.name) (machine.no_context o.context) o.context m.contexts s.there));
+            ∙ (ap (λ qs. store_named (λ x. x.name) o.context (record y { queues = qs }) m.contexts) queues
+            ∙ stored_same (λ x. x.name) (machine.no_context o.context) o.context m.contexts s.there));
       };
       numbers = refl;
       keys = refl;
