@@ -153,7 +153,7 @@ taken_reached w m k f d w' a ss sent read took inner run carried stands = record
 -- ---- the end that it names
 
 -- the fact of bytes that were sent says that they are a datagram
-read_of : (n : Net) (number : Option ℕ) (bytes : List ℕ) (r : Option Packet) → packet_of bytes ≡ r → BytesFact n number bytes r → (d : Packet) × (packet_of bytes ≡ Some d) × PacketFact (n.side (n.name d.dest)) (n.side (peer n (n.name d.dest))) (n.end (n.name d.dest)) (n.end (peer n (n.name d.dest))) number bytes d
+pub read_of : (n : Net) (number : Option ℕ) (bytes : List ℕ) (r : Option Packet) → packet_of bytes ≡ r → BytesFact n number bytes r → (d : Packet) × (packet_of bytes ≡ Some d) × PacketFact (n.side (n.name d.dest)) (n.side (peer n (n.name d.dest))) (n.end (n.name d.dest)) (n.end (peer n (n.name d.dest))) number bytes d
 read_of n number bytes None h f = absurd f
 read_of n number bytes (Some d) h f = (d, h, f)
 
@@ -221,7 +221,7 @@ still w m test d a placed found =
     rw (append-nil w.sent, devices) refl
 
 -- no event of a packet is refused
-arrives_is : (d : Device) (from : Address) (bytes : List ℕ) (p : Packet) → packet_of bytes ≡ Some p → device.device_step d (events.Arrive from bytes) ≡ at_found d from p (found_in p.dest d.contexts)
+pub arrives_is : (d : Device) (from : Address) (bytes : List ℕ) (p : Packet) → packet_of bytes ≡ Some p → device.device_step d (events.Arrive from bytes) ≡ at_found d from p (found_in p.dest d.contexts)
 unfolding device.device_step device.arrives refusing.refusal_of first_cause
 arrives_is d from bytes p read = ap (device.arrives_packet d from) read
 
@@ -249,7 +249,7 @@ ended_takes c e l p h = rw h refl
 -- ---- a datagram that comes
 
 -- what the arrival of f is answered: Reaches, in the world where it is marked
-abbrev Reached : World → Machine → ℕ → Flight → Option Device → Type 0
+abbrev pub Reached : World → Machine → ℕ → Flight → Option Device → Type 0
 Reached w m k f d = Reaches w m (world_events.Deliver k) (reaches (with_taken w k) f d).world (reaches (with_taken w k) f d).answer
 
 module _ (w : World) (m : Machine) (k : ℕ) (f : Flight) (p : Packet) (s : Stands w m) (sent : slice_get w.sent (k - 1) ≡ Some f) (read : packet_of f.bytes ≡ Some p)
@@ -274,10 +274,10 @@ module _ (w : World) (m : Machine) (k : ℕ) (f : Flight) (p : Packet) (s : Stan
   unfolding is_taken
   unknown = refl
 
-  no_device_there : device_with w f.to ≡ None → Reached w m k f None
+  pub no_device_there : device_with w f.to ≡ None → Reached w m k f None
   no_device_there none = lost_on v (answers.Took (took.Silent why.Unknown) 0 0) (none_there (λ d h. absurd (cc))) unknown s'
 
-  abbrev AtHusk : Device → List HuskEntry → Type 0
+  abbrev pub AtHusk : Device → List HuskEntry → Type 0
   AtHusk d hs = Reaches w m (world_events.Deliver k) (ran v (at_husk d f.from p hs)).world (ran v (at_husk d f.from p hs)).answer
 
   -- a device that knows no end with the number answers nothing
@@ -300,7 +300,7 @@ module _ (w : World) (m : Machine) (k : ℕ) (f : Flight) (p : Packet) (s : Stan
       some_device : (a b : Device) → Some a ≡ Some b → a ≡ b
       some_device a b h = cc
 
-  at_husks : (d : Device) → device_with w f.to ≡ Some d → found_in p.dest d.contexts ≡ [] → HusksAnswer → (hs : List HuskEntry) → husk_entries p.dest d.husks ≡ hs → AtHusk d hs
+  pub at_husks : (d : Device) → device_with w f.to ≡ Some d → found_in p.dest d.contexts ≡ [] → HusksAnswer → (hs : List HuskEntry) → husk_entries p.dest d.husks ≡ hs → AtHusk d hs
   at_husks d is none husks [] entries = not_known d is none
   at_husks d is none husks (h ∷ hs) entries = husk_by d is none husks h hs entries (is_control p) refl
 

@@ -1,10 +1,10 @@
 -- A step of one device of a world: what stays of it.
-use Rattle.std.proofs.Common.{arith, ◌≡◌, ◌≢◌, ◌≤◌, ℕ, List, [], ◌∷◌, ◌++◌, map, true, false, Bool, refl, sym, ap, ◌∙◌, subst, inl, inr}
-use Rattle.std.specs.Prelude.{Option, Some, None, ◌||◌, ◌==◌, if◌then◌else◌, flat_map, All, Contains}
+use Rattle.std.proofs.Common.{arith, ◌≡◌, ℕ, List, [], ◌∷◌, ◌++◌, true, false, refl, sym, ap, ◌∙◌, subst}
+use Rattle.std.specs.Prelude.{Some, None, flat_map, All}
 use Rattle.std.proofs.lemmas.Bool.Decides.{nat_tests}
 use Rattle.std.proofs.lemmas.Grind.{flat_map-append}
 use Rattle.std.proofs.lemmas.List.{append-nil, map-id}
-use Rattle.std.proofs.lemmas.List.Elements.{All-nil, All-cons, All-head, All-tail, All-append, All-contains}
+use Rattle.std.proofs.lemmas.List.Elements.{All-tail, All-append}
 use Rattle.rdma_types.specs.declared.names.Name.{Name}
 use Rattle.rdma_types.specs.declared.answers.Answer.{Answer}
 use Rattle.rdma_types.specs.Lists.{has_name, has, at, store}

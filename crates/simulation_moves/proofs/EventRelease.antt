@@ -1,7 +1,6 @@
 -- The machine follows the forgetting of a husk: it makes no step.
-use Rattle.std.proofs.Common.{arith, ◌≡◌, ◌≤◌, ℕ, List, [], ◌∷◌, ◌++◌, map, true, false, Bool, refl, sym, ap, ◌∙◌, subst}
-use Rattle.std.specs.Prelude.{Option, Some, None, not, is_some, ◌&&◌, ◌||◌, ◌==◌, flat_map, bytes_eq, All, Contains}
-use Rattle.std.specs.List.{count_by}
+use Rattle.std.proofs.Common.{arith, ◌≡◌, ℕ, [], ◌∷◌, ◌++◌, map, true, refl, sym, ap, ◌∙◌, subst}
+use Rattle.std.specs.Prelude.{Option, Some, None, not, is_some, ◌&&◌, flat_map}
 use Rattle.std.proofs.lemmas.List.{append-nil}
 use Rattle.std.proofs.lemmas.List.Elements.{All-contains}
 use Rattle.rdma_types.specs.declared.names.Name.{Name}

@@ -1,57 +1,48 @@
 -- The machine follows a restore: a carried image is put on a device, where its ends are Resuming, and the machine makes no
 -- step.
-use Rattle.std.proofs.Common.{arith, ◌≡◌, ◌≢◌, ◌≤◌, ◌<◌, ◌⊎◌, ℕ, List, [], ◌∷◌, ◌++◌, map, true, false, Bool, refl, sym, ap, ◌∙◌, subst, inl, inr}
-use Rattle.std.specs.Prelude.{Option, Some, None, option_map, is_some, not, ◌&&◌, ◌||◌, ◌==◌, ◌+◌, ◌%◌, ◌/◌, max, nat_le, if◌then◌else◌, flat_map, bytes_eq, All, Contains}
-use Rattle.std.specs.List.{count_by}
+use Rattle.std.proofs.Common.{arith, ◌≡◌, ◌≢◌, ◌≤◌, ◌<◌, ℕ, List, [], ◌∷◌, ◌++◌, map, true, false, Bool, refl, sym, ap, ◌∙◌, subst, inl, inr}
+use Rattle.std.specs.Prelude.{Option, Some, None, option_map, is_some, not, ◌&&◌, ◌||◌, ◌==◌, ◌+◌, ◌%◌, ◌/◌, max, nat_le, if◌then◌else◌, flat_map, bytes_eq, All}
 use Rattle.std.proofs.lemmas.Bool.Decides.{nat_tests, leb_tells}
-use Rattle.std.proofs.lemmas.List.{append-nil, append_assoc, map-append}
-use Rattle.std.proofs.lemmas.List.Elements.{All-nil, All-cons, All-head, All-tail, All-append, All-contains}
+use Rattle.std.proofs.lemmas.List.{append-nil}
 use Rattle.rdma_types.specs.declared.names.Name.{Name}
 use Rattle.rdma_types.specs.declared.names.ObjName.{ObjName}
 use Rattle.rdma_types.specs.declared.requests.Address.{Address}
 use Rattle.rdma_types.specs.declared.answers.Answer.TheVariants as answers
 use Rattle.rdma_types.specs.declared.answers.Refusal.{Refusal}
 use Rattle.rdma_types.specs.declared.answers.Refusal.TheVariants as refusals
-use Rattle.rdma_types.specs.Causes.{Cause, cause, first_cause}
+use Rattle.rdma_types.specs.Causes.{cause, first_cause}
 use Rattle.rdma_types.specs.Limits.{most_moves}
 use Rattle.rdma_types.specs.Lists.{named, has_name, has_word, has, at, store, without, first_that, some}
 use Rattle.protocol.specs.declared.events.Event.TheVariants as events
 use Rattle.protocol.specs.declared.events.WorldEvent.TheVariants as world_events
-use Rattle.protocol.specs.declared.wire.ResumeBody.{ResumeBody}
 use Rattle.protocol.specs.Fabric.{sending}
 use Rattle.protocol.specs.declared.images.ContextImage.{ContextImage}
 use Rattle.protocol.specs.Images as images
 use Rattle.protocol.specs.Images.{moved, moved_end, moved_link}
-use Rattle.protocol.specs.Moves.{unpaused}
-use Rattle.protocol.specs.State as state
-use Rattle.protocol.specs.State.{World, Device, Context, End, Link, Phase, Running, Paused, Resuming, Husk, HuskEntry, device_at, context_at, no_device, no_end}
+use Rattle.protocol.specs.State.{World, Device, Context, End, Link, Paused, Resuming, device_at, no_device, no_end}
 use Rattle.protocol.specs.Refusals as refusing
 use Rattle.protocol.specs.DeviceStep as device
 use Rattle.protocol.specs.DeviceStep.{highest}
 use Rattle.protocol.specs.WorldStep as step
 use Rattle.protocol.specs.WorldStep.{world_step, is_live, is_carried, home, with_device, ran, live_context, partner_moves, is_carried_end, is_resuming_end, context_causes}
-use Rattle.ideal_model.specs.Machine as machine
-use Rattle.ideal_model.specs.Machine.{Machine, has_end, nobody}
+use Rattle.ideal_model.specs.Machine.{Machine}
 use Rattle.simulation.specs.Kept as kept
-use Rattle.simulation.specs.Packets.{IsStopped, IsResume}
-use Rattle.simulation.specs.Views.{Net, Side, contexts_of, context_of, end_of, link_or_none, link_of, in_rts, home_in, address_or_none, place_of, side_of, net_of, numbered_ends, name_of, peer, owned, owned_there, receive_in}
-use Rattle.simulation.specs.Joined.{IsHeardOf, IsMoving}
-use Rattle.simulation.specs.Facts.{HuskFact, IsLeft, MoveFact, IsCarriedWith}
-use Rattle.simulation.specs.Stands.{Stands, IsPlaced, AreLeft, husks_of}
+use Rattle.simulation.specs.Packets.{IsStopped}
+use Rattle.simulation.specs.Views.{Net, Side, contexts_of, context_of, end_of, link_or_none, home_in, address_or_none, place_of, side_of, net_of, peer, owned_there}
+use Rattle.simulation.specs.Joined.{IsHeardOf}
+use Rattle.simulation.specs.Facts.{MoveFact}
+use Rattle.simulation.specs.Stands.{Stands, AreLeft, husks_of}
 use Rattle.simulation.specs.Law.{Reaches, Follows}
-use Rattle.simulation.proofs.Tables.{name_or_not, name_tells, named-map, map-store_found, at-store_grows, number-at, map-store_at, flat_map-store_at, name_tells, has_name-map, has_name-append, has_name-push, same_name}
-use Rattle.simulation.proofs.Worlds.{has_name-flat, ids_once, holds_it, home_found, home_holds, home_context, has_name-names, has_context_is}
-use Rattle.simulation.proofs.Inserts.{Inserts, inserts_before, inserts_flat_at, inserts_map, inserts_all}
-use Rattle.simulation.proofs.Live.{live_of, live_name}
+use Rattle.simulation.proofs.Tables.{name_tells, named-map, at-store_grows, number-at, map-store_at, flat_map-store_at, name_tells, has_name-map, has_name-append, has_name-push, same_name}
+use Rattle.simulation.proofs.Worlds.{has_name-flat}
+use Rattle.simulation.proofs.Inserts.{Inserts, inserts_before, inserts_flat_at, inserts_map}
 use Rattle.simulation.proofs.Nets.{link_in}
 use Rattle.simulation.proofs.Grows.{IsConnected}
-use Rattle.simulation.proofs.Grown.{are_made}
-use Rattle.simulation.proofs.Ends.{end_there, end_owned}
 use Rattle.simulation.proofs.Refusing.{first_no, later_no, not_lacking}
-use Rattle.simulation.proofs.Verbs.{unheard_reached, ran_same}
-use Rattle.simulation_moves.proofs.Lists.{inserts_after, inserts_without, some_map, found_there, has_without, all_of_contained, all_by_name, some_named}
+use Rattle.simulation.proofs.Verbs.{unheard_reached}
+use Rattle.simulation_moves.proofs.Lists.{inserts_after, inserts_without, some_map, has_without, some_named}
 use Rattle.simulation_moves.proofs.NetMoves.{SideMoves}
-use Rattle.simulation_moves.proofs.Relocated.{Relocated, Migrates, context_was, alone, side_made, side_parts, connected_still, side_other, link_here, entries_kept, migrated_stands}
+use Rattle.simulation_moves.proofs.Relocated.{Relocated, Migrates, context_was, alone, side_made, side_parts, side_other, link_here, entries_kept, migrated_stands}
 use Rattle.simulation_moves.proofs.Devices.{ran_stays, place_stored, place_stored_here}
 use Rattle.simulation_moves.proofs.Movers.{end_is_there, carried_not_live, image_name}
 

@@ -1,22 +1,21 @@
 -- What the ends of a context name is there, where a world stands for a machine.
 use Rattle.std.proofs.Common.{arith, ◌≡◌, ◌≢◌, ◌≤◌, ℕ, List, [], ◌∷◌, map, true, false, Bool, refl, sym, ap, ◌∙◌, subst, inl, inr}
-use Rattle.std.specs.Prelude.{Option, Some, None, is_some, not, ◌&&◌, ◌||◌, ◌==◌, bytes_eq, All, Contains}
+use Rattle.std.specs.Prelude.{Option, Some, None, is_some, ◌||◌, bytes_eq, All, Contains}
 use Rattle.std.specs.List.{count_by}
-use Rattle.std.proofs.lemmas.Bool.Decides.{nat_tests, eqb_tells}
+use Rattle.std.proofs.lemmas.Bool.Decides.{eqb_tells}
 use Rattle.std.proofs.lemmas.List.Elements.{All-nil, All-cons, All-contains}
 use Rattle.rdma_types.specs.declared.names.Name.{Name}
 use Rattle.rdma_types.specs.declared.names.ObjName.{ObjName}
 use Rattle.rdma_types.specs.Lists.{named, has, has_name, has_word}
 use Rattle.rdma_types.specs.Objects.{Region}
-use Rattle.protocol.specs.State as state
 use Rattle.protocol.specs.State.{World, Context, End, Link, Progress, NoMessage, InSend, InWrite, no_end}
 use Rattle.ideal_model.specs.Machine as machine
 use Rattle.ideal_model.specs.Machine.{Machine, nobody}
-use Rattle.simulation.specs.Views.{Net, context_of, end_of, link_or_none, link_of, in_rts, is_connected, net_of, peer, owned, owned_there}
+use Rattle.simulation.specs.Views.{Net, context_of, end_of, link_or_none, link_of, in_rts, net_of, peer, owned, owned_there}
 use Rattle.simulation.specs.Joined.{IsProgress}
 use Rattle.simulation.specs.Stands.{Stands, IsEndSound}
 use Rattle.simulation.proofs.Tables.{All-named}
-use Rattle.simulation.proofs.Ends.{end_there, end_owned, names_there, names_here}
+use Rattle.simulation.proofs.Ends.{end_there, end_owned}
 use Rattle.simulation.proofs.Nets.{link_in}
 use Rattle.simulation.proofs.Grows.{IsConnected}
 use Rattle.simulation_moves.proofs.Lists.{all_by_name, count_map}

@@ -1,13 +1,13 @@
 -- Lists of things with names: one leaves, and one comes.
-use Rattle.std.proofs.Common.{arith, ◌≡◌, ◌≢◌, ◌≤◌, ◌<◌, ◌+◌, ℕ, List, [], ◌∷◌, ◌++◌, map, true, false, Bool, refl, sym, ap, ◌∙◌, subst, inl, inr}
-use Rattle.std.specs.Prelude.{◌||◌, ◌==◌, if◌then◌else◌, flat_map, bytes_eq, All, Contains, Option, Some, None, is_some}
+use Rattle.std.proofs.Common.{arith, ◌≡◌, ◌≢◌, ◌≤◌, ℕ, List, [], ◌∷◌, ◌++◌, map, true, false, Bool, refl, sym, ap, ◌∙◌, subst, inl, inr}
+use Rattle.std.specs.Prelude.{◌||◌, ◌==◌, if◌then◌else◌, flat_map, bytes_eq, All, Contains, Some}
 use Rattle.std.specs.List.{count_by}
 use Rattle.std.proofs.lemmas.Bool.Decides.{nat_tests}
 use Rattle.std.proofs.lemmas.List.{append_assoc}
-use Rattle.std.proofs.lemmas.List.Elements.{All-nil, All-cons, All-head, All-tail, All-weaker, All-contains, All-contains_itself}
+use Rattle.std.proofs.lemmas.List.Elements.{All-nil, All-cons, All-head, All-tail, All-weaker, All-contains_itself}
 use Rattle.rdma_types.specs.declared.names.Name.{Name}
-use Rattle.rdma_types.specs.Lists.{named, has_name, has_word, without, has, at, store, some, first_that}
-use Rattle.simulation.proofs.Tables.{name_or_not, name_tells, same_name, count_by-cons, has_name-append}
+use Rattle.rdma_types.specs.Lists.{named, has_name, without, has, at, store, some, first_that}
+use Rattle.simulation.proofs.Tables.{name_tells, same_name, count_by-cons}
 use Rattle.simulation.proofs.Inserts.{Inserts, inserts_before}
 
 pub inserts_after : {A : Type 0} (x : A) (front xs ys : List A) → Inserts A x xs ys → Inserts A x (front ++ xs) (front ++ ys)

@@ -1,6 +1,6 @@
 -- Which ends move: what a world's tests for a stop tell of the ends by their names.
-use Rattle.std.proofs.Common.{arith, ◌≡◌, ◌≢◌, ◌≤◌, ℕ, List, [], ◌∷◌, ◌++◌, map, true, false, Bool, refl, sym, ap, ◌∙◌, subst, inl, inr}
-use Rattle.std.specs.Prelude.{Option, Some, None, option_map, is_some, not, ◌&&◌, ◌||◌, ◌==◌, flat_map, bytes_eq}
+use Rattle.std.proofs.Common.{arith, ◌≡◌, ℕ, List, [], map, true, false, Bool, refl, sym, ap, ◌∙◌, inl, inr}
+use Rattle.std.specs.Prelude.{Option, Some, None, option_map, is_some, not, ◌&&◌, ◌||◌, ◌==◌, flat_map}
 use Rattle.std.proofs.lemmas.Bool.Decides.{nat_tests, eqb_tells}
 use Rattle.rdma_types.specs.declared.names.Name.{Name}
 use Rattle.rdma_types.specs.declared.names.ObjName.{ObjName}
@@ -17,7 +17,7 @@ use Rattle.protocol.specs.State.{World, Context, End, Link, Phase, Running, Paus
 use Rattle.protocol.specs.WorldStep.{is_live, is_carried, is_linked_image, is_carried_end, is_resuming_end}
 use Rattle.ideal_model.specs.Machine as machine
 use Rattle.ideal_model.specs.Machine.{Machine, nobody}
-use Rattle.simulation.specs.Views.{contexts_of, context_of, end_of, link_or_none, link_of, in_rts, net_of, side_of, owned, owned_there}
+use Rattle.simulation.specs.Views.{contexts_of, context_of, end_of, link_or_none, side_of, owned, owned_there}
 use Rattle.simulation.specs.Joined.{IsMoving}
 use Rattle.simulation.specs.Stands.{Stands, IsPlaced}
 use Rattle.simulation.proofs.Tables.{named-absent, named-append_has, named-append_lacks, has_name-map}
@@ -25,7 +25,6 @@ use Rattle.simulation.proofs.Worlds.{has_name-flat, has_context_is}
 use Rattle.simulation.proofs.Connecting.{live_not_carried}
 use Rattle.simulation.proofs.Ends.{end_there, end_owned}
 use Rattle.simulation.proofs.Nets.{link_in}
-use Rattle.simulation.proofs.Grows.{IsConnected}
 use Rattle.simulation_moves.proofs.Lists.{some_named, some_parts, some_map}
 
 -- ---- the tests over contexts

@@ -1,6 +1,6 @@
 -- The facts of all ends, husks and datagrams are kept where ends move: their moving parts, their places and their next
 -- numbers change, and nothing else.
-use Rattle.std.proofs.Common.{arith, ◌≡◌, ◌≤◌, ◌<◌, ◌⊎◌, ℕ, List, true, false, Bool, refl, sym, ap, ◌∙◌, subst, inl, inr}
+use Rattle.std.proofs.Common.{arith, ◌≡◌, ◌≤◌, ◌⊎◌, ℕ, List, true, Bool, refl, sym, ap, ◌∙◌, subst, inl, inr}
 use Rattle.std.specs.Prelude.{Option, Some, None}
 use Rattle.rdma_types.specs.declared.names.Name.{Name}
 use Rattle.rdma_types.specs.declared.names.ObjName.{ObjName}
@@ -10,7 +10,7 @@ use Rattle.protocol.specs.declared.wire.ResumeBody.{ResumeBody}
 use Rattle.protocol.specs.Wire.{Packet, packet_of}
 use Rattle.protocol.specs.State.{Flight, HuskEntry, Moving}
 use Rattle.ideal_model.specs.Machine.{End}
-use Rattle.simulation.specs.Packets.{Class, class_of, IsRequest, IsReadResponse, IsAtomicResponse, IsAck, IsSequenceNak, IsRefusal, IsReceiverNotReady, IsStopped, IsResume, IsResumeAck, IsNothing}
+use Rattle.simulation.specs.Packets.{Class, class_of, IsRequest, IsStopped, IsResume, IsResumeAck}
 use Rattle.simulation.specs.Views.{Net, Side, peer}
 use Rattle.simulation.specs.Joined.{IsJoined, IsProgress, IsHeardOf}
 use Rattle.simulation.specs.Facts.{HuskFact, IsLeft, MoveFact, NumberedFact, ClassFact, BytesFact, PacketFact}

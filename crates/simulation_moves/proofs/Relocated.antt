@@ -1,28 +1,25 @@
 -- A world in which one context goes to another place, and its ends move: the relation is kept.
-use Rattle.std.proofs.Common.{arith, ◌≡◌, ◌≢◌, ◌≤◌, ◌+◌, ℕ, List, [], ◌∷◌, ◌++◌, map, true, false, Bool, refl, sym, ap, ◌∙◌, subst, inl, inr}
-use Rattle.std.specs.Prelude.{◌⊎◌, Option, Some, None, option_map, is_some, not, ◌&&◌, ◌||◌, ◌==◌, if◌then◌else◌, flat_map, bytes_eq, All, Contains}
+use Rattle.std.proofs.Common.{arith, ◌≡◌, ◌≢◌, ◌≤◌, ℕ, List, map, true, false, Bool, refl, sym, ap, ◌∙◌, subst, inl, inr}
+use Rattle.std.specs.Prelude.{◌⊎◌, Option, Some, None, option_map, is_some, not, ◌&&◌, ◌==◌, flat_map, bytes_eq, All}
 use Rattle.std.specs.List.{count_by}
-use Rattle.std.proofs.lemmas.List.Elements.{All-append, All-contains}
 use Rattle.rdma_types.specs.declared.names.Name.{Name}
 use Rattle.rdma_types.specs.declared.names.ObjName.{ObjName}
 use Rattle.rdma_types.specs.declared.requests.Address.{Address}
-use Rattle.rdma_types.specs.Lists.{named, has_name, has_word}
-use Rattle.protocol.specs.State as state
-use Rattle.protocol.specs.State.{World, Context, End, Link, Husk, HuskEntry, device_at, no_end}
-use Rattle.protocol.specs.WorldStep.{is_live, is_carried}
+use Rattle.rdma_types.specs.Lists.{has_name, has_word}
+use Rattle.protocol.specs.State.{World, Context, Link, device_at}
+use Rattle.protocol.specs.WorldStep.{is_carried}
 use Rattle.ideal_model.specs.Machine as machine
 use Rattle.ideal_model.specs.Machine.{Machine, regions_of}
-use Rattle.simulation.specs.Views.{Net, Side, contexts_of, context_of, end_of, link_or_none, in_rts, place_of, side_of, net_of, numbered_ends, peer, owned, owned_there}
+use Rattle.simulation.specs.Views.{Net, Side, contexts_of, context_of, end_of, link_or_none, in_rts, place_of, side_of, net_of, peer, owned_there}
 use Rattle.simulation.specs.Joined.{IsHeardOf}
-use Rattle.simulation.specs.Facts.{HuskFact}
-use Rattle.simulation.specs.Stands.{Stands, ArePlaced, IsPlaced, AreSame, AreLeft, AreSent, names_of, husks_of}
+use Rattle.simulation.specs.Stands.{Stands, IsPlaced, AreSame, AreLeft, AreSent, names_of, husks_of}
 use Rattle.simulation.proofs.Tables.{name_or_not, name_tells}
 use Rattle.simulation.proofs.Inserts.{Inserts, inserts_map, named_other, named_here, count_inserted, has_inserted}
 use Rattle.simulation.proofs.Nets.{link_in}
 use Rattle.simulation.proofs.Grows.{IsConnected}
 use Rattle.simulation.proofs.Kept.{counted_kept, placed_like}
 use Rattle.simulation_moves.proofs.Lists.{absent_by_count, count_map}
-use Rattle.simulation_moves.proofs.NetMoves.{SideMoves, stays_put, NetMoves, with_sides, joined_all, left_all, sent_all, progressing_all}
+use Rattle.simulation_moves.proofs.NetMoves.{SideMoves, stays_put, NetMoves, joined_all, left_all, sent_all, progressing_all}
 
 -- the context x of the name c, which has become x', is in another place among the others
 pub record Relocated (w w' : World) (c : Name) (x x' : Context) : Type 0 where
