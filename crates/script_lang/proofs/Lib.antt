@@ -1,3 +1,4 @@
 mod Digits
 mod Splitting
 mod Ranges
+mod Cutting

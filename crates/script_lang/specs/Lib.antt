@@ -4,3 +4,4 @@ pub mod Fields
 pub mod Verbs
 pub mod Lines
 pub mod Ranges
+pub mod Scripts

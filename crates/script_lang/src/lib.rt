@@ -1,7 +1,7 @@
 //! The script language: what a line of a script says, and what a line of a node's script says (this project's choice).
 //!
-//! A line comes without its newline, and without the carriage return before that: who cuts a text into lines drops it
-//! before a newline alone. A carriage return that stays is a byte outside 32 to 126 as any other.
+//! [`Lines`] cuts a script into lines: it drops the newlines, and a carriage return right before one. So a line comes to
+//! [`parse_line`] without its end. A carriage return that stays is a byte outside 32 to 126 as any other.
 #![tactic(auto)]
 
 mod fields;
@@ -9,6 +9,7 @@ mod forms;
 mod lines;
 mod node;
 mod reading;
+mod script;
 #[cfg(test)]
 mod tests;
 mod texts;
@@ -18,3 +19,4 @@ mod words;
 pub use lines::{Line, LineFault, LineWhy, NodeLine};
 pub use node::parse_node_line;
 pub use reading::parse_line;
+pub use script::Lines;

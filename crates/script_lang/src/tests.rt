@@ -1,6 +1,6 @@
 //! Each kind of line once, a bad line for each reason, and the limits.
 
-use crate::{Line, LineFault, LineWhy, NodeLine, parse_line, parse_node_line};
+use crate::{Line, LineFault, LineWhy, Lines, NodeLine, parse_line, parse_node_line};
 use rdma_types::{Address, Kind, Name, ObjName, Receive, Request, Rights, Shape, Terms, Verb};
 use std::alloc::Global;
 
@@ -494,4 +494,15 @@ fn blank_lines_and_long_ones(rt: HostRuntime) {
             })
         )
     );
+}
+
+#[test]
+fn a_script_is_cut_into_lines(rt: HostRuntime) {
+    let mut lines = Lines::new(b"settle\r\n\n# end\nsettle\r");
+    assert_eq!(rt; lines.next_line(), Some(b"settle".as_slice()));
+    assert_eq!(rt; lines.next_line(), Some(b"".as_slice()));
+    assert_eq!(rt; lines.next_line(), Some(b"# end".as_slice()));
+    assert_eq!(rt; lines.next_line(), Some(b"settle\r".as_slice()));
+    assert_eq!(rt; lines.next_line(), None);
+    assert_eq!(rt; lines.next_line(), None);
 }
