@@ -2,3 +2,6 @@ mod Digits
 mod Splitting
 mod Ranges
 mod Cutting
+mod ReadBack
+mod Objects
+mod Decimals

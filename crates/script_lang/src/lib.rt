@@ -6,6 +6,7 @@
 
 mod fields;
 mod forms;
+mod laws;
 mod lines;
 mod node;
 mod reading;
@@ -16,6 +17,7 @@ mod texts;
 mod verbs;
 mod words;
 
+pub use laws::{a_number_is_spelled_in_one_way, what_is_printed_reads_back};
 pub use lines::{Line, LineFault, LineWhy, NodeLine};
 pub use node::parse_node_line;
 pub use reading::parse_line;
