@@ -1,6 +1,10 @@
 mod Digits
 mod Splitting
 mod Ranges
+mod Cutting
+mod ReadBack
+mod Objects
+mod Decimals
 pub mod Apart
 pub mod Whole
 pub mod Writing

@@ -4,4 +4,5 @@ pub mod Fields
 pub mod Verbs
 pub mod Lines
 pub mod Ranges
+pub mod Scripts
 pub mod Printed

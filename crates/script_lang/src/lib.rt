@@ -1,23 +1,27 @@
 //! The script language: what a line of a script says, what a line of a node's script says, and how an answer is printed
 //! (this project's choice).
 //!
-//! A line comes without its newline, and without the carriage return before that: who cuts a text into lines drops it
-//! before a newline alone. A carriage return that stays is a byte outside 32 to 126 as any other.
+//! [`Lines`] cuts a script into lines: it drops the newlines, and a carriage return right before one. So a line comes to
+//! [`parse_line`] without its end. A carriage return that stays is a byte outside 32 to 126 as any other.
 #![tactic(auto)]
 
 mod fields;
 mod forms;
+mod laws;
 mod lines;
 mod node;
 mod print;
 mod reading;
+mod script;
 #[cfg(test)]
 mod tests;
 mod texts;
 mod verbs;
 mod words;
 
+pub use laws::{a_number_is_spelled_in_one_way, what_is_printed_reads_back};
 pub use lines::{Line, LineFault, LineWhy, NodeLine};
 pub use node::parse_node_line;
 pub use print::{answers_are_whole_lines, each_has_a_word_of_its_own, print_answer};
 pub use reading::parse_line;
+pub use script::Lines;

@@ -1,6 +1,6 @@
 //! Each kind of line once, a bad line for each reason, and the limits.
 
-use crate::{Line, LineFault, LineWhy, NodeLine, parse_line, parse_node_line};
+use crate::{Line, LineFault, LineWhy, Lines, NodeLine, parse_line, parse_node_line};
 use rdma_types::{Address, Kind, Name, ObjName, Receive, Request, Rights, Shape, Terms, Verb};
 use std::alloc::Global;
 
@@ -36,9 +36,7 @@ fn request(alloc: Global, line: &[u8]) -> Option<Request> {
 }
 
 #[test]
-fn things_are_made(rt: HostRuntime) {
-    let p = Name::read(b"p");
-    let c = Name::read(b"c");
+fn devices_and_contexts_are_made(rt: HostRuntime) {
     match &parse_line(rt.alloc(), b"device 255 10.0.0.1") {
         Ok(Line::Device { id, address }) => {
             assert_eq!(rt; *id, 255);
@@ -56,10 +54,25 @@ fn things_are_made(rt: HostRuntime) {
         Ok(Line::Context { name, device: 1 }) => assert_eq!(rt; Some(*name), Name::read(b"a")),
         _ => assert!(rt; false),
     }
+}
+
+#[test]
+fn domains_and_queues_are_made(rt: HostRuntime) {
     match &verb(rt.alloc(), b"domain a.p") {
         Some(Verb::MakeDomain { name }) => assert_eq!(rt; Some(*name), object(b"a", b"p")),
         _ => assert!(rt; false),
     }
+    match &verb(rt.alloc(), b"cq a.c 16384") {
+        Some(Verb::MakeCq { name, capacity }) => {
+            assert_eq!(rt; Some(*name), object(b"a", b"c"));
+            assert_eq!(rt; *capacity, 16_384);
+        }
+        _ => assert!(rt; false),
+    }
+}
+
+#[test]
+fn regions_are_made(rt: HostRuntime) {
     match &verb(
         rt.alloc(),
         b"region a.m a.p 9223372036854775808 16777216 lr",
@@ -74,20 +87,17 @@ fn things_are_made(rt: HostRuntime) {
             },
         ) => {
             assert_eq!(rt; Some(*name), object(b"a", b"m"));
-            assert_eq!(rt; *domain, p);
+            assert_eq!(rt; *domain, Name::read(b"p"));
             assert_eq!(rt; *base, 1 << 63);
             assert_eq!(rt; *length, 16_777_216);
             assert_eq!(rt; *rights, Rights(5));
         }
         _ => assert!(rt; false),
     }
-    match &verb(rt.alloc(), b"cq a.c 16384") {
-        Some(Verb::MakeCq { name, capacity }) => {
-            assert_eq!(rt; Some(*name), object(b"a", b"c"));
-            assert_eq!(rt; *capacity, 16_384);
-        }
-        _ => assert!(rt; false),
-    }
+}
+
+#[test]
+fn queue_pairs_are_made(rt: HostRuntime) {
     match &verb(rt.alloc(), b"qp a.q a.p b.c a.c 256 1") {
         Some(
             Verb::MakeQp {
@@ -100,14 +110,18 @@ fn things_are_made(rt: HostRuntime) {
             },
         ) => {
             assert_eq!(rt; Some(*name), object(b"a", b"q"));
-            assert_eq!(rt; *domain, p);
+            assert_eq!(rt; *domain, Name::read(b"p"));
             assert_eq!(rt; *send_cq, None);
-            assert_eq!(rt; *recv_cq, c);
+            assert_eq!(rt; *recv_cq, Name::read(b"c"));
             assert_eq!(rt; *send_depth, 256);
             assert_eq!(rt; *recv_depth, 1);
         }
         _ => assert!(rt; false),
     }
+}
+
+#[test]
+fn queue_pairs_are_connected(rt: HostRuntime) {
     let connect = b"connect a.q b.q mtu 256 psn 100 16777215 retry 7 rnr 0 reads 16";
     match &verb(rt.alloc(), connect) {
         Some(Verb::Connect { one, two, terms }) => {
@@ -163,22 +177,29 @@ fn requests_are_posted(rt: HostRuntime) {
     };
     let text = b"read a.q 1 01000002 4096 4 8192 02000003 quiet";
     assert_eq!(rt; request(rt.alloc(), text), Some(read));
+}
+
+#[test]
+fn atomics_are_posted(rt: HostRuntime) {
     let atomic = Shape {
         kind: Kind::CompareSwap,
         length: 8,
+        remote: 8192,
+        rkey: 0x0200_0003,
         imm: None,
         swap_add: 6,
         compare: 5,
-        ..shape
+    };
+    let all = Request {
+        id: 1,
+        shape: atomic,
+        lkey: 0x0100_0002,
+        local: 4096,
+        signaled: false,
+        fence: true,
     };
     let text = b"cas a.q 1 01000002 4096 8192 02000003 5 6 fence quiet";
-    assert_eq!(rt;
-        request(rt.alloc(), text),
-        Some(Request {
-            shape: atomic,
-            ..all
-        })
-    );
+    assert_eq!(rt; request(rt.alloc(), text), Some(all));
     let atomic = Shape {
         kind: Kind::FetchAdd,
         compare: 0,
@@ -192,6 +213,10 @@ fn requests_are_posted(rt: HostRuntime) {
             ..all
         })
     );
+}
+
+#[test]
+fn receives_are_posted(rt: HostRuntime) {
     match &verb(
         rt.alloc(),
         b"recv b.q 18446744073709551615 02000002 8192 4294967295",
@@ -242,13 +267,17 @@ fn memory_and_completions_are_looked_at(rt: HostRuntime) {
 }
 
 #[test]
-fn the_schedule_is_read(rt: HostRuntime) {
+fn ends_are_stepped(rt: HostRuntime) {
     let alloc = rt.alloc();
     let q = object(b"a", b"q").expect(&rt, "an object");
-    let a = q.context;
     assert!(rt; matches!(&parse_line(alloc, b"go a.q"), Ok(Line::Go(o)) if *o == q));
     assert!(rt; matches!(&parse_line(alloc, b"expire a.q"), Ok(Line::Expire(o)) if *o == q));
     assert!(rt; matches!(&parse_line(alloc, b"rnr a.q"), Ok(Line::Rnr(o)) if *o == q));
+}
+
+#[test]
+fn datagrams_are_named(rt: HostRuntime) {
+    let alloc = rt.alloc();
     assert!(rt; matches!(&parse_line(alloc, b"deliver 0"), Ok(Line::Deliver(0))));
     assert!(rt; matches!(&parse_line(alloc, b"lose 3"), Ok(Line::Lose(3))));
     assert!(rt;
@@ -257,6 +286,12 @@ fn the_schedule_is_read(rt: HostRuntime) {
             Ok(Line::Wire(u64::MAX))
         )
     );
+}
+
+#[test]
+fn contexts_are_moved(rt: HostRuntime) {
+    let alloc = rt.alloc();
+    let a = Name::read(b"a").expect(&rt, "a name");
     assert!(rt; matches!(&parse_line(alloc, b"stop a"), Ok(Line::Stop(name)) if *name == a));
     assert!(rt; matches!(&parse_line(alloc, b"dump a"), Ok(Line::Dump(name)) if *name == a));
     assert!(rt; matches!(&parse_line(alloc, b"settle"), Ok(Line::Settle)));
@@ -269,10 +304,9 @@ fn the_schedule_is_read(rt: HostRuntime) {
 }
 
 #[test]
-fn a_node_has_lines_of_its_own(rt: HostRuntime) {
+fn a_node_links_an_end(rt: HostRuntime) {
     let alloc = rt.alloc();
     let q = object(b"b", b"q").expect(&rt, "an object");
-    let b = q.context;
     match &parse_node_line(
         alloc,
         b"link b.q 010001 10.0.0.1:65535 mtu 256 psn 100 16777215 retry 7 rnr 0 reads 16",
@@ -298,6 +332,12 @@ fn a_node_has_lines_of_its_own(rt: HostRuntime) {
         }
         _ => assert!(rt; false),
     }
+}
+
+#[test]
+fn a_node_steps_its_ends(rt: HostRuntime) {
+    let alloc = rt.alloc();
+    let q = object(b"b", b"q").expect(&rt, "an object");
     assert!(rt; matches!(&parse_node_line(alloc, b"# context"), Ok(NodeLine::Blank)));
     assert!(rt;
         matches!(
@@ -305,14 +345,21 @@ fn a_node_has_lines_of_its_own(rt: HostRuntime) {
             Ok(NodeLine::Verb(Verb::Poll { .. }))
         )
     );
-    assert!(rt;
-        matches!(&parse_node_line(alloc, b"context b"), Ok(NodeLine::Context(name)) if *name == b)
-    );
     assert!(rt; matches!(&parse_node_line(alloc, b"go b.q"), Ok(NodeLine::Go(o)) if *o == q));
     assert!(rt;
         matches!(&parse_node_line(alloc, b"expire b.q"), Ok(NodeLine::Expire(o)) if *o == q)
     );
     assert!(rt; matches!(&parse_node_line(alloc, b"rnr b.q"), Ok(NodeLine::Rnr(o)) if *o == q));
+}
+
+#[test]
+fn a_node_moves_contexts(rt: HostRuntime) {
+    let alloc = rt.alloc();
+    let q = object(b"b", b"q").expect(&rt, "an object");
+    let b = q.context;
+    assert!(rt;
+        matches!(&parse_node_line(alloc, b"context b"), Ok(NodeLine::Context(name)) if *name == b)
+    );
     assert!(rt;
         matches!(&parse_node_line(alloc, b"stop b q"), Ok(NodeLine::Stop { name, file }) if *name == b && *file == q.name)
     );
@@ -447,4 +494,15 @@ fn blank_lines_and_long_ones(rt: HostRuntime) {
             })
         )
     );
+}
+
+#[test]
+fn a_script_is_cut_into_lines(rt: HostRuntime) {
+    let mut lines = Lines::new(b"settle\r\n\n# end\nsettle\r");
+    assert_eq!(rt; lines.next_line(), Some(b"settle".as_slice()));
+    assert_eq!(rt; lines.next_line(), Some(b"".as_slice()));
+    assert_eq!(rt; lines.next_line(), Some(b"# end".as_slice()));
+    assert_eq!(rt; lines.next_line(), Some(b"settle\r".as_slice()));
+    assert_eq!(rt; lines.next_line(), None);
+    assert_eq!(rt; lines.next_line(), None);
 }
