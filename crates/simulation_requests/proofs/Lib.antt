@@ -7,3 +7,15 @@ pub mod Responding
 pub mod Counting
 pub mod Early
 pub mod Cases
+pub mod Regions
+pub mod Due
+pub mod Acted
+pub mod Running
+pub mod Landing
+pub mod Expected
+pub mod Messages
+pub mod Written
+pub mod Writes
+pub mod Runs
+pub mod Completes
+pub mod WritesRun

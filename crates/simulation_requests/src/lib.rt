@@ -4,7 +4,7 @@
 //! The functions have no code. Each promises the law that it names.
 #![tactic(auto)]
 
-ghost use Rattle.simulation_requests.specs.Taken.{AreTakenWhere, IsAtPaused, IsAhead, IsMessageRepeat};
+ghost use Rattle.simulation_requests.specs.Taken.{AreTakenWhere, IsAtPaused, IsAhead, IsMessageRepeat, IsWriteRun};
 
 /// The machine follows a request that does not act: it makes no step where the end is Paused, where the request is ahead of
 /// the expected one (one sequence error NAK is sent), and where it repeats a Write or Send, which is acknowledged again.
@@ -12,4 +12,10 @@ pub fn early_requests_are_taken()
     ensures paused { AreTakenWhere IsAtPaused }
     ensures ahead { AreTakenWhere IsAhead }
     ensures messages { AreTakenWhere IsMessageRepeat }
+{}
+
+/// The machine follows the expected piece of a Write by one Run, where a Run is enabled: the bytes go to their place, the last
+/// piece ends the message, and completes a receive where the Write has an immediate.
+pub fn writes_are_run()
+    ensures { AreTakenWhere IsWriteRun }
 {}
