@@ -19,3 +19,5 @@ pub mod Writes
 pub mod Runs
 pub mod Completes
 pub mod WritesRun
+pub mod Dries
+pub mod WritesDry

@@ -8,7 +8,7 @@ use Rattle.protocol.specs.State.{World, Link}
 use Rattle.protocol.specs.Wire.{Packet}
 use Rattle.ideal_model.specs.Machine as machine
 use Rattle.ideal_model.specs.Machine.{Machine}
-use Rattle.ideal_model.specs.Steps.{current, may_run}
+use Rattle.ideal_model.specs.Steps.{current, may_dry, may_run}
 use Rattle.simulation.specs.Packets.{class_of, IsRequest}
 use Rattle.simulation.specs.Facts.{request_for}
 use Rattle.simulation_delivery.specs.Delivered.{Arrives, Takes}
@@ -50,3 +50,8 @@ IsExpected w m o l n d = (is_paused l.moving.phase ≡ false) × (n ≡ l.receiv
 -- .. a piece of a Write that the machine may put in place
 abbrev pub IsWriteRun : World → Machine → ObjName → Link → ℕ → Packet → Type 0
 IsWriteRun w m o l n d = IsExpected w m o l n d × (is_write (kind_of (current_of m o)) ≡ true) × (may_run m (machine.end_of m o).peer (length d.payload) ≡ true)
+
+-- .. a piece of a Write that the machine may not put in place, since its immediate finds no receive
+abbrev pub IsWriteDry : World → Machine → ObjName → Link → ℕ → Packet → Type 0
+IsWriteDry w m o l n d =
+    IsExpected w m o l n d × (is_write (kind_of (current_of m o)) ≡ true) × (may_run m (machine.end_of m o).peer (length d.payload) ≡ false) × (may_dry m (machine.end_of m o).peer ≡ true)
