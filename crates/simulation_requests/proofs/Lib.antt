@@ -21,3 +21,5 @@ pub mod Completes
 pub mod WritesRun
 pub mod Dries
 pub mod WritesDry
+pub mod Sends
+pub mod SendsRun

@@ -1,7 +1,7 @@
 -- What is proved of the requests that arrive at an end in Rts, case by case.
 use Rattle.std.specs.Prelude.{length, ◌≡◌, ℕ, ◌<◌, List, true, false, Some}
 use Rattle.rdma_types.specs.declared.names.ObjName.{ObjName}
-use Rattle.rdma_types.specs.Kinds.{is_atomic, is_read, is_write, kind_of}
+use Rattle.rdma_types.specs.Kinds.{is_atomic, is_read, is_send, is_write, kind_of}
 use Rattle.rdma_types.specs.Objects.{Posted}
 use Rattle.protocol.specs.EndWords.{is_paused}
 use Rattle.protocol.specs.State.{World, Link}
@@ -55,3 +55,7 @@ IsWriteRun w m o l n d = IsExpected w m o l n d × (is_write (kind_of (current_o
 abbrev pub IsWriteDry : World → Machine → ObjName → Link → ℕ → Packet → Type 0
 IsWriteDry w m o l n d =
     IsExpected w m o l n d × (is_write (kind_of (current_of m o)) ≡ true) × (may_run m (machine.end_of m o).peer (length d.payload) ≡ false) × (may_dry m (machine.end_of m o).peer ≡ true)
+
+-- .. a piece of a Send that the machine may put in place
+abbrev pub IsSendRun : World → Machine → ObjName → Link → ℕ → Packet → Type 0
+IsSendRun w m o l n d = IsExpected w m o l n d × (is_send (kind_of (current_of m o)) ≡ true) × (may_run m (machine.end_of m o).peer (length d.payload) ≡ true)
