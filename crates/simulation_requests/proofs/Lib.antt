@@ -23,3 +23,4 @@ pub mod Dries
 pub mod WritesDry
 pub mod Sends
 pub mod SendsRun
+pub mod SendsDry
