@@ -24,3 +24,6 @@ pub mod WritesDry
 pub mod Sends
 pub mod SendsRun
 pub mod SendsDry
+pub mod ReadAnswers
+pub mod Offers
+pub mod ReadTurns

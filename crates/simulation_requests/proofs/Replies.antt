@@ -32,7 +32,7 @@ low_bytes n =
 abbrev pub with_aeth : Packet → Syndrome → ℕ → Packet
 with_aeth d s msn = record d { aeth = Some (record { syndrome = s; msn = msn }) }
 
-wire_same : (d : Packet) (s : Syndrome) (msn : ℕ) → wire_of (with_aeth d s msn) ≡ wire_of (with_aeth d s (msn % 16777216))
+pub wire_same : (d : Packet) (s : Syndrome) (msn : ℕ) → wire_of (with_aeth d s msn) ≡ wire_of (with_aeth d s (msn % 16777216))
 unfolding wire_of
 wire_same d s msn =
     ap (λ bs. base_bytes d ++ (wire.optional wire.reth_bytes d.reth ++ wire.optional wire.atomic_bytes d.atomic ++ (wire.syndrome_byte s ∷ bs) ++ wire.optional (big_bytes 8) d.old ++ wire.optional (big_bytes 4) d.imm ++ wire.optional wire.resume_bytes d.resume) ++ d.payload ++ replicate (wire.padding (length d.payload) + 4) 0) (low_bytes msn)
@@ -41,7 +41,7 @@ wire_same d s msn =
 pub read_back : (d : Packet) (s : Syndrome) (msn : ℕ) → Fits (with_aeth d s (msn % 16777216)) → packet_of (wire_of (with_aeth d s msn)) ≡ Some (with_aeth d s (msn % 16777216))
 read_back d s msn fits = ap packet_of (wire_same d s msn) ∙ spelled_read _ _ (written_spelled _ fits)
 
-small : (n : ℕ) → n % 16777216 < 2 ^ 24
+pub small : (n : ℕ) → n % 16777216 < 2 ^ 24
 small n = omega arith
 
 pub wire_small : (start n : ℕ) → wire_number start n < 2 ^ 24

@@ -8,7 +8,7 @@ use Rattle.protocol.specs.State.{World, Link}
 use Rattle.protocol.specs.Wire.{Packet}
 use Rattle.ideal_model.specs.Machine as machine
 use Rattle.ideal_model.specs.Machine.{Machine}
-use Rattle.ideal_model.specs.Steps.{current, may_dry, may_run}
+use Rattle.ideal_model.specs.Steps.{current, may_dry, may_read, may_run}
 use Rattle.simulation.specs.Packets.{class_of, IsRequest}
 use Rattle.simulation.specs.Facts.{request_for}
 use Rattle.simulation_delivery.specs.Delivered.{Arrives, Takes}
@@ -64,3 +64,7 @@ IsSendRun w m o l n d = IsExpected w m o l n d × (is_send (kind_of (current_of 
 abbrev pub IsSendDry : World → Machine → ObjName → Link → ℕ → Packet → Type 0
 IsSendDry w m o l n d =
     IsExpected w m o l n d × (is_send (kind_of (current_of m o)) ≡ true) × (may_run m (machine.end_of m o).peer (length d.payload) ≡ false) × (may_dry m (machine.end_of m o).peer ≡ true)
+
+-- .. a READ request whose Read the machine may give its turn
+abbrev pub IsReadTurn : World → Machine → ObjName → Link → ℕ → Packet → Type 0
+IsReadTurn w m o l n d = IsExpected w m o l n d × (is_read (kind_of (current_of m o)) ≡ true) × (may_read m (machine.end_of m o).peer ≡ true)

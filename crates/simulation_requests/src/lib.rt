@@ -4,7 +4,7 @@
 //! The functions have no code. Each promises the law that it names.
 #![tactic(auto)]
 
-ghost use Rattle.simulation_requests.specs.Taken.{AreTakenWhere, IsAtPaused, IsAhead, IsMessageRepeat, IsSendDry, IsSendRun, IsWriteDry, IsWriteRun};
+ghost use Rattle.simulation_requests.specs.Taken.{AreTakenWhere, IsAtPaused, IsAhead, IsMessageRepeat, IsReadTurn, IsSendDry, IsSendRun, IsWriteDry, IsWriteRun};
 
 /// The machine follows a request that does not act: it makes no step where the end is Paused, where the request is ahead of
 /// the expected one (one sequence error NAK is sent), and where it repeats a Write or Send, which is acknowledged again.
@@ -27,6 +27,12 @@ pub fn writes_are_taken()
 pub fn sends_are_taken()
     ensures run { AreTakenWhere IsSendRun }
     ensures dry { AreTakenWhere IsSendDry }
+{}
+
+/// The machine follows the expected READ request where its Read is granted: the Read has its turn, and each piece is offered, as
+/// its response carries it.
+pub fn reads_have_their_turn()
+    ensures { AreTakenWhere IsReadTurn }
 {}
 
 // How a crate above uses the law: it calls the function, and cites what it promises.
