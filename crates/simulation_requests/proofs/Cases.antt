@@ -1,0 +1,35 @@
+-- The cases of requests, as they are promised.
+use Rattle.std.proofs.Common.{◌≡◌, ◌<◌, ℕ, List, false, subst}
+use Rattle.std.specs.Prelude.{Some}
+use Rattle.rdma_types.specs.declared.names.ObjName.{ObjName}
+use Rattle.rdma_types.specs.Kinds.{is_read, is_atomic, kind_of}
+use Rattle.protocol.specs.State.{World, Link}
+use Rattle.protocol.specs.Wire.{Packet}
+use Rattle.ideal_model.specs.Machine.{Machine}
+use Rattle.simulation.specs.Packets.{class_of, IsRequest}
+use Rattle.simulation_delivery.specs.Delivered.{Arrives}
+use Rattle.simulation_requests.specs.Taken.{AreTakenWhere, IsAtPaused, IsAhead, IsMessageRepeat, asked}
+use Rattle.simulation_requests.proofs.Requests.{request_at_end}
+use Rattle.simulation_requests.proofs.Responding.{paused_taken}
+use Rattle.simulation_requests.proofs.Early.{ahead_taken, dup_taken}
+
+some_number : (a b : ℕ) → Some a ≡ Some b → a ≡ b
+some_number a b h = cc
+
+-- its number is the one that was read
+pub number_is : (w : World) (m : Machine) (o : ObjName) (l : Link) (n : ℕ) (bytes : List ℕ) (d : Packet) (a : Arrives w m o l (Some n) bytes d) (is : class_of d ≡ IsRequest) → n ≡ (request_at_end w m o l (Some n) bytes d a is).0
+number_is w m o l n bytes d a is = some_number n _ (request_at_end w m o l (Some n) bytes d a is).1
+
+pub at_paused : AreTakenWhere IsAtPaused
+at_paused w m o l n bytes d a is h = paused_taken w m o l (Some n) bytes d a is h
+
+pub are_ahead : AreTakenWhere IsAhead
+are_ahead w m o l n bytes d a is h = ahead_taken w m o l (Some n) bytes d a is h.0 (subst (λ k. l.receiver.expected < k) (number_is w m o l n bytes d a is) h.1)
+
+pub are_message_repeats : AreTakenWhere IsMessageRepeat
+are_message_repeats w m o l n bytes d a is h =
+    let same : n ≡ (request_at_end w m o l (Some n) bytes d a is).0 = number_is w m o l n bytes d a is in
+    dup_taken w m o l (Some n) bytes d a is h.0.0
+    (subst (λ k. is_read (kind_of (asked m o k)) ≡ false) same h.1)
+    (subst (λ k. is_atomic (kind_of (asked m o k)) ≡ false) same h.2)
+    (subst (λ k. k < l.receiver.expected) same h.0.1)

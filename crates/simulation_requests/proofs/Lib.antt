@@ -1,0 +1,9 @@
+pub mod Replies
+pub mod Pieces
+pub mod Opcodes
+pub mod Requests
+pub mod Advancing
+pub mod Responding
+pub mod Counting
+pub mod Early
+pub mod Cases
