@@ -7,3 +7,7 @@ pub mod Responding
 pub mod Counting
 pub mod Early
 pub mod Cases
+pub mod Due
+pub mod Expected
+pub mod Messages
+pub mod Checks
