@@ -1,1 +1,3 @@
 pub mod Picked
+pub mod Noted
+pub mod Dried
