@@ -1,3 +1,4 @@
 pub mod Picked
 pub mod Noted
 pub mod Dried
+pub mod Ending
