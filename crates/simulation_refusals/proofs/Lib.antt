@@ -2,3 +2,4 @@ pub mod Picked
 pub mod Noted
 pub mod Dried
 pub mod Ending
+pub mod Shutting
