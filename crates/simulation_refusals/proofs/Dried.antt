@@ -56,7 +56,7 @@ or_cases : (a b : Bool) → (a || b) ≡ true → (a ≡ true) ⊎ (b ≡ true)
 or_cases true b h = inl refl
 or_cases false b h = inr h
 
-and_parts : (a b : Bool) → (a && b) ≡ true → (a ≡ true) × (b ≡ true)
+pub and_parts : (a b : Bool) → (a && b) ≡ true → (a ≡ true) × (b ≡ true)
 and_parts true b h = (refl, h)
 and_parts false b h = absurd (cc)
 
@@ -65,11 +65,11 @@ not_true true h = absurd (cc)
 not_true false h = refl
 
 -- what is granted is some region
-granted_some : (z : Option Region) → is_some z ≡ true → (r : Region) × (z ≡ Some r)
+pub granted_some : (z : Option Region) → is_some z ≡ true → (r : Region) × (z ≡ Some r)
 granted_some None h = absurd (cc)
 granted_some (Some r) h = (r, refl)
 
-one : {A : Type 0} (P : A → Type 0) (x : A) → P x → All P (x ∷ [])
+pub one : {A : Type 0} (P : A → Type 0) (x : A) → P x → All P (x ∷ [])
 one P x h = All-cons P x [] h (All-nil P)
 
 module _ (w : World) (m : Machine) (o : ObjName) (l : Link) (number : Option ℕ) (bytes : List ℕ) (d : Packet) (a : Arrives w m o l number bytes d) (is : class_of d ≡ IsRequest) (paused : is_paused l.moving.phase ≡ false) (now : (request_at_end w m o l number bytes d a is).0 ≡ l.receiver.expected) where

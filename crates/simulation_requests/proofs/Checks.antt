@@ -601,6 +601,20 @@ module _ (w : World) (m : Machine) (o : ObjName) (l : Link) (number : Option ℕ
       by_sort (inr (inr (inl k))) = send_long k.read k.atomic k.send ready ∙ (ap (λ z. overflows (receive_for z) (g.into + length d.payload)) (sym peer_is) ∙ sym (ap (λ b. b && overflows (receive_for (peer_of m q)) (g.into + length d.payload)) k.send))
       by_sort (inr (inr (inr k))) = ap (λ b. b && nat_lt (receive_of e l.receiver.progress).length (bytes_before None l.receiver.progress + length d.payload)) ((opcode_now w m o l number bytes d a is paused now k.read k.atomic).send ∙ k.send) ∙ sym (others _ k.send)
 
+  -- the bytes of a Send are its next ones
+  pub message_within : kinds.is_send (kind_of r) ≡ true → g.into + length d.payload ≤ size_of r
+  message_within send = by_sort (sort_of (kind_of r))
+    where
+      by_sort : Sort (kind_of r) → g.into + length d.payload ≤ size_of r
+      by_sort (inl k) = absurd (cc (k.send, send))
+      by_sort (inr (inl k)) = absurd (cc (k.send, send))
+      by_sort (inr (inr (inl k))) = begun_within (begun_now w m o l number bytes d a is paused now k.read k.atomic)
+        where
+          begun_within : (g.into ≡ 0) ⊎ (g.into < size_of r) → g.into + length d.payload ≤ size_of r
+          begun_within (inl z) = omega (arith, z, bytes_now w m o l number bytes d a is paused now k.read k.atomic)
+          begun_within (inr z) = omega (arith, z, bytes_now w m o l number bytes d a is paused now k.read k.atomic)
+      by_sort (inr (inr (inr k))) = absurd (cc (k.send, send))
+
   -- ---- its numbers are below the limit
 
   atomic_span : kinds.is_read (kind_of r) ≡ false → kinds.is_atomic (kind_of r) ≡ true → (k : ℕ) → span_of_packet d k d.reth ≡ 1
