@@ -1,5 +1,5 @@
 -- The cases of requests, as they are promised.
-use Rattle.std.proofs.Common.{◌≡◌, ◌<◌, ℕ, List, false, subst}
+use Rattle.std.proofs.Common.{◌≡◌, ◌<◌, ℕ, List, false, subst, ◌∙◌, sym}
 use Rattle.std.specs.Prelude.{Some}
 use Rattle.rdma_types.specs.declared.names.ObjName.{ObjName}
 use Rattle.rdma_types.specs.Kinds.{is_read, is_atomic, kind_of}
@@ -8,9 +8,12 @@ use Rattle.protocol.specs.Wire.{Packet}
 use Rattle.ideal_model.specs.Machine.{Machine}
 use Rattle.simulation.specs.Packets.{class_of, IsRequest}
 use Rattle.simulation_delivery.specs.Delivered.{Arrives}
-use Rattle.simulation_requests.specs.Taken.{AreTakenWhere, IsAtPaused, IsAhead, IsMessageRepeat, asked}
+use Rattle.simulation_requests.specs.Taken.{AreTakenWhere, IsAtPaused, IsAhead, IsMessageRepeat, IsWriteDry, IsWriteRun, IsSendRun, asked}
 use Rattle.simulation_requests.proofs.Requests.{request_at_end}
 use Rattle.simulation_requests.proofs.Responding.{paused_taken}
+use Rattle.simulation_requests.proofs.WritesDry.{write_dry}
+use Rattle.simulation_requests.proofs.SendsRun.{send_taken}
+use Rattle.simulation_requests.proofs.WritesRun.{write_taken}
 use Rattle.simulation_requests.proofs.Early.{ahead_taken, dup_taken}
 
 some_number : (a b : ℕ) → Some a ≡ Some b → a ≡ b
@@ -33,3 +36,12 @@ are_message_repeats w m o l n bytes d a is h =
     (subst (λ k. is_read (kind_of (asked m o k)) ≡ false) same h.1)
     (subst (λ k. is_atomic (kind_of (asked m o k)) ≡ false) same h.2)
     (subst (λ k. k < l.receiver.expected) same h.0.1)
+
+pub are_write_runs : AreTakenWhere IsWriteRun
+are_write_runs w m o l n bytes d a is h = write_taken w m o l (Some n) bytes d a is h.0.0 (sym (number_is w m o l n bytes d a is) ∙ h.0.1) h.1 h.2
+
+pub are_write_dries : AreTakenWhere IsWriteDry
+are_write_dries w m o l n bytes d a is h = write_dry w m o l (Some n) bytes d a is h.0.0 (sym (number_is w m o l n bytes d a is) ∙ h.0.1) h.1 h.2 h.3
+
+pub are_send_runs : AreTakenWhere IsSendRun
+are_send_runs w m o l n bytes d a is h = send_taken w m o l (Some n) bytes d a is h.0.0 (sym (number_is w m o l n bytes d a is) ∙ h.0.1) h.1 h.2

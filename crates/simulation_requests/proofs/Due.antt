@@ -1,5 +1,5 @@
 -- The number that acts next, and the piece that it is.
-use Rattle.std.proofs.Common.{arith, ◌≡◌, ◌<◌, ◌≤◌, ◌+◌, ◌-◌, ◌*◌, ◌/◌, ◌%◌, ◌⊎◌, ℕ, zero, suc, List, [], ◌∷◌, ◌++◌, length, get_or, true, false, Bool, refl, sym, ap, ◌∙◌, subst, inl, inr}
+use Rattle.std.proofs.Common.{arith, ◌≡◌, ◌<◌, ◌≤◌, ◌+◌, ◌-◌, ◌*◌, ◌/◌, ◌%◌, ◌⊎◌, ℕ, zero, suc, List, [], ◌∷◌, length, get_or, true, false, Bool, refl, sym, ap, ◌∙◌, subst, inl, inr}
 use Rattle.std.specs.Prelude.{nat_lt, if◌then◌else◌, min, max, ◌==◌, ◌||◌}
 use Rattle.std.proofs.lemmas.Bool.Decides.{nat_tests, leb_tells, eqb_tells}
 use Rattle.rdma_types.specs.Limits.{is_mtu}
@@ -9,8 +9,7 @@ use Rattle.rdma_types.specs.Spans.{first_number, end_number, piece_of, request_o
 use Rattle.ideal_model.specs.Machine.{End}
 use Rattle.ideal_model.specs.Numbers.{due}
 use Rattle.ideal_model.specs.Steps.{current}
-use Rattle.simulation.specs.Joined.{AreWholePieces}
-use Rattle.simulation.proofs.Numbers.{first-end, request-inside}
+use Rattle.simulation.proofs.Numbers.{request-inside}
 
 -- ---- the five payload sizes
 
@@ -19,6 +18,7 @@ mtu_is P a b c d e n h = by_tests (n == 256) (n == 512) (n == 1024) (n == 2048) 
   where
     is : (k : ℕ) → (n == k) ≡ true → n ≡ k
     is k t = grind (arith, nat_tests, eqb_tells n k, t)
+
     by_tests : (p q r s t : Bool) → (n == 256) ≡ p → (n == 512) ≡ q → (n == 1024) ≡ r → (n == 2048) ≡ s → (n == 4096) ≡ t → (p || (q || (r || (s || t)))) ≡ true → P n
     by_tests true q r s t ep eq er es et h = subst P (sym (is 256 ep)) a
     by_tests false true r s t ep eq er es et h = subst P (sym (is 512 eq)) b
@@ -84,8 +84,10 @@ last_is size into mtu is w begun = by_tests (into / mtu + 1 == spans size mtu) (
   where
     same : (a b : ℕ) → (a == b) ≡ true → a ≡ b
     same a b t = grind (arith, nat_tests, eqb_tells a b, t)
+
     test : (a b : ℕ) → a ≡ b → (a == b) ≡ true
     test a b t = grind (arith, nat_tests, eqb_tells a b, t)
+
     by_tests : (p q : Bool) → (into / mtu + 1 == spans size mtu) ≡ p → (into + piece_bytes size into mtu == size) ≡ q → p ≡ q
     by_tests true true ep eq = refl
     by_tests false false ep eq = refl

@@ -1,15 +1,13 @@
 -- The expected request: it is the machine's current one, and which piece of it.
-use Rattle.std.proofs.Common.{arith, ◌≡◌, ◌≢◌, ◌<◌, ◌≤◌, ◌+◌, ◌-◌, ◌*◌, ◌/◌, ◌%◌, ◌⊎◌, ℕ, zero, suc, List, [], ◌∷◌, ◌++◌, length, true, false, Bool, refl, sym, ap, ◌∙◌, subst, inl, inr}
-use Rattle.std.specs.Prelude.{Option, Some, None, if◌then◌else◌, is_some, not, nat_lt, nat_le, ◌==◌, ◌&&◌, All, take, drop}
-use Rattle.std.specs.List.{list_any}
-use Rattle.std.proofs.lemmas.Bool.Decides.{nat_tests, leb_tells, eqb_tells}
+use Rattle.std.proofs.Common.{arith, ◌≡◌, ◌<◌, ◌≤◌, ◌/◌, ℕ, List, [], ◌∷◌, length, true, false, Bool, refl, sym, ap, ◌∙◌, subst}
+use Rattle.std.specs.Prelude.{Option, if◌then◌else◌, not, nat_lt, ◌&&◌}
 use Rattle.rdma_types.specs.declared.names.ObjName.{ObjName}
 use Rattle.rdma_types.specs.Kinds as kinds
 use Rattle.rdma_types.specs.declared.requests.Kind.TheVariants as kinds'
 use Rattle.rdma_types.specs.Kinds.{kind_of, lands, size_of}
-use Rattle.rdma_types.specs.Limits.{is_mtu, number_limit}
+use Rattle.rdma_types.specs.Limits.{is_mtu}
 use Rattle.rdma_types.specs.Objects.{Posted}
-use Rattle.rdma_types.specs.Spans.{first_number, end_number, piece_of, request_of, span_of}
+use Rattle.rdma_types.specs.Spans.{piece_of, request_of, span_of}
 use Rattle.protocol.specs.State as state
 use Rattle.protocol.specs.State.{World, Link}
 use Rattle.protocol.specs.Numbers.{wire_number}
@@ -26,20 +24,17 @@ use Rattle.ideal_model.specs.declared.steps.IdealStep.TheVariants as steps
 use Rattle.ideal_model.specs.Steps.{may_run, current, has_current, has_peer, has_turn, lands_before}
 use Rattle.simulation.specs.Packets.{class_of, IsRequest}
 use Rattle.simulation.specs.Carries.{request_steps, due_steps}
-use Rattle.simulation.specs.Views.{owned, owned_there, link_of, link_or_none, requests_of, side_of}
-use Rattle.simulation.specs.Joined.{IsJoined, lands_untold_before}
-use Rattle.simulation.specs.Facts.{past_packet, request_for}
-use Rattle.simulation.specs.Stands.{Stands, IsEndSound}
+use Rattle.simulation.specs.Views.{owned, owned_there, link_of, link_or_none, requests_of}
+use Rattle.simulation.specs.Joined.{lands_untold_before}
+use Rattle.simulation.specs.Facts.{past_packet}
 use Rattle.simulation.proofs.Grown.{are_made}
 use Rattle.simulation.proofs.InUse.{owned_of}
-use Rattle.simulation.proofs.Numbers.{request-inside}
 use Rattle.simulation_delivery.specs.Delivered as delivered
 use Rattle.simulation_delivery.specs.Delivered.{Arrives}
-use Rattle.simulation_requests.proofs.Pieces.{IsPacket, first_suc}
-use Rattle.simulation_requests.proofs.Requests.{IsRequestAt, asker, asking, request_at_end}
+use Rattle.simulation_requests.proofs.Requests.{IsRequestAt, asker, request_at_end}
 use Rattle.simulation_requests.proofs.Early.{is_less, step_is, carries_is, acts_now, not_less, same_due, request_is, piece_number}
 use Rattle.simulation_requests.proofs.Counting.{q_sound, q_there, owned_here}
-use Rattle.simulation_requests.proofs.Due.{acts_inside, due_request, due_piece, within_span, span_message, span_atomic, whole_back, mtu_is}
+use Rattle.simulation_requests.proofs.Due.{acts_inside, due_request, due_piece, within_span, span_message, span_atomic, mtu_is}
 
 -- its current piece is one of its pieces
 pub current_within : (q : End) → is_mtu q.mtu ≡ true → IsSound q → q.into / q.mtu < span_of (current q) q.mtu
@@ -51,6 +46,7 @@ current_within q is s = by_kind (kinds.is_atomic (kind_of (current q))) refl
     atomic_lands kinds'.Read h = refl
     atomic_lands kinds'.Write h = absurd (cc)
     atomic_lands kinds'.Send h = absurd (cc)
+
     by_kind : (b : Bool) → kinds.is_atomic (kind_of (current q)) ≡ b → q.into / q.mtu < span_of (current q) q.mtu
     by_kind false t = omega (arith, within_span (size_of (current q)) q.into q.mtu is s.unfinished, span_message (current q) q.mtu t)
     by_kind true t =
@@ -126,6 +122,7 @@ module _ (w : World) (m : Machine) (o : ObjName) (l : Link) (number : Option ℕ
     where
       both : {p u : Bool} → p ≡ true → u ≡ true → (p && u) ≡ true
       both {p} {u} h k = rw (h, k) refl
+
       by_fence : (f v : Bool) → (f ≡ true → v ≡ false) → not (f && v) ≡ true
       by_fence false v h = refl
       by_fence true v h = ap not (h refl)

@@ -1,37 +1,35 @@
 -- The expected piece of a Write or Send: its bytes are the next ones, and it is the last piece where it fills the message.
-use Rattle.std.proofs.Common.{arith, ◌≡◌, ◌≢◌, ◌<◌, ◌≤◌, ◌+◌, ◌-◌, ◌*◌, ◌/◌, ◌%◌, ◌⊎◌, ℕ, zero, suc, List, [], ◌∷◌, ◌++◌, length, true, false, Bool, refl, sym, ap, ◌∙◌, subst, inl, inr}
-use Rattle.std.specs.Prelude.{Option, Some, None, if◌then◌else◌, is_some, not, nat_lt, nat_le, ◌==◌, ◌&&◌, ◌||◌, All, take, drop, min}
-use Rattle.std.proofs.lemmas.Bool.Decides.{nat_tests, leb_tells, eqb_tells}
+use Rattle.std.proofs.Common.{arith, ◌≡◌, ◌<◌, ◌≤◌, ◌+◌, ◌/◌, ◌%◌, ◌⊎◌, ℕ, zero, suc, List, [], ◌∷◌, length, true, false, Bool, refl, sym, ap, ◌∙◌, subst}
+use Rattle.std.specs.Prelude.{Option, Some, None, if◌then◌else◌, not, nat_lt, nat_le, ◌==◌, ◌&&◌, ◌||◌, take, drop, min}
+use Rattle.std.proofs.lemmas.Bool.Decides.{nat_tests}
 use Rattle.std.proofs.lemmas.List.{length-take, length-drop}
-use Rattle.std.proofs.lemmas.List.Elements.{All-get_or, All-take, All-drop}
+use Rattle.std.proofs.lemmas.List.Elements.{All-get_or}
 use Rattle.rdma_types.specs.declared.names.ObjName.{ObjName}
 use Rattle.rdma_types.specs.declared.requests.Kind.{Kind}
 use Rattle.rdma_types.specs.declared.requests.Kind.TheVariants as kinds'
 use Rattle.rdma_types.specs.Kinds as kinds
 use Rattle.rdma_types.specs.Kinds.{kind_of, lands, size_of}
-use Rattle.rdma_types.specs.Limits.{is_mtu, number_limit, most_bytes}
+use Rattle.rdma_types.specs.Limits.{is_mtu}
 use Rattle.rdma_types.specs.Memory.{cut}
 use Rattle.rdma_types.specs.Objects.{Posted, no_posted}
-use Rattle.rdma_types.specs.Spans.{first_number, end_number, span_of, span}
 use Rattle.protocol.specs.declared.wire.Reth.{Reth}
 use Rattle.protocol.specs.Bytes.{bytes_at}
-use Rattle.protocol.specs.State as state
-use Rattle.protocol.specs.State.{World, Link, Progress, NoMessage, InSend, InWrite}
+use Rattle.protocol.specs.State.{World, Link, NoMessage, InWrite}
 use Rattle.protocol.specs.Segments.{message_packet, is_first_piece, is_last_piece}
 use Rattle.protocol.specs.Wire.{Packet, when}
 use Rattle.protocol.specs.EndWords.{is_paused}
-use Rattle.protocol.specs.Responder.{Part, First, Middle, Last, Only, NoPart, is_invalid, part_of, is_send, is_write, is_read_request, finishes}
+use Rattle.protocol.specs.Responder.{is_invalid, part_of, is_write, is_read_request, finishes}
 use Rattle.ideal_model.specs.Machine as machine
 use Rattle.ideal_model.specs.Machine.{Machine, End}
 use Rattle.ideal_model.specs.Steps.{current, fills, next_bytes}
 use Rattle.simulation.specs.Packets.{class_of, IsRequest}
-use Rattle.simulation.specs.Views.{link_of, requests_of}
+use Rattle.simulation.specs.Views.{link_of}
 use Rattle.simulation.specs.Joined.{IsSayable}
 use Rattle.simulation_delivery.specs.Delivered.{Arrives}
-use Rattle.simulation_requests.proofs.Requests.{IsRequestAt, asker, asking, request_at_end}
+use Rattle.simulation_requests.proofs.Requests.{asker, request_at_end}
 use Rattle.simulation_requests.proofs.Opcodes.{IsMessage, part, message_is, message_kind}
-use Rattle.simulation_requests.proofs.Due.{piece_bytes, spans, last_is, whole_back, span_message, not_last, within_span, mtu_positive}
-use Rattle.simulation_requests.proofs.Expected.{at, due_now, mtu_now, g_sound, inside, within, packet_now}
+use Rattle.simulation_requests.proofs.Due.{piece_bytes, last_is, whole_back, span_message}
+use Rattle.simulation_requests.proofs.Expected.{at, mtu_now, g_sound, inside, packet_now}
 
 -- ---- bytes
 

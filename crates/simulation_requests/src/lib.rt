@@ -4,7 +4,7 @@
 //! The functions have no code. Each promises the law that it names.
 #![tactic(auto)]
 
-ghost use Rattle.simulation_requests.specs.Taken.{AreTakenWhere, IsAtPaused, IsAhead, IsMessageRepeat};
+ghost use Rattle.simulation_requests.specs.Taken.{AreTakenWhere, IsAtPaused, IsAhead, IsMessageRepeat, IsSendRun, IsWriteDry, IsWriteRun};
 
 /// The machine follows a request that does not act: it makes no step where the end is Paused, where the request is ahead of
 /// the expected one (one sequence error NAK is sent), and where it repeats a Write or Send, which is acknowledged again.
@@ -12,4 +12,18 @@ pub fn early_requests_are_taken()
     ensures paused { AreTakenWhere IsAtPaused }
     ensures ahead { AreTakenWhere IsAhead }
     ensures messages { AreTakenWhere IsMessageRepeat }
+{}
+
+/// The machine follows the expected piece of a Write by one Run, where a Run is enabled: the bytes go to their place, the last
+/// piece ends the message, and completes a receive where the Write has an immediate. Where that finds no receive, it follows by
+/// Dry: the piece stays expected, and an RNR NAK is sent.
+pub fn writes_are_taken()
+    ensures run { AreTakenWhere IsWriteRun }
+    ensures dry { AreTakenWhere IsWriteDry }
+{}
+
+/// The machine follows the expected piece of a Send by one Run, where a Run is enabled: the bytes go into the receive in use, or
+/// the oldest unused one, and the last piece completes it.
+pub fn sends_are_run()
+    ensures { AreTakenWhere IsSendRun }
 {}
