@@ -5,3 +5,5 @@ pub mod Ending
 pub mod Shutting
 pub mod Refusing
 pub mod Refused
+pub mod Acts
+pub mod Turns

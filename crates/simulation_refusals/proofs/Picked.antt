@@ -33,7 +33,7 @@ last_false : (a b : Bool) → b ≡ false → (a && b) ≡ false
 last_false true b h = h
 last_false false b h = refl
 
-both_true : (a b : Bool) → a ≡ true → b ≡ true → (a && b) ≡ true
+pub both_true : (a b : Bool) → a ≡ true → b ≡ true → (a && b) ≡ true
 both_true a b h i = rw (h, i) refl
 
 first_of_two : (a b : Bool) → (a && b) ≡ true → a ≡ true
@@ -137,11 +137,11 @@ module _ (m : Machine) (q : ObjName) (n : ℕ) (current_now : has_current m q �
       by_kind kinds'.Write h = absurd (cc)
       by_kind kinds'.Send h = absurd (cc)
 
-  run_of_write : kinds.is_write k ≡ true → may_run_kind m q n k ≡ (is_current_granted m q && (not (fills g n && has_imm r) || has_unused (peer_of m q)))
+  pub run_of_write : kinds.is_write k ≡ true → may_run_kind m q n k ≡ (is_current_granted m q && (not (fills g n && has_imm r) || has_unused (peer_of m q)))
   unfolding may_run_kind
   run_of_write h = ap (may_run_kind m q n) (write_alone k h)
 
-  run_of_send : kinds.is_send k ≡ true → may_run_kind m q n k ≡ fits (receive_for (peer_of m q)) (g.into + n)
+  pub run_of_send : kinds.is_send k ≡ true → may_run_kind m q n k ≡ fits (receive_for (peer_of m q)) (g.into + n)
   unfolding may_run_kind
   run_of_send h = ap (may_run_kind m q n) (send_alone k h)
 
