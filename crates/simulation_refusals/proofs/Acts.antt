@@ -1,7 +1,7 @@
 -- Where no check of the responder stops the expected request, the machine may act on it.
-use Rattle.std.proofs.Common.{arith, ◌≡◌, ◌<◌, ◌≤◌, ◌+◌, ◌⊎◌, ℕ, suc, List, [], ◌∷◌, length, true, false, Bool, refl, sym, ap, ◌∙◌, subst, inl, inr}
-use Rattle.std.specs.Prelude.{Option, Some, None, if◌then◌else◌, is_some, not, nat_lt, nat_le, ◌==◌, ◌&&◌, ◌||◌, slice_get}
-use Rattle.std.proofs.lemmas.Bool.Decides.{nat_tests, leb_tells, eqb_tells}
+use Rattle.std.proofs.Common.{arith, ◌≡◌, ◌+◌, ◌⊎◌, ℕ, suc, List, [], ◌∷◌, length, true, false, Bool, refl, sym, ap, ◌∙◌, inl, inr}
+use Rattle.std.specs.Prelude.{Option, Some, None, is_some, not, nat_lt, ◌==◌, ◌&&◌, ◌||◌, slice_get}
+use Rattle.std.proofs.lemmas.Bool.Decides.{nat_tests, leb_tells}
 use Rattle.rdma_types.specs.declared.names.ObjName.{ObjName}
 use Rattle.rdma_types.specs.declared.requests.Kind.{Kind}
 use Rattle.rdma_types.specs.declared.requests.Receive.{Receive}
@@ -21,7 +21,7 @@ use Rattle.simulation.specs.Joined.{IsProgress}
 use Rattle.simulation.specs.Views.{receive_in}
 use Rattle.simulation_delivery.specs.Delivered as delivered
 use Rattle.simulation_delivery.specs.Delivered.{Arrives, Takes}
-use Rattle.simulation_requests.proofs.Requests.{IsRequestAt, asker, asking, request_at_end}
+use Rattle.simulation_requests.proofs.Requests.{asker, asking, request_at_end}
 use Rattle.simulation_requests.proofs.Expected.{has_now, mtu_now}
 use Rattle.simulation_requests.proofs.Due.{mtu_positive}
 use Rattle.simulation_requests.proofs.Messages.{begun_now, bytes_now}

@@ -1,25 +1,22 @@
 -- The expected request finds no receive: an RNR NAK is sent, and the machine notes the dry turn.
-use Rattle.std.proofs.Common.{arith, ◌≡◌, ◌<◌, ◌≤◌, ◌+◌, ◌⊎◌, ℕ, List, [], ◌∷◌, ◌++◌, length, map, true, false, Bool, refl, sym, ap, ◌∙◌, subst, inl, inr}
-use Rattle.std.specs.Prelude.{Option, Some, None, if◌then◌else◌, is_some, not, nat_lt, ◌==◌, ◌&&◌, ◌||◌, All, Contains}
-use Rattle.std.proofs.lemmas.Bool.Decides.{nat_tests, leb_tells, eqb_tells}
+use Rattle.std.proofs.Common.{arith, ◌≡◌, ◌⊎◌, ℕ, List, [], ◌∷◌, ◌++◌, length, true, false, Bool, refl, sym, ap, ◌∙◌, subst, inl, inr}
+use Rattle.std.specs.Prelude.{Option, Some, None, if◌then◌else◌, is_some, not, ◌==◌, ◌&&◌, ◌||◌, All, Contains}
+use Rattle.std.proofs.lemmas.Bool.Decides.{nat_tests, eqb_tells}
 use Rattle.std.proofs.lemmas.List.Elements.{All-nil, All-cons, Contains-push}
 use Rattle.rdma_types.specs.declared.requests.Kind.{Kind}
 use Rattle.rdma_types.specs.declared.requests.Kind.TheVariants as kinds'
 use Rattle.rdma_types.specs.declared.names.ObjName.{ObjName}
-use Rattle.rdma_types.specs.declared.answers.Sent.{Sent}
 use Rattle.rdma_types.specs.declared.answers.Took.TheVariants as took
 use Rattle.rdma_types.specs.declared.answers.Why.TheVariants as refused
 use Rattle.rdma_types.specs.Kinds as kinds
 use Rattle.rdma_types.specs.Kinds.{kind_of}
 use Rattle.rdma_types.specs.Objects.{Posted, Region}
-use Rattle.rdma_types.specs.Spans.{request_of}
 use Rattle.protocol.specs.declared.wire.Syndrome.TheVariants.{Rnr}
 use Rattle.protocol.specs.State as state
 use Rattle.protocol.specs.State.{World, Link, Progress, NoMessage, InSend, InWrite}
 use Rattle.protocol.specs.Wire.{Packet}
 use Rattle.protocol.specs.EndWords as words
 use Rattle.protocol.specs.EndWords.{is_paused}
-use Rattle.protocol.specs.EndStep.{takes}
 use Rattle.protocol.specs.Responder.{acknowledge, expected_packet, granted_packet, is_invalid, is_not_ready, is_too_long, not_ready, packet_acts, executed, refuses, refuses_length, target}
 use Rattle.protocol.specs.DeviceStep.{ended_step}
 use Rattle.protocol.specs.WorldStep.{home, ran}
@@ -29,11 +26,9 @@ use Rattle.ideal_model.specs.Legal.{after}
 use Rattle.ideal_model.specs.Machine as machine
 use Rattle.ideal_model.specs.Machine.{Machine, End, has_context, has_end}
 use Rattle.ideal_model.specs.Numbers.{due}
-use Rattle.ideal_model.specs.Steps.{current, dried, dried_at, has_imm, has_unused, fills, is_current_granted, is_misaligned, peer_of}
+use Rattle.ideal_model.specs.Steps.{current, dried, dried_at, has_imm, has_unused, fills, is_current_granted, peer_of}
 use Rattle.simulation.specs.Packets.{class_of, IsRequest}
-use Rattle.simulation.specs.Carries.{request_steps, due_steps}
-use Rattle.simulation.specs.Facts.{IsDry}
-use Rattle.simulation.specs.Joined.{IsProgress, Receives}
+use Rattle.simulation.specs.Joined.{IsProgress}
 use Rattle.simulation.specs.Stands.{Stands}
 use Rattle.simulation.specs.Views.{link_of, owned, owned_there, requests_of, side_of, receive_in}
 use Rattle.simulation.proofs.Linked.{context_with, end_changed}
@@ -43,12 +38,12 @@ use Rattle.simulation_delivery.specs.Delivered as delivered
 use Rattle.simulation_delivery.specs.Delivered.{Arrives, Takes}
 use Rattle.simulation_delivery.proofs.Lifted.{IsAnswer, side_now}
 use Rattle.simulation_requests.proofs.Requests.{IsRequestAt, asker, asking, request_at_end}
-use Rattle.simulation_requests.proofs.Replies.{IsTowards, dry_answer}
-use Rattle.simulation_requests.proofs.Advancing.{got, moved_on}
+use Rattle.simulation_requests.proofs.Replies.{dry_answer}
+use Rattle.simulation_requests.proofs.Advancing.{got}
 use Rattle.simulation_requests.proofs.Responding.{IsRespond, responds, takes_so, made_there}
 use Rattle.simulation_requests.proofs.Counting.{counts, linked_again, q_sound, q_there, q_in}
 use Rattle.simulation_requests.proofs.Expected.{step_now, carries_now, has_now, due_now, request_now}
-use Rattle.simulation_requests.proofs.Checks.{expected_is, invalid_is, target_is, not_ready_is, needs_now, peer_is, in_use_here, progress_here}
+use Rattle.simulation_requests.proofs.Checks.{expected_is, target_is, not_ready_is, needs_now, peer_is, in_use_here, progress_here}
 use Rattle.simulation_refusals.proofs.Picked.{Picks, picks_dry_send, picks_dry_write}
 use Rattle.simulation_refusals.proofs.Noted.{noted, dry_sound, dry_advance, progress_noted}
 

@@ -1,6 +1,6 @@
 -- An end in Rts goes to Error while it refuses the current request of its peer: what is kept of the connection.
-use Rattle.std.proofs.Common.{arith, ◌≡◌, ◌≤◌, ◌<◌, ◌+◌, ◌-◌, ◌*◌, ◌/◌, ◌^◌, ◌⊎◌, ℕ, zero, suc, List, [], ◌∷◌, ◌++◌, length, get_or, true, false, Bool, refl, sym, ap, ◌∙◌, subst, inl, inr}
-use Rattle.std.specs.Prelude.{Option, Some, None, max, drop, take, not, if◌then◌else◌, slice_get}
+use Rattle.std.proofs.Common.{arith, ◌≡◌, ◌≤◌, ◌<◌, ◌+◌, ◌-◌, ◌*◌, ◌/◌, ◌^◌, ◌⊎◌, ℕ, zero, suc, List, [], ◌∷◌, ◌++◌, length, get_or, true, false, Bool, refl, ap, ◌∙◌, inl, inr}
+use Rattle.std.specs.Prelude.{Option, Some, None, max, drop, take, if◌then◌else◌, slice_get}
 use Rattle.std.specs.List.{list_any}
 use Rattle.std.proofs.Math.Nat.{zero-mod}
 use Rattle.std.proofs.lemmas.List.{drop_all}
@@ -13,14 +13,13 @@ use Rattle.rdma_types.specs.Spans.{pieces, span, span_of, first_number, end_numb
 use Rattle.protocol.specs.State.{Link, HuskEntry, Running, NoMessage}
 use Rattle.protocol.specs.Requester.{emptied_at}
 use Rattle.protocol.specs.Wire.{Packet}
-use Rattle.ideal_model.specs.declared.reply.Reply.{Reply}
 use Rattle.ideal_model.specs.declared.reply.Reply.TheVariants.{OldValue, Denied}
 use Rattle.ideal_model.specs.Machine.{End, untold_count}
 use Rattle.ideal_model.specs.Numbers.{due, oldest}
 use Rattle.ideal_model.specs.Sound.{IsSound}
 use Rattle.ideal_model.specs.Steps.{closed}
 use Rattle.simulation.specs.Packets.{Class, class_of, IsRequest, IsReadResponse, IsAtomicResponse, IsAck, IsSequenceNak, IsRefusal, IsReceiverNotReady, IsStopped, IsResume, IsResumeAck, IsNothing}
-use Rattle.simulation.specs.Facts.{IsCarriedWith, IsLeft, IsRequestOf, IsRefused, NumberedFact, MoveFact, ClassFact, past_packet}
+use Rattle.simulation.specs.Facts.{IsCarriedWith, IsLeft, IsRequestOf, IsRefused, NumberedFact, MoveFact, ClassFact}
 use Rattle.simulation.specs.Views.{Side}
 use Rattle.simulation.specs.Joined.{IsJoined, IsHeardOf, lands_untold_before}
 use Rattle.simulation.proofs.Numbers.{first-rest}

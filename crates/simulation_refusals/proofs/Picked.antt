@@ -1,7 +1,7 @@
 -- Where the responder refuses the expected request, or finds no receive, the machine may make that step alone.
-use Rattle.std.proofs.Common.{arith, ◌≡◌, ◌<◌, ◌≤◌, ◌+◌, ◌%◌, ◌⊎◌, ℕ, zero, suc, List, [], ◌∷◌, length, true, false, Bool, refl, sym, ap, ◌∙◌, subst, inl, inr}
-use Rattle.std.specs.Prelude.{Option, Some, None, if◌then◌else◌, is_some, not, nat_lt, nat_le, ◌==◌, ◌&&◌, ◌||◌, slice_get}
-use Rattle.std.proofs.lemmas.Bool.Decides.{nat_tests, leb_tells, eqb_tells}
+use Rattle.std.proofs.Common.{arith, ◌≡◌, ◌≤◌, ◌+◌, ℕ, suc, List, [], ◌∷◌, length, true, false, Bool, refl, ap, ◌∙◌, inl, inr}
+use Rattle.std.specs.Prelude.{Option, Some, None, not, nat_lt, ◌==◌, ◌&&◌, ◌||◌}
+use Rattle.std.proofs.lemmas.Bool.Decides.{nat_tests, leb_tells}
 use Rattle.rdma_types.specs.declared.names.ObjName.{ObjName}
 use Rattle.rdma_types.specs.declared.answers.Why.TheVariants as whys
 use Rattle.rdma_types.specs.declared.requests.Kind.{Kind}
@@ -17,7 +17,7 @@ use Rattle.ideal_model.specs.Machine.{Machine, End}
 use Rattle.ideal_model.specs.Legal.{is_enabled}
 use Rattle.ideal_model.specs.Steps.{current, fills, has_current, has_imm, has_unused, is_current_granted, is_misaligned, fits, first_receive, may_add, may_atom, may_dry, may_dry_kind, may_read, may_refuse, may_refuse_for, may_run, may_run_kind, overflows, peer_of, receive_for}
 use Rattle.simulation.specs.Carries.{due_steps}
-use Rattle.simulation_requests.proofs.Checks.{IsOnly, Sort, sort_of}
+use Rattle.simulation_requests.proofs.Checks.{Sort, sort_of}
 
 -- one step is due, and it may be made
 pub record Picks (m : Machine) (q : ObjName) (bytes : ℕ) (s : IdealStep) : Type 0 where

@@ -1,9 +1,8 @@
 -- The expected request is refused: invalid, not granted, or too long.
-use Rattle.std.proofs.Common.{arith, ◌≡◌, ◌<◌, ◌≤◌, ◌+◌, ◌⊎◌, ℕ, List, [], ◌∷◌, ◌++◌, length, true, false, Bool, refl, sym, ap, ◌∙◌, subst, inl, inr}
-use Rattle.std.specs.Prelude.{Option, Some, None, if◌then◌else◌, is_some, not, ◌&&◌, ◌||◌}
+use Rattle.std.proofs.Common.{◌≡◌, ◌+◌, ℕ, List, [], ◌∷◌, length, true, false, Bool, refl, sym, ap, ◌∙◌, subst}
+use Rattle.std.specs.Prelude.{Option, Some, None, if◌then◌else◌, is_some, ◌||◌}
 use Rattle.rdma_types.specs.declared.names.ObjName.{ObjName}
 use Rattle.rdma_types.specs.declared.answers.Took.TheVariants as took
-use Rattle.rdma_types.specs.declared.answers.Why.{Why}
 use Rattle.rdma_types.specs.declared.answers.Why.TheVariants as whys
 use Rattle.rdma_types.specs.declared.requests.Receive.{Receive}
 use Rattle.rdma_types.specs.Kinds as kinds
@@ -21,13 +20,13 @@ use Rattle.protocol.specs.WorldStep.{home, ran}
 use Rattle.ideal_model.specs.declared.steps.IdealStep.TheVariants as steps
 use Rattle.ideal_model.specs.Machine as machine
 use Rattle.ideal_model.specs.Machine.{Machine, End}
-use Rattle.ideal_model.specs.Steps.{current, is_current_granted, is_misaligned, overflows, peer_of, receive_for, receives_of, refuse, refused_entries, refused_receives}
+use Rattle.ideal_model.specs.Steps.{current, is_current_granted, overflows, peer_of, receive_for, refuse, refused_entries, refused_receives}
 use Rattle.simulation.specs.Packets.{class_of, IsRequest}
 use Rattle.simulation.specs.Facts.{is_access_denied}
 use Rattle.simulation.specs.Stands.{Stands}
 use Rattle.simulation_delivery.specs.Delivered as delivered
 use Rattle.simulation_delivery.specs.Delivered.{Arrives, Takes}
-use Rattle.simulation_requests.proofs.Requests.{IsRequestAt, asker, asking, request_at_end}
+use Rattle.simulation_requests.proofs.Requests.{IsRequestAt, asker, request_at_end}
 use Rattle.simulation_requests.proofs.Replies.{access_answer, refusal_answer}
 use Rattle.simulation_requests.proofs.Counting.{o_in, o_sound, owned_here, same_here}
 use Rattle.simulation_requests.proofs.Expected.{has_now}
@@ -36,7 +35,7 @@ use Rattle.simulation.proofs.Linked.{domain_there}
 use Rattle.simulation_refusals.proofs.Picked.{Picks, picks_invalid, picks_access, picks_length}
 use Rattle.simulation_refusals.proofs.Dried.{and_parts, granted_some, takes_step}
 use Rattle.simulation_refusals.proofs.Shutting.{ended_there, short_there}
-use Rattle.simulation_refusals.proofs.Refusing.{IsNak, e_name, refused_now, refused_stands, there, towards, x_connected}
+use Rattle.simulation_refusals.proofs.Refusing.{IsNak, e_name, refused_now, refused_stands, towards, x_connected}
 
 neither : (a b : Bool) → (a || b) ≡ false → (a ≡ false) × (b ≡ false)
 neither true b h = absurd (cc)

@@ -1,20 +1,17 @@
 -- The end refuses the expected request: the next world stands for the machine that refused it.
-use Rattle.std.proofs.Common.{arith, ◌≡◌, ◌≢◌, ◌<◌, ◌≤◌, ◌+◌, ◌^◌, ℕ, List, [], ◌∷◌, ◌++◌, length, map, true, false, Bool, refl, sym, ap, ◌∙◌, subst}
-use Rattle.std.specs.Prelude.{Option, Some, None, if◌then◌else◌, is_some, not, bytes_eq, slice_get, drop, All}
-use Rattle.std.proofs.lemmas.Bool.Decides.{nat_tests}
-use Rattle.std.proofs.lemmas.List.Elements.{All-nil, All-cons}
+use Rattle.std.proofs.Common.{arith, ◌≡◌, ◌≤◌, ◌+◌, ◌^◌, ℕ, List, [], ◌∷◌, ◌++◌, length, map, true, false, Bool, refl, sym, ap, ◌∙◌, subst}
+use Rattle.std.specs.Prelude.{Option, is_some, slice_get, drop}
 use Rattle.rdma_types.specs.declared.names.Name.{Name}
 use Rattle.rdma_types.specs.declared.names.ObjName.{ObjName}
 use Rattle.rdma_types.specs.declared.answers.Sent.{Sent}
 use Rattle.rdma_types.specs.declared.answers.Took.{Took}
 use Rattle.rdma_types.specs.declared.answers.Why.{Why}
-use Rattle.rdma_types.specs.declared.answers.Why.TheVariants as whys
 use Rattle.rdma_types.specs.declared.requests.Completion.{Completion}
 use Rattle.rdma_types.specs.declared.requests.Receive.{Receive}
 use Rattle.rdma_types.specs.declared.requests.WcStatus.TheVariants as statuses
 use Rattle.rdma_types.specs.Limits.{is_mtu}
 use Rattle.rdma_types.specs.Lists.{has_name, has_word, named, store_named}
-use Rattle.rdma_types.specs.Objects.{CompletionQueue, Posted, Region}
+use Rattle.rdma_types.specs.Objects.{CompletionQueue, Region}
 use Rattle.rdma_types.specs.Spans.{end_number, first_number}
 use Rattle.protocol.specs.declared.wire.Syndrome.TheVariants.{Nak}
 use Rattle.protocol.specs.State as state
@@ -25,18 +22,17 @@ use Rattle.protocol.specs.Requester.{end_of_queue, ended_link}
 use Rattle.protocol.specs.Responder.{acknowledge, nak_code}
 use Rattle.protocol.specs.DeviceStep as device
 use Rattle.protocol.specs.DeviceStep.{ended_step}
-use Rattle.protocol.specs.WorldStep.{home, is_live, ran}
+use Rattle.protocol.specs.WorldStep.{home, ran}
 use Rattle.ideal_model.specs.declared.reply.Reply.TheVariants.{Denied}
 use Rattle.ideal_model.specs.Machine as machine
 use Rattle.ideal_model.specs.Machine.{Machine, End, has_context, has_end, nobody, regions_of}
 use Rattle.ideal_model.specs.Numbers.{due}
-use Rattle.ideal_model.specs.Steps as making
-use Rattle.ideal_model.specs.Steps.{closed, denied, failed_receives, failed_requests, peer_of, refuse, refuse_at, refused_entries, refused_queues, refused_receives, untold}
+use Rattle.ideal_model.specs.Steps.{closed, denied, failed_receives, failed_requests, refuse, refuse_at, refused_entries, refused_queues, refused_receives, untold}
 use Rattle.simulation.specs.Packets.{class_of, IsRequest}
 use Rattle.simulation.specs.Facts.{IsRefused, is_access_denied}
 use Rattle.simulation.specs.Joined.{IsProgress}
 use Rattle.simulation.specs.Stands.{Stands, AreSame, IsContextSound, IsEndSound}
-use Rattle.simulation.specs.Views.{link_of, link_or_none, in_rts, owned, owned_there, requests_of, side_of}
+use Rattle.simulation.specs.Views.{link_or_none, in_rts, owned, owned_there, requests_of, side_of}
 use Rattle.simulation.proofs.Connecting.{live_not_carried}
 use Rattle.simulation.proofs.Ends.{with_more}
 use Rattle.simulation.proofs.Live.{live_name}
@@ -50,9 +46,9 @@ use Rattle.simulation_delivery.specs.Delivered.{Arrives}
 use Rattle.simulation_delivery.proofs.Lifted.{IsAnswer, IsPairStep, side_now, sent_stands}
 use Rattle.simulation_delivery.proofs.Pairs.{IsKept}
 use Rattle.simulation_requests.proofs.Requests.{IsRequestAt, asker, asking, request_at_end}
-use Rattle.simulation_requests.proofs.Replies.{IsTowards, access_answer, refusal_answer}
+use Rattle.simulation_requests.proofs.Replies.{IsTowards}
 use Rattle.simulation_requests.proofs.Responding.{made_there}
-use Rattle.simulation_requests.proofs.Counting.{apart, in_context, name_there, o_in, o_sound, o_there, owned_here, q_in, q_sound, q_there, same_here}
+use Rattle.simulation_requests.proofs.Counting.{apart, name_there, o_in, o_sound, owned_here, q_in, q_sound, q_there, same_here}
 use Rattle.simulation_requests.proofs.Early.{same_due}
 use Rattle.simulation_requests.proofs.Expected.{due_now, not_ended}
 use Rattle.simulation_refusals.proofs.Noted.{denied_sound, got_last}

@@ -1,16 +1,15 @@
 -- The context of an end that refuses: where its receive is too short, that completes with an error, and the rest is flushed.
-use Rattle.std.proofs.Common.{arith, ◌≡◌, ◌≤◌, ◌<◌, ◌+◌, ℕ, List, [], ◌∷◌, ◌++◌, length, map, true, false, Bool, refl, sym, ap, ◌∙◌, subst}
-use Rattle.std.specs.Prelude.{Option, Some, None, is_some, drop, slice_get, if◌then◌else◌, option_to_list, All}
+use Rattle.std.proofs.Common.{arith, ◌≡◌, ℕ, List, [], ◌∷◌, ◌++◌, length, map, true, refl, sym, ap, ◌∙◌, subst}
+use Rattle.std.specs.Prelude.{Option, Some, None, is_some, drop, if◌then◌else◌, option_to_list, All}
 use Rattle.std.proofs.lemmas.List.{append-nil, drop_all}
 use Rattle.std.proofs.lemmas.List.Elements.{All-nil, All-weaker}
 use Rattle.rdma_types.specs.declared.names.Name.{Name}
-use Rattle.rdma_types.specs.declared.answers.Why.TheVariants as whys
 use Rattle.rdma_types.specs.declared.requests.Completion.{Completion}
 use Rattle.rdma_types.specs.declared.requests.Receive.{Receive}
 use Rattle.rdma_types.specs.declared.requests.WcStatus.{WcStatus}
 use Rattle.rdma_types.specs.declared.requests.WcStatus.TheVariants as statuses
 use Rattle.rdma_types.specs.Kinds.{kind_of, size_of}
-use Rattle.rdma_types.specs.Lists.{has_name, has_word, named, store_named}
+use Rattle.rdma_types.specs.Lists.{has_name, has_word, store_named}
 use Rattle.rdma_types.specs.Memory.{is_granted, landing_right, local_key}
 use Rattle.rdma_types.specs.Objects.{CompletionQueue, Posted, Region, no_queue}
 use Rattle.protocol.specs.State as state

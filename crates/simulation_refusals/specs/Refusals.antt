@@ -2,7 +2,6 @@
 use Rattle.std.specs.Prelude.{◌≡◌, ℕ, ◌+◌, List, length, Bool, true, false, Some, is_some, not, ◌==◌, ◌&&◌, ◌||◌}
 use Rattle.rdma_types.specs.declared.names.ObjName.{ObjName}
 use Rattle.rdma_types.specs.Kinds.{is_send, is_write, kind_of}
-use Rattle.protocol.specs.State as state
 use Rattle.protocol.specs.State.{World, Link}
 use Rattle.protocol.specs.Wire.{Packet}
 use Rattle.protocol.specs.Responder.{is_invalid, is_not_ready, is_too_long, target}
