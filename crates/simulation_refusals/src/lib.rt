@@ -26,3 +26,10 @@ pub fn refusals_are_taken()
 pub fn idle_turns_are_taken()
     ensures { AreTakenWhere MayNotAct }
 {}
+
+// How a crate above uses the law: it calls the function, and cites what it promises.
+fn misaligned_atomics_are_refused()
+    ensures { AreTakenWhere IsInvalid }
+{
+    refusals_are_taken();
+}
