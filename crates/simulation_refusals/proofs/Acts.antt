@@ -127,15 +127,18 @@ module _ (w : World) (m : Machine) (o : ObjName) (l : Link) (number : Option ℕ
       where
         test : (k : ℕ) → k ≡ 0 → (k == 0) ≡ true
         test k h = grind (arith, nat_tests)
+
         not_both : (k : Kind) → Sort k → kinds.is_send k ≡ true → kinds.is_write k ≡ true → ⊥
         not_both k (inl s) h i = cc (s.send, h)
         not_both k (inr (inl s)) h i = cc (s.send, h)
         not_both k (inr (inr (inl s))) h i = cc (s.write, i)
         not_both k (inr (inr (inr s))) h i = cc (s.send, h)
+
         unused : g.into ≡ 0 → has_unused x ≡ true
         unused z =
             ap (λ (u : End). nat_lt 0 (length u.unused)) (sym (peer_is w m o l number bytes d a is paused now))
             ∙ send_ready (kinds.is_send (kind_of r)) (g.into == 0) (kinds.is_write (kind_of r) && (fills g count && has_imm r)) (has_unused (peer_of m q)) send (test g.into z) ready_now
+
         by : (p : Progress) → receive_in p ≡ x.in_use → IsProgress (asking m o) x.domain (machine.regions_of m o.context) p → (v : Receive) × (first_receive x.in_use x.unused ≡ Some v)
         by NoMessage used h =
             let s = some_unused x.unused (unused h) in
@@ -167,15 +170,19 @@ module _ (w : World) (m : Machine) (o : ObjName) (l : Link) (number : Option ℕ
       none (inl h) = cc (run, h)
       none (inr (inl h)) = cc (atom, h)
       none (inr (inr h)) = cc (turn, h)
+
       by_long : is_invalid l d ≡ false → is_some (target c e d) ≡ true → is_not_ready e d ≡ false → (b : Bool) → is_too_long e l d ≡ b → Takes w m o l number d
       by_long v t y true h = length_taken w m o l number bytes d a is paused now v t y h
       by_long v t y false h = absurd (none (may_act v t y h))
+
       by_ready : is_invalid l d ≡ false → is_some (target c e d) ≡ true → (b : Bool) → is_not_ready e d ≡ b → Takes w m o l number d
       by_ready v t true h = dry_taken w m o l number bytes d a is paused now v t h
       by_ready v t false h = by_long v t h (is_too_long e l d) refl
+
       by_target : is_invalid l d ≡ false → (b : Bool) → is_some (target c e d) ≡ b → Takes w m o l number d
       by_target v true h = by_ready v h (is_not_ready e d) refl
       by_target v false h = access_taken w m o l number bytes d a is paused now v h
+
       by_valid : (b : Bool) → is_invalid l d ≡ b → Takes w m o l number d
       by_valid true h = invalid_taken w m o l number bytes d a is paused now h
       by_valid false h = by_target h (is_some (target c e d)) refl

@@ -123,12 +123,14 @@ module _ (w : World) (m : Machine) (o : ObjName) (l : Link) (number : Option ℕ
       where
         is_none : (k : ℕ) → (k == 0) ≡ true → k ≡ 0
         is_none k h = grind (arith, nat_tests, eqb_tells k 0, h)
+
         no_send : (k : Kind) → kinds.is_write k ≡ true → kinds.is_send k ≡ false
         no_send kinds'.Write h = refl
         no_send kinds'.Send h = absurd (cc)
         no_send kinds'.Read h = absurd (cc)
         no_send kinds'.CompareSwap h = absurd (cc)
         no_send kinds'.FetchAdd h = absurd (cc)
+
         by : ((kinds.is_send (kind_of r) && (g.into == 0)) ≡ true) ⊎ ((kinds.is_write (kind_of r) && (fills g (length d.payload) && has_imm r)) ≡ true) → Picks m q (length d.payload) (steps.Dry q)
         by (inl s) =
             let u = and_parts (kinds.is_send (kind_of r)) (g.into == 0) s in

@@ -69,7 +69,6 @@ end_near q s mtu alive depth =
     let before : first_number q.posted q.mtu q.told ≤ first_number q.posted q.mtu q.acted = first_mono q.posted q.mtu q.told q.acted (s.told_acted alive) in
     omega (arith, few, before, first-rest q.posted q.mtu q.told s.told_posted, s.depth, depth)
 
-
 -- ---- nothing is untold of an end that failed
 
 none_taken : (test : Posted → Bool) (k : ℕ) → list_any test (take k []) ≡ false
