@@ -141,7 +141,6 @@ atomic_lands kinds'.Send h = absurd (cc)
 atomic_lands kinds'.CompareSwap h = refl
 atomic_lands kinds'.FetchAdd h = refl
 
-
 -- one kind alone
 pub record IsOnly (reads acts sends writes : Bool) (k : Kind) : Type 0 where
   pub read : kinds.is_read k ≡ reads
@@ -345,6 +344,7 @@ module _ (w : World) (m : Machine) (o : ObjName) (l : Link) (number : Option ℕ
       where
         is_none : (k : ℕ) → k ≡ 0 → (k == 0) ≡ true
         is_none k h = grind (arith, nat_tests)
+
         by_tests : (b t : Bool) → (g.into / g.mtu == 0) ≡ b → (g.into == 0) ≡ t → b ≡ t
         by_tests true true h i = refl
         by_tests false false h i = refl
@@ -487,6 +487,7 @@ module _ (w : World) (m : Machine) (o : ObjName) (l : Link) (number : Option ℕ
       where
         test : (k : ℕ) → k ≡ 0 → (k == 0) ≡ true
         test k h = grind (arith, nat_tests)
+
         empty_false : (b t : Bool) → b ≡ true → (v : Bool) → (((kinds.is_send (kind_of r) && b) || v) && t) ≡ false → t ≡ false
         empty_false b t h v z = by (kinds.is_send (kind_of r)) b t v send h z
           where
@@ -494,18 +495,22 @@ module _ (w : World) (m : Machine) (o : ObjName) (l : Link) (number : Option ℕ
             by true true t v i j z = z
             by true false t v i j z = absurd (cc)
             by false b t v i j z = absurd (cc)
+
         before : (p : Progress) → IsProgress (asking m o) x.domain (regions_of m o.context) p → bytes_before None p ≡ g.into
         before NoMessage i = sym i
         before (InSend done v) i = i.1
         before (InWrite f s t z) i = i.1
+
         some_bytes : (z : ℕ) (v : Receive) → IsProgress (asking m o) x.domain (regions_of m o.context) (InSend z v) → 0 < z
         some_bytes z v i = i.0
+
         not_both : (k : Kind) → kinds.is_send k ≡ true → kinds.is_write k ≡ true → ⊥
         not_both kinds'.Write h i = cc
         not_both kinds'.Send h i = cc
         not_both kinds'.Read h i = cc
         not_both kinds'.CompareSwap h i = cc
         not_both kinds'.FetchAdd h i = cc
+
         no_write : (f s t z : ℕ) → IsProgress (asking m o) x.domain (regions_of m o.context) (InWrite f s t z) → ⊥
         no_write f s t z i = not_both (kind_of r) send i.2
 
@@ -517,6 +522,7 @@ module _ (w : World) (m : Machine) (o : ObjName) (l : Link) (number : Option ℕ
     where
       aligned : (b : Bool) → kinds.is_atomic (kind_of r) ≡ false → (kinds.is_atomic (kind_of r) && b) ≡ false
       aligned b h = rw h refl
+
       by_sort : Sort (kind_of r) → is_invalid l d ≡ is_misaligned r
       by_sort (inl k) = read_is_valid k.read ∙ sym (aligned _ k.atomic)
       by_sort (inr (inl k)) = atomic_is_valid k.read k.atomic
@@ -529,6 +535,7 @@ module _ (w : World) (m : Machine) (o : ObjName) (l : Link) (number : Option ℕ
     where
       others : (b : Bool) → kinds.is_send (kind_of r) ≡ false → (kinds.is_send (kind_of r) || b) ≡ b
       others b h = rw h refl
+
       by_sort : Sort (kind_of r) → is_some (target c e d) ≡ (kinds.is_send (kind_of r) || is_current_granted m q)
       by_sort (inl k) = read_granted k.read ∙ sym (others _ k.send)
       by_sort (inr (inl k)) = atomic_granted k.read k.atomic ∙ sym (others _ k.send)
@@ -559,6 +566,7 @@ module _ (w : World) (m : Machine) (o : ObjName) (l : Link) (number : Option ℕ
     where
       neither : (u v : Bool) → kinds.is_send (kind_of r) ≡ false → kinds.is_write (kind_of r) ≡ false → ((kinds.is_send (kind_of r) && u) || (kinds.is_write (kind_of r) && v)) ≡ false
       neither u v h i = rw (h, i) refl
+
       by_sort : Sort (kind_of r) → needs_receive d ≡ needs_now
       by_sort (inl k) = read_needs k.read ∙ sym (neither _ _ k.send k.write)
       by_sort (inr (inl k)) = atomic_needs k.read k.atomic ∙ sym (neither _ _ k.send k.write)
@@ -595,6 +603,7 @@ module _ (w : World) (m : Machine) (o : ObjName) (l : Link) (number : Option ℕ
     where
       others : (b : Bool) → kinds.is_send (kind_of r) ≡ false → (kinds.is_send (kind_of r) && b) ≡ false
       others b h = rw h refl
+
       by_sort : Sort (kind_of r) → is_too_long e l d ≡ (kinds.is_send (kind_of r) && overflows (receive_for (peer_of m q)) (g.into + length d.payload))
       by_sort (inl k) = read_short k.read ∙ sym (others _ k.send)
       by_sort (inr (inl k)) = atomic_short k.read k.atomic ∙ sym (others _ k.send)
@@ -644,16 +653,21 @@ module _ (w : World) (m : Machine) (o : ObjName) (l : Link) (number : Option ℕ
     where
       asked_now : request_for (requests_of g) n ≡ r
       asked_now = ap (machine.posted_at g.posted) (request_now w m o l number bytes d a is paused now)
+
       below : past_packet (requests_of g) n ≤ (link_of w q).sender.top
       below = below_top w m o l number bytes d a is paused now
+
       one : kinds.is_read (kind_of r) ≡ false → past_packet (requests_of g) n ≡ suc n
       one h = ap (λ b. if b then first_number g.posted g.mtu (suc (request_of g.posted g.mtu n)) else suc n) (ap (λ z. kinds.is_read (kind_of z)) asked_now ∙ h)
+
       all : kinds.is_read (kind_of r) ≡ true → past_packet (requests_of g) n ≡ first_number g.posted g.mtu (suc g.acted)
       all h =
           ap (λ b. if b then first_number g.posted g.mtu (suc (request_of g.posted g.mtu n)) else suc n) (ap (λ z. kinds.is_read (kind_of z)) asked_now ∙ h)
           ∙ ap (λ k. first_number g.posted g.mtu (suc k)) (request_now w m o l number bytes d a is paused now)
+
       from : kinds.is_read (kind_of r) ≡ true → n ≡ first_number g.posted g.mtu g.acted
       from h = omega (arith, due_at, none_divided (read_whole h))
+
       by_sort : Sort (kind_of r) → n + span_of_packet d l.terms.mtu d.reth ≤ (link_of w q).sender.top
       by_sort (inl k) = omega (arith, below, all k.read, from k.read, read_span k.read k.atomic, first_suc g.posted g.mtu g.acted (inside w m o l number bytes d a is paused now))
       by_sort (inr (inl k)) = omega (arith, below, one k.read, atomic_span k.read k.atomic l.terms.mtu)
