@@ -6,7 +6,7 @@
 
 ghost use Rattle.std.specs.Prelude.{ℕ};
 ghost use Rattle.protocol.specs.declared.events.WorldEvent.TheVariants.{Deliver};
-ghost use Rattle.simulation.specs.Packets.{Class};
+ghost use Rattle.simulation.specs.Packets.{Class, IsAck};
 ghost use Rattle.simulation.specs.Law.{AlwaysFollows};
 ghost use Rattle.simulation_delivery.specs.Delivered.{FollowsAway, FollowsKind, HusksAnswer, IsOwed, AreAllTaken};
 
@@ -26,3 +26,10 @@ pub fn kind_follows()
 pub fn deliveries_follow()
     ensures { AreAllTaken → (k : ℕ) → AlwaysFollows (Deliver k) }
 {}
+
+// How a crate above uses the law: it calls the function, and cites what it promises.
+fn acks_follow()
+    ensures { HusksAnswer → IsOwed IsAck → FollowsKind IsAck }
+{
+    kind_follows();
+}

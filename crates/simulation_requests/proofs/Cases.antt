@@ -8,11 +8,12 @@ use Rattle.protocol.specs.Wire.{Packet}
 use Rattle.ideal_model.specs.Machine.{Machine}
 use Rattle.simulation.specs.Packets.{class_of, IsRequest}
 use Rattle.simulation_delivery.specs.Delivered.{Arrives}
-use Rattle.simulation_requests.specs.Taken.{AreTakenWhere, IsAtPaused, IsAhead, IsMessageRepeat, IsWriteDry, IsWriteRun, IsSendRun, asked}
+use Rattle.simulation_requests.specs.Taken.{AreTakenWhere, IsAtPaused, IsAhead, IsMessageRepeat, IsWriteDry, IsWriteRun, IsSendRun, IsSendDry, asked}
 use Rattle.simulation_requests.proofs.Requests.{request_at_end}
 use Rattle.simulation_requests.proofs.Responding.{paused_taken}
 use Rattle.simulation_requests.proofs.WritesDry.{write_dry}
 use Rattle.simulation_requests.proofs.SendsRun.{send_taken}
+use Rattle.simulation_requests.proofs.SendsDry.{send_dry}
 use Rattle.simulation_requests.proofs.WritesRun.{write_taken}
 use Rattle.simulation_requests.proofs.Early.{ahead_taken, dup_taken}
 
@@ -45,3 +46,6 @@ are_write_dries w m o l n bytes d a is h = write_dry w m o l (Some n) bytes d a 
 
 pub are_send_runs : AreTakenWhere IsSendRun
 are_send_runs w m o l n bytes d a is h = send_taken w m o l (Some n) bytes d a is h.0.0 (sym (number_is w m o l n bytes d a is) ∙ h.0.1) h.1 h.2
+
+pub are_send_dries : AreTakenWhere IsSendDry
+are_send_dries w m o l n bytes d a is h = send_dry w m o l (Some n) bytes d a is h.0.0 (sym (number_is w m o l n bytes d a is) ∙ h.0.1) h.1 h.2 h.3

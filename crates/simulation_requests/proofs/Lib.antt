@@ -24,3 +24,4 @@ pub mod WritesDry
 pub mod Sends
 pub mod SendsRun
 pub mod Checks
+pub mod SendsDry

@@ -1,9 +1,8 @@
 -- The expected piece of a Send: its receive, and where its bytes go.
-use Rattle.std.proofs.Common.{arith, ◌≡◌, ◌≢◌, ◌<◌, ◌≤◌, ◌+◌, ◌-◌, ◌*◌, ◌/◌, ◌%◌, ◌⊎◌, ℕ, zero, suc, List, [], ◌∷◌, ◌++◌, map, length, true, false, Bool, refl, sym, ap, ◌∙◌, subst, inl, inr}
-use Rattle.std.specs.Prelude.{Option, Some, None, if◌then◌else◌, is_some, not, nat_lt, nat_le, ◌==◌, ◌&&◌, ◌||◌, All, Contains, drop, slice_get, option_to_list}
+use Rattle.std.proofs.Common.{arith, ◌≡◌, ◌≤◌, ◌+◌, ◌-◌, ℕ, List, [], ◌∷◌, ◌++◌, length, true, false, Bool, refl, sym, ap, ◌∙◌, subst}
+use Rattle.std.specs.Prelude.{Option, Some, None, if◌then◌else◌, not, nat_lt, nat_le, ◌==◌, ◌&&◌, ◌||◌, option_to_list}
 use Rattle.std.specs.List.{count_by}
-use Rattle.std.proofs.lemmas.Bool.Decides.{nat_tests, leb_tells, eqb_tells}
-use Rattle.std.proofs.lemmas.List.Elements.{All-head, All-tail, All-cons}
+use Rattle.std.proofs.lemmas.Bool.Decides.{nat_tests}
 use Rattle.rdma_types.specs.declared.names.Name.{Name}
 use Rattle.rdma_types.specs.declared.requests.Kind.{Kind}
 use Rattle.rdma_types.specs.declared.requests.Kind.TheVariants as kinds'
@@ -20,13 +19,12 @@ use Rattle.protocol.specs.Memory.{landed, written, with_region, stored, region_o
 use Rattle.protocol.specs.Wire.{Packet}
 use Rattle.protocol.specs.EndWords as words
 use Rattle.protocol.specs.EndWords.{in_use_by}
-use Rattle.protocol.specs.Responder.{no_repeat, refuses, not_ready, is_too_long, refuses_length, receive_of, bytes_before, send_acts, write_acts, read_acts, atomic_acts, expected_packet, granted_packet, packet_acts, executed, is_invalid, target, target_of, reth_target, is_not_ready, is_send, is_write, is_read_request, is_empty, begins, part_of, front, place_of}
+use Rattle.protocol.specs.Responder.{no_repeat, refuses, not_ready, is_too_long, refuses_length, receive_of, bytes_before, send_acts, write_acts, read_acts, atomic_acts, expected_packet, granted_packet, packet_acts, executed, is_invalid, target, target_of, reth_target, is_not_ready, is_send, is_write, is_read_request, part_of, front, place_of}
 use Rattle.ideal_model.specs.Machine.{put_at}
 use Rattle.ideal_model.specs.Steps.{first_receive}
-use Rattle.simulation.proofs.Grants.{SamePlace}
 use Rattle.simulation_requests.proofs.Opcodes.{part}
 use Rattle.simulation_requests.proofs.Regions.{over, put_nothing}
-use Rattle.simulation_requests.proofs.Written.{granted_region, number_once, contains_has, held_part, held_low}
+use Rattle.simulation_requests.proofs.Written.{granted_region, number_once, contains_has, held_part}
 use Rattle.simulation_requests.proofs.Runs.{one_number}
 
 pub send_kind : (k : Kind) → kinds.is_send k ≡ true → k ≡ kinds'.Send

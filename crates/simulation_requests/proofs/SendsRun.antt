@@ -1,31 +1,28 @@
 -- The expected piece of a Send, where the machine may run it: the whole step.
-use Rattle.std.proofs.Common.{arith, ◌≡◌, ◌<◌, ◌≤◌, ◌+◌, ◌-◌, ◌*◌, ◌/◌, ◌%◌, ◌⊎◌, ℕ, zero, suc, List, [], ◌∷◌, ◌++◌, map, length, true, false, Bool, refl, sym, ap, ◌∙◌, subst, inl, inr}
+use Rattle.std.proofs.Common.{arith, ◌≡◌, ◌<◌, ◌≤◌, ◌+◌, ◌/◌, ◌%◌, ◌⊎◌, ℕ, suc, List, [], ◌∷◌, ◌++◌, map, length, true, false, Bool, refl, sym, ap, ◌∙◌, subst, inl, inr}
 use Rattle.std.proofs.lemmas.Bool.Decides.{nat_tests, leb_tells, eqb_tells}
-use Rattle.std.specs.Prelude.{Option, Some, None, if◌then◌else◌, is_some, not, nat_lt, nat_le, ◌&&◌, ◌||◌, ◌==◌, All, Contains, drop, slice_get, option_to_list}
-use Rattle.std.proofs.lemmas.List.Elements.{All-nil, All-cons, All-weaker, All-take, All-drop, All-head, All-tail}
+use Rattle.std.specs.Prelude.{Option, Some, None, if◌then◌else◌, is_some, nat_lt, ◌&&◌, ◌||◌, ◌==◌, All, drop, slice_get, option_to_list}
+use Rattle.std.proofs.lemmas.List.Elements.{All-nil, All-cons, All-take, All-drop, All-head, All-tail}
 use Rattle.rdma_types.specs.declared.names.Name.{Name}
 use Rattle.rdma_types.specs.declared.names.ObjName.{ObjName}
 use Rattle.rdma_types.specs.declared.answers.Took.TheVariants as took
-use Rattle.rdma_types.specs.declared.requests.Completion.{Completion}
 use Rattle.rdma_types.specs.declared.requests.Receive.{Receive}
 use Rattle.rdma_types.specs.declared.requests.WcKind.TheVariants as wc
 use Rattle.rdma_types.specs.declared.requests.WcStatus.TheVariants as status
 use Rattle.rdma_types.specs.Kinds as kinds
 use Rattle.rdma_types.specs.Kinds.{kind_of, size_of, receive_done}
-use Rattle.rdma_types.specs.Limits.{number_limit}
 use Rattle.rdma_types.specs.Lists.{has_name, store_named}
-use Rattle.rdma_types.specs.Memory.{cut, is_granted, remote_key, local_key}
+use Rattle.rdma_types.specs.Memory.{cut, local_key}
 use Rattle.rdma_types.specs.Objects.{CompletionQueue, Posted, Region}
 use Rattle.protocol.specs.declared.wire.Syndrome.TheVariants.{Ack}
 use Rattle.protocol.specs.declared.wire.Reth.{Reth}
 use Rattle.protocol.specs.State as state
 use Rattle.protocol.specs.State.{World, Link, Receiver, Progress, NoMessage, InSend, InWrite}
-use Rattle.protocol.specs.Memory.{landed, written}
+use Rattle.protocol.specs.Memory.{landed}
 use Rattle.protocol.specs.Segments.{is_first_piece, is_last_piece}
 use Rattle.protocol.specs.Wire.{Packet, when}
 use Rattle.protocol.specs.EndWords as words
 use Rattle.protocol.specs.EndWords.{is_paused, in_use_by}
-use Rattle.rdma_types.specs.declared.answers.Why.TheVariants as whys
 use Rattle.protocol.specs.Responder as responder
 use Rattle.protocol.specs.Responder.{send_done, finished, begins, no_repeat, refuses, not_ready, is_too_long, refuses_length, receive_of, bytes_before, send_acts, read_acts, atomic_acts, with_immediate, Place, expected_packet, granted_packet, packet_acts, write_acts, write_done, acts, executed, in_progress, is_invalid, target, is_not_ready, is_send, is_write, is_read_request, span_of_packet, place_of, part_of, finishes, acknowledge, is_empty, front}
 use Rattle.protocol.specs.EndStep.{takes}
@@ -35,10 +32,10 @@ use Rattle.ideal_model.specs.declared.reply.Reply.{Reply}
 use Rattle.ideal_model.specs.declared.steps.IdealStep.TheVariants as steps
 use Rattle.ideal_model.specs.Machine as machine
 use Rattle.ideal_model.specs.Machine.{Machine, End, regions_of, put_at}
-use Rattle.ideal_model.specs.Steps.{fits, first_receive, untold, receive_for, unused_after, current, fills, has_imm, has_unused, has_current, may_run, may_run_kind, may_add, is_current_granted, is_request_granted, is_granted_there, right_for, peer_of, next_bytes, receiving, arrivals, received_whole, used_by, run}
+use Rattle.ideal_model.specs.Steps.{fits, first_receive, untold, receive_for, unused_after, current, fills, has_imm, has_current, may_run, may_run_kind, may_add, next_bytes, receiving, arrivals, received_whole, used_by, run}
 use Rattle.simulation.specs.Packets.{class_of, IsRequest}
 use Rattle.simulation.specs.Views.{Owned, requests_of, side_of, owned, owned_there, receive_in, link_or_none}
-use Rattle.simulation.specs.Joined.{IsProgress, is_granted_in}
+use Rattle.simulation.specs.Joined.{IsProgress}
 use Rattle.simulation.specs.Stands.{Stands, IsEndSound}
 use Rattle.simulation.proofs.Sounds.{end_regions, queue_there}
 use Rattle.simulation.proofs.Ends.{with_more, completing_there}
@@ -54,13 +51,12 @@ use Rattle.simulation_requests.proofs.Expected.{at, connected_now, run_steps, st
 use Rattle.simulation_requests.proofs.Messages as messages
 use Rattle.simulation_requests.proofs.Counting.{progress_now, same_here, owned_here, owned_got, o_sound, q_sound, o_in, q_in, q_there, name_there, apart}
 use Rattle.simulation_requests.proofs.Regions.{put_like, put_whole, put_said, like_local}
-use Rattle.simulation_requests.proofs.Written.{IsPlaceOf, written_put}
 use Rattle.simulation_requests.proofs.Running as running
 use Rattle.simulation_requests.proofs.Runs.{IsRunPeer, filled_peer, more_peer, within_limit, one_number}
 use Rattle.simulation_requests.proofs.Due.{mtu_positive}
 use Rattle.simulation_requests.proofs.Landing.{lands, there_with, with_parts}
 use Rattle.simulation_requests.proofs.Acted.{end_moved_sound}
-use Rattle.simulation_requests.proofs.Completes.{completed_is, completed_none, completed_names, receives_sound, fewer_places, IsLocalPlace}
+use Rattle.simulation_requests.proofs.Completes.{completed_is, completed_none, completed_names, receives_sound, IsLocalPlace}
 use Rattle.rdma_types.specs.Limits.{is_mtu}
 use Rattle.rdma_types.specs.Objects.{no_region}
 use Rattle.simulation_requests.proofs.Early.{not_less}
@@ -293,22 +289,21 @@ module _ (w : World) (m : Machine) (o : ObjName) (l : Link) (number : Option ℕ
       some_left : (g.into ≡ 0) ⊎ (g.into < size_of r) → fills g count ≡ true → 0 < g.into → 1 ≤ count
       some_left (inl z) f k = absurd (omega (arith, z, k))
       some_left (inr s) f k = omega (arith, s, eq_of (g.into + count) (size_of r) f)
+
       by_progress : (z : Progress) → l.receiver.progress ≡ z → IsProgress (asking m o) x.domain regions z → (is_invalid l d ≡ false) × (is_not_ready e d ≡ false)
       by_progress NoMessage t h =
           let zero_of : g.into / g.mtu ≡ 0 = ap (λ k. k / g.mtu) h ∙ mtu_is (λ k. 0 / k ≡ 0) (omega arith) (omega arith) (omega arith) (omega arith) (omega arith) g.mtu (messages.mtu_is_one w m o l number bytes d a is paused now not_read not_atomic) in
           let first : is_first_piece (g.into / g.mtu) ≡ true = zero_is (g.into / g.mtu) zero_of in
           let place : part_of d.opcode ≡ part true (is_last_piece r.request.shape g.mtu (g.into / g.mtu)) = op.part ∙ ap (λ b. part b (is_last_piece r.request.shape g.mtu (g.into / g.mtu))) first in
           let none : x.in_use ≡ None = sym in_use_same ∙ ap receive_in t in
-          let some : is_empty e.unused ≡ false = ap is_empty unused_same ∙ has_first x.unused v (ap (λ k. first_receive k x.unused) (sym none) ∙ received.1) in
-          (
+          let some : is_empty e.unused ≡ false = ap is_empty unused_same ∙ has_first x.unused v (ap (λ k. first_receive k x.unused) (sym none) ∙ received.1) in (
             send_first_valid l d (is_last_piece r.request.shape g.mtu (g.into / g.mtu)) t place (op.write ∙ not_write) op.read atomic (λ b. within_mtu) (λ b. more_size (last_fills false b) ∙ sym mtu_same),
             ap (λ b. ((is_send d.opcode && begins (part_of d.opcode)) || (is_write d.opcode && is_some d.imm)) && b) some ∙ and_none ((is_send d.opcode && begins (part_of d.opcode)) || (is_write d.opcode && is_some d.imm)),
           )
       by_progress (InSend done receive) t h =
           let some : 1 ≤ g.into / g.mtu = some_pieces g.into g.mtu (messages.mtu_is_one w m o l number bytes d a is paused now not_read not_atomic) (messages.whole_now w m o l number bytes d a is paused now not_read not_atomic) (omega (arith, h.0, h.1)) in
           let first : is_first_piece (g.into / g.mtu) ≡ false = not_zero (g.into / g.mtu) some in
-          let place : part_of d.opcode ≡ part false (is_last_piece r.request.shape g.mtu (g.into / g.mtu)) = op.part ∙ ap (λ b. part b (is_last_piece r.request.shape g.mtu (g.into / g.mtu))) first in
-          (
+          let place : part_of d.opcode ≡ part false (is_last_piece r.request.shape g.mtu (g.into / g.mtu)) = op.part ∙ ap (λ b. part b (is_last_piece r.request.shape g.mtu (g.into / g.mtu))) first in (
             send_later_valid l d (is_last_piece r.request.shape g.mtu (g.into / g.mtu)) done receive t place (op.send ∙ send) (op.write ∙ not_write) op.read atomic (λ b. (some_left begun (last_fills true b) (omega (arith, h.0, h.1)), within_mtu)) (λ b. more_size (last_fills false b) ∙ sym mtu_same),
             (λ i. ((is_send d.opcode && (ap begins place ∙ begins_part false (is_last_piece r.request.shape g.mtu (g.into / g.mtu))) i) || ((op.write ∙ not_write) i && is_some d.imm)) && is_empty e.unused) ∙ none_begins (is_send d.opcode) (is_some d.imm) (is_empty e.unused),
           )
@@ -372,6 +367,7 @@ module _ (w : World) (m : Machine) (o : ObjName) (l : Link) (number : Option ℕ
     where
       rest : All (IsLocalPlace regions x.domain) (if is_some x.in_use then x.unused else drop 1 x.unused)
       rest = rest_places (IsLocalPlace regions x.domain) x.in_use x.unused places
+
       by_fill : (b : Bool) (u : Option Receive) → u ≡ Some v → All (IsLocalPlace regions x.domain) (option_to_list (if b then None else u) ++ (if is_some x.in_use then x.unused else drop 1 x.unused))
       by_fill true u h = rest
       by_fill false u h = subst (λ k. All (IsLocalPlace regions x.domain) (option_to_list k ++ (if is_some x.in_use then x.unused else drop 1 x.unused))) (sym h) (All-cons (IsLocalPlace regions x.domain) v (if is_some x.in_use then x.unused else drop 1 x.unused) place rest)

@@ -59,3 +59,8 @@ IsWriteDry w m o l n d =
 -- .. a piece of a Send that the machine may put in place
 abbrev pub IsSendRun : World → Machine → ObjName → Link → ℕ → Packet → Type 0
 IsSendRun w m o l n d = IsExpected w m o l n d × (is_send (kind_of (current_of m o)) ≡ true) × (may_run m (machine.end_of m o).peer (length d.payload) ≡ true)
+
+-- .. the first piece of a Send that the machine may not put in place, since it finds no receive
+abbrev pub IsSendDry : World → Machine → ObjName → Link → ℕ → Packet → Type 0
+IsSendDry w m o l n d =
+    IsExpected w m o l n d × (is_send (kind_of (current_of m o)) ≡ true) × (may_run m (machine.end_of m o).peer (length d.payload) ≡ false) × (may_dry m (machine.end_of m o).peer ≡ true)

@@ -4,7 +4,7 @@
 //! The functions have no code. Each promises the law that it names.
 #![tactic(auto)]
 
-ghost use Rattle.simulation_requests.specs.Taken.{AreTakenWhere, IsAtPaused, IsAhead, IsMessageRepeat, IsSendRun, IsWriteDry, IsWriteRun};
+ghost use Rattle.simulation_requests.specs.Taken.{AreTakenWhere, IsAtPaused, IsAhead, IsMessageRepeat, IsSendDry, IsSendRun, IsWriteDry, IsWriteRun};
 
 /// The machine follows a request that does not act: it makes no step where the end is Paused, where the request is ahead of
 /// the expected one (one sequence error NAK is sent), and where it repeats a Write or Send, which is acknowledged again.
@@ -23,7 +23,15 @@ pub fn writes_are_taken()
 {}
 
 /// The machine follows the expected piece of a Send by one Run, where a Run is enabled: the bytes go into the receive in use, or
-/// the oldest unused one, and the last piece completes it.
-pub fn sends_are_run()
-    ensures { AreTakenWhere IsSendRun }
+/// the oldest unused one, and the last piece completes it. Where the first piece finds no receive, it follows by Dry.
+pub fn sends_are_taken()
+    ensures run { AreTakenWhere IsSendRun }
+    ensures dry { AreTakenWhere IsSendDry }
 {}
+
+// How a crate above uses the law: it calls the function, and cites what it promises.
+fn repeats_are_taken()
+    ensures { AreTakenWhere IsMessageRepeat }
+{
+    early_requests_are_taken();
+}
