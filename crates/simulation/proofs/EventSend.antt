@@ -93,7 +93,7 @@ linked_by (Some l) h = (l, refl)
 
 -- a request in its ranges can be said, with its bytes
 sayable : (r : Request) (payload : List ℕ) → IsRequestInRange r → (lands r.shape.kind ≡ false → length payload ≡ r.shape.length) → All (λ b. b < 256) payload → IsSayable (record { request = r; payload = payload })
-sayable r payload range whole said = record { remote = range.remote; rkey = range.rkey; swap_add = range.swap_add; compare = range.compare; imm = range.imm; word = range.word; payload = whole; bytes = said }
+sayable r payload range whole said = record { remote = range.remote; rkey = range.rkey; swap_add = range.swap_add; compare = range.compare; no_compare = range.no_compare; imm = range.imm; word = range.word; payload = whole; bytes = said }
 
 -- what an owner has of an end that posts
 owned_posted : (e : state.End) (f : End) (l : Link) (p : Posted) → owned_there e ≡ owned f → e.link ≡ Some l → f.told ≤ length f.posted → owned_there (record e { link = Some (posted_link l p) }) ≡ owned (posted_end f p)

@@ -8,6 +8,7 @@ use Rattle.rdma_types.specs.Kinds.{is_atomic, is_send, is_write, kind_of, lands,
 use Rattle.rdma_types.specs.Limits.{AreTerms, most_kept, most_moves, number_limit}
 use Rattle.rdma_types.specs.Memory.{is_granted, remote_key}
 use Rattle.rdma_types.specs.Objects.{Posted, Region}
+use Rattle.rdma_types.specs.Shapes.{is_swap}
 use Rattle.rdma_types.specs.Spans.{end_number, first_number, span_of}
 use Rattle.rdma_types.specs.declared.names.Name.{Name}
 use Rattle.protocol.specs.declared.images.KeptReply.{KeptReply}
@@ -28,6 +29,8 @@ pub record IsSayable (r : Posted) : Type 0 where
   pub rkey : r.request.shape.rkey < 2 ^ 32
   pub swap_add : r.request.shape.swap_add < 2 ^ 64
   pub compare : r.request.shape.compare < 2 ^ 64
+  -- only a compare and swap has a compare value
+  pub no_compare : is_swap (kind_of r) ≡ false → r.request.shape.compare ≡ 0
   pub imm : IfSome r.request.shape.imm (λ n. n < 2 ^ 32)
   -- an atomic is of one word
   pub word : is_atomic (kind_of r) ≡ true → size_of r ≡ 8
@@ -60,8 +63,8 @@ pub record Sends (s : Sender) (q : End) : Type 0 where
   pub una : s.una ≡ oldest q
   -- counted expiries are equal
   pub spent : s.spent ≡ q.spent
-  -- counted waits are equal, unless waits have no limit
-  pub waits : q.rnr ≢ 7 → s.waits ≡ q.waits
+  -- counted waits are equal, and no more than the limit, unless they have none
+  pub waits : q.rnr ≢ 7 → (s.waits ≡ q.waits) × (q.waits ≤ q.rnr)
 
 -- the requester in Error: all its numbers are the end of the numbers
 pub record IsOver (s : Sender) (q : End) : Type 0 where
