@@ -26,7 +26,8 @@ use Rattle.simulation.proofs.Numbers.{first-rest}
 use Rattle.simulation_delivery.proofs.Lifted.{side_now}
 use Rattle.simulation_delivery.proofs.Pairs.{IsKept}
 use Rattle.simulation_requests.proofs.Due.{mtu_is}
-use Rattle.simulation_refusals.proofs.Noted.{noted, got_before}
+use Rattle.simulation_requests.proofs.Acted.{got_before}
+use Rattle.simulation_refusals.proofs.Noted.{noted}
 
 -- ---- few numbers are unacknowledged
 

@@ -15,18 +15,10 @@ use Rattle.ideal_model.specs.Sound.{IsReplyTo, IsOfferOf, IsDenial}
 use Rattle.ideal_model.specs.Steps.{current, in_place, untold}
 use Rattle.simulation.specs.Joined.{AreWholePieces, IsProgress, Receives}
 use Rattle.simulation.specs.Stands.{IsEndSound}
+use Rattle.simulation_requests.proofs.Acted.{got_last}
 use Rattle.simulation_requests.proofs.Advancing.{IsAdvance, moved_on}
 
 -- ---- lists that grow at the end
-
-pub got_before : {A : Type 0} (xs : List A) (y : A) (i : ℕ) (x : A) → slice_get xs i ≡ Some x → slice_get (xs ++ y ∷ []) i ≡ Some x
-got_before [] y i x h = absurd (cc)
-got_before (z ∷ xs) y zero x h = h
-got_before (z ∷ xs) y (suc i) x h = got_before xs y i x h
-
-pub got_last : {A : Type 0} (xs : List A) (y : A) → slice_get (xs ++ y ∷ []) (length xs) ≡ Some y
-got_last [] y = refl
-got_last (z ∷ xs) y = got_last xs y
 
 got_other : {A : Type 0} (xs : List A) (y : A) (i : ℕ) → i < length xs → slice_get (xs ++ y ∷ []) i ≡ slice_get xs i
 got_other [] y i h = absurd (omega (arith, h))

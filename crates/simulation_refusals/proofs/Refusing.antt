@@ -40,7 +40,7 @@ use Rattle.simulation.proofs.Linked.{context_with, domain_there, end_changed}
 use Rattle.simulation.proofs.Machines as machines
 use Rattle.simulation.proofs.Machines.{MachineChanged, context_name, with_context_changed}
 use Rattle.simulation.proofs.Numbers.{first-rest}
-use Rattle.simulation.proofs.Tables.{has_name-store, name_tells, name-named_there, same_name}
+use Rattle.simulation.proofs.Tables.{name-named_there}
 use Rattle.simulation_delivery.specs.Delivered as delivered
 use Rattle.simulation_delivery.specs.Delivered.{Arrives}
 use Rattle.simulation_delivery.proofs.Lifted.{IsAnswer, IsPairStep, side_now, sent_stands}
@@ -51,29 +51,15 @@ use Rattle.simulation_requests.proofs.Responding.{made_there}
 use Rattle.simulation_requests.proofs.Counting.{apart, name_there, o_in, o_sound, owned_here, q_in, q_sound, q_there, same_here}
 use Rattle.simulation_requests.proofs.Early.{same_due}
 use Rattle.simulation_requests.proofs.Expected.{due_now, not_ended}
-use Rattle.simulation_refusals.proofs.Noted.{denied_sound, got_last}
+use Rattle.simulation_requests.proofs.Running.{changed_twice, there_after}
+use Rattle.simulation_requests.proofs.Acted.{got_last}
+use Rattle.simulation_refusals.proofs.Noted.{denied_sound}
 use Rattle.simulation_refusals.proofs.Ending.{denying, end_near, over_back, over_here, over_link}
 use Rattle.simulation_refusals.proofs.Shutting.{machine_queues, over_end, same_after, sound_after}
 use Rattle.simulation_refusals.proofs.Dried.{one}
 use Rattle.simulation.proofs.InUse.{owned_of}
 
--- ---- a context changes twice
-
-stored_twice : {A : Type 0} (name : A → List ℕ) (n : List ℕ) (a b : A) (xs : List A) → name a ≡ n → store_named name n b (store_named name n a xs) ≡ store_named name n b xs
-unfolding store_named
-stored_twice name n a b [] h = grind (arith, same_name n)
-stored_twice name n a b (x ∷ xs) h = grind (arith, same_name n, name_tells (name x) n, stored_twice name n a b xs h)
-
-changed_twice : (m m' m'' : Machine) (c : Name) (y z : machine.Context) → MachineChanged m m' c y → MachineChanged m' m'' c z → MachineChanged m m'' c z
-changed_twice m m' m'' c y z a b = record {
-  named = b.named;
-  there = a.there;
-  contexts = b.contexts ∙ (ap (store_named (λ x. x.name) c z) a.contexts ∙ stored_twice (λ x. x.name) c y z m.contexts a.named);
-}
-
-there_after : (m m' : Machine) (c : Name) (y : machine.Context) → MachineChanged m m' c y → has_context m' c ≡ true
-unfolding has_context
-there_after m m' c y a = ap (has_name (λ x. x.name) c) a.contexts ∙ (has_name-store (λ x. x.name) c c y m.contexts a.there a.named ∙ a.there)
+-- ---- the context of the machine
 
 -- an end and the queues of a context change
 end_and_queues : (m : Machine) (o : ObjName) (y : machine.Context) (f : End) (qs : List CompletionQueue) → machine.context_of m o.context ≡ y → has_name (λ z. z.name) o.name y.ends ≡ true →
