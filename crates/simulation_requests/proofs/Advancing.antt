@@ -1,6 +1,6 @@
 -- What is kept of a connection where its responder, in Rts, comes to other counts, and the machine's requests come further.
-use Rattle.std.proofs.Common.{arith, ◌≡◌, ◌<◌, ◌≤◌, ℕ, zero, suc, List, [], ◌∷◌, length, true, false, Bool}
-use Rattle.std.specs.Prelude.{Option, Some, None, slice_get, Contains, All}
+use Rattle.std.proofs.Common.{arith, ◌≡◌, ◌<◌, ◌≤◌, ◌⊎◌, ℕ, zero, suc, List, [], ◌∷◌, length, true, false, Bool, ap, inl, inr}
+use Rattle.std.specs.Prelude.{Option, Some, None, slice_get, Contains, All, not}
 use Rattle.rdma_types.specs.declared.names.ObjName.{ObjName}
 use Rattle.rdma_types.specs.Spans.{request_of}
 use Rattle.protocol.specs.State.{Link, Receiver, HuskEntry}
@@ -13,7 +13,7 @@ use Rattle.ideal_model.specs.Steps.{current}
 use Rattle.simulation.specs.Packets.{Class, class_of, IsRequest, IsReadResponse, IsAtomicResponse, IsAck, IsSequenceNak, IsRefusal, IsReceiverNotReady, IsStopped, IsResume, IsResumeAck, IsNothing}
 use Rattle.simulation.specs.Views.{Side}
 use Rattle.simulation.specs.Joined.{IsJoined, AreWholePieces, IsHeardOf, Receives}
-use Rattle.simulation.specs.Facts.{IsLeft, IsRefused, NumberedFact, MoveFact, ClassFact}
+use Rattle.simulation.specs.Facts.{IsCarriedWith, IsLeft, IsRefused, NumberedFact, MoveFact, ClassFact}
 use Rattle.simulation_delivery.proofs.Lifted.{side_now}
 use Rattle.simulation_delivery.proofs.Pairs.{IsKept}
 
@@ -106,8 +106,13 @@ module _ (o q : ObjName) (x y : Side) (e g : End) (acted into : ℕ) (answers : 
     heard_of = heard_back;
   }
 
+  -- it stays carried, where it is
+  carried_here : (count : ℕ) → (count < x.link.moving.own) ⊎ IsCarriedWith x count → (count < x'.link.moving.own) ⊎ IsCarriedWith x' count
+  carried_here count (inl h) = inl h
+  carried_here count (inr h) = inr (h.0, ap not alive, h.2)
+
   left_here : (h : HuskEntry) → IsLeft x e g h → IsLeft x' e g' h
-  left_here h l = record { connected = l.connected; number = l.number; peer = l.peer; count = l.count }
+  left_here h l = record { connected = l.connected; number = l.number; peer = l.peer; count = carried_here h.moves l.count }
 
   left_back : (h : HuskEntry) → IsLeft y g e h → IsLeft y g' e h
   left_back h l = record { connected = l.connected; number = l.number; peer = l.peer; count = l.count }
@@ -154,7 +159,7 @@ module _ (o q : ObjName) (x y : Side) (e g : End) (acted into : ℕ) (answers : 
   move_back IsSequenceNak h = h
   move_back (IsRefusal is_access) h = h
   move_back IsReceiverNotReady h = h
-  move_back (IsStopped count) h = h
+  move_back (IsStopped count) h = carried_here count h
   move_back (IsResume body) h = (h.0, λ at h'. h.1 at rts)
   move_back (IsResumeAck body) h = h
   move_back IsNothing h = h

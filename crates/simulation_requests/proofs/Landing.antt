@@ -3,7 +3,7 @@ use Rattle.std.proofs.Common.{◌≡◌, ℕ, List, map, true, refl, sym, ap, �
 use Rattle.std.specs.Prelude.{Some, All}
 use Rattle.rdma_types.specs.declared.names.Name.{Name}
 use Rattle.rdma_types.specs.declared.names.ObjName.{ObjName}
-use Rattle.rdma_types.specs.Lists.{has_name, store_named}
+use Rattle.rdma_types.specs.Lists.{has_word, has_name, store_named}
 use Rattle.rdma_types.specs.Objects.{CompletionQueue, IsWhole, Region}
 use Rattle.protocol.specs.State as state
 use Rattle.protocol.specs.State.{World, Link, Receiver}
@@ -17,7 +17,7 @@ use Rattle.simulation.specs.Joined.{IsProgress}
 use Rattle.simulation.specs.Stands.{Stands, IsContextSound, IsEndSound}
 use Rattle.simulation.proofs.Sounds.{queues_like}
 use Rattle.simulation.proofs.Machines.{MachineChanged}
-use Rattle.simulation.proofs.Linked.{context_with, connected_sound}
+use Rattle.simulation.proofs.Linked.{context_with, connected_sound, domain_there}
 use Rattle.simulation.proofs.Ends.{ends_store}
 use Rattle.simulation.proofs.Live.{live_name}
 use Rattle.simulation_delivery.specs.Delivered as delivered
@@ -37,8 +37,8 @@ there_with c rs n e qs = record c { regions = rs; ends = store_named (λ z. z.na
 
 -- the context of the machine stays sound
 pub parts_sound : (keys : List ℕ) (y : Context) (rs : List Region) (n : Name) (f none : End) (qs : List CompletionQueue) → has_name (λ z. z.name) n y.ends ≡ true → f.name ≡ n → AreLike y.regions rs → All IsWhole rs → All (λ r. All (λ b. b < 256) r.bytes) rs → map (λ q. q.name) qs ≡ map (λ q. q.name) y.queues →
-    IsEndSound rs (map (λ q. q.name) qs) f → IsContextSound keys y → IsContextSound keys (with_parts y rs n f qs)
-parts_sound keys y rs n f none qs found named' like whole said names end sound =
+    has_word f.domain y.domains ≡ true → IsEndSound rs (map (λ q. q.name) qs) f → IsContextSound keys y → IsContextSound keys (with_parts y rs n f qs)
+parts_sound keys y rs n f none qs found named' like whole said names domain end sound =
     let one : IsContextSound keys (record y { regions = rs }) = like_sound keys y rs like whole said sound in
     let two : IsContextSound keys (record y { regions = rs; queues = qs }) = record {
       whole = one.whole;
@@ -47,8 +47,10 @@ parts_sound keys y rs n f none qs found named' like whole said names end sound =
       keyed_once = one.keyed_once;
       named_once = one.named_once;
       ends = queues_like rs (map (λ q. q.name) y.queues) (map (λ q. q.name) qs) y.ends names one.ends;
+      regions_in = one.regions_in;
+      ends_in = one.ends_in;
     } in
-    connected_sound keys (record y { regions = rs; queues = qs }) n none f found named' end two
+    connected_sound keys (record y { regions = rs; queues = qs }) n none f found named' domain end two
 
 module _ (w : World) (m : Machine) (o : ObjName) (l : Link) (n : ℕ) (d : Packet) (s : Stands w m) (live : is_live w o.context ≡ true) (linked : (delivered.end_there w o).link ≡ Some l) (at : IsRequestAt w m o l n d) where
   abbrev c : state.Context
@@ -91,7 +93,7 @@ module _ (w : World) (m : Machine) (o : ObjName) (l : Link) (n : ℕ) (d : Packe
           queues = refl;
           ends = ends_store o.name e' f' c.ends y.ends (same_here w m o l n d s live linked at).ends both;
         };
-        sound = parts_sound m.keys y rs o.name f' (nobody o) qs (o_in w m o l n d s live linked at) name like whole said names end (s.sound o.context);
+        sound = parts_sound m.keys y rs o.name f' (nobody o) qs (o_in w m o l n d s live linked at) name like whole said names (ap (λ z. has_word z.domain y.domains) requests ∙ domain_there m o (o_in w m o l n d s live linked at) (s.sound o.context)) end (s.sound o.context);
         peer_sound = peer;
         advance = advance;
         progress = subst (λ k. IsProgress (moved_on (asking m o) acted into answers offers dry) k rs r'.progress) (sym (ap (λ z. z.domain) requests)) (like_progress (moved_on (asking m o) acted into answers offers dry) (machine.end_of m o).domain (regions_of m o.context) rs r'.progress like progress);

@@ -23,6 +23,7 @@ pub mod Dries
 pub mod WritesDry
 pub mod Sends
 pub mod SendsRun
+pub mod Checks
 pub mod SendsDry
 pub mod ReadAnswers
 pub mod Offers

@@ -6,7 +6,7 @@ use Rattle.std.proofs.lemmas.Bool.Decides.{nat_tests, leb_tells, eqb_tells}
 use Rattle.std.proofs.lemmas.List.{length-append, length-take, length-drop, take-append-drop}
 use Rattle.std.proofs.lemmas.List.Elements.{All-cons, All-head, All-tail, All-append, All-take, All-drop}
 use Rattle.rdma_types.specs.declared.names.Name.{Name}
-use Rattle.rdma_types.specs.Lists.{at, has, store, first_that}
+use Rattle.rdma_types.specs.Lists.{at, has, has_word, store, first_that}
 use Rattle.rdma_types.specs.Memory.{Right, put, grants, granted, holds, is_granted, local_key, remote_key}
 use Rattle.rdma_types.specs.Objects.{IsWhole, Region, no_region}
 use Rattle.protocol.specs.State.{Progress, NoMessage, InSend, InWrite}
@@ -104,6 +104,8 @@ like_sound keys y rs' h whole said s = record {
   keyed_once = λ k. omega (arith, like_count y.regions rs' k h, s.keyed_once k);
   named_once = s.named_once;
   ends = ends_regions y.regions rs' _ y.ends (λ domain key place count right g. like_local y.regions rs' domain key place count right h ∙ g) s.ends;
+  regions_in = like_all (λ r. has_word r.domain y.domains ≡ true) y.regions rs' h (λ r r' p k. ap (λ z. has_word z y.domains) p.domain ∙ k) s.regions_in;
+  ends_in = s.ends_in;
 }
 
 -- ---- bytes put at a place

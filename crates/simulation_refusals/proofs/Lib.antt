@@ -1,0 +1,9 @@
+pub mod Picked
+pub mod Noted
+pub mod Dried
+pub mod Ending
+pub mod Shutting
+pub mod Refusing
+pub mod Refused
+pub mod Acts
+pub mod Turns
