@@ -1,11 +1,11 @@
 -- What the regions of a context hold and grant, over a pool of pages.
-use Rattle.std.specs.Prelude.{ℕ, ◌≡◌, ◌+◌, ◌-◌, ◌≤◌, ◌<◌, ◌==◌, ◌&&◌, Bool, List, [], length, take, map, Option, Some, None, option_map, IsSomeAnd, All, nat_eq, nat_le, bytes_eq, if◌then◌else◌, unwrap_or}
+use Rattle.std.specs.Prelude.{ℕ, ◌≡◌, ◌+◌, ◌-◌, ◌*◌, ◌%◌, ◌≤◌, ◌<◌, ◌==◌, ◌&&◌, Bool, List, [], length, take, map, Option, Some, None, option_map, IsSomeAnd, All, nat_eq, nat_le, bytes_eq, if◌then◌else◌, unwrap_or}
 use Rattle.std.specs.List.{IsDistinct}
 use Rattle.rdma_types.specs.declared.names.Name.{Name}
 use Rattle.rdma_types.specs.Lists.{first_that}
 use Rattle.rdma_types.specs.Memory.{Right, allows, granted, cut}
 use Rattle.rdma_types.specs.Objects.{Region}
-use Rattle.page_pool.specs.Pool.{Pool, IsIn, bytes_in}
+use Rattle.page_pool.specs.Pool.{Pool, IsIn, bytes_in, pages_for}
 use Rattle.memory_keys.specs.declared.Held.{Held}
 use Rattle.memory_keys.specs.declared.RegionHead.{RegionHead}
 use Rattle.memory_keys.specs.declared.Spot.{Spot}
@@ -52,7 +52,7 @@ granted_spot key_of regions domain key at count right =
 -- the pages of a region live, and hold its bytes
 pub record Lies (pool : Pool) (h : Held) : Type 0 where
   pub lives : IsIn pool h.list
-  pub size : h.head.length ≤ length (bytes_in pool h.list)
+  pub size : length (bytes_in pool h.list) ≡ 4096 * pages_for h.head.length
 
 -- a spot of no bytes, or one inside a region that is held
 abbrev pub IsSpot : Pool → List Held → Spot → Type 0
@@ -61,3 +61,7 @@ IsSpot pool held spot = 0 < spot.length → IsSomeAnd (held_at spot.region held)
 -- the bytes of a spot
 abbrev pub spot_bytes : Pool → List Held → Spot → List ℕ
 spot_bytes pool held spot = unwrap_or (option_map (λ h. cut spot.off spot.length (bytes_in pool h.list)) (held_at spot.region held)) []
+
+-- the pages that a spot touches, counted from its region's base
+abbrev pub pages_touched : Spot → ℕ
+pages_touched spot = if spot.length == 0 then 0 else pages_for (spot.off % 4096 + spot.length)

@@ -2,11 +2,17 @@
 //! Architecture Specification, volume 1, chapter 10).
 #![tactic(auto)]
 
+ghost use Rattle.std.specs.Prelude.{◌≡◌};
+ghost use Rattle.memory_keys.specs.Faults.{fault_of};
+
+mod bytes;
 mod regions;
 
-use page_pool::PageList;
+pub use page_pool::Payload;
+use page_pool::{PageList, PoolFault};
 use rdma_types::{Keys, Name, Rights};
 pub use regions::Regions;
+use thiserror::Error;
 
 /// A part of a region: `length` bytes from byte `off` on of the region with that local key. A spot of no bytes is of no
 /// region.
@@ -34,4 +40,32 @@ pub struct RegionHead {
 pub struct Held {
     pub head: RegionHead,
     pub list: PageList,
+}
+
+/// Why a call that takes pages is refused.
+#[derive(Clone, Copy, Debug, PartialEq, Eq, Error)]
+pub enum MemFault {
+    /// A region of this name is there.
+    #[error("the name is taken")]
+    NumberTaken,
+    /// There are as many regions as a context may have.
+    #[error("too many regions")]
+    TooMany,
+    /// Fewer pages are free than were asked for.
+    #[error("too few free pages")]
+    NoPage,
+    /// There was no memory.
+    #[error("out of memory")]
+    OutOfMemory,
+}
+
+impl From<PoolFault> for MemFault {
+    ghost from_gives = { λ fault e. e ≡ fault_of fault };
+
+    fn from(fault: PoolFault) -> MemFault {
+        match fault {
+            PoolFault::NoPage => MemFault::NoPage,
+            PoolFault::OutOfMemory => MemFault::OutOfMemory,
+        }
+    }
 }

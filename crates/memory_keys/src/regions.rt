@@ -18,7 +18,7 @@ use std::marker::Model;
 /// The regions of a context, in order of making, each under its local key.
 #[derive(Drop)]
 pub struct Regions {
-    held: IndexMap<u32, Held>,
+    pub(crate) held: IndexMap<u32, Held>,
 }
 
 impl Model for Regions {
@@ -120,7 +120,7 @@ impl Regions {
     }
 
     /// The region with a local key.
-    fn find(&self, key: u32) -> Option<&Held>
+    pub(crate) fn find(&self, key: u32) -> Option<&Held>
         ensures found { option_copied result ≡ held_at key self.now }
         ensures keyed { AreKeyed self.now }
     {
