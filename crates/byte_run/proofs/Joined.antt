@@ -78,20 +78,20 @@ module _ {X Y : Type 0} where
 module _ {X : Type 0} where
   even-part : (f : X → List ℕ) (c : ℕ) (d : X) (xs : List X) (a n : ℕ) → AreEven f c d xs → a + n ≤ length xs → AreEven f c d (take n (drop a xs))
   even-part f c d xs a n h l i k =
-    let size : length (take n (drop a xs)) ≡ n = simp (length-take, length-drop) (omega arith) in
-    let below : i < n = omega arith in
-    ap (λ x. length (f x)) (get_or-take n (drop a xs) i d below ∙ get_or-drop a xs i d) ∙ h (a + i) (omega arith)
+      let size : length (take n (drop a xs)) ≡ n = simp (length-take, length-drop) (omega arith) in
+      let below : i < n = omega arith in
+      ap (λ x. length (f x)) (get_or-take n (drop a xs) i d below ∙ get_or-drop a xs i d) ∙ h (a + i) (omega arith)
 
   -- some pages in a row
   pub joined-part : (f : X → List ℕ) (c : ℕ) (d : X) (xs : List X) (a n : ℕ) → AreEven f c d xs → a + n ≤ length xs → flat_map f (take n (drop a xs)) ≡ cut (c * a) (c * n) (flat_map f xs)
   joined-part f c d xs a n h l =
-    let before : length (flat_map f (take a xs)) ≡ c * a = length-before f c d xs a h (omega arith) in
-    let size : length (take n (drop a xs)) ≡ n = simp (length-take, length-drop) (omega arith) in
-    let part : length (flat_map f (take n (drop a xs))) ≡ c * n = length-joined f c d (take n (drop a xs)) (even-part f c d xs a n h l) ∙ ap (λ k. c * k) size in
-    let whole : flat_map f xs ≡ flat_map f (take a xs) ++ (flat_map f (take n (drop a xs)) ++ flat_map f (drop n (drop a xs))) =
+      let before : length (flat_map f (take a xs)) ≡ c * a = length-before f c d xs a h (omega arith) in
+      let size : length (take n (drop a xs)) ≡ n = simp (length-take, length-drop) (omega arith) in
+      let part : length (flat_map f (take n (drop a xs))) ≡ c * n = length-joined f c d (take n (drop a xs)) (even-part f c d xs a n h l) ∙ ap (λ k. c * k) size in
+      let whole : flat_map f xs ≡ flat_map f (take a xs) ++ (flat_map f (take n (drop a xs)) ++ flat_map f (drop n (drop a xs))) =
       ap (flat_map f) (sym (take-append-drop a xs)) ∙ (flat_map-append f (take a xs) (drop a xs) ∙ ap (λ ys. flat_map f (take a xs) ++ ys) (ap (flat_map f) (sym (take-append-drop n (drop a xs))) ∙ flat_map-append f (take n (drop a xs)) (drop n (drop a xs)))) in
-    let at : c * a ≡ length (flat_map f (take a xs)) + 0 = omega arith in
-    sym (ap (λ k. cut k (c * n) (flat_map f xs)) at
-    ∙ (ap (cut (length (flat_map f (take a xs)) + 0) (c * n)) whole
-    ∙ (cut-middle (flat_map f (take a xs)) (flat_map f (take n (drop a xs))) (flat_map f (drop n (drop a xs))) 0 (c * n) (omega arith)
-    ∙ cut-whole (flat_map f (take n (drop a xs))) (c * n) (omega arith))))
+      let at : c * a ≡ length (flat_map f (take a xs)) + 0 = omega arith in
+      sym (ap (λ k. cut k (c * n) (flat_map f xs)) at
+      ∙ (ap (cut (length (flat_map f (take a xs)) + 0) (c * n)) whole
+      ∙ (cut-middle (flat_map f (take a xs)) (flat_map f (take n (drop a xs))) (flat_map f (drop n (drop a xs))) 0 (c * n) (omega arith)
+      ∙ cut-whole (flat_map f (take n (drop a xs))) (c * n) (omega arith))))

@@ -40,36 +40,36 @@ module _ {A : Type 0} where
 
   pub length-run : (pages : List (Box (List ℕ) A)) (n : ℕ) → IsRun pages n → length (take n (joined pages)) ≡ n
   length-run pages n h =
-    let whole : length (joined pages) ≡ 4096 * length pages = length-pages pages h.even in
-    let room : n ≤ 4096 * length pages = h.room in
-    simp length-take (omega arith)
+      let whole : length (joined pages) ≡ 4096 * length pages = length-pages pages h.even in
+      let room : n ≤ 4096 * length pages = h.room in
+      simp length-take (omega arith)
 
   -- a piece of one page
   pub piece_is : (pages : List (Box (List ℕ) A)) (n at count : ℕ) (d : Box (List ℕ) A) → IsRun pages n → at < n → at + count ≤ n → at % 4096 + count ≤ 4096 → cut at count (take n (joined pages)) ≡ cut (at % 4096) count (get_or pages (at / 4096) d).value
   piece_is pages n at count d h l k page =
-    let whole : length (joined pages) ≡ 4096 * length pages = length-pages pages h.even in
-    let room : n ≤ 4096 * length pages = h.room in
-    let place : at / 4096 < length pages = omega arith in
-    let split : at ≡ 4096 * (at / 4096) + at % 4096 = omega arith in
-    cut-take at count n (joined pages) k (omega arith)
-    ∙ (ap (λ a. cut a count (joined pages)) split
-    ∙ cut-joined (λ p. p.value) 4096 d pages (at / 4096) (at % 4096) count (even pages d h.even) place page)
+      let whole : length (joined pages) ≡ 4096 * length pages = length-pages pages h.even in
+      let room : n ≤ 4096 * length pages = h.room in
+      let place : at / 4096 < length pages = omega arith in
+      let split : at ≡ 4096 * (at / 4096) + at % 4096 = omega arith in
+      cut-take at count n (joined pages) k (omega arith)
+      ∙ (ap (λ a. cut a count (joined pages)) split
+      ∙ cut-joined (λ p. p.value) 4096 d pages (at / 4096) (at % 4096) count (even pages d h.even) place page)
 
   -- a piece written in one page
   pub piece_put : (pages later : List (Box (List ℕ) A)) (at : ℕ) (w : List ℕ) (d : Box (List ℕ) A) → ArePages pages → at / 4096 < length pages → at % 4096 + length w ≤ 4096 → later ≡ set pages (at / 4096) d → d.value ≡ put (get_or pages (at / 4096) d).value (at % 4096) w → joined later ≡ put (joined pages) at w
   piece_put pages later at w d h place page e v =
-    let split : 4096 * (at / 4096) + at % 4096 ≡ at = omega arith in
-    rw e (put-joined (λ p. p.value) (λ p. p.value) 4096 d d pages (set pages (at / 4096) d) (at / 4096) (at % 4096) w (even pages d h) place page (length-set pages (at / 4096) d)
+      let split : 4096 * (at / 4096) + at % 4096 ≡ at = omega arith in
+      rw e (put-joined (λ p. p.value) (λ p. p.value) 4096 d d pages (set pages (at / 4096) d) (at / 4096) (at % 4096) w (even pages d h) place page (length-set pages (at / 4096) d)
       (ap (λ (p : Box (List ℕ) A). p.value) (get_or-set_same pages (at / 4096) d d place) ∙ v)
       (λ j l n. ap (λ (p : Box (List ℕ) A). p.value) (get_or-set_other pages (at / 4096) j d d n))
-    ∙ ap (λ a. put (joined pages) a w) split)
+      ∙ ap (λ a. put (joined pages) a w) split)
 
   -- more pages at the end leave what stands in the first ones
   pub take-grown : (pages later : List (Box (List ℕ) A)) (n : ℕ) → IsRun pages n → Grows pages later → take n (joined later) ≡ take n (joined pages)
   take-grown pages later n h g =
-    let whole : length (joined pages) ≡ 4096 * length pages = length-pages pages h.even in
-    let room : n ≤ length (joined pages) = omega (arith, h.room) in
-    rw (g.grown, flat_map-append (λ (p : Box (List ℕ) A). p.value) pages g.more) (take-append-le n (joined pages) (joined g.more) room)
+      let whole : length (joined pages) ≡ 4096 * length pages = length-pages pages h.even in
+      let room : n ≤ length (joined pages) = omega (arith, h.room) in
+      rw (g.grown, flat_map-append (λ (p : Box (List ℕ) A). p.value) pages g.more) (take-append-le n (joined pages) (joined g.more) room)
 
 -- the front of a part
 pub take-cut : (a n m : ℕ) (bytes : List ℕ) → n ≤ m → take n (cut a m bytes) ≡ cut a n bytes
@@ -112,7 +112,7 @@ module _ {A : Type 0} where
   piece_written pages later at k w new page x d h place room e read is v new_is k_is =
       let found : get_or pages (at / 4096) d ≡ x = get_or_default pages (at / 4096) d x place ∙ sym read in
       piece_put pages later at w d h place room e
-        (v ∙ (put_mid-put page new w (at % 4096) k new_is k_is ∙ ap (λ p. put p (at % 4096) w) (is ∙ ap (λ (b : Box (List ℕ) A). b.value) (sym found))))
+      (v ∙ (put_mid-put page new w (at % 4096) k new_is k_is ∙ ap (λ p. put p (at % 4096) w) (is ∙ ap (λ (b : Box (List ℕ) A). b.value) (sym found))))
 
   -- bytes at the end of a run
   pub appended : (pages more later : List (Box (List ℕ) A)) (n end : ℕ) (w self : List ℕ) → IsRun pages n → Grows pages more → ArePages more → end ≤ 4096 * length more → end ≡ n + length w → joined later ≡ put (joined more) n w → take n (joined pages) ≡ self → take end (joined later) ≡ self ++ w

@@ -8,3 +8,6 @@ pub use run::ByteRun;
 
 /// How many bytes a page has.
 pub const PAGE: usize = 4096;
+
+#[cfg(test)]
+mod tests;

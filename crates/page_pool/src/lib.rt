@@ -52,3 +52,6 @@ pub struct Unlowered {
     pub bytes: ByteRun,
     pub why: PoolFault,
 }
+
+#[cfg(test)]
+mod tests;

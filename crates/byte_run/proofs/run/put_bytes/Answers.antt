@@ -11,6 +11,9 @@ loop-done-init c = (omega arith, c.requires.even, refl, sym (put-none (joined c.
 pub loop-done-preserved : goal.loop-done-preserved
 loop-done-preserved c =
     let before = joined c.args.pages.now.items in
-    let whole : length before ≡ 4096 * length c.args.pages.now.items = length-pages c.args.pages.now.items c.requires.even in
-    (omega (arith, c.min-count.ensures), c.put_piece.ensures.even, c.put_piece.ensures.count ∙ c.loop-done.invariant.2,
-      written-more before _ _ c.args.bytes.now c.args.at c.loop-done.done c.min-count.result _ (omega arith) (omega (arith, c.min-count.ensures)) (omega arith) c.loop-done.invariant.3 c.put_piece.ensures.bytes)
+    let whole : length before ≡ 4096 * length c.args.pages.now.items = length-pages c.args.pages.now.items c.requires.even in (
+      omega (arith, c.min-count.ensures),
+      c.put_piece.ensures.even,
+      c.put_piece.ensures.count ∙ c.loop-done.invariant.2,
+      written-more before _ _ c.args.bytes.now c.args.at c.loop-done.done c.min-count.result _ (omega arith) (omega (arith, c.min-count.ensures)) (omega arith) c.loop-done.invariant.3 c.put_piece.ensures.bytes,
+    )

@@ -10,4 +10,4 @@ returns-in_err-add_pages-clause-err c =
 pub returns-clause-ok : goal.returns-clause-ok
 returns-clause-ok c =
     appended c.self.inside.pages.items c.add_pages.new.pages.items c.put_bytes.new.pages.items c.self.inside.len c.in_ok-end.end c.args.bytes.now c.args.self.now c.self.invariant c.add_pages.ensures.kept c.add_pages.ensures.even
-      (grind (arith, common_steps, c.in_ok-add_pages.ensures.enough, c.div_ceil.ensures)) (grind (arith, common_steps)) c.put_bytes.ensures.bytes c.self.view_is
+    (grind (arith, common_steps, c.in_ok-add_pages.ensures.enough, c.div_ceil.ensures)) (grind (arith, common_steps)) c.put_bytes.ensures.bytes c.self.view_is

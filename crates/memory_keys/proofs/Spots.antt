@@ -1,0 +1,86 @@
+-- Spots in regions, and their bytes.
+use Rattle.std.proofs.Common.{◌≡◌, ℕ, ◌+◌, ◌-◌, ◌*◌, ◌/◌, ◌%◌, ◌<◌, ◌≤◌, ◌≢◌, List, [], length, take, drop, refl, ap, sym, ◌∙◌, arith, subst, true, false, Bool}
+use Rattle.std.specs.Prelude.{Option, Some, None, IsSome, IsSomeAnd, is_some, unwrap_or, option_map, ◌==◌, ◌↔◌, Result, Ok, Err, IsErrOf}
+use Rattle.std.specs.Result.{IsErrAnd}
+use Rattle.std.specs.Option.{option_copied}
+use Rattle.std.specs.Borrow.{Bor}
+use Rattle.std.specs.Int.{div_ceil}
+use Rattle.std.proofs.lemmas.Bool.Decides.{nat_tests}
+use Rattle.rdma_types.specs.Memory.{cut}
+use Rattle.byte_run.proofs.Cuts.{cut-cut, length-cut}
+use Rattle.page_pool.specs.Pool.{Pool, Puts, IsIn, bytes_of, bytes_in, pages_of, pages_for}
+use Rattle.page_pool.proofs.Writes.{bytes-after, in-after}
+use Rattle.page_pool.specs.declared.PoolFault.{PoolFault}
+use Rattle.page_pool.specs.declared.PoolFault.TheVariants as pool
+use Rattle.memory_keys.specs.declared.MemFault.{MemFault}
+use Rattle.memory_keys.specs.declared.MemFault.TheVariants.{NoPage, OutOfMemory}
+use Rattle.memory_keys.specs.Faults.{fault_of}
+use Rattle.memory_keys.specs.declared.Held.{Held}
+use Rattle.memory_keys.specs.declared.Spot.{Spot}
+use Rattle.memory_keys.specs.Regions.{IsSpot, Lies, held_at, spot_bytes, pages_touched}
+
+-- a region that is found lies in the pool, and holds the spot
+pub spot-in : (pool : Pool) (held : List Held) (spot : Spot) (h : Held) → IsSpot pool held spot → 0 < spot.length → held_at spot.region held ≡ Some h → Lies pool h × (spot.off + spot.length ≤ h.head.length)
+spot-in pool held spot h is l e = subst (λ o. IsSomeAnd o (λ x. Lies pool x × (spot.off + spot.length ≤ x.head.length))) e (is l)
+
+-- a spot of some bytes has a region
+pub spot-there : (r : Option (Bor Held)) (o : Option Held) (P : Held → Type 0) → option_copied r ≡ o → IsSomeAnd o P → IsSome r
+spot-there None o P e h = absurd (none (subst (λ x. IsSomeAnd x P) (sym e) h))
+  where
+    none : IsSomeAnd None P → ⊥
+    none q = q
+spot-there (Some x) o P e h = refl
+
+-- a spot of no bytes
+pub spot-empty : (pool : Pool) (held : List Held) (spot : Spot) → spot.length ≡ 0 → spot_bytes pool held spot ≡ []
+unfolding cut
+spot-empty pool held spot e = by_case (held_at spot.region held)
+  where
+    by_case : (o : Option Held) → unwrap_or (option_map (λ h. cut spot.off spot.length (bytes_in pool h.list)) o) [] ≡ []
+    by_case None = refl
+    by_case (Some h) = ap (λ n. cut spot.off n (bytes_in pool h.list)) e
+
+-- the bytes of a spot in its region
+pub spot-is : (pool : Pool) (held : List Held) (spot : Spot) (h : Held) → held_at spot.region held ≡ Some h → spot_bytes pool held spot ≡ cut spot.off spot.length (bytes_in pool h.list)
+spot-is pool held spot h e = ap (λ o. unwrap_or (option_map (λ x. cut spot.off spot.length (bytes_in pool x.list)) o) []) e
+
+-- so many pages hold a region
+pub holds-pages : (n : ℕ) → n ≤ 4096 * pages_for n
+unfolding pages_for
+holds-pages n = omega arith
+
+-- the pages of a spot are pages of its region
+pub pages-within : (off n size pages : ℕ) → off + n ≤ size → pages ≡ pages_for size → off / 4096 + div_ceil (off % 4096 + n) 4096 ≤ pages
+unfolding pages_for
+pages-within off n size pages h e = omega arith
+
+-- the pages of a region that lies in the pool
+pub lies-pages : (pool : Pool) (h : Held) → Lies pool h → pages_of (bytes_of pool h.list) ≡ pages_for h.head.length
+lies-pages pool h l = by_case (bytes_of pool h.list) refl
+  where
+    by_case : (o : Option (List ℕ)) → bytes_of pool h.list ≡ o → pages_of (bytes_of pool h.list) ≡ pages_for h.head.length
+    by_case None e = absurd (cc (l.lives, e))
+    by_case (Some xs) e =
+        let size : length xs ≡ 4096 * pages_for h.head.length = ap (λ o. length (unwrap_or o [])) (sym e) ∙ l.size in
+        ap pages_of e ∙ omega arith
+
+pub touched-is : (spot : Spot) (n a b : ℕ) → spot.length ≢ 0 → n ≡ div_ceil (a + b) 4096 → a ≡ spot.off % 4096 → b ≡ spot.length → pages_touched spot ≡ n
+unfolding pages_for
+touched-is spot n a b some e f g = let no : (spot.length == 0) ≡ false = grind (arith, nat_tests) in rw no (sym (e ∙ (ap (λ x. div_ceil (x + b) 4096) f ∙ ap (λ x. div_ceil (spot.off % 4096 + x) 4096) g)))
+
+-- a snapshot has the bytes of its spot
+pub snap : (a b : Pool) (h : Held) (k off n count : ℕ) → Lies a h → off + n ≤ h.head.length → count ≡ div_ceil (off % 4096 + n) 4096 → Puts a b k (Some (cut (4096 * (off / 4096)) (4096 * count) (bytes_in a h.list))) → (off % 4096 + n ≤ length (bytes_in b k)) × (cut (off % 4096) n (bytes_in b k) ≡ cut off n (bytes_in a h.list))
+snap a b h k off n count l inside c p =
+    let pages = pages-within off n h.head.length (pages_for h.head.length) inside refl in
+    let room : 4096 * (off / 4096) + 4096 * count ≤ length (bytes_in a h.list) = omega (arith, l.size, pages, c) in
+    let is = bytes-after a b k (cut (4096 * (off / 4096)) (4096 * count) (bytes_in a h.list)) p in
+    let size : length (bytes_in b k) ≡ 4096 * count = ap length is ∙ length-cut (4096 * (off / 4096)) (4096 * count) (bytes_in a h.list) room in
+    let fits : off % 4096 + n ≤ 4096 * count = omega (arith, c) in
+    let at : 4096 * (off / 4096) + off % 4096 ≡ off = omega arith in
+    (omega arith, ap (cut (off % 4096) n) is ∙ (cut-cut (off % 4096) n (4096 * (off / 4096)) (4096 * count) (bytes_in a h.list) fits room ∙ ap (λ x. cut x n (bytes_in a h.list)) at))
+
+-- a pool's refusal told by regions
+pub told : {T S : Type 0} (r : Result T MemFault) (fault : PoolFault) (free n : ℕ) → IsErrAnd r (λ e. e ≡ fault_of fault) → (IsErrOf {T = S} (Err fault) pool.NoPage ↔ (free < n)) → IsErrOf r NoPage ↔ (free < n)
+told (Ok x) fault free n h k = absurd h
+told (Err e) pool.NoPage free n h k = (λ _. k.0 refl, λ _. ap Err h)
+told (Err e) pool.OutOfMemory free n h k = (λ q. absurd (cc), λ few. absurd (let same = k.1 few in cc))

@@ -1,0 +1,3 @@
+pub mod Keyed
+pub mod Regions
+pub mod Faults

@@ -1,0 +1,67 @@
+-- What the regions of a context hold and grant, over a pool of pages.
+use Rattle.std.specs.Prelude.{ℕ, ◌≡◌, ◌+◌, ◌-◌, ◌*◌, ◌%◌, ◌≤◌, ◌<◌, ◌==◌, ◌&&◌, Bool, List, [], length, take, map, Option, Some, None, option_map, IsSomeAnd, All, nat_eq, nat_le, bytes_eq, if◌then◌else◌, unwrap_or}
+use Rattle.std.specs.List.{IsDistinct}
+use Rattle.rdma_types.specs.declared.names.Name.{Name}
+use Rattle.rdma_types.specs.Lists.{first_that}
+use Rattle.rdma_types.specs.Memory.{Right, allows, granted, cut}
+use Rattle.rdma_types.specs.Objects.{Region}
+use Rattle.page_pool.specs.Pool.{Pool, IsIn, bytes_in, pages_for}
+use Rattle.memory_keys.specs.declared.Held.{Held}
+use Rattle.memory_keys.specs.declared.RegionHead.{RegionHead}
+use Rattle.memory_keys.specs.declared.Spot.{Spot}
+
+-- the region with a local key
+abbrev pub held_at : ℕ → List Held → Option Held
+held_at key held = first_that (λ h. h.head.keys.local == key) held
+
+-- no two regions have a local key, and a remote key is the number after the local one
+pub record AreKeyed (held : List Held) : Type 0 where
+  pub distinct : IsDistinct nat_eq (map (λ h. h.head.keys.local) held)
+  pub pairs : All (λ h. h.head.keys.remote ≡ h.head.keys.local + 1) held
+
+-- a region with its bytes
+abbrev pub region_of : Pool → Held → Region
+region_of pool h = record {
+  name = h.head.name;
+  domain = h.head.domain;
+  base = h.head.base;
+  length = h.head.length;
+  rights = h.head.rights;
+  keys = h.head.keys;
+  bytes = take h.head.length (bytes_in pool h.list);
+}
+
+-- the regions with their bytes
+abbrev pub regions_of : Pool → List Held → List Region
+regions_of pool held = map (region_of pool) held
+
+-- a region holds so many bytes from the address on
+abbrev pub holds_range : RegionHead → ℕ → ℕ → Bool
+holds_range head at count = nat_le head.base at && nat_le (at + count) (head.base + head.length)
+
+-- what a grant asks of a region besides its key
+abbrev pub gives : RegionHead → Name → ℕ → ℕ → Right → Bool
+gives head domain at count right = bytes_eq head.domain domain && (allows head.rights right && holds_range head at count)
+
+-- the place in the region that grants it; a place of no bytes is granted, and in no region
+abbrev pub granted_spot : (Region → ℕ) → List Region → Name → ℕ → ℕ → ℕ → Right → Option Spot
+granted_spot key_of regions domain key at count right =
+    if count == 0 then Some (record { region = 0; off = 0; length = 0 })
+    else option_map (λ r. record { region = r.keys.local; off = at - r.base; length = count }) (granted key_of regions domain key at count right)
+
+-- the pages of a region live, and hold its bytes
+pub record Lies (pool : Pool) (h : Held) : Type 0 where
+  pub lives : IsIn pool h.list
+  pub size : length (bytes_in pool h.list) ≡ 4096 * pages_for h.head.length
+
+-- a spot of no bytes, or one inside a region that is held
+abbrev pub IsSpot : Pool → List Held → Spot → Type 0
+IsSpot pool held spot = 0 < spot.length → IsSomeAnd (held_at spot.region held) (λ h. Lies pool h × (spot.off + spot.length ≤ h.head.length))
+
+-- the bytes of a spot
+abbrev pub spot_bytes : Pool → List Held → Spot → List ℕ
+spot_bytes pool held spot = unwrap_or (option_map (λ h. cut spot.off spot.length (bytes_in pool h.list)) (held_at spot.region held)) []
+
+-- the pages that a spot touches, counted from its region's base
+abbrev pub pages_touched : Spot → ℕ
+pages_touched spot = if spot.length == 0 then 0 else pages_for (spot.off % 4096 + spot.length)

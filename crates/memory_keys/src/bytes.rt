@@ -1,0 +1,77 @@
+//! The bytes of regions.
+
+ghost use Rattle.std.specs.Prelude.{◌≡◌, ℕ, ◌+◌, ◌<◌, ◌≤◌, ◌↔◌, length, Some, None, OnOk, OnErr, IfOk, IsErrOf};
+ghost use Rattle.rdma_types.specs.Memory.{put, word_of, word_bytes};
+ghost use Rattle.page_pool.specs.Pool.{Pool, Puts, bytes_of, bytes_in, free_pages};
+ghost use Rattle.page_pool.specs.Held.{HoldsPayload, payload_bytes};
+ghost use Rattle.memory_keys.specs.declared.Held.{Held};
+ghost use Rattle.memory_keys.specs.Regions.{IsSpot, spot_bytes, held_at, pages_touched};
+
+use crate::{MemFault, Regions, Spot};
+use page_pool::{PagePool, Payload};
+use std::alloc::Global;
+
+impl Regions {
+    /// Copies the bytes of a spot. It takes no memory.
+    pub fn load(&self, pool: &PagePool, spot: Spot, out: &mut [u8])
+        requires spot { IsSpot pool.now self.now spot }
+        requires length { length out.old ≡ spot.length }
+        ensures { out.new ≡ spot_bytes pool.now self.now spot }
+    {
+        if spot.length == 0 {
+            return;
+        }
+        let held = self.find(spot.region).unwrap();
+        pool.read(&held.list, u64::from(spot.off), out);
+    }
+
+    /// The word at a spot of eight bytes (this project's choice: big-endian). It takes no memory.
+    pub fn fetch_word(&self, pool: &PagePool, spot: Spot) -> u64
+        requires spot { IsSpot pool.now self.now spot }
+        requires length { spot.length ≡ 8 }
+        ensures { result ≡ word_of (spot_bytes pool.now self.now spot) }
+    {
+        let mut bytes = [0; 8];
+        self.load(pool, spot, &mut bytes);
+        u64::from_be_bytes(bytes)
+    }
+
+    /// The bytes of a spot as they are now, whatever is stored later: the region and the payload share pages. `NoPage`
+    /// comes exactly where fewer pages are free than the spot touches.
+    pub fn snapshot(
+        &mut self,
+        pool: &mut PagePool,
+        alloc: Global,
+        spot: Spot,
+    ) -> Result<Payload, MemFault>
+        requires { IsSpot pool.old self.old spot }
+        ensures same { self.new ≡ self.old }
+        ensures new { IfOk result (λ p. bytes_of pool.old p.list ≡ None) }
+        ensures puts { IfOk result (λ p. Puts pool.old pool.new p.list (bytes_of pool.new p.list)) }
+        ensures holds { IfOk result (λ p. HoldsPayload pool.new p) }
+        ensures bytes { IfOk result (λ p. payload_bytes pool.new p ≡ spot_bytes pool.old self.old spot) }
+        ensures free { OnOk result (free_pages pool.new + pages_touched spot ≡ free_pages pool.old) }
+        ensures no_page { IsErrOf result MemFault.NoPage ↔ (free_pages pool.old < pages_touched spot) }
+        ensures err { OnErr result (pool.new ≡ pool.old) }
+    {
+        if spot.length == 0 {
+            let list = pool.take(alloc, 0)?;
+            let (first, length) = (0, 0);
+            return Ok(Payload {
+                list,
+                first,
+                length,
+            });
+        }
+        let held = self.find(spot.region).unwrap();
+        let first = spot.off % 4096;
+        let count = (u64::from(first) + u64::from(spot.length)).div_ceil(4096) as u32;
+        let list = pool.share(alloc, &held.list, spot.off / 4096, count)?;
+        let length = spot.length;
+        Ok(Payload {
+            list,
+            first,
+            length,
+        })
+    }
+}

@@ -1,0 +1,151 @@
+//! The regions of a context.
+
+ghost use Rattle.std.specs.Prelude.{◌≡◌, ℕ, ◌+◌, ◌-◌, ◌^◌, ◌≤◌, ◌<◌, ◌==◌, ◌&&◌, List, [], length, Bool, if◌then◌else◌, option_map, slice_get, bytes_eq, true};
+ghost use Rattle.std.specs.Option.{option_copied};
+ghost use Rattle.std.specs.Bool.{OnTrue};
+ghost use Rattle.rdma_types.specs.Lists.{first_that};
+ghost use Rattle.rdma_types.specs.Memory.{Right, NoRight, LocalWrite, allows, set_of, local_key, remote_key, cut};
+ghost use Rattle.page_pool.specs.Pool.{Pool};
+ghost use Rattle.memory_keys.specs.Regions.{held_at, AreKeyed, regions_of, gives, granted_spot, holds_range, IsSpot, spot_bytes};
+
+use crate::{Held, RegionHead, Spot};
+use indexmap::IndexMap;
+use page_pool::PagePool;
+use rdma_types::{Name, Rights};
+use std::alloc::Global;
+use std::marker::Model;
+
+/// The regions of a context, in order of making, each under its local key.
+#[derive(Drop)]
+pub struct Regions {
+    pub(crate) held: IndexMap<u32, Held>,
+}
+
+impl Model for Regions {
+    ghost use Rattle.std.specs.Prelude.{List};
+    ghost use Rattle.indexmap.specs.IndexMap.{values};
+    ghost use Rattle.memory_keys.specs.declared.Held.{Held};
+    ghost use Rattle.memory_keys.specs.Keyed.{IsKeyed};
+
+    ghost Value = { List Held };
+
+    ghost view = { λ r. values r.held };
+
+    ghost invariant = { λ r. IsKeyed r.held.entries };
+}
+
+impl Regions {
+    /// No region.
+    pub fn make(alloc: Global) -> Regions
+        ensures { result ≡ [] }
+    {
+        Regions {
+            held: IndexMap::new(alloc),
+        }
+    }
+
+    /// Region `i` in order of making; None where there are fewer.
+    pub fn at(&self, i: usize) -> Option<RegionHead>
+        ensures { result ≡ option_map (λ h. h.head) (slice_get self.now i) }
+    {
+        let (_, held) = self.held.get_index(i)?;
+        Some(held.head)
+    }
+
+    /// The place that a local key grants; None exactly where it is not granted. Where bytes land there, the right to write
+    /// is needed. A length of 0 checks no key (this project's choice).
+    pub fn check_local(
+        &self,
+        domain: Name,
+        lkey: u32,
+        at: u64,
+        length: u32,
+        landing: bool,
+    ) -> Option<Spot>
+        ensures { (pool : Pool) → result ≡ granted_spot local_key (regions_of pool self.now) domain lkey at length (if landing then LocalWrite else NoRight) }
+    {
+        let right = if landing {
+            Rights::LOCAL_WRITE
+        } else {
+            Rights(0)
+        };
+        self.check(domain, lkey, at, length, right)
+    }
+
+    /// The place that a remote key grants; None exactly where it is not granted. A length of 0 checks no key (this
+    /// project's choice).
+    pub fn check_remote(
+        &self,
+        domain: Name,
+        rkey: u32,
+        at: u64,
+        length: u32,
+        right: Rights,
+    ) -> Option<Spot>
+        ensures { (pool : Pool) (needed : Right) → right.0 ≡ set_of needed → result ≡ granted_spot remote_key (regions_of pool self.now) domain rkey at length needed }
+    {
+        if length == 0 {
+            return Some(Spot {
+                region: 0,
+                off: 0,
+                length,
+            });
+        }
+        let _held = &self.held;
+        let key = rkey.checked_sub(1)?;
+        self.check(domain, key, at, length, right)
+    }
+
+    /// The place that the region with a local key grants.
+    fn check(&self, domain: Name, key: u32, at: u64, length: u32, right: Rights) -> Option<Spot>
+        ensures { (pool : Pool) (needed : Right) → right.0 ≡ set_of needed → result ≡ granted_spot local_key (regions_of pool self.now) domain key at length needed }
+    {
+        if length == 0 {
+            return Some(Spot {
+                region: 0,
+                off: 0,
+                length,
+            });
+        }
+        let head = &self.find(key)?.head;
+        if !gives(head, domain, at, length, right) {
+            return None;
+        }
+        let off = (at - head.base) as u32;
+        Some(Spot {
+            region: key,
+            off,
+            length,
+        })
+    }
+
+    /// The region with a local key.
+    pub(crate) fn find(&self, key: u32) -> Option<&Held>
+        ensures found { option_copied result ≡ held_at key self.now }
+        ensures keyed { AreKeyed self.now }
+    {
+        self.held.get(&key)
+    }
+}
+
+/// Whether a region of the domain gives a right over that many bytes.
+fn gives(head: &RegionHead, domain: Name, at: u64, length: u32, right: Rights) -> bool
+    ensures value { (needed : Right) → right.0 ≡ set_of needed → result ≡ gives head.now domain at length needed }
+    ensures low { OnTrue result (head.now.base ≤ at) }
+    ensures offset { OnTrue result (at - head.now.base < 2 ^ 32) }
+{
+    if head.domain != domain || head.rights.0 & right.0 != right.0 {
+        return false;
+    }
+    within(head, at, length)
+}
+
+/// Whether a region holds that many bytes from an address on, without wrapping.
+fn within(head: &RegionHead, at: u64, length: u32) -> bool
+    ensures holds { result ≡ holds_range head.now at length }
+    ensures low { OnTrue result (head.now.base ≤ at) }
+    ensures offset { OnTrue result (at - head.now.base < 2 ^ 32) }
+{
+    let end = u64::from(head.length);
+    at >= head.base && at - head.base <= end && u64::from(length) <= end - (at - head.base)
+}
