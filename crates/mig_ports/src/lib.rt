@@ -4,6 +4,8 @@
 //! its faults; an adapter of the real world tells no content, and the versions in memory tell all.
 #![tactic(auto)]
 
+mod depot;
+mod mem_depot;
 mod mem_sink;
 mod mem_source;
 mod reading;
@@ -11,6 +13,8 @@ mod reading;
 mod tests;
 mod writing;
 
+pub use depot::{Depot, DepotFault};
+pub use mem_depot::{EmptyDepot, MemDepot};
 pub use mem_sink::MemSink;
 pub use mem_source::MemSource;
 pub use reading::{ReadAllFault, Source, read_all};

@@ -3,6 +3,8 @@
 ghost use Rattle.std.specs.Prelude.{◌<◌, None};
 
 use super::*;
+use indexmap::IndexMap;
+use rdma_types::Name;
 use std::alloc::{AllocError, Global};
 use std::test::Fail;
 
@@ -161,4 +163,37 @@ fn writes_byte_by_byte(rt: HostRuntime) {
         };
         assert_eq!(rt; sink.bytes, front);
     }
+}
+
+#[test]
+fn holds_and_hands_out(rt: HostRuntime) -> Result<(), Fail> {
+    let alloc = rt.alloc();
+    let (a, b) = (Name::read(b"a").unwrap(), Name::read(b"b").unwrap());
+    let mut depot = MemDepot::make(IndexMap::new(alloc), vec![in alloc; 5]?);
+    assert_eq!(rt; depot.put(alloc, a, b"one"), Ok(()));
+    assert_eq!(rt; depot.put(alloc, a, b"two"), Ok(()));
+    match depot.look(alloc, a) {
+        Ok(bytes) => assert_eq!(rt; bytes.as_slice(), b"two".as_slice()),
+        Err(fault) => assert!(rt; false, "{fault:?}"),
+    }
+    assert_eq!(rt; depot.look(alloc, b).err(), Some(DepotFault::Missing));
+    assert_eq!(rt; depot.take(alloc, a).err(), Some(DepotFault::Failed));
+    match depot.take(alloc, a) {
+        Ok(bytes) => assert_eq!(rt; bytes.as_slice(), b"two".as_slice()),
+        Err(fault) => assert!(rt; false, "{fault:?}"),
+    }
+    assert_eq!(rt; depot.take(alloc, a).err(), Some(DepotFault::Missing));
+    assert_eq!(rt; depot.faults(), 1);
+    Ok(())
+}
+
+#[test]
+fn holds_nothing(rt: HostRuntime) -> Result<(), Fail> {
+    let alloc = rt.alloc();
+    let a = Name::read(b"a").unwrap();
+    let mut depot = EmptyDepot;
+    assert_eq!(rt; depot.put(alloc, a, b"one"), Err(DepotFault::OutOfMemory));
+    assert_eq!(rt; depot.look(alloc, a).err(), Some(DepotFault::Missing));
+    assert_eq!(rt; depot.take(alloc, a).err(), Some(DepotFault::Missing));
+    Ok(())
 }
