@@ -1,0 +1,84 @@
+//! The laws of whole runs: where the machine follows each event, it follows each list of events, and what applications hear in
+//! it is legal.
+//!
+//! The functions do nothing. Each promises the law that it names.
+#![tactic(auto)]
+
+ghost use Rattle.simulation_delivery.specs.Delivered.{AreAllTaken, RequestsAreTaken};
+ghost use Rattle.simulation.specs.Law.{Law};
+ghost use Rattle.simulation_runs.specs.Runs.{IsHeardLegal, OtherRunsFollow, OthersFollow, RunsAlwaysFollow, RunsFollow};
+
+use simulation::{making_follows, memory_follows, network_follows, posting_follows, starts};
+use simulation_moves::{release_follows, restore_follows, stop_follows};
+use simulation_moving::{husks_answer, messages_are_taken};
+use simulation_responses::{
+    acks_are_taken, atomic_responses_are_taken, read_responses_are_taken,
+    receiver_not_ready_is_taken, refusals_are_taken, sequence_naks_are_taken,
+};
+use simulation_sending::sending_follows;
+
+/// The machine follows each run of events that it follows where they happen, and what applications hear in it, from the empty
+/// world on, is legal.
+pub fn runs_follow()
+    ensures run { RunsFollow }
+    ensures always { RunsAlwaysFollow }
+    ensures heard { IsHeardLegal }
+{}
+
+/// Where each request that arrives at an end in Rts is followed, so is each datagram of any kind, and a husk's answer keeps the
+/// relation.
+pub fn datagrams_are_taken()
+    ensures { RequestsAreTaken → AreAllTaken }
+{
+    husks_answer();
+    messages_are_taken();
+    acks_are_taken();
+    sequence_naks_are_taken();
+    refusals_are_taken();
+    receiver_not_ready_is_taken();
+    atomic_responses_are_taken();
+    read_responses_are_taken();
+}
+
+/// The machine follows each event in range that is no delivery of a request: every verb, every transmission, expiry and timer,
+/// every loss, stop, restore and release, and the delivery of every response and of every message of moving.
+pub fn others_follow()
+    ensures { OthersFollow }
+{
+    making_follows();
+    memory_follows();
+    network_follows();
+    posting_follows();
+    sending_follows();
+    stop_follows();
+    restore_follows();
+    release_follows();
+    husks_answer();
+    messages_are_taken();
+    acks_are_taken();
+    sequence_naks_are_taken();
+    refusals_are_taken();
+    receiver_not_ready_is_taken();
+    atomic_responses_are_taken();
+    read_responses_are_taken();
+}
+
+/// The machine follows each run in which no request is delivered, and what applications hear in it is legal.
+pub fn other_runs_follow()
+    ensures { OtherRunsFollow }
+{
+    starts();
+    runs_follow();
+    others_follow();
+}
+
+/// The whole law, where each request that arrives at an end in Rts is followed: the machine follows each event in range and each
+/// run of them, and what applications hear in it is legal.
+pub fn law_holds()
+    ensures { RequestsAreTaken → Law }
+{
+    starts();
+    runs_follow();
+    others_follow();
+    datagrams_are_taken();
+}
