@@ -39,7 +39,7 @@ use Rattle.simulation.specs.Packets.{class_of, IsRequest}
 use Rattle.simulation.specs.Carries.{due_steps, offers_of, offers_from}
 use Rattle.simulation.specs.Views.{receive_in, link_of, requests_of, side_of, owned, owned_there}
 use Rattle.simulation.specs.Stands.{Stands}
-use Rattle.simulation.specs.Joined.{IsProgress, IsSayable, last_of, old_values}
+use Rattle.simulation.specs.Joined.{IsProgress, IsSayable, IsUnwrapped, last_of, old_values}
 use Rattle.ideal_model.specs.Numbers.{due}
 use Rattle.simulation_requests.proofs.Pieces.{first_suc}
 use Rattle.simulation.specs.Facts.{IsOffered, past_packet}
@@ -58,7 +58,7 @@ use Rattle.simulation_requests.proofs.Advancing.{got, moved_on}
 use Rattle.simulation_requests.proofs.Acted.{acts_advance, acted_sound, end_moved_sound, old-finished}
 use Rattle.simulation_requests.proofs.Counting.{counts, progress_now, same_here, owned_here, q_sound, q_in, q_there, o_there, apart}
 use Rattle.simulation_requests.proofs.Expected.{at, below_top, due_now, mtu_now, g_sound, inside, within, request_now, packet_now, connected_now, not_ended, step_now, carries_now}
-use Rattle.simulation_requests.proofs.Written.{granted_region, held_part, held_low}
+use Rattle.simulation_requests.proofs.Written.{granted_region, granted_unwrapped, held_part, held_low}
 use Rattle.simulation_requests.proofs.ReadAnswers.{read_answer}
 use Rattle.simulation_requests.proofs.Offers.{offered_from, offered_contains, bytes_remote, all_offered}
 
@@ -281,6 +281,9 @@ module _ (w : World) (m : Machine) (o : ObjName) (l : Link) (number : Option ℕ
       all_true true false v h = absurd (cc)
       all_true false u v h = absurd (cc)
 
+  unwrapped : IsUnwrapped r
+  unwrapped = granted_unwrapped remote_key regions x.domain r.request.shape.rkey r.request.shape.remote (size_of r) RemoteRead (a.stands.sound o.context).regions_end sayable.remote granted'
+
   -- ---- the machine's steps
 
   granted_peer : is_granted remote_key (regions_of m g.peer.context) (machine.end_of m g.peer).domain r.request.shape.rkey r.request.shape.remote (size_of r) RemoteRead ≡ true
@@ -379,7 +382,7 @@ module _ (w : World) (m : Machine) (o : ObjName) (l : Link) (number : Option ℕ
       (acted_sound g Finished (g.offers ++ list) within' req.receives.answered not_atomic (All-append (IsOfferOf g') g.offers list (All-weaker (IsOfferOf g) (IsOfferOf g') (λ f z. record { acted = omega (arith, z.acted); reads = z.reads; inside = z.inside }) g.offers s.offers) list_inside) s)
       (q_sound w m o l n d a.stands a.live a.linked req))
       (acts_advance (asking m o) Finished (g.offers ++ list) (link_of w q).sender.top (executed l d).receiver mtu_one within' req.receives.answered (omega (arith, same_due g, due_now w m o l number bytes d a is paused now, next_first)) top
-      (λ f z. Contains-append_left g.offers list f z) (All-append (λ f. All (λ b. b < 256) f.bytes) g.offers list req.back.in_pieces.offers list_said) expected_now kept_now)
+      (λ f z. Contains-append_left g.offers list f z) (All-append (λ f. All (λ b. b < 256) f.bytes) g.offers list req.back.in_pieces.offers list_said) req.back.in_pieces (λ h. unwrapped) tt expected_now kept_now)
       (subst (IsProgress (moved_on (asking m o) (suc g.acted) 0 (g.answers ++ Finished ∷ []) (g.offers ++ list) g.dry) x.domain regions) (sym (progress_kept ∙ idle)) refl)
 
   -- ---- the answers
