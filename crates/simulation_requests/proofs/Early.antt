@@ -162,7 +162,7 @@ module _ (w : World) (m : Machine) (o : ObjName) (l : Link) (number : Option ℕ
       ∙ ap (λ b. if b then repeated c e l d n else expected_packet c e l d n) (is_less n l.receiver.expected before))
 
   -- a datagram of this end has its fact
-  fact_now : (z : Sent) → IsAnswer (side_of w (asker m o)) (side_of w o) (requests_of (machine.end_of m (asker m o))) (requests_of (machine.end_of m o)) z → Fact (net_of w m) (flight_of (home w o.context).address z)
+  pub fact_now : (z : Sent) → IsAnswer (side_of w (asker m o)) (side_of w o) (requests_of (machine.end_of m (asker m o))) (requests_of (machine.end_of m o)) z → Fact (net_of w m) (flight_of (home w o.context).address z)
   fact_now z h = answer_fact w m o (home w o.context).address z a.stands at.live h
 
   -- of a Write or Send: the last number that acted is acknowledged

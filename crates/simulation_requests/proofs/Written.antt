@@ -52,7 +52,7 @@ number_once number none x (y ∷ ys) h once = elim (contains_cases x y ys h) [
   | inr l ↦ grind (arith, nat_tests, count_by-cons (λ z. number z == number x) y ys, number_counted number x ys l, number_once number none x ys l)
 ]
 
-held_high : (x : Region) (address count : ℕ) → holds x address count ≡ true → address + count ≤ x.base + x.length
+pub held_high : (x : Region) (address count : ℕ) → holds x address count ≡ true → address + count ≤ x.base + x.length
 unfolding holds
 held_high x address count h = grind (arith, nat_tests, leb_tells (address + count) (x.base + x.length), h)
 
