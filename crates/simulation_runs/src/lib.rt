@@ -9,8 +9,14 @@ ghost use Rattle.simulation.specs.Law.{Law};
 ghost use Rattle.simulation_runs.specs.Runs.{IsHeardLegal, OtherRunsFollow, OthersFollow, RunsAlwaysFollow, RunsFollow};
 
 use simulation::{making_follows, memory_follows, network_follows, posting_follows, starts};
+use simulation_atomics::{atomics_are_taken, repeated_atomics_are_answered};
 use simulation_moves::{release_follows, restore_follows, stop_follows};
 use simulation_moving::{husks_answer, messages_are_taken};
+use simulation_refusals::idle_turns_are_taken;
+use simulation_requests::{
+    early_requests_are_taken, reads_have_their_turn, sends_are_taken, writes_are_taken,
+};
+use simulation_rereads::rereads_are_taken;
 use simulation_responses::{
     acks_are_taken, atomic_responses_are_taken, read_responses_are_taken,
     receiver_not_ready_is_taken, refusals_are_taken, sequence_naks_are_taken,
@@ -25,11 +31,26 @@ pub fn runs_follow()
     ensures heard { IsHeardLegal }
 {}
 
-/// Where each request that arrives at an end in Rts is followed, so is each datagram of any kind, and a husk's answer keeps the
-/// relation.
-pub fn datagrams_are_taken()
-    ensures { RequestsAreTaken → AreAllTaken }
+/// The machine follows each request that arrives at an end in Rts: the expected one by the step that acts on it, by its refusal,
+/// or by Dry; a repeat, and one that is ahead, as their answers say; and none where the end is Paused.
+pub fn requests_are_taken()
+    ensures { RequestsAreTaken }
 {
+    early_requests_are_taken();
+    writes_are_taken();
+    sends_are_taken();
+    reads_have_their_turn();
+    rereads_are_taken();
+    atomics_are_taken();
+    repeated_atomics_are_answered();
+    idle_turns_are_taken();
+}
+
+/// The machine follows each datagram of any kind that arrives at an end in Rts, and a husk's answer keeps the relation.
+pub fn datagrams_are_taken()
+    ensures { AreAllTaken }
+{
+    requests_are_taken();
     husks_answer();
     messages_are_taken();
     acks_are_taken();
@@ -72,10 +93,10 @@ pub fn other_runs_follow()
     others_follow();
 }
 
-/// The whole law, where each request that arrives at an end in Rts is followed: the machine follows each event in range and each
-/// run of them, and what applications hear in it is legal.
+/// The whole law: the empty world stands for the empty machine; the machine follows each event in range, from any world that
+/// stands, and so each run; and what applications hear in a run is legal.
 pub fn law_holds()
-    ensures { RequestsAreTaken → Law }
+    ensures { Law }
 {
     starts();
     runs_follow();

@@ -13,4 +13,4 @@ returns c = all_taken (record {
   resumes = c.messages_are_taken.ensures.resumes;
   resume_acks = c.messages_are_taken.ensures.acks;
   husks = c.husks_answer.ensures;
-})
+}) c.requests_are_taken.ensures
