@@ -10,7 +10,6 @@ use Rattle.ideal_model.specs.Machine.{Machine, empty}
 use Rattle.ideal_model.specs.Legal.{IsRun, IsLegal, after, effect, seen, seen_of}
 use Rattle.simulation.specs.Stands.{Stands}
 use Rattle.simulation.specs.Law.{AlwaysFollows, Follows, FollowsRun, IsInRange, joined_steps, kept}
-use Rattle.simulation_runs.specs.Runs.{AreFollowed}
 
 -- ---- two runs, one after the other
 
@@ -49,18 +48,11 @@ follows_nothing : (w : World) (m : Machine) → Stands w m → FollowsRun w m []
 unfolding world_after
 follows_nothing w m s = record { steps = []; is_run = tt; heard = refl; allowed = tt; stands = s }
 
-pub run_follows : (w : World) (m : Machine) (es : List WorldEvent) → AreFollowed w es → Stands w m → FollowsRun w m es
-run_follows w m [] followed s = follows_nothing w m s
-run_follows w m (e ∷ es) followed s =
-    let f : Follows w m e = followed.0 m s in
-    follows_on w m e es f (run_follows (world_step w e).world (after m f.steps) es followed.1 f.stands)
-
--- .. where each is always followed
-pub run_always_follows : (w : World) (m : Machine) (es : List WorldEvent) → All AlwaysFollows es → All IsInRange es → Stands w m → FollowsRun w m es
-run_always_follows w m [] always ranges s = follows_nothing w m s
-run_always_follows w m (e ∷ es) always ranges s =
+pub run_follows : (w : World) (m : Machine) (es : List WorldEvent) → All AlwaysFollows es → All IsInRange es → Stands w m → FollowsRun w m es
+run_follows w m [] always ranges s = follows_nothing w m s
+run_follows w m (e ∷ es) always ranges s =
     let f : Follows w m e = first_of_all AlwaysFollows e es always w m (first_of_all IsInRange e es ranges) s in
-    follows_on w m e es f (run_always_follows (world_step w e).world (after m f.steps) es (rest_of_all AlwaysFollows e es always) (rest_of_all IsInRange e es ranges) f.stands)
+    follows_on w m e es f (run_follows (world_step w e).world (after m f.steps) es (rest_of_all AlwaysFollows e es always) (rest_of_all IsInRange e es ranges) f.stands)
 
 pub heard_legal : (es : List WorldEvent) → FollowsRun empty_world empty es → IsLegal (kept empty_world es)
 heard_legal es f = record { run = joined_steps f.steps; is_run = f.is_run; heard_all = f.heard }

@@ -22,10 +22,7 @@ use Rattle.simulation.specs.Facts.{ClassFact, NumberedFact, MoveFact}
 use Rattle.simulation.specs.Stands.{Stands}
 use Rattle.simulation.specs.Law.{AlwaysFollows, Follows, IsInRange, Law}
 use Rattle.simulation_delivery.specs.Delivered.{AreAllTaken, RequestsAreTaken, Arrives, Takes, HusksAnswer, AcksAreTaken, SequenceNaksAreTaken, RefusalsAreTaken, ReceiverNotReadyIsTaken, ReadResponsesAreTaken, AtomicResponsesAreTaken, StoppedIsTaken, ResumesAreTaken, ResumeAcksAreTaken}
-use Rattle.simulation_delivery.proofs.Arriving.{delivered_follows}
-use Rattle.simulation_delivery.proofs.EachKind.{deliver_follows}
-use Rattle.simulation_runs.specs.Runs.{IsFollowed, AreFollowed, IsNoRequest, BringsNoRequest, BringNoRequests, OthersFollow}
-use Rattle.simulation_runs.proofs.Runs.{run_always_follows, heard_legal, first_of_all, rest_of_all}
+use Rattle.simulation_runs.specs.Runs.{IsHeardLegal, RunsFollow}
 
 -- ---- the events of a context
 
@@ -77,22 +74,21 @@ at_follows laws (events.Release name) = λ w m r s. absurd r
 
 -- ---- the table
 
--- an event of a world that stands, where deliveries are followed
-by_event : AreLaws → (w : World) (m : Machine) (e : WorldEvent) → ((k : ℕ) → BringsNoRequest w (world_events.Deliver k) → Follows w m (world_events.Deliver k)) → IsInRange e → Stands w m → BringsNoRequest w e → Follows w m e
-by_event laws w m (world_events.AddDevice id address) deliveries r s none = laws.device id address w m r s
-by_event laws w m (world_events.MakeContext name device) deliveries r s none = laws.context name device w m r s
-by_event laws w m (world_events.At e) deliveries r s none = at_follows laws e w m r s
-by_event laws w m (world_events.Connect one two terms) deliveries r s none = laws.connect one two terms w m r s
-by_event laws w m (world_events.Deliver k) deliveries r s none = deliveries k none
-by_event laws w m (world_events.Lose k) deliveries r s none = laws.lose k w m r s
-by_event laws w m (world_events.Wire k) deliveries r s none = laws.wire k w m r s
-by_event laws w m (world_events.Stop name) deliveries r s none = laws.stop name w m r s
-by_event laws w m (world_events.Restore name device) deliveries r s none = laws.restore name device w m r s
-by_event laws w m (world_events.Release name device) deliveries r s none = laws.release name device w m r s
+pub each_follows : AreLaws → ((k : ℕ) → AlwaysFollows (world_events.Deliver k)) → (e : WorldEvent) → AlwaysFollows e
+each_follows laws deliveries (world_events.AddDevice id address) = laws.device id address
+each_follows laws deliveries (world_events.MakeContext name device) = laws.context name device
+each_follows laws deliveries (world_events.At e) = at_follows laws e
+each_follows laws deliveries (world_events.Connect one two terms) = laws.connect one two terms
+each_follows laws deliveries (world_events.Deliver k) = deliveries k
+each_follows laws deliveries (world_events.Lose k) = laws.lose k
+each_follows laws deliveries (world_events.Wire k) = laws.wire k
+each_follows laws deliveries (world_events.Stop name) = laws.stop name
+each_follows laws deliveries (world_events.Restore name device) = laws.restore name device
+each_follows laws deliveries (world_events.Release name device) = laws.release name device
 
--- ---- deliveries of all kinds but requests
+-- ---- the kinds of datagrams
 
--- the laws of the other kinds
+-- the laws of all kinds but requests
 pub record AreOthersTaken : Type 0 where
   pub acks : AcksAreTaken
   pub sequence_naks : SequenceNaksAreTaken
@@ -120,53 +116,12 @@ all_taken others requests = record {
   husks = others.husks;
 }
 
--- no end sends a datagram that is of no kind
-no_kind : (p x : Side) (e g : End) (number : Option ℕ) (d : Packet) → ClassFact p x e g number d → class_of d ≡ IsNothing → ⊥
-no_kind p x e g None d fact is = subst (MoveFact x) is fact
-no_kind p x e g (Some n) d fact is = subst (NumberedFact p x e g n d) is fact
+-- ---- the whole law
 
-by_kind : (w : World) (m : Machine) (o : ObjName) (l : Link) (number : Option ℕ) (bytes : List ℕ) (d : Packet) → AreOthersTaken → (class_of d ≡ IsRequest → ⊥) → Arrives w m o l number bytes d → (c : Class) → class_of d ≡ c → Takes w m o l number d
-by_kind w m o l number bytes d all none a IsRequest is = absurd (none is)
-by_kind w m o l number bytes d all none a IsReadResponse is = all.read_responses w m o l number bytes d a is
-by_kind w m o l number bytes d all none a IsAtomicResponse is = all.atomic_responses w m o l number bytes d a is
-by_kind w m o l number bytes d all none a IsAck is = all.acks w m o l number bytes d a is
-by_kind w m o l number bytes d all none a IsSequenceNak is = all.sequence_naks w m o l number bytes d a is
-by_kind w m o l number bytes d all none a (IsRefusal is_access) is = all.refusals is_access w m o l number bytes d a is
-by_kind w m o l number bytes d all none a IsReceiverNotReady is = all.receiver_not_ready w m o l number bytes d a is
-by_kind w m o l number bytes d all none a (IsStopped count) is = all.stopped count w m o l number bytes d a is
-by_kind w m o l number bytes d all none a (IsResume body) is = all.resumes body w m o l number bytes d a is
-by_kind w m o l number bytes d all none a (IsResumeAck body) is = all.resume_acks body w m o l number bytes d a is
-by_kind w m o l number bytes d all none a IsNothing is = absurd (no_kind ((net_of w m).side o) ((net_of w m).side (peer (net_of w m) o)) ((net_of w m).end o) ((net_of w m).end (peer (net_of w m) o)) number d a.fact.fact is)
-
-other_delivered : AreOthersTaken → (k : ℕ) (w : World) (m : Machine) → Stands w m → IsNoRequest w k → Follows w m (world_events.Deliver k)
-other_delivered all k w m s none = delivered_follows w m k s all.husks (λ f d l sent read a. by_kind (with_taken w k) m _ l f.number f.bytes d all (none f d sent read) a (class_of d) refl)
-
-pub other_follows : AreLaws → AreOthersTaken → (w : World) (e : WorldEvent) → IsInRange e → BringsNoRequest w e → IsFollowed w e
-other_follows laws all w e r none m s = by_event laws w m e (λ k no. other_delivered all k w m s no) r s none
-
--- ---- runs
-
-pub others_followed : OthersFollow → (w : World) (es : List WorldEvent) → All IsInRange es → BringNoRequests w es → AreFollowed w es
-others_followed others w [] ranges none = tt
-others_followed others w (e ∷ es) ranges none = (others w e (first_of_all IsInRange e es ranges) none.0, others_followed others (world_step w e).world es (rest_of_all IsInRange e es ranges) none.1)
-
--- each event is followed, where all datagrams are
-every_event : OthersFollow → AreAllTaken → (e : WorldEvent) → AlwaysFollows e
-every_event others all (world_events.AddDevice id address) w m r s = others w (world_events.AddDevice id address) r tt m s
-every_event others all (world_events.MakeContext name device) w m r s = others w (world_events.MakeContext name device) r tt m s
-every_event others all (world_events.At e) w m r s = others w (world_events.At e) r tt m s
-every_event others all (world_events.Connect one two terms) w m r s = others w (world_events.Connect one two terms) r tt m s
-every_event others all (world_events.Deliver k) w m r s = deliver_follows all k w m s
-every_event others all (world_events.Lose k) w m r s = others w (world_events.Lose k) r tt m s
-every_event others all (world_events.Wire k) w m r s = others w (world_events.Wire k) r tt m s
-every_event others all (world_events.Stop name) w m r s = others w (world_events.Stop name) r tt m s
-every_event others all (world_events.Restore name device) w m r s = others w (world_events.Restore name device) r tt m s
-every_event others all (world_events.Release name device) w m r s = others w (world_events.Release name device) r tt m s
-
-pub law_is : Stands empty_world empty → OthersFollow → AreAllTaken → Law
-law_is start others all = record {
+pub law_is : Stands empty_world empty → RunsFollow → IsHeardLegal → ((e : WorldEvent) → AlwaysFollows e) → Law
+law_is start runs heard follows = record {
   start = start;
-  step = every_event others all;
-  run = λ es r. run_always_follows empty_world empty es (λ k d b. every_event others all _) r start;
-  legal = λ es r. heard_legal es (run_always_follows empty_world empty es (λ k d b. every_event others all _) r start);
+  step = follows;
+  run = λ es r. runs empty_world empty es (λ k d b. follows _) r start;
+  legal = λ es r. heard es (runs empty_world empty es (λ k d b. follows _) r start);
 }

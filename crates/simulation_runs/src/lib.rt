@@ -5,11 +5,13 @@
 #![tactic(auto)]
 
 ghost use Rattle.simulation_delivery.specs.Delivered.{AreAllTaken, RequestsAreTaken};
-ghost use Rattle.simulation.specs.Law.{Law};
-ghost use Rattle.simulation_runs.specs.Runs.{IsHeardLegal, OtherRunsFollow, OthersFollow, RunsAlwaysFollow, RunsFollow};
+ghost use Rattle.protocol.specs.declared.events.WorldEvent.{WorldEvent};
+ghost use Rattle.simulation.specs.Law.{AlwaysFollows, Law};
+ghost use Rattle.simulation_runs.specs.Runs.{IsHeardLegal, RunsFollow};
 
 use simulation::{making_follows, memory_follows, network_follows, posting_follows, starts};
 use simulation_atomics::{atomics_are_taken, repeated_atomics_are_answered};
+use simulation_delivery::deliveries_follow;
 use simulation_moves::{release_follows, restore_follows, stop_follows};
 use simulation_moving::{husks_answer, messages_are_taken};
 use simulation_refusals::idle_turns_are_taken;
@@ -23,11 +25,10 @@ use simulation_responses::{
 };
 use simulation_sending::sending_follows;
 
-/// The machine follows each run of events that it follows where they happen, and what applications hear in it, from the empty
-/// world on, is legal.
+/// The machine follows each run of events that it always follows, and what applications hear in a run that it follows from the
+/// empty world on is legal.
 pub fn runs_follow()
     ensures run { RunsFollow }
-    ensures always { RunsAlwaysFollow }
     ensures heard { IsHeardLegal }
 {}
 
@@ -61,10 +62,10 @@ pub fn datagrams_are_taken()
     read_responses_are_taken();
 }
 
-/// The machine follows each event in range that is no delivery of a request: every verb, every transmission, expiry and timer,
-/// every loss, stop, restore and release, and the delivery of every response and of every message of moving.
-pub fn others_follow()
-    ensures { OthersFollow }
+/// The machine always follows each event: every verb, every transmission, expiry and timer, every loss, stop, restore and
+/// release, and the delivery of every datagram that was ever sent.
+pub fn events_follow()
+    ensures { (e : WorldEvent) → AlwaysFollows e }
 {
     making_follows();
     memory_follows();
@@ -74,23 +75,8 @@ pub fn others_follow()
     stop_follows();
     restore_follows();
     release_follows();
-    husks_answer();
-    messages_are_taken();
-    acks_are_taken();
-    sequence_naks_are_taken();
-    refusals_are_taken();
-    receiver_not_ready_is_taken();
-    atomic_responses_are_taken();
-    read_responses_are_taken();
-}
-
-/// The machine follows each run in which no request is delivered, and what applications hear in it is legal.
-pub fn other_runs_follow()
-    ensures { OtherRunsFollow }
-{
-    starts();
-    runs_follow();
-    others_follow();
+    deliveries_follow();
+    datagrams_are_taken();
 }
 
 /// The whole law: the empty world stands for the empty machine; the machine follows each event in range, from any world that
@@ -100,6 +86,5 @@ pub fn law_holds()
 {
     starts();
     runs_follow();
-    others_follow();
-    datagrams_are_taken();
+    events_follow();
 }

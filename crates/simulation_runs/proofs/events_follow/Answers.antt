@@ -1,8 +1,8 @@
-use Rattle.simulation_runs.proofs.Table.{other_follows}
-use Rattle.simulation_runs.proofs.others_follow.Goals as goal
+use Rattle.simulation_runs.proofs.Table.{each_follows}
+use Rattle.simulation_runs.proofs.events_follow.Goals as goal
 
 pub returns : goal.returns
-returns c = other_follows (record {
+returns c = each_follows (record {
   device = c.making_follows.ensures.device;
   context = c.making_follows.ensures.context;
   domain = c.making_follows.ensures.domain;
@@ -24,15 +24,4 @@ returns c = other_follows (record {
   stop = c.stop_follows.ensures;
   restore = c.restore_follows.ensures;
   release = c.release_follows.ensures;
-}) (record {
-  acks = c.acks_are_taken.ensures;
-  sequence_naks = c.sequence_naks_are_taken.ensures;
-  refusals = c.refusals_are_taken.ensures;
-  receiver_not_ready = c.receiver_not_ready_is_taken.ensures;
-  read_responses = c.read_responses_are_taken.ensures;
-  atomic_responses = c.atomic_responses_are_taken.ensures;
-  stopped = c.messages_are_taken.ensures.stopped;
-  resumes = c.messages_are_taken.ensures.resumes;
-  resume_acks = c.messages_are_taken.ensures.acks;
-  husks = c.husks_answer.ensures;
-})
+}) (c.deliveries_follow.ensures c.datagrams_are_taken.ensures)
