@@ -64,6 +64,7 @@ module _ (w : World) (m : Machine) (o : ObjName) (s : Stands w m) where
               ends = sound.ends;
               regions_in = All-weaker (λ r. has_word r.domain domains ≡ true) (λ r. has_word r.domain (domains ++ o.name ∷ []) ≡ true) (λ r h. more_words r.domain o.name domains h) (machine.context_of m o.context).regions sound.regions_in;
               ends_in = All-weaker (λ e. has_word e.domain domains ≡ true) (λ e. has_word e.domain (domains ++ o.name ∷ []) ≡ true) (λ e h. more_words e.domain o.name domains h) (machine.context_of m o.context).ends sound.ends_in;
+              regions_end = sound.regions_end;
             })
             (λ q domain p h. h);
       }

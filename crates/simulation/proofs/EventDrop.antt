@@ -1,5 +1,5 @@
 -- The machine follows the dropping of a region.
-use Rattle.std.proofs.Common.{arith, ◌≡◌, ◌<◌, ℕ, suc, List, [], ◌∷◌, map, true, false, Bool, refl, sym, ap, ◌∙◌, subst, inl, inr}
+use Rattle.std.proofs.Common.{arith, ◌≡◌, ◌<◌, ◌≤◌, ◌+◌, ◌^◌, ℕ, suc, List, [], ◌∷◌, map, true, false, Bool, refl, sym, ap, ◌∙◌, subst, inl, inr}
 use Rattle.std.specs.Prelude.{Option, Some, None, not, ◌&&◌, ◌||◌, ◌==◌, ◌%◌, All, Contains, option_to_list}
 use Rattle.std.specs.List.{list_any}
 use Rattle.std.proofs.lemmas.Bool.Decides.{nat_tests, eqb_tells}
@@ -123,6 +123,7 @@ drop_sound m keys y n unused s = record {
       (λ e h k. end_dropped m n y.regions (map (λ q. q.name) y.queues) e k h) y.ends s.ends (any_none (verbing.is_used_by m (region_in y.regions n)) y.ends unused);
   regions_in = All-without (λ r. has_word r.domain y.domains ≡ true) (λ r. r.name) n y.regions s.regions_in;
   ends_in = s.ends_in;
+  regions_end = All-without (λ r. r.base + r.length ≤ 2 ^ 64) (λ r. r.name) n y.regions s.regions_end;
 }
 
 -- ---- what is in progress stays so

@@ -213,6 +213,7 @@ module _ (w : World) (m : Machine) (o : ObjName) (domain send_cq recv_cq : Optio
               (new_sound old.regions names o given _ _ _ send_depth recv_depth few_requests (words_there _ old.queues ∙ sends) (words_there _ old.queues ∙ receives)));
           regions_in = before.regions_in;
           ends_in = subst (All (λ z. has_word z.domain old.domains ≡ true)) (sym pushed) (All-push (λ z. has_word z.domain old.domains ≡ true) old.ends f before.ends_in inside);
+          regions_end = before.regions_end;
         })
 
     -- its number is one more beside a name

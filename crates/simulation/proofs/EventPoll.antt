@@ -77,6 +77,7 @@ module _ (w : World) (m : Machine) (o : ObjName) (most : ℕ) (s : Stands w m) w
               ends = queues_like y.regions _ _ y.ends (map-store (λ x. x.name) (λ x. x.name) no_queue o.name (polled q most) y.queues found refl) sound.ends;
               regions_in = sound.regions_in;
               ends_in = sound.ends_in;
+              regions_end = sound.regions_end;
             })
             (λ q domain p h. h));
       }

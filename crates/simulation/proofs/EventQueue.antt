@@ -63,6 +63,7 @@ module _ (w : World) (m : Machine) (o : ObjName) (capacity : ℕ) (s : Stands w 
               ends = queues_more (machine.context_of m o.context).regions queues (new_queue o.name capacity) (machine.context_of m o.context).ends sound.ends;
               regions_in = sound.regions_in;
               ends_in = sound.ends_in;
+              regions_end = sound.regions_end;
             })
             (λ q domain p h. h);
       }

@@ -123,6 +123,7 @@ module _ (w : World) (m : Machine) (o : ObjName) (v : Receive) (s : Stands w m) 
         ends = queues_like y.regions _ _ y.ends (with_more_names y.queues f.receive_queue done q) sound.ends;
         regions_in = sound.regions_in;
         ends_in = sound.ends_in;
+        regions_end = sound.regions_end;
       })
       (λ q domain p h. h)))
 
@@ -158,6 +159,7 @@ module _ (w : World) (m : Machine) (o : ObjName) (v : Receive) (s : Stands w m) 
         ends = All-store (IsEndSound y.regions (map (λ q. q.name) y.queues)) (λ z. z.name) o.name f' y.ends sound.ends (receiving_sound y.regions (map (λ q. q.name) y.queues) f v room granted (sound_end found));
         regions_in = sound.regions_in;
         ends_in = All-store (λ z. has_word z.domain y.domains ≡ true) (λ z. z.name) o.name f' y.ends sound.ends_in (All-named (λ z. has_word z.domain y.domains ≡ true) (λ z. z.name) (machine.nobody o) o.name y.ends sound.ends_in found);
+        regions_end = sound.regions_end;
       })
       (λ q domain p h. h)))
 

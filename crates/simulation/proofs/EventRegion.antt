@@ -1,5 +1,5 @@
 -- The machine follows the making of a region.
-use Rattle.std.proofs.Common.{arith, ◌≡◌, ◌≢◌, ◌<◌, ◌+◌, ◌*◌, ℕ, List, [], ◌∷◌, ◌++◌, true, false, Bool, refl, sym, ap, ◌∙◌, subst}
+use Rattle.std.proofs.Common.{arith, ◌≡◌, ◌≢◌, ◌<◌, ◌≤◌, ◌^◌, ◌+◌, ◌*◌, ℕ, List, [], ◌∷◌, ◌++◌, true, false, Bool, refl, sym, ap, ◌∙◌, subst}
 use Rattle.std.specs.Prelude.{Option, Some, None, not, ◌&&◌, ◌||◌, ◌==◌, nat_le, nat_eq, replicate, All, Contains, ◌%◌, ◌/◌, suc}
 use Rattle.std.proofs.lemmas.Bool.Decides.{nat_tests, leb_tells, eqb_tells}
 use Rattle.std.proofs.lemmas.List.{length-replicate}
@@ -78,8 +78,8 @@ abbrev IsKeyed : List ℕ → Region → Type 0
 IsKeyed keys r = Contains keys r.keys.local × (r.keys.local % 2 ≡ 0) × (r.keys.remote ≡ suc r.keys.local)
 
 -- a context with one more region, whose key is new
-region_sound : (keys : List ℕ) (given : ℕ) (y : machine.Context) (r : Region) → r.keys.local ≡ given → given % 2 ≡ 0 → r.keys.remote ≡ suc given → All (λ k. k ≢ given) keys → IsWhole r → All (λ b. b < 256) r.bytes → has_word r.domain y.domains ≡ true → IsContextSound keys y → IsContextSound (keys ++ given ∷ []) (record y { regions = y.regions ++ r ∷ [] })
-region_sound keys given y r key even remote fresh whole bytes domain s = record {
+region_sound : (keys : List ℕ) (given : ℕ) (y : machine.Context) (r : Region) → r.keys.local ≡ given → given % 2 ≡ 0 → r.keys.remote ≡ suc given → All (λ k. k ≢ given) keys → IsWhole r → All (λ b. b < 256) r.bytes → has_word r.domain y.domains ≡ true → r.base + r.length ≤ 2 ^ 64 → IsContextSound keys y → IsContextSound (keys ++ given ∷ []) (record y { regions = y.regions ++ r ∷ [] })
+region_sound keys given y r key even remote fresh whole bytes domain within s = record {
   whole = All-push IsWhole y.regions r s.whole whole;
   bytes = All-push (λ x. All (λ b. b < 256) x.bytes) y.regions r s.bytes bytes;
   keyed = All-push (IsKeyed (keys ++ given ∷ [])) y.regions r
@@ -90,6 +90,7 @@ region_sound keys given y r key even remote fresh whole bytes domain s = record 
   ends = ends_regions y.regions (y.regions ++ r ∷ []) _ y.ends (λ domain k place count right h. granted_push _ y.regions (r ∷ []) domain k place count right h) s.ends;
   regions_in = All-push (λ x. has_word x.domain y.domains ≡ true) y.regions r s.regions_in domain;
   ends_in = s.ends_in;
+  regions_end = All-push (λ x. x.base + x.length ≤ 2 ^ 64) y.regions r s.regions_end within;
 }
 
 -- a word that is not lacking names a domain that is there
@@ -98,7 +99,7 @@ unfolding verbing.lacks_domain
 domain_named m c None h = absurd (cc)
 domain_named m c (Some d) h = not_lacking _ h
 
-module _ (w : World) (m : Machine) (o : ObjName) (domain : Option Name) (base count : ℕ) (rights : Rights) (s : Stands w m) where
+module _ (w : World) (m : Machine) (o : ObjName) (domain : Option Name) (base count : ℕ) (rights : Rights) (within : base + count ≤ 2 ^ 64) (s : Stands w m) where
   lacks_is : is_live w o.context ≡ true → (domain : Option Name) → refusing.lacks (λ x. has_word x (live_of w o.context).domains) domain ≡ verbing.lacks_domain m o.context domain
   unfolding verbing.lacks_domain
   lacks_is live None = refl
@@ -177,7 +178,7 @@ module _ (w : World) (m : Machine) (o : ObjName) (domain : Option Name) (base co
         keys = λ k h. subst (λ ks. Contains ks k) (sym keys_are) (Contains-append_left m.keys (given ∷ []) k h);
         counted = counted live few;
         same = record { domains = same.domains; regions = ap (λ rs. rs ++ new ∷ []) same.regions; queues = same.queues; ends = same.ends };
-        sound = subst (λ ks. IsContextSound ks y) (sym keys_are) (region_sound m.keys given (machine.context_of m o.context) new refl (omega arith) (omega arith) (fresh_key w m o.context s.placed s.counted live few) (length-replicate count 0) (All-replicate (λ b. b < 256) count 0 (omega arith)) inside (s.sound o.context));
+        sound = subst (λ ks. IsContextSound ks y) (sym keys_are) (region_sound m.keys given (machine.context_of m o.context) new refl (omega arith) (omega arith) (fresh_key w m o.context s.placed s.counted live few) (length-replicate count 0) (All-replicate (λ b. b < 256) count 0 (omega arith)) inside within (s.sound o.context));
         progress = progress_changed (net_of w m) m m' o.context y cm (λ q d p h. progress_push q d (machine.regions_of m o.context) (new ∷ []) p h) s.progress;
       })
 

@@ -401,6 +401,7 @@ module _ (w : World) (m : Machine) (o : ObjName) (r : Request) (range : IsReques
         ends = queues_like y.regions _ _ y.ends (with_more_names y.queues g.send_queue done q) sound.ends;
         regions_in = sound.regions_in;
         ends_in = sound.ends_in;
+        regions_end = sound.regions_end;
       })
       (λ q domain p h. h)))
 

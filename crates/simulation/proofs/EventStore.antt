@@ -1,5 +1,5 @@
 -- The machine follows a store.
-use Rattle.std.proofs.Common.{arith, ◌≡◌, ◌≤◌, ◌<◌, ◌+◌, ◌-◌, ℕ, List, [], ◌++◌, length, true, refl, sym, ap, ◌∙◌, subst}
+use Rattle.std.proofs.Common.{arith, ◌≡◌, ◌≤◌, ◌<◌, ◌^◌, ◌+◌, ◌-◌, ℕ, List, [], ◌++◌, length, true, refl, sym, ap, ◌∙◌, subst}
 use Rattle.std.specs.Prelude.{not, take, drop, All, Contains, ◌%◌, suc}
 use Rattle.std.proofs.lemmas.Bool.Decides.{nat_tests, leb_tells}
 use Rattle.std.proofs.lemmas.List.{length-append, length-drop, length-take}
@@ -83,6 +83,7 @@ store_sound keys y n a bytes there held said s =
       ends = ends_regions y.regions _ _ y.ends (λ domain key place count right h. local_granted_store n (stored_at r a bytes) y.regions domain key place count right there (same_stored r a bytes) h) s.ends;
       regions_in = All-store (λ x. has_word x.domain y.domains ≡ true) (λ x. x.name) n (stored_at r a bytes) y.regions s.regions_in (All-named (λ x. has_word x.domain y.domains ≡ true) (λ x. x.name) no_region n y.regions s.regions_in there);
       ends_in = s.ends_in;
+      regions_end = All-store (λ x. x.base + x.length ≤ 2 ^ 64) (λ x. x.name) n (stored_at r a bytes) y.regions s.regions_end (All-named (λ x. x.base + x.length ≤ 2 ^ 64) (λ x. x.name) no_region n y.regions s.regions_end there);
     }
 
 module _ (w : World) (m : Machine) (o : ObjName) (a : ℕ) (bytes : List ℕ) (said : All (λ b. b < 256) bytes) (s : Stands w m) where

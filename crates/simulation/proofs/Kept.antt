@@ -53,6 +53,7 @@ keys_grow keys keys' y grow s = record {
   ends = s.ends;
   regions_in = s.regions_in;
   ends_in = s.ends_in;
+  regions_end = s.regions_end;
 }
 
 -- what is in progress in the regions of one context stays where these change

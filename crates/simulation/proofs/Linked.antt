@@ -174,6 +174,7 @@ connected_sound keys y n none g found named' domain here s = record {
   ends = All-store (IsEndSound y.regions (map (λ q. q.name) y.queues)) (λ z. z.name) n g y.ends s.ends here;
   regions_in = s.regions_in;
   ends_in = All-store (λ e. has_word e.domain y.domains ≡ true) (λ z. z.name) n g y.ends s.ends_in domain;
+  regions_end = s.regions_end;
 }
 
 pub linked_ends : (w : World) (o : ObjName) (l : Link) → is_live w o.context ≡ true → (end_there_of w o).name ≡ o.name → (linked_of w o l).ends ≡ store_named (λ z. z.name) o.name (record (end_there_of w o) { link = Some l }) (context_of w o.context).ends

@@ -25,7 +25,7 @@ use Rattle.ideal_model.specs.Steps.{current, in_place}
 use Rattle.simulation.specs.Packets.{Class, class_of, IsRequest, IsReadResponse, IsAtomicResponse, IsAck, IsSequenceNak, IsRefusal, IsReceiverNotReady, IsStopped, IsResume, IsResumeAck, IsNothing}
 use Rattle.simulation.specs.Facts.{IsLeft, IsRequestOf, IsOffered, IsOld, NumberedFact, MoveFact, ClassFact, PacketFact, request_for, past_packet}
 use Rattle.simulation.specs.Views.{Side}
-use Rattle.simulation.specs.Joined.{IsJoined, IsSayable, AreWholePieces, IsFencedIn, IsProgress, IsWriting, is_granted_in, lands_untold_before, last_of}
+use Rattle.simulation.specs.Joined.{IsJoined, IsSayable, IsUnwrapped, AreWholePieces, IsFencedIn, IsProgress, IsWriting, is_granted_in, lands_untold_before, last_of}
 use Rattle.simulation.proofs.Numbers.{first-append, end-push, first-end, request-push, piece-push, request-inside, inside-request, piece_at-push, piece-found, old-push, posted-push}
 
 -- the end with one more request
@@ -136,6 +136,8 @@ posted_joined o x y q p r alive s said limit j =
         telling = pieces_push q.mtu q.known q.told q.posted r j.in_pieces.telling;
         sayable = All-push IsSayable q.posted r j.in_pieces.sayable said;
         offers = j.in_pieces.offers;
+        reads = λ i h read. subst IsUnwrapped (sym (posted-push q.posted r i (omega (arith, h, acted)))) (j.in_pieces.reads i h (ap (λ z. is_read (kind_of z)) (sym (posted-push q.posted r i (omega (arith, h, acted)))) ∙ read));
+        old_words = j.in_pieces.old_words;
       };
       sends = λ h. let t = j.sends h in record {
         first = t.first ∙ sym (first-append q.posted (r ∷ []) q.mtu q.told told);

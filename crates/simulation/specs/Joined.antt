@@ -4,7 +4,7 @@ use Rattle.std.specs.Prelude.{◌≡◌, ◌≢◌, ℕ, ◌+◌, ◌-◌, ◌%�
 use Rattle.std.specs.List.{list_any}
 use Rattle.rdma_types.specs.declared.names.ObjName.{ObjName}
 use Rattle.rdma_types.specs.declared.requests.Address.{Address}
-use Rattle.rdma_types.specs.Kinds.{is_atomic, is_send, is_write, kind_of, lands, size_of}
+use Rattle.rdma_types.specs.Kinds.{is_atomic, is_read, is_send, is_write, kind_of, lands, size_of}
 use Rattle.rdma_types.specs.Limits.{AreTerms, most_kept, most_moves, number_limit}
 use Rattle.rdma_types.specs.Memory.{is_granted, remote_key}
 use Rattle.rdma_types.specs.Objects.{Posted, Region}
@@ -38,6 +38,16 @@ pub record IsSayable (r : Posted) : Type 0 where
   pub payload : lands (kind_of r) ≡ false → length r.payload ≡ size_of r
   pub bytes : All (λ b. b < 256) r.payload
 
+-- the range of a request does not go past the last address
+abbrev pub IsUnwrapped : Posted → Type 0
+IsUnwrapped r = r.request.shape.remote + size_of r ≤ 2 ^ 64
+
+-- an old value is a word
+abbrev pub IsWordReply : Reply → Type 0
+IsWordReply Finished = Unit {0}
+IsWordReply (OldValue value) = value < 2 ^ 64
+IsWordReply (Denied why) = Unit {0}
+
 -- that many bytes of a request are whole pieces of an unfinished message, or none
 abbrev pub AreWholePieces : ℕ → Posted → ℕ → Type 0
 AreWholePieces mtu r bytes = (bytes % mtu ≡ 0) × ((bytes ≡ 0) ⊎ (bytes < size_of r))
@@ -52,6 +62,10 @@ pub record IsInPieces (q : End) : Type 0 where
   pub sayable : All IsSayable q.posted
   -- offered bytes are bytes
   pub offers : All (λ o. All (λ b. b < 256) o.bytes) q.offers
+  -- a Read that had its turn has a range of addresses that a datagram can say
+  pub reads : (i : ℕ) → i < q.acted → is_read (kind_of (posted_at q.posted i)) ≡ true → IsUnwrapped (posted_at q.posted i)
+  -- each old value that was answered is a word
+  pub old_words : All IsWordReply q.answers
 
 -- ---- the requester
 

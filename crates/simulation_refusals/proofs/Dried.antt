@@ -171,7 +171,7 @@ module _ (w : World) (m : Machine) (o : ObjName) (l : Link) (number : Option ℕ
     responding =
         counts w m o l n d a.stands a.live a.linked it (dried m q) l.receiver g.acted g.into g.answers g.offers (g.dry ++ g.acted ∷ []) changed numbers_same keys_same refl
         (dry_sound _ _ g (g.dry ++ g.acted ∷ []) q_connected (q_sound w m o l n d a.stands a.live a.linked it))
-        (dry_advance (asking m o) g.acted (link_of w q).sender.top l.receiver it.back.ordered.due_top it.back.in_pieces.acting it.back.in_pieces.offers it.receives)
+        (dry_advance (asking m o) g.acted (link_of w q).sender.top l.receiver it.back.ordered.due_top it.back.in_pieces it.receives)
         (progress_noted (asking m o) g.answers (g.dry ++ g.acted ∷ []) x.domain (machine.regions_of m o.context) l.receiver.progress (progress_here w m o l number bytes d a is paused now))
 
     answer : IsAnswer (side_of w q) (side_now (side_of w o) (got l l.receiver)) (requests_of g') (requests_of x) (acknowledge l n Rnr)

@@ -21,7 +21,8 @@ use Rattle.ideal_model.specs.Steps.{closed}
 use Rattle.simulation.specs.Packets.{Class, class_of, IsRequest, IsReadResponse, IsAtomicResponse, IsAck, IsSequenceNak, IsRefusal, IsReceiverNotReady, IsStopped, IsResume, IsResumeAck, IsNothing}
 use Rattle.simulation.specs.Facts.{IsCarriedWith, IsLeft, IsRequestOf, IsRefused, NumberedFact, MoveFact, ClassFact}
 use Rattle.simulation.specs.Views.{Side}
-use Rattle.simulation.specs.Joined.{IsJoined, IsHeardOf, lands_untold_before}
+use Rattle.std.proofs.lemmas.List.Elements.{All-push}
+use Rattle.simulation.specs.Joined.{IsJoined, IsHeardOf, IsWordReply, lands_untold_before}
 use Rattle.simulation.proofs.Numbers.{first-rest}
 use Rattle.simulation_delivery.proofs.Lifted.{side_now}
 use Rattle.simulation_delivery.proofs.Pairs.{IsKept}
@@ -123,7 +124,7 @@ module _ (o q : ObjName) (x y : Side) (e g : End) (n : ℕ) (why : Why) (rts : x
     rnr = j.rnr;
     terms = j.terms;
     exchanged = j.exchanged;
-    in_pieces = record { acting = j.in_pieces.acting; telling = (zero-mod e.mtu, inl refl); sayable = j.in_pieces.sayable; offers = j.in_pieces.offers };
+    in_pieces = record { acting = j.in_pieces.acting; telling = (zero-mod e.mtu, inl refl); sayable = j.in_pieces.sayable; offers = j.in_pieces.offers; reads = j.in_pieces.reads; old_words = j.in_pieces.old_words };
     sends = λ h. absurd (cc);
     over = λ h. record { first = ends; una = ends; next = ends; top = ends };
     ordered = record {
@@ -152,7 +153,7 @@ module _ (o q : ObjName) (x y : Side) (e g : End) (n : ℕ) (why : Why) (rts : x
     rnr = k.rnr;
     terms = k.terms;
     exchanged = k.exchanged;
-    in_pieces = record { acting = k.in_pieces.acting; telling = k.in_pieces.telling; sayable = k.in_pieces.sayable; offers = k.in_pieces.offers };
+    in_pieces = record { acting = k.in_pieces.acting; telling = k.in_pieces.telling; sayable = k.in_pieces.sayable; offers = k.in_pieces.offers; reads = k.in_pieces.reads; old_words = All-push IsWordReply g.answers (Denied why) k.in_pieces.old_words tt };
     sends = λ h. let s = k.sends h in record { first = s.first; una = s.una; spent = s.spent; waits = s.waits };
     over = λ h. let s = k.over h in record { first = s.first; una = s.una; next = s.next; top = s.top };
     ordered = record {

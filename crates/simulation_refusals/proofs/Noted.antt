@@ -13,7 +13,7 @@ use Rattle.ideal_model.specs.Machine.{End, posted_at, untold_count}
 use Rattle.ideal_model.specs.Numbers.{due}
 use Rattle.ideal_model.specs.Sound.{IsReplyTo, IsOfferOf, IsDenial}
 use Rattle.ideal_model.specs.Steps.{current, in_place, untold}
-use Rattle.simulation.specs.Joined.{AreWholePieces, IsProgress, Receives}
+use Rattle.simulation.specs.Joined.{IsInPieces, IsProgress, Receives}
 use Rattle.simulation.specs.Stands.{IsEndSound}
 use Rattle.simulation_requests.proofs.Acted.{got_last}
 use Rattle.simulation_requests.proofs.Advancing.{IsAdvance, moved_on}
@@ -82,16 +82,18 @@ progress_noted g answers dry domain regions (InSend done v) h = h
 progress_noted g answers dry domain regions (InWrite region off count done) h = h
 
 -- where a turn is dry, the requests come no further
-pub dry_advance : (g : End) (i top : ℕ) (r : Receiver) → due g ≤ top → AreWholePieces g.mtu (current g) g.into → All (λ f. All (λ b. b < 256) f.bytes) g.offers → Receives r g → IsAdvance g g.acted g.into g.answers g.offers (g.dry ++ i ∷ []) top r
+pub dry_advance : (g : End) (i top : ℕ) (r : Receiver) → due g ≤ top → IsInPieces g → Receives r g → IsAdvance g g.acted g.into g.answers g.offers (g.dry ++ i ∷ []) top r
 unfolding due
-dry_advance g i top r within acting said receives = record {
+dry_advance g i top r within pieces receives = record {
   due_up = omega arith;
   due_top = within;
   acted_up = omega arith;
   answers_kept = λ j a h. h;
   offers_kept = λ f h. h;
   dry_kept = λ j h. Contains-append_left g.dry (i ∷ []) j h;
-  acting = acting;
-  offers_said = said;
+  acting = pieces.acting;
+  offers_said = pieces.offers;
+  reads = pieces.reads;
+  old_words = pieces.old_words;
   receives = record { expected = receives.expected; kept = receives.kept; answered = receives.answered };
 }

@@ -195,6 +195,7 @@ module _ (keys : List ℕ) (c : state.Context) (y : machine.Context) (n : Name) 
         ends = queues_like y.regions _ _ _ (names_after es rs) before.ends;
         regions_in = before.regions_in;
         ends_in = before.ends_in;
+        regions_end = before.regions_end;
       }
 
   -- ---- the world's context

@@ -3,11 +3,11 @@ use Rattle.std.proofs.Common.{arith, ◌≡◌, ◌<◌, ◌≤◌, ◌+◌, ◌
 use Rattle.std.specs.Prelude.{Some, nat_lt, if◌then◌else◌, ◌==◌, slice_get, Contains, All}
 use Rattle.std.proofs.lemmas.Bool.Decides.{nat_tests, leb_tells}
 use Rattle.std.proofs.lemmas.List.{append_assoc, append-nil, length_push, get_or_past}
-use Rattle.std.proofs.lemmas.List.Elements.{All-weaker}
+use Rattle.std.proofs.lemmas.List.Elements.{All-push, All-weaker}
 use Rattle.rdma_types.specs.declared.names.Name.{Name}
 use Rattle.rdma_types.specs.Objects.{Posted, Region, no_posted}
 use Rattle.rdma_types.specs.Limits.{is_mtu, most_kept}
-use Rattle.rdma_types.specs.Kinds.{kind_of, lands, size_of}
+use Rattle.rdma_types.specs.Kinds.{is_read, kind_of, lands, size_of}
 use Rattle.rdma_types.specs.Spans.{first_number, span_of}
 use Rattle.protocol.specs.State.{Receiver}
 use Rattle.ideal_model.specs.declared.reply.Reply.{Reply}
@@ -16,7 +16,7 @@ use Rattle.ideal_model.specs.Machine.{End, Offered, posted_at, untold_count}
 use Rattle.ideal_model.specs.Numbers.{due}
 use Rattle.ideal_model.specs.Sound.{IsSound, IsReplyTo, IsOfferOf}
 use Rattle.ideal_model.specs.Steps.{current, in_place, untold}
-use Rattle.simulation.specs.Joined.{old_value, old_values, last_of}
+use Rattle.simulation.specs.Joined.{IsInPieces, IsUnwrapped, IsWordReply, old_value, old_values, last_of}
 use Rattle.simulation.specs.Stands.{IsEndSound}
 use Rattle.simulation_requests.proofs.Due.{mtu_is}
 use Rattle.simulation_requests.proofs.Advancing.{IsAdvance, moved_on}
@@ -72,9 +72,9 @@ due_acted q answers offers dry is = omega (arith, none_into q.mtu is)
 
 -- the current request has acted
 pub acts_advance : (q : End) (a : Reply) (offers : List Offered) (top : ℕ) (r : Receiver) → is_mtu q.mtu ≡ true → q.acted < length q.posted → length q.answers ≡ q.acted → due q ≤ first_number q.posted q.mtu (suc q.acted) → first_number q.posted q.mtu (suc q.acted) ≤ top →
-    ((f : Offered) → Contains q.offers f → Contains offers f) → All (λ f. All (λ b. b < 256) f.bytes) offers → r.expected ≡ first_number q.posted q.mtu (suc q.acted) → r.kept ≡ last_of most_kept (old_values q.mtu 0 q.posted (q.answers ++ a ∷ [])) →
+    ((f : Offered) → Contains q.offers f → Contains offers f) → All (λ f. All (λ b. b < 256) f.bytes) offers → IsInPieces q → (is_read (kind_of (current q)) ≡ true → IsUnwrapped (current q)) → IsWordReply a → r.expected ≡ first_number q.posted q.mtu (suc q.acted) → r.kept ≡ last_of most_kept (old_values q.mtu 0 q.posted (q.answers ++ a ∷ [])) →
     IsAdvance q (suc q.acted) 0 (q.answers ++ a ∷ []) offers q.dry top r
-acts_advance q a offers top r is inside answered up below kept said expected replies =
+acts_advance q a offers top r is inside answered up below kept said pieces read word expected replies =
     let now : due (moved_on q (suc q.acted) 0 (q.answers ++ a ∷ []) offers q.dry) ≡ first_number q.posted q.mtu (suc q.acted) = due_acted q (q.answers ++ a ∷ []) offers q.dry is in
     record {
       due_up = omega (arith, now, up);
@@ -85,14 +85,22 @@ acts_advance q a offers top r is inside answered up below kept said expected rep
       dry_kept = λ i h. h;
       acting = (none_left q.mtu is, inl refl);
       offers_said = said;
+      reads = λ i h. read_by i h (nat_lt i q.acted) refl;
+      old_words = All-push IsWordReply q.answers a pieces.old_words word;
       receives = record { expected = expected ∙ sym now; kept = replies; answered = omega (arith, length_push q.answers a, answered) };
     }
+  where
+    read_by : (i : ℕ) → i < suc q.acted → (b : Bool) → nat_lt i q.acted ≡ b → is_read (kind_of (posted_at q.posted i)) ≡ true → IsUnwrapped (posted_at q.posted i)
+    read_by i h true t = pieces.reads i (grind (arith, nat_tests, leb_tells (suc i) q.acted, t))
+    read_by i h false t =
+        let e : i ≡ q.acted = grind (arith, nat_tests, leb_tells (suc i) q.acted, t, h) in
+        subst (λ j. is_read (kind_of (posted_at q.posted j)) ≡ true → IsUnwrapped (posted_at q.posted j)) (sym e) read
 
 -- one more piece of it is in place
-pub piece_advance : (q : End) (top : ℕ) (r : Receiver) (into : ℕ) → into / q.mtu ≡ q.into / q.mtu + 1 → into % q.mtu ≡ 0 → into < size_of (current q) → due q + 1 ≤ top → r.expected ≡ due q + 1 → r.kept ≡ last_of most_kept (old_values q.mtu 0 q.posted q.answers) → length q.answers ≡ q.acted → All (λ f. All (λ b. b < 256) f.bytes) q.offers →
+pub piece_advance : (q : End) (top : ℕ) (r : Receiver) (into : ℕ) → into / q.mtu ≡ q.into / q.mtu + 1 → into % q.mtu ≡ 0 → into < size_of (current q) → due q + 1 ≤ top → r.expected ≡ due q + 1 → r.kept ≡ last_of most_kept (old_values q.mtu 0 q.posted q.answers) → length q.answers ≡ q.acted → IsInPieces q →
     IsAdvance q q.acted into q.answers q.offers q.dry top r
 unfolding due
-piece_advance q top r into next whole short below expected kept answered said = record {
+piece_advance q top r into next whole short below expected kept answered pieces = record {
   due_up = omega (arith, next);
   due_top = omega (arith, next, below);
   acted_up = omega arith;
@@ -100,7 +108,9 @@ piece_advance q top r into next whole short below expected kept answered said = 
   offers_kept = λ f h. h;
   dry_kept = λ i h. h;
   acting = (whole, inr short);
-  offers_said = said;
+  offers_said = pieces.offers;
+  reads = pieces.reads;
+  old_words = pieces.old_words;
   receives = record { expected = expected ∙ omega (arith, next); kept = kept; answered = answered };
 }
 

@@ -2,17 +2,18 @@
 use Rattle.std.proofs.Common.{arith, ◌≡◌, ◌<◌, ◌≤◌, ◌⊎◌, ℕ, zero, suc, List, [], ◌∷◌, length, true, false, Bool, ap, inl, inr}
 use Rattle.std.specs.Prelude.{Option, Some, None, slice_get, Contains, All, not}
 use Rattle.rdma_types.specs.declared.names.ObjName.{ObjName}
+use Rattle.rdma_types.specs.Kinds.{is_read, kind_of}
 use Rattle.rdma_types.specs.Spans.{request_of}
 use Rattle.protocol.specs.State.{Link, Receiver, HuskEntry}
 use Rattle.protocol.specs.Wire.{Packet}
 use Rattle.ideal_model.specs.declared.reply.Reply.{Reply}
 use Rattle.ideal_model.specs.declared.reply.Reply.TheVariants.{OldValue, Denied}
-use Rattle.ideal_model.specs.Machine.{End, Offered}
+use Rattle.ideal_model.specs.Machine.{End, Offered, posted_at}
 use Rattle.ideal_model.specs.Numbers.{due, oldest}
 use Rattle.ideal_model.specs.Steps.{current}
 use Rattle.simulation.specs.Packets.{Class, class_of, IsRequest, IsReadResponse, IsAtomicResponse, IsAck, IsSequenceNak, IsRefusal, IsReceiverNotReady, IsStopped, IsResume, IsResumeAck, IsNothing}
 use Rattle.simulation.specs.Views.{Side}
-use Rattle.simulation.specs.Joined.{IsJoined, AreWholePieces, IsHeardOf, Receives}
+use Rattle.simulation.specs.Joined.{IsJoined, IsInPieces, AreWholePieces, IsHeardOf, IsUnwrapped, IsWordReply, Receives}
 use Rattle.simulation.specs.Facts.{IsCarriedWith, IsLeft, IsRefused, NumberedFact, MoveFact, ClassFact}
 use Rattle.simulation_delivery.proofs.Lifted.{side_now}
 use Rattle.simulation_delivery.proofs.Pairs.{IsKept}
@@ -35,6 +36,8 @@ pub record IsAdvance (g : End) (acted into : ℕ) (answers : List Reply) (offers
   pub dry_kept : (i : ℕ) → Contains g.dry i → Contains dry i
   pub acting : AreWholePieces g.mtu (current (moved_on g acted into answers offers dry)) into
   pub offers_said : All (λ f. All (λ b. b < 256) f.bytes) offers
+  pub reads : (i : ℕ) → i < acted → is_read (kind_of (posted_at g.posted i)) ≡ true → IsUnwrapped (posted_at g.posted i)
+  pub old_words : All IsWordReply answers
   pub receives : Receives r (moved_on g acted into answers offers dry)
 
 got_inside : {A : Type 0} (xs : List A) (i : ℕ) (x : A) → slice_get xs i ≡ Some x → i < length xs
@@ -89,7 +92,7 @@ module _ (o q : ObjName) (x y : Side) (e g : End) (acted into : ℕ) (answers : 
     rnr = k.rnr;
     terms = k.terms;
     exchanged = k.exchanged;
-    in_pieces = record { acting = a.acting; telling = k.in_pieces.telling; sayable = k.in_pieces.sayable; offers = a.offers_said };
+    in_pieces = record { acting = a.acting; telling = k.in_pieces.telling; sayable = k.in_pieces.sayable; offers = a.offers_said; reads = a.reads; old_words = a.old_words };
     sends = λ h. let s = k.sends h in record { first = s.first; una = s.una; spent = s.spent; waits = s.waits };
     over = λ h. let s = k.over h in record { first = s.first; una = s.una; next = s.next; top = s.top };
     ordered = record {
@@ -183,15 +186,17 @@ module _ (o q : ObjName) (x y : Side) (e g : End) (acted into : ℕ) (answers : 
   }
 
 -- where only the responder's other fields change
-pub no_advance : (g : End) (top : ℕ) (r : Receiver) → due g ≤ top → AreWholePieces g.mtu (current g) g.into → All (λ f. All (λ b. b < 256) f.bytes) g.offers → Receives r g → IsAdvance g g.acted g.into g.answers g.offers g.dry top r
-no_advance g top r within acting said receives = record {
+pub no_advance : (g : End) (top : ℕ) (r : Receiver) → due g ≤ top → IsInPieces g → Receives r g → IsAdvance g g.acted g.into g.answers g.offers g.dry top r
+no_advance g top r within pieces receives = record {
   due_up = omega arith;
   due_top = within;
   acted_up = omega arith;
   answers_kept = λ i a h. h;
   offers_kept = λ f h. h;
   dry_kept = λ i h. h;
-  acting = acting;
-  offers_said = said;
+  acting = pieces.acting;
+  offers_said = pieces.offers;
+  reads = pieces.reads;
+  old_words = pieces.old_words;
   receives = receives;
 }

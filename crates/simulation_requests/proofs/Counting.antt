@@ -163,6 +163,6 @@ module _ (w : World) (m : Machine) (o : ObjName) (l : Link) (n : ℕ) (d : Packe
   notes r' expected kept progress =
       counts m r' (machine.end_of m q).acted (machine.end_of m q).into (machine.end_of m q).answers (machine.end_of m q).offers (machine.end_of m q).dry
       (peer_again m q (made_there m q q_there) q_there) refl refl (ap receive_in progress) q_sound
-      (no_advance (asking m o) (link_of w q).sender.top r' at.back.ordered.due_top at.back.in_pieces.acting at.back.in_pieces.offers
+      (no_advance (asking m o) (link_of w q).sender.top r' at.back.ordered.due_top at.back.in_pieces
       (record { expected = expected ∙ at.receives.expected; kept = kept ∙ at.receives.kept; answered = at.receives.answered }))
       (subst (IsProgress (asking m o) (machine.end_of m o).domain (regions_of m o.context)) (sym progress) progress_now)

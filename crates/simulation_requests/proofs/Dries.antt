@@ -77,6 +77,8 @@ dry_advance q i top r a = record {
   dry_kept = λ j h. contains_push q.dry i j h;
   acting = a.acting;
   offers_said = a.offers_said;
+  reads = a.reads;
+  old_words = a.old_words;
   receives = record { expected = a.receives.expected; kept = a.receives.kept; answered = a.receives.answered };
 }
 
@@ -127,7 +129,7 @@ module _ (w : World) (m : Machine) (o : ObjName) (l : Link) (number : Option ℕ
       (end_changed m q g' (made_there m q (q_there w m o l n d a.stands a.live a.linked req)) (q_in w m o l n d a.stands a.live a.linked req)) numbers_same keys_same refl
       (end_moved_sound _ _ g g.acted g.into g.answers g.offers dry (connected_now w m o l number bytes d a is paused now) (dry_sound g dry (g_sound w m o l number bytes d a is paused now)) (q_sound w m o l n d a.stands a.live a.linked req))
       (dry_advance (asking m o) g.acted (link_of w q).sender.top l.receiver
-      (no_advance (asking m o) (link_of w q).sender.top l.receiver req.back.ordered.due_top req.back.in_pieces.acting req.back.in_pieces.offers req.receives))
+      (no_advance (asking m o) (link_of w q).sender.top l.receiver req.back.ordered.due_top req.back.in_pieces req.receives))
       (progress_dry l.receiver.progress (progress_now w m o l n d a.stands a.live a.linked req))
     where
       progress_dry : (z : state.Progress) → IsProgress (asking m o) (machine.end_of m o).domain (regions_of m o.context) z → IsProgress (moved_on (asking m o) g.acted g.into g.answers g.offers dry) (machine.end_of m o).domain (regions_of m o.context) z

@@ -99,7 +99,7 @@ module _ (w : World) (m : Machine) (o : ObjName) (l : Link) (number : Option ℕ
   abbrev e : state.End
   e = end_there w o
 
-  due_is : l.receiver.expected ≡ due (machine.end_of m (asker m o))
+  pub due_is : l.receiver.expected ≡ due (machine.end_of m (asker m o))
   due_is = at.receives.expected ∙ same_due (machine.end_of m (asker m o))
 
   pub step_is : takes c e l d ≡ request_at c e l d (Some n)
@@ -155,14 +155,14 @@ module _ (w : World) (m : Machine) (o : ObjName) (l : Link) (number : Option ℕ
   abbrev psn : ℕ
   psn = wire_number (link_of w (asker m o)).terms.own_start n
 
-  repeat_step : n < l.receiver.expected → takes c e l d ≡ repeated c e l d n
+  pub repeat_step : n < l.receiver.expected → takes c e l d ≡ repeated c e l d n
   repeat_step before =
       step_is
       ∙ (ap (λ b. if b then ahead c e l else if nat_lt n l.receiver.expected then repeated c e l d n else expected_packet c e l d n) (not_less l.receiver.expected n (omega (arith, before)))
       ∙ ap (λ b. if b then repeated c e l d n else expected_packet c e l d n) (is_less n l.receiver.expected before))
 
   -- a datagram of this end has its fact
-  fact_now : (z : Sent) → IsAnswer (side_of w (asker m o)) (side_of w o) (requests_of (machine.end_of m (asker m o))) (requests_of (machine.end_of m o)) z → Fact (net_of w m) (flight_of (home w o.context).address z)
+  pub fact_now : (z : Sent) → IsAnswer (side_of w (asker m o)) (side_of w o) (requests_of (machine.end_of m (asker m o))) (requests_of (machine.end_of m o)) z → Fact (net_of w m) (flight_of (home w o.context).address z)
   fact_now z h = answer_fact w m o (home w o.context).address z a.stands at.live h
 
   -- of a Write or Send: the last number that acted is acknowledged

@@ -49,6 +49,7 @@ parts_sound keys y rs n f none qs found named' like whole said names domain end 
       ends = queues_like rs (map (λ q. q.name) y.queues) (map (λ q. q.name) qs) y.ends names one.ends;
       regions_in = one.regions_in;
       ends_in = one.ends_in;
+      regions_end = one.regions_end;
     } in
     connected_sound keys (record y { regions = rs; queues = qs }) n none f found named' domain end two
 

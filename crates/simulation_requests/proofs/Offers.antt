@@ -73,7 +73,8 @@ all_pass : (x : Region) (domain : Name) (key address n : ℕ) → bytes_eq x.dom
 unfolding grants
 all_pass x domain key address n a b c d = grind (arith, nat_tests, a, b, c, d)
 
-part_granted : (rs : List Region) (domain : Name) (key address size off n : ℕ) → off + n ≤ size → is_granted remote_key rs domain key address size RemoteRead ≡ true → is_granted remote_key rs domain key (address + off) n RemoteRead ≡ true
+-- .. and so is a part of it
+pub part_granted : (rs : List Region) (domain : Name) (key address size off n : ℕ) → off + n ≤ size → is_granted remote_key rs domain key address size RemoteRead ≡ true → is_granted remote_key rs domain key (address + off) n RemoteRead ≡ true
 unfolding is_granted granted grants
 part_granted rs domain key address size off n within h = by_count (n == 0) refl
   where
@@ -89,11 +90,11 @@ part_granted rs domain key address size off n within h = by_count (n == 0) refl
         let dom : bytes_eq g.0.domain domain ≡ true = domain_passes g.0 domain key address size passes in
         first_there (grants remote_key domain key (address + off) n RemoteRead) g.0 rs g.2.there (all_pass g.0 domain key (address + off) n dom g.2.named g.2.allowed (held_part g.0 address size off n g.2.held within))
 
--- ---- the offers of a Read
+-- ---- the offers of a Read, of which each part from `first` on is granted
 
 module _ (m : Machine) (q : ObjName) (e : End) (acted into : ℕ) (answers : List Reply) (i : ℕ) (there : has_context m q.context ≡ true) (found : has_name (λ z. z.name) q.name (machine.context_of m q.context).ends ≡ true) (named : e.name ≡ q.name)
     (connected : e.connected ≡ true) (peer_there : has_end m e.peer ≡ true) (apart : e.peer ≢ q) (alive : (end_of m e.peer).ended ≡ false) (turned : i < acted) (inside : i < length e.posted) (read : is_read (kind_of (posted_at e.posted i)) ≡ true)
-    (grants' : is_granted remote_key (regions_of m e.peer.context) (end_of m e.peer).domain (posted_at e.posted i).request.shape.rkey (posted_at e.posted i).request.shape.remote (size_of (posted_at e.posted i)) RemoteRead ≡ true) where
+    (first : ℕ) (grants' : (off n : ℕ) → first ≤ off → off + n ≤ size_of (posted_at e.posted i) → is_granted remote_key (regions_of m e.peer.context) (end_of m e.peer).domain (posted_at e.posted i).request.shape.rkey ((posted_at e.posted i).request.shape.remote + off) n RemoteRead ≡ true) where
   abbrev r : Posted
   r = posted_at e.posted i
 
@@ -136,12 +137,12 @@ module _ (m : Machine) (q : ObjName) (e : End) (acted into : ℕ) (answers : Lis
       four : (a b c d : Bool) → a ≡ true → b ≡ true → c ≡ true → d ≡ true → (a && (b && (c && d))) ≡ true
       four a b c d h j k l = rw (h, j, k, l) refl
 
-  enabled : (os : List Offered) (off n : ℕ) → off + n ≤ size_of r → may_offer (at_offers os) q i off n ≡ true
-  enabled os off n within =
+  enabled : (os : List Offered) (off n : ℕ) → first ≤ off → off + n ≤ size_of r → may_offer (at_offers os) q i off n ≡ true
+  enabled os off n low within =
       may_is (at_offers os) off n
       ∙ (ap (may_at (at_offers os) off n) (end_now os)
       ∙ ((λ j. (connected j && has_now os j) && (part_is os off n within j && (not (peer_now os j).ended && is_granted remote_key (regions_now os e.peer.context j) (peer_now os j).domain r.request.shape.rkey (r.request.shape.remote + off) n RemoteRead)))
-      ∙ (λ j. true && (true && (not (alive j) && part_granted rs (end_of m e.peer).domain r.request.shape.rkey r.request.shape.remote (size_of r) off n within grants' j)))))
+      ∙ (λ j. true && (true && (not (alive j) && grants' off n low within j)))))
 
   abbrev offer_at : ℕ → ℕ → Offered
   offer_at off n = record { request = i; offset = off; bytes = bytes_at remote_key r.request.shape.rkey (r.request.shape.remote + off) n rs }
@@ -169,16 +170,16 @@ module _ (m : Machine) (q : ObjName) (e : End) (acted into : ℕ) (answers : Lis
       ∙ ap (λ k. machine.with_end m q (moved_on e acted into answers k e.dry)) (append_assoc e.offers os (offer_at off n ∷ [])))))
 
   -- all of them, from piece k on
-  pub all_offered : (left k total : ℕ) (os : List Offered) → k + left ≤ total → ((j : ℕ) → j < total → j * e.mtu ≤ size_of r) →
+  pub all_offered : (left k total : ℕ) (os : List Offered) → k + left ≤ total → ((j : ℕ) → j < total → j * e.mtu ≤ size_of r) → ((j : ℕ) → k ≤ j → first ≤ j * e.mtu) →
       IsRun (at_offers os) (offers_from q e i k left) × (after (at_offers os) (offers_from q e i k left) ≡ at_offers (os ++ offered_from rs r e.mtu i k left))
   unfolding offers_from offered_from
-  all_offered zero k total os within short = (tt, ap at_offers (sym (append-nil os)))
-  all_offered (suc left) k total os within short =
+  all_offered zero k total os within short starts = (tt, ap at_offers (sym (append-nil os)))
+  all_offered (suc left) k total os within short starts =
       let off : ℕ = k * e.mtu in
       let n : ℕ = min e.mtu (size_of r - off) in
       let step = step_is os off n in
-      let later = all_offered left (suc k) total (os ++ offer_at off n ∷ []) (omega (arith, within)) short in (
-        (enabled os off n (omega (arith, short k (omega (arith, within)))), subst (λ z. IsRun z (offers_from q e i (suc k) left)) (sym step) later.0),
+      let later = all_offered left (suc k) total (os ++ offer_at off n ∷ []) (omega (arith, within)) short (λ j h. starts j (omega (arith, h))) in (
+        (enabled os off n (starts k (omega arith)) (omega (arith, short k (omega (arith, within)))), subst (λ z. IsRun z (offers_from q e i (suc k) left)) (sym step) later.0),
         ap (λ z. after z (offers_from q e i (suc k) left)) step ∙ (later.1 ∙ ap at_offers (append_assoc os (offer_at off n ∷ []) (offered_from rs r e.mtu i (suc k) left))),
       )
 

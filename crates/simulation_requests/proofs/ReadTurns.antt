@@ -39,7 +39,7 @@ use Rattle.simulation.specs.Packets.{class_of, IsRequest}
 use Rattle.simulation.specs.Carries.{due_steps, offers_of, offers_from}
 use Rattle.simulation.specs.Views.{receive_in, link_of, requests_of, side_of, owned, owned_there}
 use Rattle.simulation.specs.Stands.{Stands}
-use Rattle.simulation.specs.Joined.{IsProgress, IsSayable, last_of, old_values}
+use Rattle.simulation.specs.Joined.{IsProgress, IsSayable, IsUnwrapped, last_of, old_values}
 use Rattle.ideal_model.specs.Numbers.{due}
 use Rattle.simulation_requests.proofs.Pieces.{first_suc}
 use Rattle.simulation.specs.Facts.{IsOffered, past_packet}
@@ -58,21 +58,21 @@ use Rattle.simulation_requests.proofs.Advancing.{got, moved_on}
 use Rattle.simulation_requests.proofs.Acted.{acts_advance, acted_sound, end_moved_sound, old-finished}
 use Rattle.simulation_requests.proofs.Counting.{counts, progress_now, same_here, owned_here, q_sound, q_in, q_there, o_there, apart}
 use Rattle.simulation_requests.proofs.Expected.{at, below_top, due_now, mtu_now, g_sound, inside, within, request_now, packet_now, connected_now, not_ended, step_now, carries_now}
-use Rattle.simulation_requests.proofs.Written.{granted_region, held_part, held_low}
+use Rattle.simulation_requests.proofs.Written.{granted_region, granted_unwrapped, held_part, held_low}
 use Rattle.simulation_requests.proofs.ReadAnswers.{read_answer}
-use Rattle.simulation_requests.proofs.Offers.{offered_from, offered_contains, bytes_remote, all_offered}
+use Rattle.simulation_requests.proofs.Offers.{offered_from, offered_contains, part_granted, bytes_remote, all_offered}
 
-read_kind : (k : Kind) → kinds.is_read k ≡ true → k ≡ kinds'.Read
+pub read_kind : (k : Kind) → kinds.is_read k ≡ true → k ≡ kinds'.Read
 read_kind kinds'.Read h = refl
 read_kind kinds'.Write h = absurd (cc)
 read_kind kinds'.Send h = absurd (cc)
 read_kind kinds'.CompareSwap h = absurd (cc)
 read_kind kinds'.FetchAdd h = absurd (cc)
 
-read_not : (f : Kind → Bool) → f kinds'.Read ≡ false → (k : Kind) → kinds.is_read k ≡ true → f k ≡ false
+pub read_not : (f : Kind → Bool) → f kinds'.Read ≡ false → (k : Kind) → kinds.is_read k ≡ true → f k ≡ false
 read_not f is_not k h = ap f (read_kind k h) ∙ is_not
 
-all_inner : (q : ObjName) (e : End) (i k left : ℕ) → AreInner (offers_from q e i k left)
+pub all_inner : (q : ObjName) (e : End) (i k left : ℕ) → AreInner (offers_from q e i k left)
 unfolding offers_from
 all_inner q e i k zero = tt
 all_inner q e i k (suc left) = all_inner q e i (suc k) left
@@ -99,15 +99,15 @@ turn_steps : (m : Machine) (q : ObjName) (n : ℕ) → may_run m q n ≡ false �
 unfolding due_steps
 turn_steps m q n a b c = rw (a, b, c) refl
 
-piece_inside : (size mtu : ℕ) → is_mtu mtu ≡ true → (j : ℕ) → j < pieces size mtu → j * mtu ≤ size
+pub piece_inside : (size mtu : ℕ) → is_mtu mtu ≡ true → (j : ℕ) → j < pieces size mtu → j * mtu ≤ size
 unfolding pieces
 piece_inside size mtu one j = mtu_is (λ k. j < max 1 ((size + (k - 1)) / k) → j * k ≤ size) (λ h. omega (arith, h)) (λ h. omega (arith, h)) (λ h. omega (arith, h)) (λ h. omega (arith, h)) (λ h. omega (arith, h)) mtu one
 
-cut_short : (place n : ℕ) (bytes : List ℕ) → length (cut place n bytes) ≤ n
+pub cut_short : (place n : ℕ) (bytes : List ℕ) → length (cut place n bytes) ≤ n
 unfolding cut
 cut_short place n bytes = omega (arith, length-take n (drop place bytes))
 
-bytes_short : (key place n : ℕ) (rs : List Region) → length (bytes_at remote_key key place n rs) ≤ n
+pub bytes_short : (key place n : ℕ) (rs : List Region) → length (bytes_at remote_key key place n rs) ≤ n
 unfolding bytes_at
 bytes_short key place n [] = omega arith
 bytes_short key place n (x ∷ rs) = by_test (is_at remote_key key place n x) (bytes_short key place n rs)
@@ -125,12 +125,12 @@ bytes_said key place n (x ∷ rs) all = by_test (is_at remote_key key place n x)
     by_test true later = All-take (λ z. z < 256) n (drop (place - x.base) x.bytes) (All-drop (λ z. z < 256) (place - x.base) x.bytes (All-head (λ k. All (λ z. z < 256) k.bytes) x rs all))
     by_test false later = later
 
-offered_said : (rs : List Region) (r : Posted) (mtu i k left : ℕ) → All (λ z. All (λ b. b < 256) z.bytes) rs → All (λ f. All (λ b. b < 256) f.bytes) (offered_from rs r mtu i k left)
+pub offered_said : (rs : List Region) (r : Posted) (mtu i k left : ℕ) → All (λ z. All (λ b. b < 256) z.bytes) rs → All (λ f. All (λ b. b < 256) f.bytes) (offered_from rs r mtu i k left)
 unfolding offered_from
 offered_said rs r mtu i k zero all = All-nil _
 offered_said rs r mtu i k (suc left) all = All-cons (λ f. All (λ b. b < 256) f.bytes) _ (offered_from rs r mtu i (suc k) left) (bytes_said r.request.shape.rkey (r.request.shape.remote + k * mtu) (min mtu (size_of r - k * mtu)) rs all) (offered_said rs r mtu i (suc k) left all)
 
-offered_inside : (rs : List Region) (r : Posted) (mtu i k left total : ℕ) (q : End) → i < q.acted → machine.posted_at q.posted i ≡ r → kinds.is_read (kind_of r) ≡ true → k + left ≤ total → ((j : ℕ) → j < total → j * mtu ≤ size_of r) → All (IsOfferOf q) (offered_from rs r mtu i k left)
+pub offered_inside : (rs : List Region) (r : Posted) (mtu i k left total : ℕ) (q : End) → i < q.acted → machine.posted_at q.posted i ≡ r → kinds.is_read (kind_of r) ≡ true → k + left ≤ total → ((j : ℕ) → j < total → j * mtu ≤ size_of r) → All (IsOfferOf q) (offered_from rs r mtu i k left)
 unfolding offered_from
 offered_inside rs r mtu i k zero total q acted is read within short = All-nil _
 offered_inside rs r mtu i k (suc left) total q acted is read within short =
@@ -138,7 +138,7 @@ offered_inside rs r mtu i k (suc left) total q acted is read within short =
     (record { acted = acted; reads = ap (λ z. kinds.is_read (kind_of z)) is ∙ read; inside = omega (arith, bytes_short r.request.shape.rkey (r.request.shape.remote + k * mtu) (min mtu (size_of r - k * mtu)) rs, short k (omega (arith, within)), ap size_of is) })
     (offered_inside rs r mtu i (suc k) left total q acted is read (omega (arith, within)) short)
 
-empty : (bs : List ℕ) → length bs ≤ 0 → bs ≡ []
+pub empty : (bs : List ℕ) → length bs ≤ 0 → bs ≡ []
 empty [] h = refl
 empty (b ∷ bs) h = absurd (omega (arith, h))
 
@@ -281,6 +281,9 @@ module _ (w : World) (m : Machine) (o : ObjName) (l : Link) (number : Option ℕ
       all_true true false v h = absurd (cc)
       all_true false u v h = absurd (cc)
 
+  unwrapped : IsUnwrapped r
+  unwrapped = granted_unwrapped remote_key regions x.domain r.request.shape.rkey r.request.shape.remote (size_of r) RemoteRead (a.stands.sound o.context).regions_end sayable.remote granted'
+
   -- ---- the machine's steps
 
   granted_peer : is_granted remote_key (regions_of m g.peer.context) (machine.end_of m g.peer).domain r.request.shape.rkey r.request.shape.remote (size_of r) RemoteRead ≡ true
@@ -306,7 +309,7 @@ module _ (w : World) (m : Machine) (o : ObjName) (l : Link) (number : Option ℕ
   all =
       all_offered m q g (suc g.acted) 0 (g.answers ++ Finished ∷ []) g.acted (made_there m q (q_there w m o l n d a.stands a.live a.linked req)) (q_in w m o l n d a.stands a.live a.linked req) name_q
       (connected_now w m o l number bytes d a is paused now) (ap (has_end m) req.joined.back ∙ o_there w m o l n d a.stands a.live a.linked req) (λ z. apart w m o l n d a.stands a.live a.linked req (sym (ap (λ k. k.context) (sym req.joined.back ∙ z))))
-      (ap (λ j. (machine.end_of m j).ended) req.joined.back ∙ not_ended w m o l number bytes d a is paused now) (omega arith) (inside w m o l number bytes d a is paused now) read granted_peer count 0 count [] (omega arith) short
+      (ap (λ j. (machine.end_of m j).ended) req.joined.back ∙ not_ended w m o l number bytes d a is paused now) (omega arith) (inside w m o l number bytes d a is paused now) read 0 (λ off j low fits. part_granted (regions_of m g.peer.context) (machine.end_of m g.peer).domain r.request.shape.rkey r.request.shape.remote (size_of r) off j fits granted_peer) count 0 count [] (omega arith) short (λ j low. omega arith)
 
   turned : read_turn m q ≡ machine.with_end m q (moved_on g (suc g.acted) 0 (g.answers ++ Finished ∷ []) (g.offers ++ []) g.dry)
   unfolding read_turn acted_with
@@ -379,7 +382,7 @@ module _ (w : World) (m : Machine) (o : ObjName) (l : Link) (number : Option ℕ
       (acted_sound g Finished (g.offers ++ list) within' req.receives.answered not_atomic (All-append (IsOfferOf g') g.offers list (All-weaker (IsOfferOf g) (IsOfferOf g') (λ f z. record { acted = omega (arith, z.acted); reads = z.reads; inside = z.inside }) g.offers s.offers) list_inside) s)
       (q_sound w m o l n d a.stands a.live a.linked req))
       (acts_advance (asking m o) Finished (g.offers ++ list) (link_of w q).sender.top (executed l d).receiver mtu_one within' req.receives.answered (omega (arith, same_due g, due_now w m o l number bytes d a is paused now, next_first)) top
-      (λ f z. Contains-append_left g.offers list f z) (All-append (λ f. All (λ b. b < 256) f.bytes) g.offers list req.back.in_pieces.offers list_said) expected_now kept_now)
+      (λ f z. Contains-append_left g.offers list f z) (All-append (λ f. All (λ b. b < 256) f.bytes) g.offers list req.back.in_pieces.offers list_said) req.back.in_pieces (λ h. unwrapped) tt expected_now kept_now)
       (subst (IsProgress (moved_on (asking m o) (suc g.acted) 0 (g.answers ++ Finished ∷ []) (g.offers ++ list) g.dry) x.domain regions) (sym (progress_kept ∙ idle)) refl)
 
   -- ---- the answers

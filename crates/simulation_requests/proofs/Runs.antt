@@ -122,7 +122,7 @@ module _ (w : World) (m : Machine) (o : ObjName) (l : Link) (number : Option ℕ
           moved = advanced_filled g (length d.payload) h;
           sound = acted_sound g Finished g.offers within answered not_atomic (offers_acted g (g.answers ++ Finished ∷ []) g.offers s.offers) s;
           advance = λ r' expected kept.
-              acts_advance (asking m o) Finished g.offers (link_of w q).sender.top r' mtu within answered (omega (arith, same_due g, due_is, first)) (omega (arith, first, piece_top not_read)) (λ f c. c) req.back.in_pieces.offers (omega (arith, expected, first, now))
+              acts_advance (asking m o) Finished g.offers (link_of w q).sender.top r' mtu within answered (omega (arith, same_due g, due_is, first)) (omega (arith, first, piece_top not_read)) (λ f c. c) req.back.in_pieces.offers req.back.in_pieces (λ h. absurd (cc (not_read, h))) tt (omega (arith, expected, first, now))
               (kept ∙ (req.receives.kept ∙ ap (last_of most_kept) (sym (old-finished g.mtu g.posted g.answers (omega (arith, answered, within))))));
           acted_now = omega (arith, due_acted (requests_of g) (g.answers ++ Finished ∷ []) g.offers g.dry mtu, first);
         }
@@ -143,6 +143,6 @@ module _ (w : World) (m : Machine) (o : ObjName) (l : Link) (number : Option ℕ
         record {
           moved = advanced_more g (length d.payload) h;
           sound = piece_sound g (g.into + length d.payload) (omega arith) short not_lands s;
-          advance = λ r' expected kept. piece_advance (asking m o) (link_of w q).sender.top r' (g.into + length d.payload) div rem short (omega (arith, due_is, piece_top not_read)) (omega (arith, expected, now, due_is)) (kept ∙ req.receives.kept) answered req.back.in_pieces.offers;
+          advance = λ r' expected kept. piece_advance (asking m o) (link_of w q).sender.top r' (g.into + length d.payload) div rem short (omega (arith, due_is, piece_top not_read)) (omega (arith, expected, now, due_is)) (kept ∙ req.receives.kept) answered req.back.in_pieces;
           acted_now = omega (arith, due_is, div);
         }

@@ -1,5 +1,5 @@
 -- The bytes of a Write go where the machine puts them.
-use Rattle.std.proofs.Common.{arith, ◌≡◌, ◌≤◌, ◌+◌, ◌-◌, ℕ, suc, List, [], ◌∷◌, length, true, false, Bool, refl, sym, ap, ◌∙◌, subst, inl, inr}
+use Rattle.std.proofs.Common.{arith, ◌≡◌, ◌<◌, ◌≤◌, ◌^◌, ◌+◌, ◌-◌, ℕ, zero, suc, List, [], ◌∷◌, length, true, false, Bool, refl, sym, ap, ◌∙◌, subst, inl, inr}
 use Rattle.std.specs.Prelude.{Option, Some, None, is_some, if◌then◌else◌, ◌==◌, ◌&&◌, ◌||◌, All, Contains, bytes_eq}
 use Rattle.std.specs.List.{count_by}
 use Rattle.std.proofs.lemmas.Bool.Decides.{nat_tests, leb_tells, eqb_tells}
@@ -52,6 +52,10 @@ number_once number none x (y ∷ ys) h once = elim (contains_cases x y ys h) [
   | inr l ↦ grind (arith, nat_tests, count_by-cons (λ z. number z == number x) y ys, number_counted number x ys l, number_once number none x ys l)
 ]
 
+pub held_high : (x : Region) (address count : ℕ) → holds x address count ≡ true → address + count ≤ x.base + x.length
+unfolding holds
+held_high x address count h = grind (arith, nat_tests, leb_tells (address + count) (x.base + x.length), h)
+
 -- what a granted place tells
 pub record IsGrantedBy (key_of : Region → ℕ) (regions : List Region) (key address count : ℕ) (right : Right) (x : Region) : Type 0 where
   pub there : Contains regions x
@@ -85,6 +89,13 @@ held_part x address count into n h k = grind (arith, nat_tests, leb_tells x.base
 pub held_low : (x : Region) (address count : ℕ) → holds x address count ≡ true → x.base ≤ address
 unfolding holds
 held_low x address count h = grind (arith, nat_tests, leb_tells x.base address, h)
+
+-- a granted place does not go past the last address
+pub granted_unwrapped : (key_of : Region → ℕ) (regions : List Region) (domain : Name) (key address count : ℕ) (right : Right) → All (λ r. r.base + r.length ≤ 2 ^ 64) regions → address < 2 ^ 64 → is_granted key_of regions domain key address count right ≡ true → address + count ≤ 2 ^ 64
+granted_unwrapped key_of regions domain key address zero right ends small h = omega (arith, small)
+granted_unwrapped key_of regions domain key address (suc k) right ends small h =
+    let g = granted_region key_of regions domain key address (suc k) right (omega arith) h in
+    omega (arith, All-contains (λ r. r.base + r.length ≤ 2 ^ 64) regions g.0 ends g.2.there, held_high g.0 address (suc k) g.2.held)
 
 -- a place where a Write of r goes, of which so many bytes are there
 pub record IsPlaceOf (regions : List Region) (r : Posted) (into : ℕ) (p : Place) : Type 0 where

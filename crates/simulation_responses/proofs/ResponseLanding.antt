@@ -125,6 +125,7 @@ module _ (w : World) (m : Machine) (o : ObjName) (l : Link) (s : Stands w m) (h 
           ends = queues_like y.regions _ _ _ (with_more_names y.queues f.send_queue (entries_by f count) queue_here) before.ends;
           regions_in = before.regions_in;
           ends_in = before.ends_in;
+          regions_end = before.regions_end;
         }
 
     rest_is : s3.untold ≡ drop (f.told + count) f.posted

@@ -1,5 +1,5 @@
 -- Bytes land in regions of the owner: the protocol and the machine put the same, and nothing else of the regions changes.
-use Rattle.std.proofs.Common.{arith, ◌≡◌, ◌<◌, ◌≤◌, ◌+◌, ◌-◌, ◌%◌, ℕ, suc, List, [], ◌∷◌, ◌++◌, length, true, false, Bool, refl, sym, ap, ◌∙◌, subst, inl, inr}
+use Rattle.std.proofs.Common.{arith, ◌≡◌, ◌<◌, ◌^◌, ◌≤◌, ◌+◌, ◌-◌, ◌%◌, ℕ, suc, List, [], ◌∷◌, ◌++◌, length, true, false, Bool, refl, sym, ap, ◌∙◌, subst, inl, inr}
 use Rattle.std.specs.Prelude.{Option, Some, None, is_some, if◌then◌else◌, ◌==◌, ◌&&◌, ◌||◌, All, Contains, take, drop, bytes_eq}
 use Rattle.std.specs.List.{count_by}
 use Rattle.std.proofs.lemmas.Bool.Decides.{nat_tests, leb_tells, eqb_tells}
@@ -109,6 +109,7 @@ like_sound keys y rs' h whole said s = record {
   ends = ends_regions y.regions rs' _ y.ends (λ domain key place count right g. like_local y.regions rs' domain key place count right h ∙ g) s.ends;
   regions_in = like_all (λ r. has_word r.domain y.domains ≡ true) y.regions rs' h (λ r r' p k. ap (λ d. has_word d y.domains) p.domain ∙ k) s.regions_in;
   ends_in = s.ends_in;
+  regions_end = like_all (λ r. r.base + r.length ≤ 2 ^ 64) y.regions rs' h (λ r r' p k. omega (arith, p.base, p.length, k)) s.regions_end;
 }
 
 -- ---- bytes put at a place

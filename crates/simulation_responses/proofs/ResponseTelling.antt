@@ -104,6 +104,7 @@ module _ (w : World) (m : Machine) (o : ObjName) (l : Link) (s : Stands w m) (h 
           ends = queues_like y.regions _ _ _ (with_more_names y.queues f.send_queue more queue_here) before.ends;
           regions_in = before.regions_in;
           ends_in = before.ends_in;
+          regions_end = before.regions_end;
         }
 
     pub learned_goes : ContextGoes w m m' o (learned_there c o.name e' y.queues f.send_queue more) (learned_context y o.name g f.send_queue more) e' g (words.with_sender l s')

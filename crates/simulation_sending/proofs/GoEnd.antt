@@ -171,7 +171,7 @@ module _ (o : ObjName) (x y : Side) (q p : End) (s : Sender) (told known spent w
     rnr = j.rnr;
     terms = j.terms;
     exchanged = j.exchanged;
-    in_pieces = record { acting = j.in_pieces.acting; telling = g.telling; sayable = j.in_pieces.sayable; offers = j.in_pieces.offers };
+    in_pieces = record { acting = j.in_pieces.acting; telling = g.telling; sayable = j.in_pieces.sayable; offers = j.in_pieces.offers; reads = j.in_pieces.reads; old_words = j.in_pieces.old_words };
     sends = λ h. g.sends;
     over = λ h. absurd (cc (alive, h));
     ordered = g.ordered;
@@ -253,7 +253,7 @@ module _ (o : ObjName) (x y : Side) (q p : End) (n : ℕ) (connected : x.connect
     rnr = j.rnr;
     terms = j.terms;
     exchanged = j.exchanged;
-    in_pieces = record { acting = j.in_pieces.acting; telling = (zero-mod q.mtu, inl refl); sayable = j.in_pieces.sayable; offers = j.in_pieces.offers };
+    in_pieces = record { acting = j.in_pieces.acting; telling = (zero-mod q.mtu, inl refl); sayable = j.in_pieces.sayable; offers = j.in_pieces.offers; reads = j.in_pieces.reads; old_words = j.in_pieces.old_words };
     sends = λ h. absurd (cc);
     over = λ h. record { first = end_of; una = end_of; next = end_of; top = end_of };
     ordered = record {

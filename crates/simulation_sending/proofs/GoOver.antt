@@ -197,6 +197,7 @@ module _ (w : World) (m : Machine) (o : ObjName) (l : Link) (s : Stands w m) (h 
           ends = queues_like y.regions _ _ _ (ap (map (λ q. q.name)) queues_are ∙ both_names y.queues f'.send_queue f'.receive_queue _ _ send_there receive_there) before.ends;
           regions_in = before.regions_in;
           ends_in = before.ends_in;
+          regions_end = before.regions_end;
         }
 
     pub over_goes : ContextGoes w m (steps.ended_with m' o status) o (ended_with x e l' status) (over_context y o.name f' status) (over_end e l') (closed f') (ended_link l')

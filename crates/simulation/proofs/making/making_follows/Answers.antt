@@ -1,3 +1,4 @@
+use Rattle.std.proofs.Common.{arith}
 use Rattle.simulation.proofs.EventConnect.{connect_follows}
 use Rattle.simulation.proofs.EventContext.{context_follows}
 use Rattle.simulation.proofs.EventDevice.{device_follows}
@@ -11,7 +12,7 @@ pub returns-clause-domain : goal.returns-clause-domain
 returns-clause-domain c = λ o w m r s. domain_follows w m o s
 
 pub returns-clause-region : goal.returns-clause-region
-returns-clause-region c = λ o domain base length rights w m r s. region_follows w m o domain base length rights s
+returns-clause-region c = λ o domain base length rights w m r s. region_follows w m o domain base length rights (omega (arith, r.1, r.2)) s
 
 pub returns-clause-queue : goal.returns-clause-queue
 returns-clause-queue c = λ o capacity w m r s. queue_follows w m o capacity s

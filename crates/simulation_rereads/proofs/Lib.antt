@@ -1,0 +1,3 @@
+pub mod RereadNumbers
+pub mod RereadSteps
+pub mod Rereads
