@@ -25,9 +25,6 @@ pub use setup::{EndSetup, QueueSetup, RegionSetup, Setup};
 use std::alloc::{AllocError, Global};
 use std::marker::Model;
 
-#[cfg(test)]
-mod tests;
-
 /// No packet number reaches this (this project's choice).
 const NUMBER_LIMIT: u64 = 4_611_686_018_427_387_904;
 
