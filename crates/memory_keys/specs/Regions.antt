@@ -1,5 +1,5 @@
 -- What the regions of a context hold and grant, over a pool of pages.
-use Rattle.std.specs.Prelude.{ℕ, ◌≡◌, ◌≢◌, ◌+◌, ◌-◌, ◌*◌, ◌%◌, ◌≤◌, ◌<◌, ◌==◌, ◌&&◌, Bool, List, [], length, take, map, Option, Some, None, option_map, IsSomeAnd, All, nat_eq, nat_le, bytes_eq, if◌then◌else◌, unwrap_or}
+use Rattle.std.specs.Prelude.{ℕ, ◌≡◌, ◌≢◌, ◌+◌, ◌-◌, ◌*◌, ◌%◌, ◌≤◌, ◌<◌, ◌==◌, ◌&&◌, Bool, List, [], length, take, map, Option, Some, None, option_map, IsSomeAnd, All, nat_eq, nat_le, bytes_eq, if◌then◌else◌, unwrap_or, replicate}
 use Rattle.std.specs.List.{IsDistinct}
 use Rattle.rdma_types.specs.declared.names.Name.{Name}
 use Rattle.rdma_types.specs.Lists.{first_that}
@@ -30,6 +30,18 @@ region_of pool h = record {
   rights = h.head.rights;
   keys = h.head.keys;
   bytes = take h.head.length (bytes_in pool h.list);
+}
+
+-- a region of zeros
+abbrev pub blank_region : RegionHead → Region
+blank_region head = record {
+  name = head.name;
+  domain = head.domain;
+  base = head.base;
+  length = head.length;
+  rights = head.rights;
+  keys = head.keys;
+  bytes = replicate head.length 0;
 }
 
 -- the regions with their bytes

@@ -4,14 +4,17 @@
 
 ghost use Rattle.std.specs.Prelude.{◌≡◌};
 ghost use Rattle.memory_keys.specs.Faults.{fault_of};
+ghost use Rattle.memory_keys.specs.declared.MemFault.TheVariants.{OutOfMemory};
 
 mod bytes;
+mod making;
 mod regions;
 
 pub use page_pool::Payload;
 use page_pool::{PageList, PoolFault};
 use rdma_types::{Keys, Name, Rights};
 pub use regions::Regions;
+use std::alloc::AllocError;
 use thiserror::Error;
 
 /// A part of a region: `length` bytes from byte `off` on of the region with that local key. A spot of no bytes is of no
@@ -57,6 +60,14 @@ pub enum MemFault {
     /// There was no memory.
     #[error("out of memory")]
     OutOfMemory,
+}
+
+impl From<AllocError> for MemFault {
+    ghost from_gives = { λ _ e. e ≡ OutOfMemory };
+
+    fn from(_e: AllocError) -> MemFault {
+        MemFault::OutOfMemory
+    }
 }
 
 impl From<PoolFault> for MemFault {
