@@ -50,6 +50,10 @@ spot-there-mut None o P e h = absurd (none (subst (λ x. IsSomeAnd x P) (sym e) 
     none q = q
 spot-there-mut (Some x) o P e h = refl
 
+-- a place in a region that is found
+pub spot-inside : (hs : List Held) (key at count : ℕ) (h : Held) → held_at key hs ≡ Some h → h.head.base ≤ at → at + count ≤ h.head.base + h.head.length → IsSpot hs (record { region = key; off = at - h.head.base; length = count })
+spot-inside hs key at count h e low high = λ some. subst (λ o. IsSomeAnd o (λ x. (at - h.head.base) + count ≤ x.head.length)) (sym e) (omega arith)
+
 -- a spot of no bytes
 pub spot-empty : (pool : Pool) (held : List Held) (spot : Spot) → spot.length ≡ 0 → spot_bytes pool held spot ≡ []
 unfolding cut

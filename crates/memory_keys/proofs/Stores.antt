@@ -50,9 +50,29 @@ apart-new a k (x ∷ xs) all none = (differs (nat_eq k x.list) refl, apart-new a
   where
     there : IsIn a x.list
     there = (All-head (Lies a) x xs all).lives
+
     differs : (b : Bool) → nat_eq k x.list ≡ b → nat_eq k x.list ≡ false
     differs false e = e
     differs true e = let same : k ≡ x.list = grind (arith, nat_tests, e) in absurd (let none' : bytes_of a x.list ≡ None = ap (bytes_of a) (sym same) ∙ none in cc (there, none'))
+
+pub others-new : (a : Pool) (k : ℕ) (hs : List Held) → All (Lies a) hs → bytes_of a k ≡ None → All (λ h. h.list ≢ k) hs
+others-new a k [] all none = All-nil (λ h. h.list ≢ k)
+others-new a k (x ∷ xs) all none = All-cons (λ h. h.list ≢ k) x xs (λ same. absurd (let none' : bytes_of a x.list ≡ None = ap (bytes_of a) same ∙ none in cc ((All-head (Lies a) x xs all).lives, none'))) (others-new a k xs (All-tail (Lies a) x xs all) none)
+
+-- the regions stay where a list of none of them is changed
+apart-other : (k : ℕ) (hs : List Held) → All (λ h. h.list ≢ k) hs → IsApart k hs
+apart-other k [] all = tt
+apart-other k (x ∷ xs) all = (differs (nat_eq k x.list) refl (All-head (λ h. h.list ≢ k) x xs all), apart-other k xs (All-tail (λ h. h.list ≢ k) x xs all))
+  where
+    differs : (b : Bool) → nat_eq k x.list ≡ b → x.list ≢ k → nat_eq k x.list ≡ false
+    differs false e n = e
+    differs true e n = absurd (n (grind (arith, nat_tests, e)))
+
+pub held-other : (a b : Pool) (k : ℕ) (v : Option (List ℕ)) (hs : List Held) → AreHeld a hs → All (λ h. h.list ≢ k) hs → Puts a b k v → AreHeld b hs
+held-other a b k v hs h other p = record { lie = lie-apart a b k v hs p (apart-other k hs other) h.lie; apart = h.apart }
+
+pub regions-other : (a b : Pool) (k : ℕ) (v : Option (List ℕ)) (hs : List Held) → All (λ h. h.list ≢ k) hs → Puts a b k v → regions_of b hs ≡ regions_of a hs
+regions-other a b k v hs other p = regions-apart a b k v hs p (apart-other k hs other)
 
 -- the regions stay where a new list is made
 pub held-new : (a b : Pool) (k : ℕ) (v : Option (List ℕ)) (hs : List Held) → AreHeld a hs → bytes_of a k ≡ None → Puts a b k v → AreHeld b hs

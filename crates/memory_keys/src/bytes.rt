@@ -1,6 +1,6 @@
 //! The bytes of regions.
 
-ghost use Rattle.std.specs.Prelude.{◌≡◌, ℕ, ◌+◌, ◌<◌, ◌≤◌, ◌↔◌, length, Some, None, OnOk, OnErr, IfOk, IsErrOf};
+ghost use Rattle.std.specs.Prelude.{◌≡◌, ◌≢◌, All, ℕ, ◌+◌, ◌<◌, ◌≤◌, ◌↔◌, length, Some, None, OnOk, OnErr, IfOk, IsErrOf};
 ghost use Rattle.rdma_types.specs.Memory.{put, word_of, word_bytes};
 ghost use Rattle.page_pool.specs.Pool.{Pool, Puts, bytes_of, bytes_in, free_pages};
 ghost use Rattle.page_pool.specs.Held.{HoldsPayload, payload_bytes};
@@ -85,8 +85,10 @@ impl Regions {
         ensures held { AreHeld pool.new self.new }
         ensures regions { regions_of pool.new self.new ≡ regions_of pool.old self.old }
         ensures new { IfOk result (λ p. bytes_of pool.old p.list ≡ None) }
+        ensures apart { IfOk result (λ p. All (λ h. h.list ≢ p.list) self.new) }
         ensures puts { IfOk result (λ p. Puts pool.old pool.new p.list (bytes_of pool.new p.list)) }
         ensures holds { IfOk result (λ p. HoldsPayload pool.new p) }
+        ensures length { IfOk result (λ p. p.length ≡ spot.length) }
         ensures bytes { IfOk result (λ p. payload_bytes pool.new p ≡ spot_bytes pool.old self.old spot) }
         ensures free { OnOk result (free_pages pool.new + pages_touched spot ≡ free_pages pool.old) }
         ensures no_page { IsErrOf result MemFault.NoPage ↔ (free_pages pool.old < pages_touched spot) }

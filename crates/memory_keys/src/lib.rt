@@ -80,3 +80,6 @@ impl From<PoolFault> for MemFault {
         }
     }
 }
+
+#[cfg(test)]
+mod tests;

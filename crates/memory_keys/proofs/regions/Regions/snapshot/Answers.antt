@@ -5,7 +5,7 @@ use Rattle.page_pool.specs.Pool.{bytes_in}
 use Rattle.page_pool.specs.Held.{payload_bytes}
 use Rattle.page_pool.proofs.Writes.{in-after}
 use Rattle.memory_keys.proofs.Spots.{spot-in, spot-is, spot-empty, lies-pages, pages-within, touched-is, snap, told}
-use Rattle.memory_keys.proofs.Stores.{regions-new}
+use Rattle.memory_keys.proofs.Stores.{others-new, regions-new}
 use Rattle.memory_keys.proofs.regions.Regions.snapshot.Goals as goal
 
 pub returns-then-spot-eq0-clause-bytes : goal.returns-then-spot-eq0-clause-bytes
@@ -61,3 +61,9 @@ returns-then-spot-eq0-clause-regions c = regions-new c.args.pool.now c.take.new.
 
 pub returns-clause-regions : goal.returns-clause-regions
 returns-clause-regions c = regions-new c.args.pool.now c.share.new.self c.in_ok-list-2.list _ c.args.self.now c.requires.held c.in_ok-list-2.ensures.new c.in_ok-list-2.ensures.puts
+
+pub returns-then-spot-eq0-clause-apart : goal.returns-then-spot-eq0-clause-apart
+returns-then-spot-eq0-clause-apart c = others-new c.args.pool.now c.in_ok-list.list c.args.self.now c.requires.held.lie c.in_ok-list.ensures.new
+
+pub returns-clause-apart : goal.returns-clause-apart
+returns-clause-apart c = others-new c.args.pool.now c.in_ok-list-2.list c.args.self.now c.requires.held.lie c.in_ok-list-2.ensures.new
