@@ -1,2 +1,5 @@
 pub mod Found
 pub mod Spots
+pub mod Stores
+pub mod Made
+pub mod Dropped

@@ -1,11 +1,13 @@
 -- Spots in regions, and their bytes.
-use Rattle.std.proofs.Common.{◌≡◌, ℕ, ◌+◌, ◌-◌, ◌*◌, ◌/◌, ◌%◌, ◌<◌, ◌≤◌, ◌≢◌, List, [], length, take, drop, refl, ap, sym, ◌∙◌, arith, subst, true, false, Bool}
-use Rattle.std.specs.Prelude.{Option, Some, None, IsSome, IsSomeAnd, is_some, unwrap_or, option_map, ◌==◌, ◌↔◌, Result, Ok, Err, IsErrOf}
+use Rattle.std.proofs.Common.{◌≡◌, ℕ, ◌+◌, ◌-◌, ◌*◌, ◌/◌, ◌%◌, ◌<◌, ◌≤◌, ◌≢◌, List, [], ◌∷◌, length, take, drop, refl, ap, sym, ◌∙◌, arith, subst, true, false, Bool}
+use Rattle.std.specs.Prelude.{All, Option, Some, None, IsSome, IsSomeAnd, is_some, unwrap_or, option_map, ◌==◌, ◌↔◌, Result, Ok, Err, IsErrOf}
 use Rattle.std.specs.Result.{IsErrAnd}
-use Rattle.std.specs.Option.{option_copied}
-use Rattle.std.specs.Borrow.{Bor}
+use Rattle.std.specs.Option.{option_copied, option_copied_mut}
+use Rattle.std.specs.Borrow.{Bor, MutBor}
 use Rattle.std.specs.Int.{div_ceil}
 use Rattle.std.proofs.lemmas.Bool.Decides.{nat_tests}
+use Rattle.std.proofs.lemmas.List.Elements.{All-head, All-tail}
+use Rattle.rdma_types.specs.Lists.{first_that}
 use Rattle.rdma_types.specs.Memory.{cut}
 use Rattle.byte_run.proofs.Cuts.{cut-cut, length-cut}
 use Rattle.page_pool.specs.Pool.{Pool, Puts, IsIn, bytes_of, bytes_in, pages_of, pages_for}
@@ -17,11 +19,21 @@ use Rattle.memory_keys.specs.declared.MemFault.TheVariants.{NoPage, OutOfMemory}
 use Rattle.memory_keys.specs.Faults.{fault_of}
 use Rattle.memory_keys.specs.declared.Held.{Held}
 use Rattle.memory_keys.specs.declared.Spot.{Spot}
-use Rattle.memory_keys.specs.Regions.{IsSpot, Lies, held_at, spot_bytes, pages_touched}
+use Rattle.memory_keys.specs.Regions.{AreHeld, IsSpot, Lies, held_at, spot_bytes, pages_touched}
+
+-- a region that is found lies in the pool
+pub found-lies : (pool : Pool) (key : ℕ) (hs : List Held) (h : Held) → All (Lies pool) hs → held_at key hs ≡ Some h → Lies pool h
+unfolding first_that
+found-lies pool key [] h all e = absurd (cc)
+found-lies pool key (x ∷ xs) h all e = by_test (x.head.keys.local == key) refl (found-lies pool key xs h (All-tail (Lies pool) x xs all)) (All-head (Lies pool) x xs all)
+  where
+    by_test : (b : Bool) → (x.head.keys.local == key) ≡ b → (held_at key xs ≡ Some h → Lies pool h) → Lies pool x → Lies pool h
+    by_test true t rest here = let same : x ≡ h = grind (arith, t, e) in subst (Lies pool) same here
+    by_test false t rest here = rest (grind (arith, t, e))
 
 -- a region that is found lies in the pool, and holds the spot
-pub spot-in : (pool : Pool) (held : List Held) (spot : Spot) (h : Held) → IsSpot pool held spot → 0 < spot.length → held_at spot.region held ≡ Some h → Lies pool h × (spot.off + spot.length ≤ h.head.length)
-spot-in pool held spot h is l e = subst (λ o. IsSomeAnd o (λ x. Lies pool x × (spot.off + spot.length ≤ x.head.length))) e (is l)
+pub spot-in : (pool : Pool) (held : List Held) (spot : Spot) (h : Held) → AreHeld pool held → IsSpot held spot → 0 < spot.length → held_at spot.region held ≡ Some h → Lies pool h × (spot.off + spot.length ≤ h.head.length)
+spot-in pool held spot h are is l e = (found-lies pool spot.region held h are.lie e, subst (λ o. IsSomeAnd o (λ x. spot.off + spot.length ≤ x.head.length)) e (is l))
 
 -- a spot of some bytes has a region
 pub spot-there : (r : Option (Bor Held)) (o : Option Held) (P : Held → Type 0) → option_copied r ≡ o → IsSomeAnd o P → IsSome r
@@ -30,6 +42,17 @@ spot-there None o P e h = absurd (none (subst (λ x. IsSomeAnd x P) (sym e) h))
     none : IsSomeAnd None P → ⊥
     none q = q
 spot-there (Some x) o P e h = refl
+
+pub spot-there-mut : (r : Option (MutBor Held)) (o : Option Held) (P : Held → Type 0) → option_copied_mut r ≡ o → IsSomeAnd o P → IsSome r
+spot-there-mut None o P e h = absurd (none (subst (λ x. IsSomeAnd x P) (sym e) h))
+  where
+    none : IsSomeAnd None P → ⊥
+    none q = q
+spot-there-mut (Some x) o P e h = refl
+
+-- a place in a region that is found
+pub spot-inside : (hs : List Held) (key at count : ℕ) (h : Held) → held_at key hs ≡ Some h → h.head.base ≤ at → at + count ≤ h.head.base + h.head.length → IsSpot hs (record { region = key; off = at - h.head.base; length = count })
+spot-inside hs key at count h e low high = λ some. subst (λ o. IsSomeAnd o (λ x. (at - h.head.base) + count ≤ x.head.length)) (sym e) (omega arith)
 
 -- a spot of no bytes
 pub spot-empty : (pool : Pool) (held : List Held) (spot : Spot) → spot.length ≡ 0 → spot_bytes pool held spot ≡ []

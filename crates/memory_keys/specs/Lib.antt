@@ -1,3 +1,4 @@
 pub mod Keyed
 pub mod Regions
 pub mod Faults
+pub mod Causes

@@ -1,11 +1,12 @@
 -- What the regions of a context hold and grant, over a pool of pages.
-use Rattle.std.specs.Prelude.{ℕ, ◌≡◌, ◌+◌, ◌-◌, ◌*◌, ◌%◌, ◌≤◌, ◌<◌, ◌==◌, ◌&&◌, Bool, List, [], length, take, map, Option, Some, None, option_map, IsSomeAnd, All, nat_eq, nat_le, bytes_eq, if◌then◌else◌, unwrap_or}
+use Rattle.std.specs.Prelude.{ℕ, ◌≡◌, ◌≢◌, ◌+◌, ◌-◌, ◌*◌, ◌%◌, ◌≤◌, ◌<◌, ◌==◌, ◌&&◌, Bool, List, [], length, take, map, Option, Some, None, option_map, IsSomeAnd, All, nat_eq, nat_le, bytes_eq, if◌then◌else◌, unwrap_or, replicate}
 use Rattle.std.specs.List.{IsDistinct}
 use Rattle.rdma_types.specs.declared.names.Name.{Name}
 use Rattle.rdma_types.specs.Lists.{first_that}
 use Rattle.rdma_types.specs.Memory.{Right, allows, granted, cut}
 use Rattle.rdma_types.specs.Objects.{Region}
-use Rattle.page_pool.specs.Pool.{Pool, IsIn, bytes_in, pages_for}
+use Rattle.page_pool.specs.Pool.{Pool, IsIn, bytes_of, bytes_in, pages_for}
+use Rattle.protocol.specs.Memory.{stored}
 use Rattle.memory_keys.specs.declared.Held.{Held}
 use Rattle.memory_keys.specs.declared.RegionHead.{RegionHead}
 use Rattle.memory_keys.specs.declared.Spot.{Spot}
@@ -31,6 +32,18 @@ region_of pool h = record {
   bytes = take h.head.length (bytes_in pool h.list);
 }
 
+-- a region of zeros
+abbrev pub blank_region : RegionHead → Region
+blank_region head = record {
+  name = head.name;
+  domain = head.domain;
+  base = head.base;
+  length = head.length;
+  rights = head.rights;
+  keys = head.keys;
+  bytes = replicate head.length 0;
+}
+
 -- the regions with their bytes
 abbrev pub regions_of : Pool → List Held → List Region
 regions_of pool held = map (region_of pool) held
@@ -54,9 +67,23 @@ pub record Lies (pool : Pool) (h : Held) : Type 0 where
   pub lives : IsIn pool h.list
   pub size : length (bytes_in pool h.list) ≡ 4096 * pages_for h.head.length
 
+-- each region has a list of its own, which lives in the pool and has exactly the pages of the region
+pub record AreHeld (pool : Pool) (held : List Held) : Type 0 where
+  pub lie : All (Lies pool) held
+  pub apart : IsDistinct nat_eq (map (λ h. h.list) held)
+
+-- lists of no region are as they were
+pub record KeepsOthers (old new : Pool) (held : List Held) : Type 0 where
+  pub pages : new.pages ≡ old.pages
+  pub others : (list : ℕ) → IsIn old list → All (λ h. h.list ≢ list) held → bytes_of new list ≡ bytes_of old list
+
 -- a spot of no bytes, or one inside a region that is held
-abbrev pub IsSpot : Pool → List Held → Spot → Type 0
-IsSpot pool held spot = 0 < spot.length → IsSomeAnd (held_at spot.region held) (λ h. Lies pool h × (spot.off + spot.length ≤ h.head.length))
+abbrev pub IsSpot : List Held → Spot → Type 0
+IsSpot held spot = 0 < spot.length → IsSomeAnd (held_at spot.region held) (λ h. spot.off + spot.length ≤ h.head.length)
+
+-- the regions with bytes at a spot
+abbrev pub stored_at : Spot → List ℕ → List Region → List Region
+stored_at spot new regions = map (λ r. if r.keys.local == spot.region then stored r spot.off new else r) regions
 
 -- the bytes of a spot
 abbrev pub spot_bytes : Pool → List Held → Spot → List ℕ

@@ -1,11 +1,11 @@
 //! The bytes of regions.
 
-ghost use Rattle.std.specs.Prelude.{◌≡◌, ℕ, ◌+◌, ◌<◌, ◌≤◌, ◌↔◌, length, Some, None, OnOk, OnErr, IfOk, IsErrOf};
+ghost use Rattle.std.specs.Prelude.{◌≡◌, ◌≢◌, All, ℕ, ◌+◌, ◌<◌, ◌≤◌, ◌↔◌, length, Some, None, OnOk, OnErr, IfOk, IsErrOf};
 ghost use Rattle.rdma_types.specs.Memory.{put, word_of, word_bytes};
 ghost use Rattle.page_pool.specs.Pool.{Pool, Puts, bytes_of, bytes_in, free_pages};
 ghost use Rattle.page_pool.specs.Held.{HoldsPayload, payload_bytes};
 ghost use Rattle.memory_keys.specs.declared.Held.{Held};
-ghost use Rattle.memory_keys.specs.Regions.{IsSpot, spot_bytes, held_at, pages_touched};
+ghost use Rattle.memory_keys.specs.Regions.{AreHeld, KeepsOthers, IsSpot, regions_of, spot_bytes, stored_at, held_at, pages_touched};
 
 use crate::{MemFault, Regions, Spot};
 use page_pool::{PagePool, Payload};
@@ -14,7 +14,8 @@ use std::alloc::Global;
 impl Regions {
     /// Copies the bytes of a spot. It takes no memory.
     pub fn load(&self, pool: &PagePool, spot: Spot, out: &mut [u8])
-        requires spot { IsSpot pool.now self.now spot }
+        requires held { AreHeld pool.now self.now }
+        requires spot { IsSpot self.now spot }
         requires length { length out.old ≡ spot.length }
         ensures { out.new ≡ spot_bytes pool.now self.now spot }
     {
@@ -27,13 +28,47 @@ impl Regions {
 
     /// The word at a spot of eight bytes (this project's choice: big-endian). It takes no memory.
     pub fn fetch_word(&self, pool: &PagePool, spot: Spot) -> u64
-        requires spot { IsSpot pool.now self.now spot }
+        requires held { AreHeld pool.now self.now }
+        requires spot { IsSpot self.now spot }
         requires length { spot.length ≡ 8 }
         ensures { result ≡ word_of (spot_bytes pool.now self.now spot) }
     {
         let mut bytes = [0; 8];
         self.load(pool, spot, &mut bytes);
         u64::from_be_bytes(bytes)
+    }
+
+    /// Stores bytes at a spot, as many as it has. A page that a payload shares is copied first, and there is always a page
+    /// for the copy. It takes no memory.
+    pub fn store(&mut self, pool: &mut PagePool, spot: Spot, bytes: &[u8])
+        requires held { AreHeld pool.old self.old }
+        requires spot { IsSpot self.old spot }
+        requires length { length bytes.now ≡ spot.length }
+        ensures same { self.new ≡ self.old }
+        ensures held { AreHeld pool.new self.new }
+        ensures regions { regions_of pool.new self.new ≡ stored_at spot bytes.now (regions_of pool.old self.old) }
+        ensures others { KeepsOthers pool.old pool.new self.old }
+        ensures free { free_pages pool.new ≡ free_pages pool.old }
+    {
+        if spot.length == 0 {
+            return;
+        }
+        let held = self.held.get_mut(&spot.region).unwrap();
+        pool.write(&mut held.list, u64::from(spot.off), bytes);
+    }
+
+    /// Stores a word at a spot of eight bytes (this project's choice: big-endian). It takes no memory.
+    pub fn put_word(&mut self, pool: &mut PagePool, spot: Spot, word: u64)
+        requires held { AreHeld pool.old self.old }
+        requires spot { IsSpot self.old spot }
+        requires length { spot.length ≡ 8 }
+        ensures same { self.new ≡ self.old }
+        ensures held { AreHeld pool.new self.new }
+        ensures regions { regions_of pool.new self.new ≡ stored_at spot (word_bytes word) (regions_of pool.old self.old) }
+        ensures others { KeepsOthers pool.old pool.new self.old }
+        ensures free { free_pages pool.new ≡ free_pages pool.old }
+    {
+        self.store(pool, spot, &word.to_be_bytes());
     }
 
     /// The bytes of a spot as they are now, whatever is stored later: the region and the payload share pages. `NoPage`
@@ -44,11 +79,16 @@ impl Regions {
         alloc: Global,
         spot: Spot,
     ) -> Result<Payload, MemFault>
-        requires { IsSpot pool.old self.old spot }
+        requires held { AreHeld pool.old self.old }
+        requires spot { IsSpot self.old spot }
         ensures same { self.new ≡ self.old }
+        ensures held { AreHeld pool.new self.new }
+        ensures regions { regions_of pool.new self.new ≡ regions_of pool.old self.old }
         ensures new { IfOk result (λ p. bytes_of pool.old p.list ≡ None) }
+        ensures apart { IfOk result (λ p. All (λ h. h.list ≢ p.list) self.new) }
         ensures puts { IfOk result (λ p. Puts pool.old pool.new p.list (bytes_of pool.new p.list)) }
         ensures holds { IfOk result (λ p. HoldsPayload pool.new p) }
+        ensures length { IfOk result (λ p. p.length ≡ spot.length) }
         ensures bytes { IfOk result (λ p. payload_bytes pool.new p ≡ spot_bytes pool.old self.old spot) }
         ensures free { OnOk result (free_pages pool.new + pages_touched spot ≡ free_pages pool.old) }
         ensures no_page { IsErrOf result MemFault.NoPage ↔ (free_pages pool.old < pages_touched spot) }

@@ -4,14 +4,17 @@
 
 ghost use Rattle.std.specs.Prelude.{◌≡◌};
 ghost use Rattle.memory_keys.specs.Faults.{fault_of};
+ghost use Rattle.memory_keys.specs.declared.MemFault.TheVariants.{OutOfMemory};
 
 mod bytes;
+mod making;
 mod regions;
 
 pub use page_pool::Payload;
 use page_pool::{PageList, PoolFault};
 use rdma_types::{Keys, Name, Rights};
 pub use regions::Regions;
+use std::alloc::AllocError;
 use thiserror::Error;
 
 /// A part of a region: `length` bytes from byte `off` on of the region with that local key. A spot of no bytes is of no
@@ -59,6 +62,14 @@ pub enum MemFault {
     OutOfMemory,
 }
 
+impl From<AllocError> for MemFault {
+    ghost from_gives = { λ _ e. e ≡ OutOfMemory };
+
+    fn from(_e: AllocError) -> MemFault {
+        MemFault::OutOfMemory
+    }
+}
+
 impl From<PoolFault> for MemFault {
     ghost from_gives = { λ fault e. e ≡ fault_of fault };
 
@@ -69,3 +80,6 @@ impl From<PoolFault> for MemFault {
         }
     }
 }
+
+#[cfg(test)]
+mod tests;

@@ -1,12 +1,12 @@
 //! The regions of a context.
 
-ghost use Rattle.std.specs.Prelude.{◌≡◌, ℕ, ◌+◌, ◌-◌, ◌^◌, ◌≤◌, ◌<◌, ◌==◌, ◌&&◌, List, [], length, Bool, if◌then◌else◌, option_map, slice_get, bytes_eq, true};
+ghost use Rattle.std.specs.Prelude.{◌≡◌, ℕ, ◌+◌, ◌-◌, ◌^◌, ◌≤◌, ◌<◌, ◌==◌, ◌&&◌, List, [], length, Bool, if◌then◌else◌, option_map, slice_get, bytes_eq, true, IfSome};
 ghost use Rattle.std.specs.Option.{option_copied};
 ghost use Rattle.std.specs.Bool.{OnTrue};
 ghost use Rattle.rdma_types.specs.Lists.{first_that};
 ghost use Rattle.rdma_types.specs.Memory.{Right, NoRight, LocalWrite, allows, set_of, local_key, remote_key, cut};
 ghost use Rattle.page_pool.specs.Pool.{Pool};
-ghost use Rattle.memory_keys.specs.Regions.{held_at, AreKeyed, regions_of, gives, granted_spot, holds_range, IsSpot, spot_bytes};
+ghost use Rattle.memory_keys.specs.Regions.{held_at, AreKeyed, regions_of, gives, granted_spot, holds_range, IsSpot, AreHeld};
 
 use crate::{Held, RegionHead, Spot};
 use indexmap::IndexMap;
@@ -37,7 +37,8 @@ impl Model for Regions {
 impl Regions {
     /// No region.
     pub fn make(alloc: Global) -> Regions
-        ensures { result ≡ [] }
+        ensures empty { result ≡ [] }
+        ensures held { (pool : Pool) → AreHeld pool result }
     {
         Regions {
             held: IndexMap::new(alloc),
@@ -62,7 +63,9 @@ impl Regions {
         length: u32,
         landing: bool,
     ) -> Option<Spot>
-        ensures { (pool : Pool) → result ≡ granted_spot local_key (regions_of pool self.now) domain lkey at length (if landing then LocalWrite else NoRight) }
+        ensures granted { (pool : Pool) → result ≡ granted_spot local_key (regions_of pool self.now) domain lkey at length (if landing then LocalWrite else NoRight) }
+        ensures inside { IfSome result (λ spot. IsSpot self.now spot) }
+        ensures length { IfSome result (λ spot. spot.length ≡ length) }
     {
         let right = if landing {
             Rights::LOCAL_WRITE
@@ -82,7 +85,9 @@ impl Regions {
         length: u32,
         right: Rights,
     ) -> Option<Spot>
-        ensures { (pool : Pool) (needed : Right) → right.0 ≡ set_of needed → result ≡ granted_spot remote_key (regions_of pool self.now) domain rkey at length needed }
+        ensures granted { (pool : Pool) (needed : Right) → right.0 ≡ set_of needed → result ≡ granted_spot remote_key (regions_of pool self.now) domain rkey at length needed }
+        ensures inside { IfSome result (λ spot. IsSpot self.now spot) }
+        ensures length { IfSome result (λ spot. spot.length ≡ length) }
     {
         if length == 0 {
             return Some(Spot {
@@ -98,7 +103,9 @@ impl Regions {
 
     /// The place that the region with a local key grants.
     fn check(&self, domain: Name, key: u32, at: u64, length: u32, right: Rights) -> Option<Spot>
-        ensures { (pool : Pool) (needed : Right) → right.0 ≡ set_of needed → result ≡ granted_spot local_key (regions_of pool self.now) domain key at length needed }
+        ensures granted { (pool : Pool) (needed : Right) → right.0 ≡ set_of needed → result ≡ granted_spot local_key (regions_of pool self.now) domain key at length needed }
+        ensures inside { IfSome result (λ spot. IsSpot self.now spot) }
+        ensures length { IfSome result (λ spot. spot.length ≡ length) }
     {
         if length == 0 {
             return Some(Spot {
@@ -132,6 +139,7 @@ impl Regions {
 fn gives(head: &RegionHead, domain: Name, at: u64, length: u32, right: Rights) -> bool
     ensures value { (needed : Right) → right.0 ≡ set_of needed → result ≡ gives head.now domain at length needed }
     ensures low { OnTrue result (head.now.base ≤ at) }
+    ensures high { OnTrue result (at + length ≤ head.now.base + head.now.length) }
     ensures offset { OnTrue result (at - head.now.base < 2 ^ 32) }
 {
     if head.domain != domain || head.rights.0 & right.0 != right.0 {
@@ -144,6 +152,7 @@ fn gives(head: &RegionHead, domain: Name, at: u64, length: u32, right: Rights) -
 fn within(head: &RegionHead, at: u64, length: u32) -> bool
     ensures holds { result ≡ holds_range head.now at length }
     ensures low { OnTrue result (head.now.base ≤ at) }
+    ensures high { OnTrue result (at + length ≤ head.now.base + head.now.length) }
     ensures offset { OnTrue result (at - head.now.base < 2 ^ 32) }
 {
     let end = u64::from(head.length);

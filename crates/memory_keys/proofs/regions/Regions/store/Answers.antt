@@ -1,0 +1,67 @@
+use Rattle.std.proofs.Common.{◌≡◌, ◌+◌, ◌≤◌, ℕ, arith, ap, sym, ◌∙◌, length, subst}
+use Rattle.std.specs.Prelude.{Some, nat_eq}
+use Rattle.std.specs.Option.{option_copied_mut}
+use Rattle.std.specs.Map.{values_of, lookup}
+use Rattle.rdma_types.specs.Memory.{put}
+use Rattle.page_pool.specs.Pool.{Puts, bytes_in}
+use Rattle.memory_keys.specs.declared.Held.{Held}
+use Rattle.memory_keys.specs.Keyed.{IsKeyed}
+use Rattle.memory_keys.specs.Regions.{AreHeld, regions_of, held_at}
+use Rattle.memory_keys.proofs.Found.{found, keyed}
+use Rattle.memory_keys.proofs.Spots.{spot-in, spot-there-mut, holds-pages}
+use Rattle.memory_keys.proofs.Stores.{set-same, stored-nothing, regions-stored, lie-stored}
+use Rattle.memory_keys.proofs.regions.Regions.store.Goals as goal
+
+pub returns-then-spot-eq0-clause-regions : goal.returns-then-spot-eq0-clause-regions
+returns-then-spot-eq0-clause-regions c = sym (stored-nothing c.args.spot c.args.bytes.now (regions_of c.args.pool.now c.args.self.now) (omega (arith, c.requires.length)))
+
+pub unwrap-held-requires : goal.unwrap-held-requires
+unwrap-held-requires c =
+    let e = c.get_mut.ensures.value ∙ (found c.args.spot.region c.self.inside.held.entries c.self.invariant.local ∙ ap (held_at c.args.spot.region) c.self.view_is) in
+    spot-there-mut c.get_mut.result _ _ e (c.requires.spot (omega arith))
+
+pub write-requires-clause-inside : goal.write-requires-clause-inside
+write-requires-clause-inside c =
+    let e = c.get_mut.ensures.value ∙ (found c.args.spot.region c.self.inside.held.entries c.self.invariant.local ∙ ap (held_at c.args.spot.region) c.self.view_is) in
+    let f = sym e ∙ ap option_copied_mut c.unwrap-held.ensures in
+    let s = spot-in c.args.pool.now c.args.self.now c.args.spot c.unwrap-held.result.now c.requires.held c.requires.spot (omega arith) f in
+    omega (arith, s.0.size, s.1, c.from.ensures, c.requires.length, holds-pages c.unwrap-held.result.now.head.length)
+
+pub invariant_of-self : goal.invariant_of-self
+invariant_of-self c =
+    let h = c.unwrap-held.result.now in
+    let at = sym c.get_mut.ensures.value ∙ ap option_copied_mut c.unwrap-held.ensures in
+    let w : Held = record { head = h.head; list = c.write.new.list } in
+    let same = (c.get_mut.follows.holds w).0 ∙ set-same c.args.spot.region c.self.inside.held.entries h w at (ap (λ l. record { head = h.head; list = l }) c.write.ensures.list) in
+    subst IsKeyed (sym same) c.self.invariant
+
+pub returns-clause-same : goal.returns-clause-same
+returns-clause-same c =
+    let h = c.unwrap-held.result.now in
+    let at = sym c.get_mut.ensures.value ∙ ap option_copied_mut c.unwrap-held.ensures in
+    let w : Held = record { head = h.head; list = c.write.new.list } in
+    let same = (c.get_mut.follows.holds w).0 ∙ set-same c.args.spot.region c.self.inside.held.entries h w at (ap (λ l. record { head = h.head; list = l }) c.write.ensures.list) in
+    ap values_of same ∙ c.self.view_is
+
+pub returns-clause-held : goal.returns-clause-held
+returns-clause-held c =
+    let h = c.unwrap-held.result.now in
+    let e = c.get_mut.ensures.value ∙ (found c.args.spot.region c.self.inside.held.entries c.self.invariant.local ∙ ap (held_at c.args.spot.region) c.self.view_is) in
+    let f = sym e ∙ ap option_copied_mut c.unwrap-held.ensures in
+    let s = spot-in c.args.pool.now c.args.self.now c.args.spot h c.requires.held c.requires.spot (omega arith) f in
+    let puts = subst (λ n. Puts c.args.pool.now c.write.new.self h.list (Some (put (bytes_in c.args.pool.now h.list) n c.args.bytes.now))) c.from.ensures c.write.ensures.puts in
+    subst (AreHeld c.write.new.self) (sym (returns-clause-same c)) (record {
+      lie = lie-stored c.args.pool.now c.write.new.self c.args.spot c.args.bytes.now h c.args.self.now c.requires.held.apart c.requires.held.lie f (omega (arith, s.1, c.requires.length)) puts;
+      apart = c.requires.held.apart;
+    })
+
+pub returns-clause-regions : goal.returns-clause-regions
+returns-clause-regions c =
+    let h = c.unwrap-held.result.now in
+    let e = c.get_mut.ensures.value ∙ (found c.args.spot.region c.self.inside.held.entries c.self.invariant.local ∙ ap (held_at c.args.spot.region) c.self.view_is) in
+    let f = sym e ∙ ap option_copied_mut c.unwrap-held.ensures in
+    let s = spot-in c.args.pool.now c.args.self.now c.args.spot h c.requires.held c.requires.spot (omega arith) f in
+    let keys = (keyed c.self.inside.held.entries c.args.self.now c.self.invariant c.self.view_is).distinct in
+    let puts = subst (λ n. Puts c.args.pool.now c.write.new.self h.list (Some (put (bytes_in c.args.pool.now h.list) n c.args.bytes.now))) c.from.ensures c.write.ensures.puts in
+    ap (regions_of c.write.new.self) (returns-clause-same c)
+    ∙ regions-stored c.args.pool.now c.write.new.self c.args.spot c.args.bytes.now h c.args.self.now keys c.requires.held.apart c.requires.held.lie f (omega (arith, s.1, c.requires.length)) puts
