@@ -1,3 +1,4 @@
 pub mod Runs
 pub mod Table
 pub mod Requests
+pub mod Unchanged
