@@ -9,8 +9,10 @@ ghost use Rattle.protocol.specs.declared.events.WorldEvent.{WorldEvent};
 ghost use Rattle.simulation.specs.Law.{AlwaysFollows, Law};
 ghost use Rattle.simulation_runs.specs.Runs.{IsHeardLegal, RunsFollow};
 
+mod once;
 mod unseen;
 
+pub use once::requests_act_once;
 pub use unseen::unseen_changes_nothing;
 use simulation::{making_follows, memory_follows, network_follows, posting_follows, starts};
 use simulation_atomics::{atomics_are_taken, repeated_atomics_are_answered};
