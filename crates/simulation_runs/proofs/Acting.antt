@@ -34,7 +34,7 @@ use Rattle.simulation_runs.specs.Once.{acted_of, IsTurnOf, ActsByOne, ActsOnce, 
 -- ---- things in lists
 
 -- one thing is replaced by one of the same name: what is found of each name stands in the relation
-related : {A : Type 0} (R : A → A → Type 0) (same : (a : A) → R a a) (name : A → List ℕ) (none other : A) (k j : List ℕ) (x : A) (xs : List A) → name x ≡ name (named name none k xs) → R x (named name none k xs) → R (named name other j (replaced name k x xs)) (named name other j xs)
+pub related : {A : Type 0} (R : A → A → Type 0) (same : (a : A) → R a a) (name : A → List ℕ) (none other : A) (k j : List ℕ) (x : A) (xs : List A) → name x ≡ name (named name none k xs) → R x (named name none k xs) → R (named name other j (replaced name k x xs)) (named name other j xs)
 unfolding named replaced place_where
 related R same name none other k j x [] n r = same other
 related R same name none other k j x (y ∷ ys) n r = by (bytes_eq (name y) k) refl n r (related R same name none other k j x ys)
@@ -68,7 +68,7 @@ other_found name none other k j x (y ∷ ys) ne n = by (bytes_eq (name y) k) ref
     by false e n ih = let rest = ih (rw e at n) in rw e (ap (λ z. if bytes_eq (name y) j then y else z) rest)
 
 -- one thing more, which says of itself what nothing would
-pushed : {A B : Type 0} (f : A → B) (name : A → List ℕ) (none : A) (n : List ℕ) (y : A) (xs : List A) → f y ≡ f none → f (named name none n (xs ++ y ∷ [])) ≡ f (named name none n xs)
+pub pushed : {A B : Type 0} (f : A → B) (name : A → List ℕ) (none : A) (n : List ℕ) (y : A) (xs : List A) → f y ≡ f none → f (named name none n (xs ++ y ∷ [])) ≡ f (named name none n xs)
 unfolding named
 pushed f name none n y [] h = by (bytes_eq (name y) n)
   where

@@ -3,3 +3,4 @@ pub mod Table
 pub mod Requests
 pub mod Unchanged
 pub mod Acting
+pub mod Statuses

@@ -10,10 +10,10 @@ ghost use Rattle.simulation.specs.Law.{AlwaysFollows, Law};
 ghost use Rattle.simulation_runs.specs.Runs.{IsHeardLegal, RunsFollow};
 
 mod once;
+mod spent;
 mod unseen;
 
 pub use once::requests_act_once;
-pub use unseen::unseen_changes_nothing;
 use simulation::{making_follows, memory_follows, network_follows, posting_follows, starts};
 use simulation_atomics::{atomics_are_taken, repeated_atomics_are_answered};
 use simulation_delivery::deliveries_follow;
@@ -29,6 +29,8 @@ use simulation_responses::{
     receiver_not_ready_is_taken, refusals_are_taken, sequence_naks_are_taken,
 };
 use simulation_sending::sending_follows;
+pub use spent::limits_are_spent;
+pub use unseen::unseen_changes_nothing;
 
 /// The machine follows each run of events that it always follows, and what applications hear in a run that it follows from the
 /// empty world on is legal.

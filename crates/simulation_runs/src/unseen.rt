@@ -1,6 +1,7 @@
 //! What moves, the network and a requester's own clock do not change.
 
 ghost use Rattle.simulation_runs.specs.Unseen.{UnseenChangesNothing};
+
 use crate::law_holds;
 
 /// In each run, a stop, a restore or a release, a loss, a look at a datagram, a transmission and the end of an RNR timer change
