@@ -1,6 +1,6 @@
 -- The requests of an end once one of them met no receive, or was refused: nothing else of them changes.
 use Rattle.std.proofs.Common.{arith, ◌≡◌, ◌<◌, ◌≤◌, ◌⊎◌, ℕ, zero, suc, List, [], ◌∷◌, ◌++◌, length, true, refl, sym, ap, ◌∙◌, subst, inr}
-use Rattle.std.specs.Prelude.{Some, slice_get, All}
+use Rattle.std.specs.Prelude.{Some, slice_get}
 use Rattle.std.proofs.lemmas.List.{length_push}
 use Rattle.std.proofs.lemmas.List.Elements.{All-weaker, Contains-append_left}
 use Rattle.rdma_types.specs.declared.names.Name.{Name}
@@ -12,7 +12,7 @@ use Rattle.ideal_model.specs.declared.reply.Reply.TheVariants.{Denied}
 use Rattle.ideal_model.specs.Machine.{End, posted_at, untold_count}
 use Rattle.ideal_model.specs.Numbers.{due}
 use Rattle.ideal_model.specs.Sound.{IsReplyTo, IsOfferOf, IsDenial}
-use Rattle.ideal_model.specs.Steps.{current, in_place, untold}
+use Rattle.ideal_model.specs.Steps.{in_place, untold}
 use Rattle.simulation.specs.Joined.{IsInPieces, IsProgress, Receives}
 use Rattle.simulation.specs.Stands.{IsEndSound}
 use Rattle.simulation_requests.proofs.Acted.{got_last}
