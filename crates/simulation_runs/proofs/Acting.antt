@@ -83,14 +83,14 @@ pushed f name none n y (x ∷ xs) h = by (bytes_eq (name x) n) (pushed f name no
 
 -- ---- one end changes
 
-end_related : (R : End → End → Type 0) (same : (e : End) → R e e) (m : Machine) (o : ObjName) (e : End) (q : ObjName) → e.name ≡ (end_of m o).name → R e (end_of m o) → R (end_of (with_end m o e) q) (end_of m q)
+pub end_related : (R : End → End → Type 0) (same : (e : End) → R e e) (m : Machine) (o : ObjName) (e : End) (q : ObjName) → e.name ≡ (end_of m o).name → R e (end_of m o) → R (end_of (with_end m o e) q) (end_of m q)
 unfolding end_of context_of with_end with_end_in with_context
 end_related R same m o e q n r =
     related (λ x y. R (named (λ u. u.name) (nobody q) q.name x.ends) (named (λ u. u.name) (nobody q) q.name y.ends)) (λ x. same (named (λ u. u.name) (nobody q) q.name x.ends)) (λ x. x.name) (no_context o.context) (no_context q.context) o.context q.context
     (with_end_in (context_of m o.context) o.name e) m.contexts refl
     (related R same (λ u. u.name) (nobody o) (nobody q) o.name q.name e (context_of m o.context).ends n r)
 
-end_other : (m : Machine) (o : ObjName) (e : End) (q : ObjName) → e.name ≡ (end_of m o).name → q ≢ o → end_of (with_end m o e) q ≡ end_of m q
+pub end_other : (m : Machine) (o : ObjName) (e : End) (q : ObjName) → e.name ≡ (end_of m o).name → q ≢ o → end_of (with_end m o e) q ≡ end_of m q
 unfolding end_of context_of with_end with_end_in with_context
 end_other m o e q n ne = elim (name_or_not q.name o.name) [
   | inl same ↦
@@ -102,7 +102,7 @@ end_other m o e q n ne = elim (name_or_not q.name o.name) [
       (other_found (λ u. u.name) (nobody o) (nobody q) o.name q.name e (context_of m o.context).ends far n)
 ]
 
-object_or_not : (a b : ObjName) → (a ≡ b) ⊎ (a ≢ b)
+pub object_or_not : (a b : ObjName) → (a ≡ b) ⊎ (a ≢ b)
 object_or_not a b = elim (name_or_not a.context b.context) [
   | inl c ↦ elim (name_or_not a.name b.name) [ inl n ↦ inl (λ i. record { context = c i; name = n i }) | inr f ↦ inr (λ h. f (ap (λ z. z.name) h)) ]
   | inr f ↦ inr (λ h. f (ap (λ z. z.context) h))

@@ -4,3 +4,4 @@ pub mod Requests
 pub mod Unchanged
 pub mod Acting
 pub mod Statuses
+pub mod Telling

@@ -11,6 +11,7 @@ ghost use Rattle.simulation_runs.specs.Runs.{IsHeardLegal, RunsFollow};
 
 mod once;
 mod spent;
+mod told;
 mod unseen;
 
 pub use once::requests_act_once;
@@ -30,6 +31,7 @@ use simulation_responses::{
 };
 use simulation_sending::sending_follows;
 pub use spent::limits_are_spent;
+pub use told::requests_are_told_in_order;
 pub use unseen::unseen_changes_nothing;
 
 /// The machine follows each run of events that it always follows, and what applications hear in a run that it follows from the
