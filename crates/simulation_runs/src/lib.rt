@@ -9,6 +9,12 @@ ghost use Rattle.protocol.specs.declared.events.WorldEvent.{WorldEvent};
 ghost use Rattle.simulation.specs.Law.{AlwaysFollows, Law};
 ghost use Rattle.simulation_runs.specs.Runs.{IsHeardLegal, RunsFollow};
 
+mod once;
+mod spent;
+mod told;
+mod unseen;
+
+pub use once::requests_act_once;
 use simulation::{making_follows, memory_follows, network_follows, posting_follows, starts};
 use simulation_atomics::{atomics_are_taken, repeated_atomics_are_answered};
 use simulation_delivery::deliveries_follow;
@@ -24,6 +30,9 @@ use simulation_responses::{
     receiver_not_ready_is_taken, refusals_are_taken, sequence_naks_are_taken,
 };
 use simulation_sending::sending_follows;
+pub use spent::limits_are_spent;
+pub use told::requests_are_told_in_order;
+pub use unseen::unseen_changes_nothing;
 
 /// The machine follows each run of events that it always follows, and what applications hear in a run that it follows from the
 /// empty world on is legal.
