@@ -8,8 +8,8 @@ use Rattle.rdma_types.specs.Kinds.{size_of}
 use Rattle.rdma_types.specs.Limits.{number_limit}
 use Rattle.protocol.specs.Numbers.{wire_number, unwrap_near}
 use Rattle.rdma_types.specs.Objects.{Posted}
-use Rattle.device_core.specs.State.{Device, with_end, with_region}
-use Rattle.device_core.specs.Rules.{sends, answers, receives, arrives, requested, requests, executes, executed, grants_write, ack_packet, to_partner, answered, acknowledges, acknowledged}
+use Rattle.first_device.specs.State.{Device, with_end, with_region}
+use Rattle.first_device.specs.Rules.{sends, answers, receives, arrives, requested, requests, executes, executed, grants_write, ack_packet, to_partner, answered, acknowledges, acknowledged}
 use Rattle.first_path.specs.Stands.{Port, HasForm, write_of, ack_of}
 use Rattle.first_path.proofs.Numbers.{unwrap_own}
 

@@ -5,7 +5,7 @@ use Rattle.rdma_types.specs.Kinds.{size_of}
 use Rattle.rdma_types.specs.Limits.{number_limit}
 use Rattle.rdma_types.specs.declared.names.Name.{Name}
 use Rattle.rdma_types.specs.Objects.{Region, CompletionQueue, Posted}
-use Rattle.device_core.specs.Rules.{grants_write}
+use Rattle.first_device.specs.Rules.{grants_write}
 use Rattle.first_path.specs.declared.Flight.{Flight}
 use Rattle.first_path.specs.World.{World}
 use Rattle.first_path.specs.Machine.{Machine}

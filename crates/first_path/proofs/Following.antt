@@ -4,8 +4,8 @@ use Rattle.rdma_types.specs.declared.answers.Answer.{Answer}
 use Rattle.rdma_types.specs.declared.answers.Answer.TheVariants as answer
 use Rattle.rdma_types.specs.declared.answers.Refusal.{Refusal}
 use Rattle.rdma_types.specs.declared.verbs.Verb.{Verb}
-use Rattle.device_core.specs.State.{Device}
-use Rattle.device_core.specs.Rules.{answers}
+use Rattle.first_device.specs.State.{Device}
+use Rattle.first_device.specs.Rules.{answers}
 use Rattle.first_path.specs.declared.Line.{Line}
 use Rattle.first_path.specs.declared.Line.TheVariants as line
 use Rattle.first_path.specs.declared.Told.{Told}

@@ -13,9 +13,9 @@ use Rattle.rdma_types.specs.Memory.{RemoteWrite, cut, holds, put, remote_key}
 use Rattle.protocol.specs.Memory.{stored}
 use Rattle.rdma_types.specs.Objects.{Posted, no_posted}
 use Rattle.protocol.specs.Wire.{packet_of, wire_of}
-use Rattle.device_core.specs.State.{Device, with_end, with_region, with_queue}
-use Rattle.device_core.specs.Rules.{Step, sends, answers, receives, executed, ack_packet, to_partner, acknowledged, grants_write}
-use Rattle.device_core.specs.Rules as rules
+use Rattle.first_device.specs.State.{Device, with_end, with_region, with_queue}
+use Rattle.first_device.specs.Rules.{Step, sends, answers, receives, executed, ack_packet, to_partner, acknowledged, grants_write}
+use Rattle.first_device.specs.Rules as rules
 use Rattle.first_path.specs.declared.Line.TheVariants as line
 use Rattle.first_path.specs.declared.Told.{Told}
 use Rattle.first_path.specs.declared.Told.TheVariants as told

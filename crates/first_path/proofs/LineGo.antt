@@ -6,8 +6,8 @@ use Rattle.rdma_types.specs.declared.answers.Refusal.TheVariants as refusal
 use Rattle.rdma_types.specs.declared.names.ObjName.{ObjName}
 use Rattle.rdma_types.specs.Objects.{Posted}
 use Rattle.protocol.specs.Wire.{wire_of}
-use Rattle.device_core.specs.State.{Device, names, with_end}
-use Rattle.device_core.specs.Rules.{transmits, write_packet}
+use Rattle.first_device.specs.State.{Device, names, with_end}
+use Rattle.first_device.specs.Rules.{transmits, write_packet}
 use Rattle.first_path.specs.declared.Line.TheVariants as line
 use Rattle.first_path.specs.declared.Told.{Told}
 use Rattle.first_path.specs.declared.Flight.{Flight}

@@ -8,8 +8,8 @@ use Rattle.rdma_types.specs.Memory.{holds}
 use Rattle.protocol.specs.Memory.{loaded}
 use Rattle.rdma_types.specs.Causes.{first_cause}
 use Rattle.rdma_types.specs.Objects.{Posted}
-use Rattle.device_core.specs.State.{names}
-use Rattle.device_core.specs.Rules.{loads}
+use Rattle.first_device.specs.State.{names}
+use Rattle.first_device.specs.Rules.{loads}
 use Rattle.first_path.specs.declared.Line.TheVariants as line
 use Rattle.first_path.specs.World.{World, verb_step, numbered}
 use Rattle.first_path.specs.Machine as machine

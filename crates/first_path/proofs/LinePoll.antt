@@ -6,8 +6,8 @@ use Rattle.rdma_types.specs.declared.names.ObjName.{ObjName}
 use Rattle.rdma_types.specs.declared.verbs.Verb.TheVariants as verb
 use Rattle.rdma_types.specs.Causes.{first_cause}
 use Rattle.rdma_types.specs.Objects.{Posted}
-use Rattle.device_core.specs.State.{Device, names, with_queue}
-use Rattle.device_core.specs.Rules.{polls}
+use Rattle.first_device.specs.State.{Device, names, with_queue}
+use Rattle.first_device.specs.Rules.{polls}
 use Rattle.first_path.specs.declared.Line.TheVariants as line
 use Rattle.first_path.specs.World.{World, verb_step, numbered}
 use Rattle.first_path.specs.Machine as machine

@@ -19,9 +19,9 @@ use Rattle.rdma_types.specs.Spans.{span, pieces}
 use Rattle.protocol.specs.Memory.{loaded}
 use Rattle.rdma_types.specs.Causes.{first_cause}
 use Rattle.rdma_types.specs.Objects.{Posted, Region}
-use Rattle.device_core.specs.State.{Device, names, with_end}
-use Rattle.device_core.specs.Rules.{end_of_numbers, grants_local, grants_write, post_refusal, is_built, posts}
-use Rattle.device_core.specs.Rules as rules
+use Rattle.first_device.specs.State.{Device, names, with_end}
+use Rattle.first_device.specs.Rules.{end_of_numbers, grants_local, grants_write, post_refusal, is_built, posts}
+use Rattle.first_device.specs.Rules as rules
 use Rattle.first_path.specs.declared.Line.TheVariants as line
 use Rattle.first_path.specs.World.{World, verb_step, numbered, at_one}
 use Rattle.first_path.specs.Machine as machine

@@ -10,8 +10,8 @@ use Rattle.rdma_types.specs.Memory.{holds}
 use Rattle.protocol.specs.Memory.{stored}
 use Rattle.rdma_types.specs.Causes.{first_cause}
 use Rattle.rdma_types.specs.Objects.{Posted, Region}
-use Rattle.device_core.specs.State.{Device, names, with_region}
-use Rattle.device_core.specs.Rules.{stores}
+use Rattle.first_device.specs.State.{Device, names, with_region}
+use Rattle.first_device.specs.Rules.{stores}
 use Rattle.first_path.specs.declared.Line.TheVariants as line
 use Rattle.first_path.specs.World.{World, verb_step, numbered}
 use Rattle.first_path.specs.Machine as machine

@@ -9,8 +9,8 @@ use Rattle.rdma_types.specs.Objects.{IsWhole, Posted}
 use Rattle.protocol.specs.Numbers.{wire_number}
 use Rattle.protocol.specs.Wire.{Packet, plain, wire_of}
 use Rattle.protocol.specs.declared.wire.Syndrome.TheVariants.{Ack}
-use Rattle.device_core.specs.State.{Device}
-use Rattle.device_core.specs.Rules.{grants_write}
+use Rattle.first_device.specs.State.{Device}
+use Rattle.first_device.specs.Rules.{grants_write}
 use Rattle.first_path.specs.Machine.{Machine}
 use Rattle.first_path.specs.declared.Flight.{Flight}
 use Rattle.first_path.specs.World.{World, same_address}

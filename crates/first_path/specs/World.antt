@@ -14,10 +14,10 @@ use Rattle.rdma_types.specs.declared.requests.Terms.{Terms}
 use Rattle.rdma_types.specs.declared.verbs.Verb.{Verb}
 use Rattle.rdma_types.specs.declared.verbs.Verb.TheVariants as verb
 use Rattle.rdma_types.specs.Objects.{Region, CompletionQueue}
-use Rattle.device_core.specs.declared.Event.{Event}
-use Rattle.device_core.specs.declared.Event.TheVariants as event
-use Rattle.device_core.specs.State.{Device, End, names}
-use Rattle.device_core.specs.Rules.{Step, device_step, post_refusal, grants_write}
+use Rattle.first_device.specs.declared.Event.{Event}
+use Rattle.first_device.specs.declared.Event.TheVariants as event
+use Rattle.first_device.specs.State.{Device, End, names}
+use Rattle.first_device.specs.Rules.{Step, device_step, post_refusal, grants_write}
 use Rattle.first_path.specs.declared.Flight.{Flight}
 use Rattle.first_path.specs.declared.Line.{Line}
 use Rattle.first_path.specs.declared.Line.TheVariants as line

@@ -8,12 +8,12 @@ use Rattle.protocol.specs.declared.wire.Aeth.{Aeth}
 use Rattle.protocol.specs.declared.wire.Reth.{Reth}
 use Rattle.protocol.specs.declared.wire.Syndrome.{Syndrome}
 use Rattle.protocol.specs.declared.wire.Syndrome.TheVariants.{Ack, Rnr, Nak}
-use Rattle.device_core.specs.State.{Device}
-use Rattle.device_core.specs.Rules.{Step, device_step, stores, loads, posts, polls, transmits, executes, requests, acknowledges, answered, requested, arrives, receives, post_refusal}
-use Rattle.device_core.specs.Outcomes.{built_step}
-use Rattle.device_core.specs.declared.Outcome.{Outcome}
-use Rattle.device_core.specs.declared.Event.{Event}
-use Rattle.device_core.specs.declared.Event.TheVariants as event
+use Rattle.first_device.specs.State.{Device}
+use Rattle.first_device.specs.Rules.{Step, device_step, stores, loads, posts, polls, transmits, executes, requests, acknowledges, answered, requested, arrives, receives, post_refusal}
+use Rattle.first_device.specs.Outcomes.{built_step}
+use Rattle.first_device.specs.declared.Outcome.{Outcome}
+use Rattle.first_device.specs.declared.Event.{Event}
+use Rattle.first_device.specs.declared.Event.TheVariants as event
 
 -- at most one datagram is sent, where there is a step
 abbrev pub SendsOne : Option Step → Type 0

@@ -4,12 +4,12 @@ ghost use Rattle.std.specs.Prelude.{◌≡◌, ℕ, ◌+◌, ◌<◌, ◌≤◌,
 ghost use Rattle.std.specs.Vec.{vec_capacity};
 ghost use Rattle.std.specs.Option.{option_copied};
 ghost use Rattle.rdma_types.specs.Spelled.{is_letter};
-ghost use Rattle.device_core.specs.Rules.{device_step};
-ghost use Rattle.device_core.specs.Setups.{IsSetup, device_of};
+ghost use Rattle.first_device.specs.Rules.{device_step};
+ghost use Rattle.first_device.specs.Setups.{IsSetup, device_of};
 ghost use Rattle.first_path.specs.World as worlds;
 ghost use Rattle.first_path.specs.World.{rules, flight_from, verb_step};
 
-use device_core::{Device, EndSetup, Event, QueueSetup, RegionSetup, Setup};
+use first_device::{Device, EndSetup, Event, QueueSetup, RegionSetup, Setup};
 use first_path::{Flight, Line, Told};
 use rdma_types::{
     Address, Answer, Items, Keys, Name, ObjName, Request, Rights, Sent, SilentWhy, Terms, Took,

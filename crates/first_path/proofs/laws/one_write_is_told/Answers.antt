@@ -5,8 +5,8 @@ use Rattle.protocol.specs.Numbers as in_numbers
 use Rattle.rdma_types.specs.Memory as in_places
 use Rattle.rdma_types.specs.Spans as in_spans
 use Rattle.protocol.specs.Wire as in_wire
-use Rattle.device_core.specs.State as in_state
-use Rattle.device_core.specs.Rules as in_rules
+use Rattle.first_device.specs.State as in_state
+use Rattle.first_device.specs.Rules as in_rules
 use Rattle.first_path.specs.World as in_world
 use Rattle.first_path.proofs.laws.one_write_is_told.Goals as goal
 

@@ -1,7 +1,0 @@
-use Rattle.std.proofs.Common.{arith}
-use Rattle.std.proofs.lemmas.Grind.{common_steps}
-use Rattle.device_core.proofs.Lists.{taken_more}
-use Rattle.device_core.proofs.completions.CompletionQueue.take.Goals as goal
-
-pub loop-preserved : goal.loop-preserved
-loop-preserved c = grind (arith, common_steps, taken_more)
