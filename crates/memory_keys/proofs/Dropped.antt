@@ -1,19 +1,18 @@
 -- A region dropped from among the others.
-use Rattle.std.proofs.Common.{◌≡◌, ℕ, zero, suc, ◌+◌, ◌<◌, ◌≤◌, ◌≢◌, Bool, true, false, List, [], ◌∷◌, ◌++◌, length, take, drop, get_or, refl, ap, sym, ◌∙◌, arith, subst}
-use Rattle.std.specs.Prelude.{◌==◌, ◌||◌, All, Option, Some, None, nat_eq, map, bytes_eq, position, slice_get, remove, not}
-use Rattle.std.specs.List.{IsDistinct, AllByRecursion, list_any}
-use Rattle.std.specs.Map.{values_of, keys_of}
+use Rattle.std.proofs.Common.{◌≡◌, ℕ, zero, suc, ◌<◌, ◌≢◌, Bool, true, false, List, [], ◌∷◌, get_or, refl, ap, sym, ◌∙◌, arith, subst}
+use Rattle.std.specs.Prelude.{◌==◌, All, Some, None, nat_eq, map, bytes_eq, position, slice_get, remove}
+use Rattle.std.specs.List.{IsDistinct, list_any}
+use Rattle.std.specs.Map.{values_of}
 use Rattle.std.proofs.lemmas.List.Elements.{All-head, All-tail, All-nil, All-cons}
 use Rattle.std.proofs.lemmas.List.Quantifiers.{position-Some}
 use Rattle.std.proofs.lemmas.Bool.Decides.{nat_tests}
 use Rattle.rdma_types.specs.Causes.{first_cause}
 use Rattle.rdma_types.specs.Lists.{has_name, named, without}
-use Rattle.rdma_types.specs.Objects.{Region, no_region}
+use Rattle.rdma_types.specs.Objects.{Region}
 use Rattle.rdma_types.specs.declared.answers.Refusal.TheVariants as refusal
 use Rattle.rdma_types.specs.declared.names.Name.{Name}
 use Rattle.page_pool.specs.Pool.{Pool, Puts}
 use Rattle.memory_keys.specs.Causes.{deregister_causes, region_named}
-use Rattle.memory_keys.specs.Keyed.{IsKeyed}
 use Rattle.memory_keys.specs.Regions.{AreHeld, KeepsOthers, Lies, region_of, regions_of}
 use Rattle.memory_keys.specs.declared.Held.{Held}
 use Rattle.memory_keys.proofs.Stores.{IsApart, lie-apart, regions-apart}

@@ -1,19 +1,18 @@
 -- The region that a key finds, and the one that grants a place.
-use Rattle.std.proofs.Common.{◌≡◌, ℕ, ◌+◌, ◌-◌, ◌<◌, ◌≤◌, ◌≢◌, Bool, true, false, List, [], ◌∷◌, refl, ap, sym, ◌∙◌, arith, cond, subst}
-use Rattle.std.specs.Prelude.{◌==◌, ◌&&◌, All, Option, Some, None, nat_eq, map, option_map, if◌then◌else◌, bytes_eq, bit_and, get_or}
+use Rattle.std.proofs.Common.{◌≡◌, ℕ, ◌+◌, ◌-◌, ◌≢◌, Bool, true, false, List, [], ◌∷◌, refl, ap, sym, ◌∙◌, arith, subst}
+use Rattle.std.specs.Prelude.{◌==◌, All, Some, None, nat_eq, map, option_map, if◌then◌else◌}
 use Rattle.std.specs.List.{IsDistinct, AllByRecursion}
 use Rattle.std.specs.Map.{lookup, keys_of, values_of}
 use Rattle.std.proofs.lemmas.List.Elements.{All-head, All-tail, All-map}
 use Rattle.std.proofs.lemmas.Bool.Decides.{nat_tests}
 use Rattle.rdma_types.specs.declared.names.Name.{Name}
 use Rattle.rdma_types.specs.Lists.{first_that}
-use Rattle.rdma_types.specs.Memory.{Right, allows, set_of, holds, grants, granted, local_key, remote_key}
+use Rattle.rdma_types.specs.Memory.{Right, holds, grants, granted, local_key, remote_key}
 use Rattle.rdma_types.specs.Objects.{Region}
-use Rattle.rdma_types.proofs.Bits.{holds_bits}
 use Rattle.page_pool.specs.Pool.{Pool}
 use Rattle.memory_keys.specs.declared.Held.{Held}
 use Rattle.memory_keys.specs.Keyed.{IsKeyed}
-use Rattle.memory_keys.specs.Regions.{held_at, region_of, regions_of, holds_range, gives, granted_spot, AreKeyed}
+use Rattle.memory_keys.specs.Regions.{held_at, region_of, regions_of, gives, granted_spot, AreKeyed}
 
 -- a key finds the region that stands under it
 pub found : (key : ℕ) (es : List (ℕ × Held)) → All (λ e. e.0 ≡ e.1.head.keys.local) es → lookup (nat_eq key) es ≡ held_at key (values_of es)

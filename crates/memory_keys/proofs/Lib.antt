@@ -3,3 +3,4 @@ pub mod Spots
 pub mod Stores
 pub mod Made
 pub mod Dropped
+pub mod Protocol

@@ -1,9 +1,9 @@
 -- A region made behind the others.
-use Rattle.std.proofs.Common.{◌≡◌, ℕ, ◌+◌, ◌-◌, ◌*◌, ◌<◌, ◌≤◌, ◌≢◌, Bool, true, false, List, [], ◌∷◌, ◌++◌, length, take, refl, ap, sym, ◌∙◌, arith, cond, subst}
-use Rattle.std.specs.Prelude.{◌==◌, ◌||◌, ◌↔◌, All, Option, Some, None, is_some, nat_eq, nat_lt, nat_le, map, replicate, bytes_eq, position, unwrap_or, if◌then◌else◌, Result, Ok, Err, IsErrOf}
+use Rattle.std.proofs.Common.{◌≡◌, ℕ, ◌*◌, ◌<◌, ◌≤◌, Bool, true, false, List, [], ◌∷◌, ◌++◌, length, take, refl, ap, sym, ◌∙◌, arith, cond}
+use Rattle.std.specs.Prelude.{◌↔◌, Option, Some, None, is_some, nat_eq, nat_lt, nat_le, map, bytes_eq, position, Result, Ok, Err, IsErrOf}
 use Rattle.std.specs.Int.{div_ceil}
 use Rattle.std.specs.Result.{IsErrAnd}
-use Rattle.std.specs.List.{IsDistinct, AllByRecursion, position_or_len}
+use Rattle.std.specs.List.{IsDistinct, position_or_len}
 use Rattle.std.specs.Map.{values_of}
 use Rattle.std.proofs.lemmas.List.{take-replicate}
 use Rattle.std.proofs.lemmas.List.Elements.{All-push}
@@ -16,7 +16,7 @@ use Rattle.rdma_types.specs.Objects.{Region}
 use Rattle.rdma_types.specs.declared.answers.Refusal.TheVariants as refusal
 use Rattle.rdma_types.specs.declared.names.Name.{Name}
 use Rattle.page_pool.specs.Store.{blank}
-use Rattle.page_pool.specs.Pool.{Pool, Puts, IsIn, bytes_of, bytes_in, pages_for}
+use Rattle.page_pool.specs.Pool.{Pool, Puts, bytes_of, pages_for}
 use Rattle.page_pool.specs.declared.PoolFault.{PoolFault}
 use Rattle.page_pool.specs.declared.PoolFault.TheVariants as pool
 use Rattle.page_pool.proofs.Places.{length-blank}

@@ -1,6 +1,6 @@
 -- Spots in regions, and their bytes.
-use Rattle.std.proofs.Common.{◌≡◌, ℕ, ◌+◌, ◌-◌, ◌*◌, ◌/◌, ◌%◌, ◌<◌, ◌≤◌, ◌≢◌, List, [], ◌∷◌, length, take, drop, refl, ap, sym, ◌∙◌, arith, subst, true, false, Bool}
-use Rattle.std.specs.Prelude.{All, Option, Some, None, IsSome, IsSomeAnd, is_some, unwrap_or, option_map, ◌==◌, ◌↔◌, Result, Ok, Err, IsErrOf}
+use Rattle.std.proofs.Common.{◌≡◌, ℕ, ◌+◌, ◌-◌, ◌*◌, ◌/◌, ◌%◌, ◌<◌, ◌≤◌, ◌≢◌, List, [], ◌∷◌, length, refl, ap, sym, ◌∙◌, arith, subst, true, false, Bool}
+use Rattle.std.specs.Prelude.{All, Option, Some, None, IsSome, IsSomeAnd, unwrap_or, option_map, ◌==◌, ◌↔◌, Result, Ok, Err, IsErrOf}
 use Rattle.std.specs.Result.{IsErrAnd}
 use Rattle.std.specs.Option.{option_copied, option_copied_mut}
 use Rattle.std.specs.Borrow.{Bor, MutBor}
@@ -10,12 +10,12 @@ use Rattle.std.proofs.lemmas.List.Elements.{All-head, All-tail}
 use Rattle.rdma_types.specs.Lists.{first_that}
 use Rattle.rdma_types.specs.Memory.{cut}
 use Rattle.byte_run.proofs.Cuts.{cut-cut, length-cut}
-use Rattle.page_pool.specs.Pool.{Pool, Puts, IsIn, bytes_of, bytes_in, pages_of, pages_for}
-use Rattle.page_pool.proofs.Writes.{bytes-after, in-after}
+use Rattle.page_pool.specs.Pool.{Pool, Puts, bytes_of, bytes_in, pages_of, pages_for}
+use Rattle.page_pool.proofs.Writes.{bytes-after}
 use Rattle.page_pool.specs.declared.PoolFault.{PoolFault}
 use Rattle.page_pool.specs.declared.PoolFault.TheVariants as pool
 use Rattle.memory_keys.specs.declared.MemFault.{MemFault}
-use Rattle.memory_keys.specs.declared.MemFault.TheVariants.{NoPage, OutOfMemory}
+use Rattle.memory_keys.specs.declared.MemFault.TheVariants.{NoPage}
 use Rattle.memory_keys.specs.Faults.{fault_of}
 use Rattle.memory_keys.specs.declared.Held.{Held}
 use Rattle.memory_keys.specs.declared.Spot.{Spot}

@@ -1,8 +1,8 @@
 -- Regions whose lists are changed.
-use Rattle.std.proofs.Common.{◌≡◌, ℕ, ◌+◌, ◌-◌, ◌*◌, ◌<◌, ◌≤◌, ◌≢◌, Bool, true, false, List, [], ◌∷◌, ◌++◌, length, take, refl, ap, sym, ◌∙◌, arith, cond, subst}
-use Rattle.std.specs.Prelude.{◌==◌, All, Option, Some, None, IsSome, is_some, unwrap_or, nat_eq, map, if◌then◌else◌}
+use Rattle.std.proofs.Common.{◌≡◌, ℕ, ◌+◌, ◌≤◌, ◌≢◌, Bool, true, false, List, [], ◌∷◌, length, take, refl, ap, sym, ◌∙◌, arith, subst}
+use Rattle.std.specs.Prelude.{◌==◌, All, Option, Some, None, is_some, unwrap_or, nat_eq, map}
 use Rattle.std.specs.List.{IsDistinct, AllByRecursion}
-use Rattle.std.specs.Map.{values_of, set_value, lookup}
+use Rattle.std.specs.Map.{set_value, lookup}
 use Rattle.std.proofs.lemmas.List.Elements.{All-head, All-tail, All-nil, All-cons}
 use Rattle.std.proofs.lemmas.Bool.Decides.{nat_tests}
 use Rattle.rdma_types.specs.Lists.{first_that}
@@ -10,12 +10,12 @@ use Rattle.rdma_types.specs.Memory.{cut, put}
 use Rattle.rdma_types.specs.Objects.{Region}
 use Rattle.protocol.specs.Memory.{stored}
 use Rattle.byte_run.proofs.Cuts.{length-put, put-none, cut-put_inside}
-use Rattle.page_pool.specs.Pool.{Pool, Puts, IsIn, bytes_of, bytes_in, pages_for}
+use Rattle.page_pool.specs.Pool.{Pool, Puts, IsIn, bytes_of, bytes_in}
 use Rattle.page_pool.proofs.Writes.{bytes-after, in-after}
 use Rattle.memory_keys.specs.declared.Held.{Held}
 use Rattle.memory_keys.specs.declared.Spot.{Spot}
-use Rattle.memory_keys.specs.Regions.{AreHeld, KeepsOthers, AreKeyed, Lies, held_at, region_of, regions_of, stored_at}
-use Rattle.memory_keys.proofs.Spots.{found-lies, holds-pages}
+use Rattle.memory_keys.specs.Regions.{AreHeld, KeepsOthers, Lies, held_at, region_of, regions_of, stored_at}
+use Rattle.memory_keys.proofs.Spots.{holds-pages}
 
 -- the list is that of no region
 abbrev pub IsApart : ℕ → List Held → Type 0

@@ -1,5 +1,5 @@
 -- Why regions are not made or not dropped.
-use Rattle.std.specs.Prelude.{ℕ, ◌==◌, Bool, not, List, [], ◌∷◌, length, Option, Some, None, Result, Ok, Err, nat_le, nat_lt}
+use Rattle.std.specs.Prelude.{ℕ, ◌==◌, not, List, [], ◌∷◌, length, Option, Some, None, Result, Ok, Err, nat_le, nat_lt}
 use Rattle.std.specs.List.{list_any}
 use Rattle.rdma_types.specs.Causes.{Cause, cause}
 use Rattle.rdma_types.specs.Limits.{most_regions}

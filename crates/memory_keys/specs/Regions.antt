@@ -1,5 +1,5 @@
 -- What the regions of a context hold and grant, over a pool of pages.
-use Rattle.std.specs.Prelude.{ℕ, ◌≡◌, ◌≢◌, ◌+◌, ◌-◌, ◌*◌, ◌%◌, ◌≤◌, ◌<◌, ◌==◌, ◌&&◌, Bool, List, [], length, take, map, Option, Some, None, option_map, IsSomeAnd, All, nat_eq, nat_le, bytes_eq, if◌then◌else◌, unwrap_or, replicate}
+use Rattle.std.specs.Prelude.{ℕ, ◌≡◌, ◌≢◌, ◌+◌, ◌-◌, ◌*◌, ◌%◌, ◌≤◌, ◌<◌, ◌==◌, ◌&&◌, Bool, List, [], length, take, map, Option, Some, option_map, IsSomeAnd, All, nat_eq, nat_le, bytes_eq, if◌then◌else◌, unwrap_or, replicate}
 use Rattle.std.specs.List.{IsDistinct}
 use Rattle.rdma_types.specs.declared.names.Name.{Name}
 use Rattle.rdma_types.specs.Lists.{first_that}
@@ -56,11 +56,15 @@ holds_range head at count = nat_le head.base at && nat_le (at + count) (head.bas
 abbrev pub gives : RegionHead → Name → ℕ → ℕ → Right → Bool
 gives head domain at count right = bytes_eq head.domain domain && (allows head.rights right && holds_range head at count)
 
+-- the spot of so many bytes in a region from an address on
+abbrev pub place_in : ℕ → ℕ → Region → Spot
+place_in at count r = record { region = r.keys.local; off = at - r.base; length = count }
+
 -- the place in the region that grants it; a place of no bytes is granted, and in no region
 abbrev pub granted_spot : (Region → ℕ) → List Region → Name → ℕ → ℕ → ℕ → Right → Option Spot
 granted_spot key_of regions domain key at count right =
     if count == 0 then Some (record { region = 0; off = 0; length = 0 })
-    else option_map (λ r. record { region = r.keys.local; off = at - r.base; length = count }) (granted key_of regions domain key at count right)
+    else option_map (place_in at count) (granted key_of regions domain key at count right)
 
 -- the pages of a region live, and hold its bytes
 pub record Lies (pool : Pool) (h : Held) : Type 0 where
@@ -71,6 +75,11 @@ pub record Lies (pool : Pool) (h : Held) : Type 0 where
 pub record AreHeld (pool : Pool) (held : List Held) : Type 0 where
   pub lie : All (Lies pool) held
   pub apart : IsDistinct nat_eq (map (λ h. h.list) held)
+
+-- a list that lived lives on, and is as long as it was
+pub record KeepsLength (old new : Pool) (list : ℕ) : Type 0 where
+  pub lives : IsIn old list → IsIn new list
+  pub size : length (bytes_in new list) ≡ length (bytes_in old list)
 
 -- lists of no region are as they were
 pub record KeepsOthers (old new : Pool) (held : List Held) : Type 0 where

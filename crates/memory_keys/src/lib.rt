@@ -7,9 +7,14 @@ ghost use Rattle.memory_keys.specs.Faults.{fault_of};
 ghost use Rattle.memory_keys.specs.declared.MemFault.TheVariants.{OutOfMemory};
 
 mod bytes;
+mod laws;
 mod making;
 mod regions;
 
+pub use laws::{
+    regions_stay_whatever_their_bytes, spots_are_the_protocols_places,
+    spots_have_the_protocols_bytes, stores_are_the_protocols_writes,
+};
 pub use page_pool::Payload;
 use page_pool::{PageList, PoolFault};
 use rdma_types::{Keys, Name, Rights};

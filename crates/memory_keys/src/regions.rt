@@ -63,6 +63,7 @@ impl Regions {
         length: u32,
         landing: bool,
     ) -> Option<Spot>
+        ensures keyed { AreKeyed self.now }
         ensures granted { (pool : Pool) → result ≡ granted_spot local_key (regions_of pool self.now) domain lkey at length (if landing then LocalWrite else NoRight) }
         ensures inside { IfSome result (λ spot. IsSpot self.now spot) }
         ensures length { IfSome result (λ spot. spot.length ≡ length) }
@@ -85,10 +86,12 @@ impl Regions {
         length: u32,
         right: Rights,
     ) -> Option<Spot>
+        ensures keyed { AreKeyed self.now }
         ensures granted { (pool : Pool) (needed : Right) → right.0 ≡ set_of needed → result ≡ granted_spot remote_key (regions_of pool self.now) domain rkey at length needed }
         ensures inside { IfSome result (λ spot. IsSpot self.now spot) }
         ensures length { IfSome result (λ spot. spot.length ≡ length) }
     {
+        let _held = &self.held;
         if length == 0 {
             return Some(Spot {
                 region: 0,
@@ -96,17 +99,18 @@ impl Regions {
                 length,
             });
         }
-        let _held = &self.held;
         let key = rkey.checked_sub(1)?;
         self.check(domain, key, at, length, right)
     }
 
     /// The place that the region with a local key grants.
     fn check(&self, domain: Name, key: u32, at: u64, length: u32, right: Rights) -> Option<Spot>
+        ensures keyed { AreKeyed self.now }
         ensures granted { (pool : Pool) (needed : Right) → right.0 ≡ set_of needed → result ≡ granted_spot local_key (regions_of pool self.now) domain key at length needed }
         ensures inside { IfSome result (λ spot. IsSpot self.now spot) }
         ensures length { IfSome result (λ spot. spot.length ≡ length) }
     {
+        let _held = &self.held;
         if length == 0 {
             return Some(Spot {
                 region: 0,

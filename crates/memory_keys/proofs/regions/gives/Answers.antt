@@ -1,7 +1,7 @@
-use Rattle.std.proofs.Common.{arith, ap, sym, ◌∙◌, ◌≡◌, bit_and, true, false}
+use Rattle.std.proofs.Common.{arith, ◌≡◌, bit_and, true, false}
 use Rattle.std.specs.Prelude.{◌==◌, bytes_eq}
 use Rattle.std.proofs.lemmas.Bool.Decides.{nat_tests}
-use Rattle.rdma_types.specs.Memory.{Right, allows, set_of}
+use Rattle.rdma_types.specs.Memory.{allows, set_of}
 use Rattle.rdma_types.proofs.Bits.{holds_bits}
 use Rattle.memory_keys.proofs.regions.gives.Goals as goal
 use Rattle.memory_keys.proofs.regions.gives.Goals.{then-ne-via-then-ne, then-ne-via-else-ne+then-head-right}

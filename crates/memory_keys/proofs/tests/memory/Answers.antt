@@ -1,4 +1,4 @@
-use Rattle.std.proofs.Common.{ap, refl, ◌∙◌}
+use Rattle.std.proofs.Common.{ap}
 use Rattle.rdma_types.specs.Lists.{first_that}
 use Rattle.memory_keys.specs.Regions.{held_at}
 use Rattle.memory_keys.proofs.tests.memory.Goals as goal

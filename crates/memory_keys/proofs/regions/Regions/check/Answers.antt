@@ -1,12 +1,14 @@
-use Rattle.std.proofs.Common.{rules, ◌≡◌, ◌≤◌, ◌-◌, arith, ap, sym, ◌∙◌, true, false}
-use Rattle.std.specs.Prelude.{None, Some, ◌==◌, if◌then◌else◌}
+use Rattle.std.proofs.Common.{rules, ◌≡◌, ◌-◌, ap, sym, ◌∙◌, true, false}
+use Rattle.std.specs.Prelude.{None, Some, if◌then◌else◌}
 use Rattle.std.specs.Option.{option_copied}
-use Rattle.rdma_types.specs.Memory.{local_key, granted}
-use Rattle.rdma_types.specs.Objects.{Region}
-use Rattle.memory_keys.specs.Regions.{held_at, regions_of, region_of, gives}
-use Rattle.memory_keys.proofs.Found.{none_with, one_with, spot-none, spot-some, key-found}
+use Rattle.rdma_types.specs.Memory.{local_key}
+use Rattle.memory_keys.specs.Regions.{regions_of, region_of, gives}
+use Rattle.memory_keys.proofs.Found.{keyed, none_with, one_with, spot-none, spot-some, key-found}
 use Rattle.memory_keys.proofs.Spots.{spot-inside}
 use Rattle.memory_keys.proofs.regions.Regions.check.Goals as goal
+
+pub returns-then-length-eq0-clause-keyed : goal.returns-then-length-eq0-clause-keyed
+returns-then-length-eq0-clause-keyed c = keyed c.self.inside.held.entries c.args.self.now c.self.invariant c.self.view_is
 
 pub returns-in_err-head-clause-granted : goal.returns-in_err-head-clause-granted
 returns-in_err-head-clause-granted c = λ pool needed e.

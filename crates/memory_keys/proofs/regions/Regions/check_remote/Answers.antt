@@ -1,10 +1,15 @@
-use Rattle.std.proofs.Common.{◌≡◌, ◌≤◌, ◌-◌, ◌+◌, ℕ, arith, ap, sym, ◌∙◌, true, false, refl}
-use Rattle.std.specs.Prelude.{None, Some, ◌==◌}
+use Rattle.std.proofs.Common.{◌≡◌, ◌+◌, arith, ap, sym, ◌∙◌}
 use Rattle.std.proofs.lemmas.Grind.{common_steps}
 use Rattle.rdma_types.specs.Memory.{local_key, remote_key, granted}
 use Rattle.memory_keys.specs.Regions.{regions_of, granted_spot}
 use Rattle.memory_keys.proofs.Found.{keyed, remote-local, remote-zero, spot-none, spot-same}
 use Rattle.memory_keys.proofs.regions.Regions.check_remote.Goals as goal
+
+pub returns-then-length-eq0-clause-keyed : goal.returns-then-length-eq0-clause-keyed
+returns-then-length-eq0-clause-keyed c = keyed c.self.inside.held.entries c.args.self.now c.self.invariant c.self.view_is
+
+pub returns-in_err-key-clause-keyed : goal.returns-in_err-key-clause-keyed
+returns-in_err-key-clause-keyed c = keyed c.self.inside.held.entries c.args.self.now c.self.invariant c.self.view_is
 
 pub returns-in_err-key-clause-granted : goal.returns-in_err-key-clause-granted
 returns-in_err-key-clause-granted c = λ pool needed e.

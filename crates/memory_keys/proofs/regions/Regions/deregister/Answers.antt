@@ -1,11 +1,9 @@
-use Rattle.std.proofs.Common.{◌≡◌, ◌+◌, ℕ, arith, ap, sym, ◌∙◌, length, subst, true, false, refl}
-use Rattle.std.specs.Prelude.{Some, None, ◌==◌, nat_eq, slice_get, remove, All, option_map, is_some, position, bytes_eq}
-use Rattle.std.specs.List.{list_any}
+use Rattle.std.proofs.Common.{◌≡◌, ◌+◌, ℕ, ap, sym, ◌∙◌, subst}
+use Rattle.std.specs.Prelude.{Some, None, slice_get, remove, All, option_map}
 use Rattle.std.specs.Map.{values_of}
 use Rattle.page_pool.specs.Pool.{free_pages, pages_for}
 use Rattle.memory_keys.specs.declared.Held.{Held}
 use Rattle.std.specs.Map.Iter.{deref_pair}
-use Rattle.memory_keys.specs.Causes.{region_named}
 use Rattle.memory_keys.specs.Regions.{AreHeld, Lies, regions_of}
 use Rattle.memory_keys.proofs.Spots.{lies-pages}
 use Rattle.memory_keys.proofs.Made.{is-named}

@@ -1,4 +1,4 @@
-use Rattle.std.proofs.Common.{◌≡◌, arith, ap, sym, ◌∙◌}
+use Rattle.std.proofs.Common.{arith}
 use Rattle.std.proofs.lemmas.Grind.{common_steps}
 use Rattle.rdma_types.specs.Memory.{word_of}
 use Rattle.memory_keys.proofs.regions.Regions.fetch_word.Goals as goal

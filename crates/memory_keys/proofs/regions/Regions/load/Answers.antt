@@ -1,8 +1,7 @@
-use Rattle.std.proofs.Common.{◌≡◌, ◌+◌, ◌≤◌, arith, ap, sym, ◌∙◌, length}
+use Rattle.std.proofs.Common.{arith, ap, sym, ◌∙◌}
 use Rattle.std.specs.Option.{option_copied}
-use Rattle.page_pool.specs.Pool.{bytes_in}
 use Rattle.std.proofs.lemmas.List.{nil_from_length}
-use Rattle.memory_keys.proofs.Spots.{spot-in, spot-there, spot-is, spot-empty, holds-pages}
+use Rattle.memory_keys.proofs.Spots.{spot-in, spot-there, spot-empty, holds-pages}
 use Rattle.memory_keys.proofs.regions.Regions.load.Goals as goal
 
 pub unwrap-held-requires : goal.unwrap-held-requires

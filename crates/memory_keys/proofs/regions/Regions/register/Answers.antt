@@ -1,12 +1,10 @@
-use Rattle.std.proofs.Common.{◌≡◌, ◌+◌, ◌++◌, ◌∷◌, [], ℕ, ◌<◌, ◌≤◌, arith, ap, sym, ◌∙◌, length, subst, true, false, refl, List}
-use Rattle.std.specs.Prelude.{None, All, OnOk, nat_eq}
+use Rattle.std.proofs.Common.{◌≡◌, ◌+◌, ◌++◌, ◌∷◌, [], arith, ap, sym, ◌∙◌, subst, refl}
+use Rattle.std.specs.Prelude.{All, OnOk, nat_eq}
 use Rattle.std.specs.Map.{values_of, lookup}
 use Rattle.indexmap.specs.IndexMap.{insert_entry}
-use Rattle.std.proofs.lemmas.Grind.{common_steps}
 use Rattle.std.proofs.lemmas.List.Elements.{All-push}
 use Rattle.indexmap.proofs.CallerLemmas.{insert_entry-new}
-use Rattle.rdma_types.specs.Lists.{has_name}
-use Rattle.page_pool.specs.Pool.{free_pages, pages_for}
+use Rattle.page_pool.specs.Pool.{free_pages}
 use Rattle.memory_keys.specs.declared.Held.{Held}
 use Rattle.memory_keys.specs.Regions.{AreHeld, regions_of, held_at}
 use Rattle.memory_keys.proofs.Found.{found}

@@ -1,7 +1,6 @@
-use Rattle.std.proofs.Common.{◌≡◌, ◌+◌, ◌≤◌, ◌*◌, arith, ap, sym, ◌∙◌, length, refl}
+use Rattle.std.proofs.Common.{arith, ap, sym, ◌∙◌}
 use Rattle.std.specs.Option.{option_copied}
 use Rattle.rdma_types.specs.Memory.{cut}
-use Rattle.page_pool.specs.Pool.{bytes_in}
 use Rattle.page_pool.specs.Held.{payload_bytes}
 use Rattle.page_pool.proofs.Writes.{in-after}
 use Rattle.memory_keys.proofs.Spots.{spot-in, spot-is, spot-empty, lies-pages, pages-within, touched-is, snap, told}

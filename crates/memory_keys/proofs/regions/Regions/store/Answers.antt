@@ -1,7 +1,7 @@
-use Rattle.std.proofs.Common.{◌≡◌, ◌+◌, ◌≤◌, ℕ, arith, ap, sym, ◌∙◌, length, subst}
-use Rattle.std.specs.Prelude.{Some, nat_eq}
+use Rattle.std.proofs.Common.{arith, ap, sym, ◌∙◌, subst}
+use Rattle.std.specs.Prelude.{Some}
 use Rattle.std.specs.Option.{option_copied_mut}
-use Rattle.std.specs.Map.{values_of, lookup}
+use Rattle.std.specs.Map.{values_of}
 use Rattle.rdma_types.specs.Memory.{put}
 use Rattle.page_pool.specs.Pool.{Puts, bytes_in}
 use Rattle.memory_keys.specs.declared.Held.{Held}

@@ -1,0 +1,5 @@
+use Rattle.memory_keys.proofs.Protocol.{spot-in-regions}
+use Rattle.memory_keys.proofs.laws.regions_stay_whatever_their_bytes.Goals as goal
+
+pub returns-clause-spot : goal.returns-clause-spot
+returns-clause-spot c = spot-in-regions
