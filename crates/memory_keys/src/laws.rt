@@ -10,7 +10,7 @@ ghost use Rattle.protocol.specs.Memory.{landed, region_of_key, written};
 ghost use Rattle.protocol.specs.State.{Context};
 ghost use Rattle.memory_keys.specs.declared.Held.{Held};
 ghost use Rattle.memory_keys.specs.declared.Spot.{Spot};
-ghost use Rattle.memory_keys.specs.Regions.{AreHeld, AreKeyed, IsSpot, KeepsLength, granted_spot, place_in, regions_of, spot_bytes, stored_at};
+ghost use Rattle.memory_keys.specs.Regions.{AreHeld, AreKeyed, IsSpot, KeepsLength, granted_spot, held_at, place_in, region_of, regions_of, spot_bytes, stored_at};
 
 /// A spot is granted exactly where the protocol grants the place, and it lies in the region that the protocol finds under
 /// the spot's key, from the address that was asked for on.
@@ -47,11 +47,12 @@ pub fn spots_have_the_protocols_bytes()
 {}
 
 /// Whether regions are held is a matter of which lists live and how long they are, and whether a spot lies inside a region
-/// is one of keys and lengths. Neither looks at bytes.
+/// is one of keys and lengths. Neither looks at bytes. A key finds a region among the protocol's where it finds one here.
 pub fn regions_stay_whatever_their_bytes()
     ensures held { (old new : Pool) (held : List Held) → AreHeld old held → All (λ h. KeepsLength old new h.list) held → AreHeld new held }
     ensures spot { (pool : Pool) (held : List Held) (spot : Spot)
         → IsSpot held spot ↔ (0 < spot.length → IsSomeAnd (first_that (λ r. r.keys.local == spot.region) (regions_of pool held)) (λ r. spot.off + spot.length ≤ r.length)) }
+    ensures under { (pool : Pool) (held : List Held) (key : ℕ) → first_that (λ r. r.keys.local == key) (regions_of pool held) ≡ option_map (region_of pool) (held_at key held) }
     ensures part { (held : List Held) (spot : Spot) (from count : ℕ) → IsSpot held spot → from + count ≤ spot.length
         → IsSpot held (record { region = spot.region; off = spot.off + from; length = count }) }
 {}
