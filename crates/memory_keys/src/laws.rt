@@ -1,11 +1,11 @@
 //! What places and stores are in the words of the protocol's rules.
 
-ghost use Rattle.std.specs.Prelude.{ℕ, List, ◌≡◌, ◌-◌, ◌+◌, ◌≤◌, ◌<◌, ◌==◌, ◌↔◌, All, IsNone, IsSomeAnd, Some, false, length, option_map};
+ghost use Rattle.std.specs.Prelude.{ℕ, List, Option, ◌≡◌, ◌≢◌, ◌-◌, ◌+◌, ◌≤◌, ◌<◌, ◌==◌, ◌↔◌, All, IsNone, IsSomeAnd, Some, None, false, length, option_map};
 ghost use Rattle.rdma_types.specs.declared.names.Name.{Name};
 ghost use Rattle.rdma_types.specs.Lists.{first_that};
 ghost use Rattle.rdma_types.specs.Memory.{Right, cut, granted, is_granted, local_key};
 ghost use Rattle.rdma_types.specs.Objects.{Region};
-ghost use Rattle.page_pool.specs.Pool.{Pool};
+ghost use Rattle.page_pool.specs.Pool.{Pool, Puts, bytes_of};
 ghost use Rattle.protocol.specs.Memory.{landed, region_of_key, written};
 ghost use Rattle.protocol.specs.State.{Context};
 ghost use Rattle.memory_keys.specs.declared.Held.{Held};
@@ -55,4 +55,13 @@ pub fn regions_stay_whatever_their_bytes()
     ensures under { (pool : Pool) (held : List Held) (key : ℕ) → first_that (λ r. r.keys.local == key) (regions_of pool held) ≡ option_map (region_of pool) (held_at key held) }
     ensures part { (held : List Held) (spot : Spot) (from count : ℕ) → IsSpot held spot → from + count ≤ spot.length
         → IsSpot held (record { region = spot.region; off = spot.off + from; length = count }) }
+{}
+
+/// What is done to a list of no region changes no region, whether it is made, written or ended.
+pub fn other_lists_are_no_matter()
+    ensures held { (old new : Pool) (list : ℕ) (bytes : Option (List ℕ)) (held : List Held)
+        → AreHeld old held → All (λ h. h.list ≢ list) held → Puts old new list bytes → AreHeld new held }
+    ensures regions { (old new : Pool) (list : ℕ) (bytes : Option (List ℕ)) (held : List Held)
+        → All (λ h. h.list ≢ list) held → Puts old new list bytes → regions_of new held ≡ regions_of old held }
+    ensures apart { (pool : Pool) (list : ℕ) (held : List Held) → AreHeld pool held → bytes_of pool list ≡ None → All (λ h. h.list ≢ list) held }
 {}

@@ -12,7 +12,7 @@ mod making;
 mod regions;
 
 pub use laws::{
-    regions_stay_whatever_their_bytes, spots_are_the_protocols_places,
+    other_lists_are_no_matter, regions_stay_whatever_their_bytes, spots_are_the_protocols_places,
     spots_have_the_protocols_bytes, stores_are_the_protocols_writes,
 };
 pub use page_pool::Payload;
