@@ -1,0 +1,36 @@
+//! What a whole script does in a world and what it writes, and what is claimed of that.
+//!
+//! The functions do nothing. Each promises the law that it names.
+#![tactic(auto)]
+
+ghost use Rattle.std.specs.Prelude.{◌≡◌, [], ◌++◌, List, All};
+ghost use Rattle.protocol.specs.State.{World, empty_world};
+ghost use Rattle.protocol.specs.Script.{Happening};
+ghost use Rattle.protocol.specs.Settle.{settled};
+ghost use Rattle.ideal_model.specs.Legal.{IsLegal, IsLegalFrom};
+ghost use Rattle.ideal_model.specs.Machine.{Machine, empty};
+ghost use Rattle.script_lang.specs.declared.lines.Line.{Line};
+ghost use Rattle.simulation.specs.Stands.{Stands};
+ghost use Rattle.script_rules.specs.Does.{IsLineInRange, IsWithin, happenings_of};
+ghost use Rattle.script_rules.specs.Follows.{FollowsAll};
+ghost use Rattle.script_rules.specs.Script.{heard_from};
+ghost use Rattle.script_rules.specs.Settling.{SettlesTo};
+
+use simulation_runs::{law_holds, runs_follow};
+
+/// Settling is events: from each world deliveries, transmissions, expiries and ends of RNR timers lead to the settled world.
+pub fn settling_is_events()
+    ensures { (w : World) → SettlesTo w (settled w).world }
+{}
+
+/// The machine follows each list of lines whose fields are in their ranges, one line after the other, from each state for which
+/// the world stands; and what applications hear of lines from the empty world on is legal.
+pub fn lines_are_followed()
+    ensures from_any { (w : World) (m : Machine) (hs : List Happening) → All IsWithin hs → Stands w m → FollowsAll w m hs }
+    ensures follows { (ls : List Line) → All IsLineInRange ls → FollowsAll empty_world empty (happenings_of ls) }
+    ensures legal { (ls : List Line) → All IsLineInRange ls → IsLegal (heard_from empty_world (happenings_of ls)) }
+{
+    law_holds();
+    runs_follow();
+    settling_is_events();
+}
