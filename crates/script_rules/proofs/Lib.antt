@@ -1,2 +1,5 @@
 pub mod Settling
 pub mod Following
+pub mod Tells
+pub mod Reading
+pub mod Lawful

@@ -3,7 +3,7 @@
 //! The functions do nothing. Each promises the law that it names.
 #![tactic(auto)]
 
-ghost use Rattle.std.specs.Prelude.{◌≡◌, [], ◌++◌, List, All};
+ghost use Rattle.std.specs.Prelude.{◌≡◌, ℕ, [], ◌++◌, List, All, Ok};
 ghost use Rattle.protocol.specs.State.{World, empty_world};
 ghost use Rattle.protocol.specs.Script.{Happening};
 ghost use Rattle.protocol.specs.Settle.{settled};
@@ -11,12 +11,21 @@ ghost use Rattle.ideal_model.specs.Legal.{IsLegal, IsLegalFrom};
 ghost use Rattle.ideal_model.specs.Machine.{Machine, empty};
 ghost use Rattle.script_lang.specs.declared.lines.Line.{Line};
 ghost use Rattle.simulation.specs.Stands.{Stands};
-ghost use Rattle.script_rules.specs.Does.{IsLineInRange, IsWithin, happenings_of};
+ghost use Rattle.script_lang.specs.Lines.{reading_of};
+ghost use Rattle.script_lang.specs.Ranges.{IsLawfulLine};
+ghost use Rattle.script_rules.specs.Does.{IsLineInRange, IsWithin, MayBeAskedOf, happening_of, happenings_of};
 ghost use Rattle.script_rules.specs.Follows.{FollowsAll};
 ghost use Rattle.script_rules.specs.Script.{heard_from};
 ghost use Rattle.script_rules.specs.Settling.{SettlesTo};
 
 use simulation_runs::{law_holds, runs_follow};
+
+/// What a line says is in its ranges, so the law of events speaks of it; and a step of a world may be asked for what a lawful line
+/// does.
+pub fn lines_are_in_range()
+    ensures read { (line : List ℕ) (says : Line) → reading_of line ≡ Ok says → IsLineInRange says }
+    ensures lawful { (line : Line) → IsLawfulLine line → MayBeAskedOf (happening_of line) }
+{}
 
 /// Settling is events: from each world deliveries, transmissions, expiries and ends of RNR timers lead to the settled world.
 pub fn settling_is_events()
