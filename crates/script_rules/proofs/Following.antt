@@ -142,3 +142,9 @@ all_legal w m (h ∷ hs) f =
       is_run = runs_on m f.0 rest.run f.1.is_run rest.is_run;
       heard_all = seen_on m f.0 rest.run ∙ rw (f.1.heard, rest.heard_all) refl;
     }
+
+-- ---- fronts
+
+pub front_followed : (w : World) (m : Machine) (front rest : List Happening) → FollowsAll w m (front ++ rest) → FollowsAll w m front
+front_followed w m [] rest f = tt
+front_followed w m (h ∷ hs) rest f = (f.0, f.1, front_followed (happens w h).world (after m f.0) hs rest f.2)

@@ -1,6 +1,7 @@
 -- What a line says is in its ranges, by what its fields are read as.
 use Rattle.std.proofs.Common.{arith, ◌≡◌, ℕ, ◌+◌, ◌<◌, ◌≤◌, ◌^◌, ◌==◌, List, [], ◌∷◌, Bool, true, false, refl, subst, Result, Ok, Err, Option, Some, None, length}
-use Rattle.std.specs.Prelude.{IfSome, if◌then◌else◌, slice_index, codes, not}
+use Rattle.std.proofs.lemmas.List.Elements.{All-cons, All-nil}
+use Rattle.std.specs.Prelude.{All, IfSome, if◌then◌else◌, slice_index, codes, not}
 use Rattle.rdma_types.specs.declared.names.ObjName.{ObjName}
 use Rattle.rdma_types.specs.declared.requests.Kind.TheVariants as kind
 use Rattle.rdma_types.specs.declared.requests.Shape.{Shape}
@@ -22,6 +23,7 @@ use Rattle.script_lang.specs.Verbs.{add_line, cas_line, cq_line, domain_line, dr
 use Rattle.script_lang.specs.Words.{Input, Read, Reads, Word, ◌>>=◌, an_option, done, the_end, words_from}
 use Rattle.simulation.specs.Law.{IsRequestInRange}
 use Rattle.script_rules.specs.Does.{IsLineInRange, IsWithinOf, event_happens, event_of}
+use Rattle.script_rules.specs.Script.{begins_with, script_from}
 use Rattle.script_rules.proofs.Tells.{Tells, IsAddress, address, any, bind, bytes, gives, immediate, key, long, number, rights, terms}
 
 -- ---- verbs
@@ -216,3 +218,12 @@ unless_in None r l h = h
 pub read_in_range : (bs : List ℕ) (l : Line) → reading_of bs ≡ Ok l → IsLineInRange l
 unfolding reading_of
 read_in_range bs l h = words_in (words_from 1 bs) (length bs + 1) l (unless_in (bytes_offence bs) _ l h)
+
+-- .. and so are the lines of a text before its first bad one
+pub lines_in_range : (number : ℕ) (lines : List (List ℕ)) → All IsLineInRange (script_from number lines).lines
+lines_in_range number [] = All-nil IsLineInRange
+lines_in_range number (bs ∷ more) = by (reading_of bs) refl (lines_in_range (number + 1) more)
+  where
+    by : (r : Result Line Offence) → reading_of bs ≡ r → All IsLineInRange (script_from (number + 1) more).lines → All IsLineInRange (begins_with r number (script_from (number + 1) more)).lines
+    by (Ok l) e rest = All-cons IsLineInRange l (script_from (number + 1) more).lines (read_in_range bs l e) rest
+    by (Err o) e rest = All-nil IsLineInRange

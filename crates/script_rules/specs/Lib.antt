@@ -3,6 +3,7 @@ pub mod Script
 pub mod Settling
 pub mod Follows
 pub mod Playing
+pub mod Evaluate
 pub mod Commands
 pub mod Texts
 pub mod Headline

@@ -1,6 +1,6 @@
 -- A script: its lines up to the first bad one, the worlds that they lead to, the answers, the text of these, and what
 -- applications hear (this project's choice).
-use Rattle.std.specs.Prelude.{ℕ, ◌+◌, List, [], ◌∷◌, ◌++◌, Option, Some, None, Result, Ok, Err}
+use Rattle.std.specs.Prelude.{ℕ, ◌≡◌, ◌+◌, List, [], ◌∷◌, ◌++◌, length, Option, Some, None, MatchOption, Result, Ok, Err}
 use Rattle.rdma_types.specs.declared.answers.Answer.{Answer}
 use Rattle.rdma_types.specs.declared.verbs.Verb.{Verb}
 use Rattle.protocol.specs.State.{World, empty_world}
@@ -47,6 +47,27 @@ bad_line text = (script_of text).bad
 -- what the lines of a text do, before its first bad line
 abbrev pub happenings : List ℕ → List Happening
 happenings text = happenings_of (script_of text).lines
+
+-- these lines are read so, one after the other
+abbrev pub AreRead : List (List ℕ) → List Line → Type 0
+AreRead [] [] = Unit {0}
+AreRead [] (l ∷ ls) = ⊥
+AreRead (bs ∷ more) [] = ⊥
+AreRead (bs ∷ more) (l ∷ ls) = (reading_of bs ≡ Ok l) × AreRead more ls
+
+-- that line is bad, and those before it are read so; the first line has the number `first`
+pub record IsFirstBad (first : ℕ) (lines : List (List ℕ)) (ls : List Line) (bad : BadLine) : Type 0 where
+  pub front : List (List ℕ)
+  pub line : List ℕ
+  pub rest : List (List ℕ)
+  pub splits : lines ≡ front ++ line ∷ rest
+  pub are_read : AreRead front ls
+  pub number : bad.number ≡ first + length front
+  pub offends : reading_of line ≡ Err bad.offence
+
+-- a script says what its lines say: all of them, or those before the first bad one
+abbrev pub SaysLines : ℕ → List (List ℕ) → Script → Type 0
+SaysLines first lines s = MatchOption s.bad (AreRead lines s.lines) (λ bad. IsFirstBad first lines s.lines bad)
 
 -- ---- worlds and answers
 

@@ -7,7 +7,7 @@ ghost use Rattle.std.specs.Prelude.{◌≡◌, ℕ, [], ◌++◌, List, All, Ok}
 ghost use Rattle.protocol.specs.State.{World, empty_world};
 ghost use Rattle.protocol.specs.Script.{Happening};
 ghost use Rattle.protocol.specs.Settle.{settled};
-ghost use Rattle.ideal_model.specs.Legal.{IsLegal, IsLegalFrom};
+ghost use Rattle.ideal_model.specs.Legal.{IsLegal};
 ghost use Rattle.ideal_model.specs.Machine.{Machine, empty};
 ghost use Rattle.script_lang.specs.declared.lines.Line.{Line};
 ghost use Rattle.simulation.specs.Stands.{Stands};
@@ -15,9 +15,15 @@ ghost use Rattle.script_lang.specs.Lines.{reading_of};
 ghost use Rattle.script_lang.specs.Ranges.{IsLawfulLine};
 ghost use Rattle.script_rules.specs.Does.{IsLineInRange, IsWithin, MayBeAskedOf, happening_of, happenings_of};
 ghost use Rattle.script_rules.specs.Follows.{FollowsAll};
-ghost use Rattle.script_rules.specs.Script.{heard_from};
+ghost use Rattle.script_rules.specs.Headline.{IsFollowed};
+ghost use Rattle.script_rules.specs.Script.{happenings, heard_from};
 ghost use Rattle.script_rules.specs.Settling.{SettlesTo};
 
+mod examples;
+mod playing;
+
+pub use examples::{an_unknown_word, nothing_is_said, one_device};
+pub use playing::{answers_stand_in_order, scripts_are_played_line_by_line, scripts_say_their_lines};
 use simulation_runs::{law_holds, runs_follow};
 
 /// What a line says is in its ranges, so the law of events speaks of it; and a step of a world may be asked for what a lawful line
@@ -42,4 +48,15 @@ pub fn lines_are_followed()
     law_holds();
     runs_follow();
     settling_is_events();
+}
+
+/// The machine follows the lines of each text before its first bad one, and what applications hear of them is legal. So it is for
+/// each front of them, as where a run stops early.
+pub fn scripts_are_followed()
+    ensures whole { (text : List ℕ) → IsFollowed text }
+    ensures follows_front { (text : List ℕ) (front rest : List Happening) → happenings text ≡ front ++ rest → FollowsAll empty_world empty front }
+    ensures legal_front { (text : List ℕ) (front rest : List Happening) → happenings text ≡ front ++ rest → IsLegal (heard_from empty_world front) }
+{
+    lines_are_in_range();
+    lines_are_followed();
 }
