@@ -17,7 +17,7 @@ unfolding in_scripts.lines_in in_scripts.lines_of
     in_texts.number_in in_texts.mtu_of in_texts.hex_number in_texts.bytes_of in_texts.cut_at in_texts.name_of in_texts.object_of in_texts.with_letter in_texts.letters_of in_texts.rights_of in_texts.part_of in_texts.host_of in_texts.address_of
     in_fields.a_name in_fields.an_object in_fields.an_own in_fields.a_number in_fields.an_mtu in_fields.a_key in_fields.a_queue_pair in_fields.some_bytes in_fields.some_rights in_fields.an_address in_fields.the_word in_fields.an_immediate in_fields.some_terms
     in_verbs.verb_form in_verbs.domain_line in_verbs.region_line in_verbs.cq_line in_verbs.qp_line in_verbs.drop_line in_verbs.load_line in_verbs.store_line in_verbs.posted in_verbs.write_line in_verbs.send_line in_verbs.read_line in_verbs.cas_line in_verbs.add_line in_verbs.recv_line in_verbs.poll_line
-    in_lines.form_of in_lines.device_line in_lines.connect_line in_lines.shared_line in_lines.line_of in_lines.bytes_offence in_lines.reading_of
+    in_lines.form_of in_lines.device_line in_lines.connect_line in_lines.line_of in_lines.bytes_offence in_lines.reading_of
 said_in text = script_of text
 
 -- the answers to its lines, as they are written

@@ -1,3 +1,4 @@
+use Rattle.std.specs.Fmt.{digits}
 use Rattle.std.specs.Prelude.{refl}
 use Rattle.script_rules.specs.Evaluate.{said_in, written_for}
 use Rattle.script_rules.proofs.examples.an_unknown_word.Goals as goal
@@ -11,4 +12,5 @@ unfolding said_in
 returns-clause-bad c = refl
 
 pub returns-clause-last : goal.returns-clause-last
+unfolding digits
 returns-clause-last c = refl
