@@ -12,71 +12,66 @@ use Rattle.protocol.specs.declared.events.WorldEvent.TheVariants as world_event
 use Rattle.protocol.specs.Script as script
 use Rattle.protocol.specs.Script.{Happening, happens, dumps, settles}
 use Rattle.protocol.specs.Settle.{settled}
-use Rattle.protocol.specs.State.{World, empty_world}
-use Rattle.protocol.specs.WorldStep.{world_step, world_after}
+use Rattle.protocol.specs.State.{World}
+use Rattle.protocol.specs.WorldStep.{world_step}
 use Rattle.ideal_model.specs.declared.steps.IdealStep.{IdealStep}
 use Rattle.ideal_model.specs.Legal.{IsLegalFrom, IsRun, after, effect, seen, seen_of}
-use Rattle.ideal_model.specs.Machine.{Machine, empty}
+use Rattle.ideal_model.specs.Machine.{Machine}
 use Rattle.script_lang.specs.declared.lines.Line.{Line}
 use Rattle.simulation.specs.Kept.{kept_of, kept_verb, verb_in, verb_of}
 use Rattle.simulation.specs.Law.{AlwaysFollows, Follows, FollowsRun, IsEventInRange, IsInRange, Law, joined_steps, kept}
 use Rattle.simulation.specs.Stands.{Stands}
-use Rattle.simulation_runs.specs.Runs.{RunsFollow}
+use Rattle.settling_steps.specs.Settling.{ComesOf, IsSettling, IsTurn, SettlingFollows, SettlingIsEvents}
 use Rattle.script_rules.specs.Does.{IsLineInRange, IsWithin, IsWithinOf, before, happening_of, happenings_of}
-use Rattle.script_rules.specs.Follows.{AreOfSettling, FollowsAll, FollowsBy}
-use Rattle.script_rules.specs.Script.{heard_from, heard_of}
-use Rattle.script_rules.specs.Settling.{IsOwnStep, IsSettlingEvent, SettlesTo}
+use Rattle.script_rules.specs.Follows.{FollowsAll, FollowsBy}
+use Rattle.script_rules.specs.Script.{heard_from}
 
 -- ---- what settling makes
 
-own_in_range : (e : Event) → IsOwnStep e → IsEventInRange e
-own_in_range (event.Transmit o) is = tt
-own_in_range (event.Expire o) is = tt
-own_in_range (event.RnrOver o) is = tt
-own_in_range other is = absurd is
+turn_in_range : (e : Event) → IsTurn e → IsEventInRange e
+turn_in_range (event.Transmit o) is = tt
+turn_in_range (event.Expire o) is = tt
+turn_in_range (event.RnrOver o) is = tt
+turn_in_range other is = absurd is
 
-pub settling_in_range : (e : WorldEvent) → IsSettlingEvent e → IsInRange e
-settling_in_range (world_event.At e) is = own_in_range e is
+pub settling_in_range : (e : WorldEvent) → IsSettling e → IsInRange e
+settling_in_range (world_event.At e) is = turn_in_range e is
 settling_in_range (world_event.Deliver k) is = tt
 settling_in_range other is = absurd is
 
-own_is_no_verb : (e : Event) → IsOwnStep e → verb_in e ≡ None
+turn_is_no_verb : (e : Event) → IsTurn e → verb_in e ≡ None
 unfolding verb_in
-own_is_no_verb (event.Transmit o) is = refl
-own_is_no_verb (event.Expire o) is = refl
-own_is_no_verb (event.RnrOver o) is = refl
-own_is_no_verb other is = absurd is
+turn_is_no_verb (event.Transmit o) is = refl
+turn_is_no_verb (event.Expire o) is = refl
+turn_is_no_verb (event.RnrOver o) is = refl
+turn_is_no_verb other is = absurd is
 
-settling_is_no_verb : (w : World) (e : WorldEvent) → IsSettlingEvent e → verb_of w e ≡ None
+settling_is_no_verb : (w : World) (e : WorldEvent) → IsSettling e → verb_of w e ≡ None
 unfolding verb_of
-settling_is_no_verb w (world_event.At e) is = own_is_no_verb e is
+settling_is_no_verb w (world_event.At e) is = turn_is_no_verb e is
 settling_is_no_verb w (world_event.Deliver k) is = refl
 settling_is_no_verb w other is = absurd is
 
-nothing_kept : (w : World) (e : WorldEvent) (a : Answer) → IsSettlingEvent e → kept_of w e a ≡ []
+nothing_kept : (w : World) (e : WorldEvent) (a : Answer) → IsSettling e → kept_of w e a ≡ []
 unfolding kept_verb
 nothing_kept w e a is = ap (λ v. kept_verb v a) (settling_is_no_verb w e is)
 
-none_kept : (w : World) (es : List WorldEvent) → All IsSettlingEvent es → kept w es ≡ []
-none_kept w [] sort = refl
-none_kept w (e ∷ es) sort =
-    rw (nothing_kept w e (world_step w e).answer (All-head IsSettlingEvent e es sort))
-    (none_kept (world_step w e).world es (All-tail IsSettlingEvent e es sort))
-
--- each of some events is of a kind
-all_of : (P Q : WorldEvent → Type 0) → ((e : WorldEvent) → P e → Q e) → (es : List WorldEvent) → All P es → All Q es
-all_of P Q each es all k d below = each _ (all k d below)
+none_kept : (w : World) (es : List WorldEvent) → All IsSettling es → kept w es ≡ []
+none_kept w [] each = refl
+none_kept w (e ∷ es) each =
+    rw (nothing_kept w e (world_step w e).answer (All-head IsSettling e es each))
+    (none_kept (world_step w e).world es (All-tail IsSettling e es each))
 
 -- ---- one line
 
 -- what the laws say, of which all else follows
 pub record AreLaws : Type 0 where
   pub step : (e : WorldEvent) → AlwaysFollows e
-  pub run : RunsFollow
-  pub settling : (w : World) → SettlesTo w (settled w).world
+  pub settling : SettlingIsEvents
+  pub settling_follows : SettlingFollows
 
-pub laws_of : Law → RunsFollow → ((w : World) → SettlesTo w (settled w).world) → AreLaws
-laws_of law run settling = record { step = law.step; run = run; settling = settling }
+pub laws_of : Law → SettlingIsEvents → SettlingFollows → AreLaws
+laws_of law settling settling_follows = record { step = law.step; settling = settling; settling_follows = settling_follows }
 
 event_followed : (w : World) (m : Machine) (e : WorldEvent) (f : Follows w m e) → FollowsBy w m (script.Event e) f.steps
 unfolding happens
@@ -86,13 +81,13 @@ dump_followed : (w : World) (m : Machine) (name : Name) → Stands w m → Follo
 unfolding happens dumps
 dump_followed w m name s = record { is_run = tt; heard = refl; caused = refl; stands = s }
 
-settling_followed : (w : World) (m : Machine) (t : SettlesTo w (settled w).world) (f : FollowsRun w m t.events) → FollowsBy w m script.Settles (joined_steps f.steps)
+settling_followed : (w : World) (m : Machine) (t : ComesOf w (settled w).world) (f : FollowsRun w m t.events) → FollowsBy w m script.Settles (joined_steps f.steps)
 unfolding happens settles
 settling_followed w m t f = record {
   is_run = f.is_run;
-  heard = f.heard ∙ none_kept w t.events t.sort;
-  caused = record { events = t.events; sort = t.sort; leads = t.leads; parts = f.steps; joined = refl; allowed = f.allowed };
-  stands = subst (λ (x : World). Stands x (after m (joined_steps f.steps))) t.leads f.stands;
+  heard = f.heard ∙ none_kept w t.events t.each;
+  caused = record { events = t.events; each = t.each; reached = t.after; parts = f.steps; joined = refl; allowed = f.allowed };
+  stands = subst (λ (x : World). Stands x (after m (joined_steps f.steps))) t.after f.stands;
 }
 
 line_followed : AreLaws → (w : World) (m : Machine) (h : Happening) → IsWithin h → Stands w m → (ss : List IdealStep) × FollowsBy w m h ss
@@ -101,9 +96,8 @@ line_followed laws w m (script.Event e) within s =
     (f.steps, event_followed w m e f)
 line_followed laws w m (script.Dump name) within s = ([], dump_followed w m name s)
 line_followed laws w m script.Settles within s =
-    let t : SettlesTo w (settled w).world = laws.settling w in
-    let f : FollowsRun w m t.events =
-        laws.run w m t.events (λ k d below. laws.step _) (all_of IsSettlingEvent IsInRange settling_in_range t.events t.sort) s in
+    let t : ComesOf w (settled w).world = laws.settling w in
+    let f : FollowsRun w m t.events = laws.settling_follows w m t.events t.each s in
     (joined_steps f.steps, settling_followed w m t f)
 
 -- ---- all lines

@@ -1,4 +1,3 @@
-pub mod Settling
 pub mod Following
 pub mod Tells
 pub mod Reading

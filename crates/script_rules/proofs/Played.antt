@@ -1,17 +1,16 @@
 -- Scripts line by line.
-use Rattle.std.proofs.Common.{arith, ◌≡◌, ℕ, ◌+◌, suc, List, [], ◌∷◌, ◌++◌, length, refl, sym, ap, ◌∙◌, subst, Result, Ok, Err, Option, Some, None, MatchOption}
+use Rattle.std.proofs.Common.{arith, ◌≡◌, ℕ, ◌+◌, suc, List, [], ◌∷◌, ◌++◌, length, refl, sym, ap, ◌∙◌, Result, Ok, Err, Option, Some, None, MatchOption}
 use Rattle.std.proofs.lemmas.List.{append_assoc, append-nil}
-use Rattle.rdma_types.specs.declared.answers.Answer.{Answer}
 use Rattle.protocol.specs.Script.{Happening, happens, answers_in}
-use Rattle.protocol.specs.State.{World, empty_world}
+use Rattle.protocol.specs.State.{World}
 use Rattle.script_lang.specs.declared.lines.Line.{Line}
 use Rattle.script_lang.specs.declared.lines.Offence.{Offence}
 use Rattle.script_lang.specs.Lines.{reading_of}
 use Rattle.script_lang.specs.Printed.{printed}
 use Rattle.script_lang.specs.Scripts.{lines_of}
 use Rattle.script_rules.specs.Does.{before, happening_of, happenings_of}
-use Rattle.script_rules.specs.Playing.{IsPlayed, PlayingBegins, PlayingEnds, PlayingGoesOn, PlayingStops, line_text, world_past}
-use Rattle.script_rules.specs.Script.{AreRead, BadLine, IsFirstBad, SaysLines, Script, answers_text, bad_line, begins_with, script_from, script_of, text_from, text_of, world_left}
+use Rattle.script_rules.specs.Playing.{PlayingBegins, PlayingEnds, PlayingGoesOn, PlayingStops, line_text, world_past}
+use Rattle.script_rules.specs.Script.{AreRead, BadLine, IsFirstBad, SaysLines, Script, begins_with, script_from, text_from, world_left}
 
 -- ---- what a text says
 

@@ -1,9 +1,8 @@
 -- What a line says is in its ranges, by what its fields are read as.
-use Rattle.std.proofs.Common.{arith, ◌≡◌, ℕ, ◌+◌, ◌<◌, ◌≤◌, ◌^◌, ◌==◌, List, [], ◌∷◌, Bool, true, false, refl, subst, Result, Ok, Err, Option, Some, None, length}
+use Rattle.std.proofs.Common.{arith, ◌≡◌, ℕ, ◌+◌, ◌<◌, ◌^◌, ◌==◌, List, [], ◌∷◌, Bool, true, false, refl, subst, Result, Ok, Err, Option, Some, None, length}
 use Rattle.std.proofs.lemmas.List.Elements.{All-cons, All-nil}
 use Rattle.std.specs.Prelude.{All, IfSome, if◌then◌else◌, slice_index, codes, not}
 use Rattle.rdma_types.specs.declared.names.ObjName.{ObjName}
-use Rattle.rdma_types.specs.declared.requests.Kind.TheVariants as kind
 use Rattle.rdma_types.specs.declared.requests.Shape.{Shape}
 use Rattle.rdma_types.specs.declared.verbs.Verb.{Verb}
 use Rattle.rdma_types.specs.declared.verbs.Verb.TheVariants as verb
@@ -18,13 +17,12 @@ use Rattle.script_lang.specs.declared.lines.Line.{Line}
 use Rattle.script_lang.specs.declared.lines.Line.TheVariants as line
 use Rattle.script_lang.specs.declared.lines.Offence.{Offence}
 use Rattle.script_lang.specs.Fields.{a_device, a_key, a_long, a_name, a_number, a_short, an_object, an_own}
-use Rattle.script_lang.specs.Lines.{begun, bytes_offence, connect_line, device_line, form_of, line_of, named, reading_of, reading_of_words, said, unless, whole}
+use Rattle.script_lang.specs.Lines.{bytes_offence, connect_line, device_line, form_of, line_of, named, reading_of, reading_of_words, said, unless, whole}
 use Rattle.script_lang.specs.Verbs.{add_line, cas_line, cq_line, domain_line, drop_line, load_line, poll_line, posted, qp_line, read_line, recv_line, region_line, send_line, store_line, verb_line, write_line}
-use Rattle.script_lang.specs.Words.{Input, Read, Reads, Word, ◌>>=◌, an_option, done, the_end, words_from}
-use Rattle.simulation.specs.Law.{IsRequestInRange}
+use Rattle.script_lang.specs.Words.{Input, Read, Word, an_option, the_end, words_from}
 use Rattle.script_rules.specs.Does.{IsLineInRange, IsWithinOf, event_happens, event_of}
 use Rattle.script_rules.specs.Script.{begins_with, script_from}
-use Rattle.script_rules.proofs.Tells.{Tells, IsAddress, address, any, bind, bytes, gives, immediate, key, long, number, rights, terms}
+use Rattle.script_rules.proofs.Tells.{Tells, address, any, bind, bytes, gives, immediate, key, long, number, rights, terms}
 
 -- ---- verbs
 

@@ -1,5 +1,5 @@
 -- What the values that readers of lines give have in common.
-use Rattle.std.proofs.Common.{arith, ◌≡◌, ℕ, ◌+◌, ◌*◌, ◌<◌, ◌≤◌, ◌^◌, ◌⊎◌, List, [], ◌∷◌, Bool, true, false, refl, ap, subst, inl, inr, Result, Ok, Err, Option, Some, None}
+use Rattle.std.proofs.Common.{arith, ◌≡◌, ℕ, ◌+◌, ◌*◌, ◌<◌, ◌≤◌, ◌^◌, List, [], ◌∷◌, Bool, true, false, refl, subst, Result, Ok, Err, Option, Some, None}
 use Rattle.std.specs.Prelude.{◌&&◌, ◌==◌, All, if◌then◌else◌, nat_le, option_and_then, IfSome, bytes_eq, take, drop, length, codes}
 use Rattle.std.proofs.lemmas.Bool.Decides.{nat_tests}
 use Rattle.std.proofs.lemmas.List.Elements.{All-from_get_or}
@@ -9,11 +9,10 @@ use Rattle.hex.specs.Hex.{IsBytes, decode_of}
 use Rattle.hex.proofs.HexLemmas.{decode_of-ok}
 use Rattle.hex.specs.declared.error.FromHexError.{FromHexError}
 use Rattle.rdma_types.specs.declared.requests.Address.{Address}
-use Rattle.rdma_types.specs.declared.requests.Terms.{Terms}
 use Rattle.rdma_types.specs.declared.rights.Rights.{Rights}
 use Rattle.rdma_types.specs.Limits.{AreTerms, is_mtu}
 use Rattle.script_lang.specs.declared.lines.LineWhy.{LineWhy}
-use Rattle.script_lang.specs.Fields.{a_device, a_key, a_long, a_number, a_short, an_address, an_immediate, an_mtu, immediate_if, some_bytes, some_rights, some_terms, the_word}
+use Rattle.script_lang.specs.Fields.{a_key, a_long, a_number, an_address, an_immediate, an_mtu, immediate_if, some_bytes, some_rights, some_terms, the_word}
 use Rattle.script_lang.specs.Texts as texts
 use Rattle.script_lang.specs.Texts.{Cut, Letters, Part, address_of, bytes_of, cut_at, digits_after, hex_number, hex_of, host_of, if_decoded, is_decimal, letters_of, mtu_if, mtu_of, number_in, part_of, port_of, rights_of, with_letter}
 use Rattle.script_lang.specs.Words.{Input, Read, Reads, Word, ◌>>=◌, a_field, an_option, a_word, done, then_read, value_or}
@@ -91,7 +90,7 @@ unfolding number_in
 number_spelled low high text =
     where_so (is_decimal text && (nat_le low (digits_after 0 text) && nat_le (digits_after 0 text) high)) (Some (digits_after 0 text))
     (λ h. let p = both (is_decimal text) _ h in let q = both (nat_le low (digits_after 0 text)) _ p.1 in
-      some (digits_after 0 text) (at_most low (digits_after 0 text) q.0, at_most (digits_after 0 text) high q.1))
+    some (digits_after 0 text) (at_most low (digits_after 0 text) q.0, at_most (digits_after 0 text) high q.1))
 
 pub number : (low high : ℕ) → Tells (λ n. (low ≤ n) × (n ≤ high)) (a_number low high)
 unfolding a_number

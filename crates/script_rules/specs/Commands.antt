@@ -1,5 +1,5 @@
 -- The commands of the program, as its words say (this project's choice).
-use Rattle.std.specs.Prelude.{ℕ, Bool, true, false, List, [], ◌∷◌, Option, Some, None, bytes_eq, codes, if◌then◌else◌}
+use Rattle.std.specs.Prelude.{ℕ, List, [], ◌∷◌, Option, Some, None, bytes_eq, codes, if◌then◌else◌}
 use Rattle.rdma_types.specs.declared.names.Name.{Name}
 use Rattle.script_lang.specs.Texts.{◌>>=◌, greatest_u64, name_of, number_in}
 use Rattle.workload_gen.specs.declared.plan.Mix.{Mix}

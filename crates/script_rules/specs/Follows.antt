@@ -11,15 +11,15 @@ use Rattle.ideal_model.specs.Machine.{Machine}
 use Rattle.simulation.specs.Carries.{Allows}
 use Rattle.simulation.specs.Law.{AllowsAll, inner_of, joined_steps}
 use Rattle.simulation.specs.Stands.{Stands}
+use Rattle.settling_steps.specs.Settling.{IsSettling}
 use Rattle.script_rules.specs.Script.{heard_of}
-use Rattle.script_rules.specs.Settling.{IsSettlingEvent}
 
 -- the steps are those that a settling may cause: part by part those of its deliveries, transmissions, expiries and ends of
 -- RNR timers, which lead to the settled world
 pub record AreOfSettling (w : World) (m : Machine) (ss : List IdealStep) : Type 0 where
   pub events : List WorldEvent
-  pub sort : All IsSettlingEvent events
-  pub leads : world_after w events ≡ (settled w).world
+  pub each : All IsSettling events
+  pub reached : world_after w events ≡ (settled w).world
   pub parts : List (List IdealStep)  -- those of each event
   pub joined : ss ≡ joined_steps parts
   pub allowed : AllowsAll w m events parts

@@ -1,9 +1,9 @@
 -- What a run of the program leaves under each status: what was read, what was written, and what is claimed of it.
-use Rattle.std.specs.Prelude.{ℕ, ◌≡◌, ◌⊎◌, ◌+◌, List, [], ◌∷◌, ◌++◌, Option, Some, None}
+use Rattle.std.specs.Prelude.{ℕ, ◌≡◌, ◌⊎◌, ◌+◌, List, [], ◌++◌, Option, Some, None}
 use Rattle.rdma_types.specs.declared.names.Name.{Name}
 use Rattle.protocol.specs.declared.dumps.DumpWhy.{DumpWhy}
 use Rattle.protocol.specs.declared.images.ContextImage.{ContextImage}
-use Rattle.protocol.specs.Dumps.{Reading, Good, Bad, read_dump}
+use Rattle.protocol.specs.Dumps.{Good, Bad, read_dump}
 use Rattle.protocol.specs.State.{empty_world}
 use Rattle.ideal_model.specs.Legal.{IsLegal}
 use Rattle.ideal_model.specs.Machine.{empty}
@@ -128,11 +128,17 @@ pub record IsStoppedAtBadDump (r : Run) (name : Name) : Type 0 where
   pub reads : read_dump bytes ≡ Bad place why
   pub written : Writes r (bad_dump_line place why)
 
--- a line or the dump is not in its grammar; every line of a generated script is
+-- `bulk`: a line of the generated script is bad, and what was written is the last line
+pub record IsStoppedInBulk (r : Run) (seed : ℕ) (mix : Mix) : Type 0 where
+  pub bad : BadLine
+  pub first : bad_line (plan seed mix) ≡ Some bad
+  pub written : Writes r (bad_line_line bad)
+
+-- a line or the dump is not in its grammar
 abbrev pub IsStoppedBy : Run → Option Command → Type 0
 IsStoppedBy r None = ⊥
 IsStoppedBy r (Some Play) = IsStoppedAtBadLine r
-IsStoppedBy r (Some (Bulk seed mix)) = ⊥
+IsStoppedBy r (Some (Bulk seed mix)) = IsStoppedInBulk r seed mix
 IsStoppedBy r (Some (ShowDump name)) = IsStoppedAtBadDump r name
 
 abbrev pub IsStopped : Run → Type 0

@@ -1,6 +1,5 @@
 pub mod Does
 pub mod Script
-pub mod Settling
 pub mod Follows
 pub mod Playing
 pub mod Evaluate

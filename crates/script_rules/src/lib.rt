@@ -4,12 +4,14 @@
 #![tactic(auto)]
 
 ghost use Rattle.std.specs.Prelude.{◌≡◌, ℕ, [], ◌++◌, List, All, Ok};
+ghost use Rattle.protocol.specs.declared.events.WorldEvent.{WorldEvent};
 ghost use Rattle.protocol.specs.State.{World, empty_world};
 ghost use Rattle.protocol.specs.Script.{Happening};
-ghost use Rattle.protocol.specs.Settle.{settled};
 ghost use Rattle.ideal_model.specs.Legal.{IsLegal};
 ghost use Rattle.ideal_model.specs.Machine.{Machine, empty};
 ghost use Rattle.script_lang.specs.declared.lines.Line.{Line};
+ghost use Rattle.settling_steps.specs.Settling.{IsSettling};
+ghost use Rattle.simulation.specs.Law.{IsInRange};
 ghost use Rattle.simulation.specs.Stands.{Stands};
 ghost use Rattle.script_lang.specs.Lines.{reading_of};
 ghost use Rattle.script_lang.specs.Ranges.{IsLawfulLine};
@@ -17,25 +19,23 @@ ghost use Rattle.script_rules.specs.Does.{IsLineInRange, IsWithin, MayBeAskedOf,
 ghost use Rattle.script_rules.specs.Follows.{FollowsAll};
 ghost use Rattle.script_rules.specs.Headline.{IsFollowed};
 ghost use Rattle.script_rules.specs.Script.{happenings, heard_from};
-ghost use Rattle.script_rules.specs.Settling.{SettlesTo};
 
 mod examples;
 mod playing;
 
 pub use examples::{an_unknown_word, nothing_is_said, one_device};
-pub use playing::{answers_stand_in_order, scripts_are_played_line_by_line, scripts_say_their_lines};
-use simulation_runs::{law_holds, runs_follow};
+pub use playing::{
+    answers_stand_in_order, scripts_are_played_line_by_line, scripts_say_their_lines,
+};
+use settling_steps::{settling_follows, settling_is_events};
+use simulation_runs::law_holds;
 
-/// What a line says is in its ranges, so the law of events speaks of it; and a step of a world may be asked for what a lawful line
-/// does.
+/// What a line says is in its ranges, and so is each event of settling, so the law of events speaks of them; and a step of a world
+/// may be asked for what a lawful line does.
 pub fn lines_are_in_range()
     ensures read { (line : List ℕ) (says : Line) → reading_of line ≡ Ok says → IsLineInRange says }
+    ensures settling { (event : WorldEvent) → IsSettling event → IsInRange event }
     ensures lawful { (line : Line) → IsLawfulLine line → MayBeAskedOf (happening_of line) }
-{}
-
-/// Settling is events: from each world deliveries, transmissions, expiries and ends of RNR timers lead to the settled world.
-pub fn settling_is_events()
-    ensures { (w : World) → SettlesTo w (settled w).world }
 {}
 
 /// The machine follows each list of lines whose fields are in their ranges, one line after the other, from each state for which
@@ -46,8 +46,8 @@ pub fn lines_are_followed()
     ensures legal { (ls : List Line) → All IsLineInRange ls → IsLegal (heard_from empty_world (happenings_of ls)) }
 {
     law_holds();
-    runs_follow();
     settling_is_events();
+    settling_follows();
 }
 
 /// The machine follows the lines of each text before its first bad one, and what applications hear of them is legal. So it is for

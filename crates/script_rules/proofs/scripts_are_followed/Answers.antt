@@ -4,7 +4,7 @@ use Rattle.protocol.specs.Script.{Happening}
 use Rattle.ideal_model.specs.Machine.{empty}
 use Rattle.script_lang.specs.Scripts.{lines_of}
 use Rattle.script_rules.specs.Follows.{FollowsAll}
-use Rattle.script_rules.specs.Script.{happenings, script_of}
+use Rattle.script_rules.specs.Script.{script_of}
 use Rattle.script_rules.proofs.Following.{all_legal, front_followed}
 use Rattle.script_rules.proofs.Reading.{lines_in_range}
 use Rattle.script_rules.proofs.scripts_are_followed.Goals as goal
