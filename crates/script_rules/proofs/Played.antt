@@ -8,9 +8,10 @@ use Rattle.script_lang.specs.declared.lines.Offence.{Offence}
 use Rattle.script_lang.specs.Lines.{reading_of}
 use Rattle.script_lang.specs.Printed.{printed}
 use Rattle.script_lang.specs.Scripts.{lines_of}
+use Rattle.alike_worlds.specs.Alike.{forgetful}
 use Rattle.script_rules.specs.Does.{before, happening_of, happenings_of}
-use Rattle.script_rules.specs.Playing.{PlayingBegins, PlayingEnds, PlayingGoesOn, PlayingStops, line_text, world_past}
-use Rattle.script_rules.specs.Script.{AreRead, BadLine, IsFirstBad, SaysLines, Script, begins_with, script_from, text_from, world_left}
+use Rattle.script_rules.specs.Playing.{PlayingBegins, PlayingEnds, PlayingForgets, PlayingGoesOn, PlayingStops, line_text, world_past}
+use Rattle.script_rules.specs.Script.{AreRead, BadLine, IsFirstBad, SaysLines, Script, begins_with, script_from, text_from, text_of, world_left}
 
 -- ---- what a text says
 
@@ -76,3 +77,10 @@ playing_stops text done w number bs rest o p e = (rw e at p.bad, (rw e at p.whol
 pub playing_ends : PlayingEnds
 unfolding answers_in
 playing_ends text done w number p = (p.bad, p.whole ∙ append-nil done)
+
+pub playing_forgets : ((w : World) (hs : List Happening) → answers_in (forgetful w) hs ≡ answers_in w hs) → PlayingForgets
+playing_forgets alike text done w number rest p = record {
+  whole = p.whole ∙ ap (λ x. done ++ text_of x) (sym (alike w (happenings_of (script_from (number + 1) rest).lines)));
+  bad = p.bad;
+  count = p.count;
+}

@@ -1,5 +1,7 @@
 -- What a script says and what is written for it, with all that they compute with opened, for worked examples.
 use Rattle.std.specs.Prelude.{ℕ, List}
+use Rattle.rdma_types.specs.declared.answers.Answer.{Answer}
+use Rattle.rdma_types.specs.declared.verbs.Verb.{Verb}
 use Rattle.protocol.specs.Evaluate.{computed}
 use Rattle.script_lang.specs.Fields as in_fields
 use Rattle.script_lang.specs.Lines as in_lines
@@ -8,7 +10,8 @@ use Rattle.script_lang.specs.Scripts as in_scripts
 use Rattle.script_lang.specs.Texts as in_texts
 use Rattle.script_lang.specs.Verbs as in_verbs
 use Rattle.script_lang.specs.Words as in_words
-use Rattle.script_rules.specs.Script.{Script, answers_text, script_of}
+use Rattle.simulation.specs.Kept as in_kept
+use Rattle.script_rules.specs.Script.{Script, answers_text, heard, script_of}
 
 -- what a text says
 unfoldable pub said_in : List ℕ → Script
@@ -24,3 +27,8 @@ said_in text = script_of text
 unfoldable pub written_for : List ℕ → List ℕ
 unfolding said_in computed in_printed.took_text in_printed.sent_words in_printed.imm_words in_printed.completion_line in_printed.completion_lines in_printed.polled_lines in_printed.left_lines in_printed.shown_words in_printed.printed
 written_for text = answers_text text
+
+-- what applications hear of it
+unfoldable pub heard_in : List ℕ → List (Verb × Answer)
+unfolding said_in computed in_kept.verb_in in_kept.verb_of in_kept.is_unmade_by in_kept.is_unmade in_kept.kept_verb
+heard_in text = heard text

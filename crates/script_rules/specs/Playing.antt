@@ -7,6 +7,7 @@ use Rattle.script_lang.specs.declared.lines.Offence.{Offence}
 use Rattle.script_lang.specs.Lines.{reading_of}
 use Rattle.script_lang.specs.Printed.{printed}
 use Rattle.script_lang.specs.Scripts.{lines_of}
+use Rattle.alike_worlds.specs.Alike.{forgetful}
 use Rattle.script_rules.specs.Does.{happening_of, happenings_of}
 use Rattle.script_rules.specs.Script.{answers_text, bad_line, script_from, text_from}
 
@@ -49,3 +50,9 @@ abbrev pub PlayingEnds : Type 0
 PlayingEnds =
     (text done : List ℕ) (w : World) (number : ℕ) →
     IsPlayed text done w number [] → (bad_line text ≡ None) × (answers_text text ≡ done)
+
+-- a world that knows only the last datagrams plays on as the whole one
+abbrev pub PlayingForgets : Type 0
+PlayingForgets =
+    (text done : List ℕ) (w : World) (number : ℕ) (rest : List (List ℕ)) →
+    IsPlayed text done w number rest → IsPlayed text done (forgetful w) number rest

@@ -4,8 +4,10 @@ ghost use Rattle.std.specs.Prelude.{◌≡◌, ℕ, ◌++◌, List, length};
 ghost use Rattle.protocol.specs.Script.{Happening, answers_in};
 ghost use Rattle.protocol.specs.State.{World};
 ghost use Rattle.script_lang.specs.Scripts.{lines_of};
-ghost use Rattle.script_rules.specs.Playing.{PlayingBegins, PlayingGoesOn, PlayingStops, PlayingEnds};
+ghost use Rattle.script_rules.specs.Playing.{PlayingBegins, PlayingGoesOn, PlayingStops, PlayingEnds, PlayingForgets};
 ghost use Rattle.script_rules.specs.Script.{SaysLines, script_of, text_from, world_left};
+
+use alike_worlds::alike_worlds_are_answered_alike;
 
 /// What a text says is what its lines say, one after the other: all of them, or those before the first bad one, which has that
 /// number and that offence.
@@ -21,10 +23,14 @@ pub fn answers_stand_in_order()
 {}
 
 /// A loop that reads line after line, answers each and writes the text has written the answers to the whole text where it comes to
-/// its end, and those to the lines before it where it comes to a bad one.
+/// its end, and those to the lines before it where it comes to a bad one. Its world may forget the datagrams that the network keeps
+/// no more.
 pub fn scripts_are_played_line_by_line()
     ensures begins { PlayingBegins }
     ensures goes_on { PlayingGoesOn }
     ensures stops { PlayingStops }
     ensures ends { PlayingEnds }
-{}
+    ensures forgets { PlayingForgets }
+{
+    alike_worlds_are_answered_alike();
+}

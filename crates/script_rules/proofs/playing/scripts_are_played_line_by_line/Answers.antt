@@ -1,4 +1,4 @@
-use Rattle.script_rules.proofs.Played.{playing_begins, playing_ends, playing_goes_on, playing_stops}
+use Rattle.script_rules.proofs.Played.{playing_begins, playing_ends, playing_forgets, playing_goes_on, playing_stops}
 use Rattle.script_rules.proofs.playing.scripts_are_played_line_by_line.Goals as goal
 
 pub returns-clause-begins : goal.returns-clause-begins
@@ -12,3 +12,6 @@ returns-clause-stops c = playing_stops
 
 pub returns-clause-ends : goal.returns-clause-ends
 returns-clause-ends c = playing_ends
+
+pub returns-clause-forgets : goal.returns-clause-forgets
+returns-clause-forgets c = playing_forgets c.alike_worlds_are_answered_alike.ensures.script
