@@ -103,7 +103,7 @@ line_followed laws w m script.Settles within s =
 -- ---- all lines
 
 pub all_followed : AreLaws → (w : World) (m : Machine) (hs : List Happening) → All IsWithin hs → Stands w m → FollowsAll w m hs
-all_followed laws w m [] within s = tt
+all_followed laws w m [] within s = s
 all_followed laws w m (h ∷ hs) within s =
     let f = line_followed laws w m h (All-head IsWithin h hs within) s in
     (f.0, f.1, all_followed laws (happens w h).world (after m f.0) hs (All-tail IsWithin h hs within) f.1.stands)
@@ -139,6 +139,6 @@ all_legal w m (h ∷ hs) f =
 
 -- ---- fronts
 
-pub front_followed : (w : World) (m : Machine) (front rest : List Happening) → FollowsAll w m (front ++ rest) → FollowsAll w m front
-front_followed w m [] rest f = tt
-front_followed w m (h ∷ hs) rest f = (f.0, f.1, front_followed (happens w h).world (after m f.0) hs rest f.2)
+pub front_followed : (w : World) (m : Machine) (front rest : List Happening) → Stands w m → FollowsAll w m (front ++ rest) → FollowsAll w m front
+front_followed w m [] rest s f = s
+front_followed w m (h ∷ hs) rest s f = (f.0, f.1, front_followed (happens w h).world (after m f.0) hs rest f.1.stands f.2)

@@ -38,7 +38,7 @@ pub record FollowsBy (w : World) (m : Machine) (h : Happening) (ss : List IdealS
   pub caused : Causes w m h ss
   pub stands : Stands (happens w h).world (after m ss)
 
--- the machine follows the lines, one after the other
+-- the machine follows the lines, one after the other, and the last world stands for the state that it comes to
 abbrev pub FollowsAll : World → Machine → List Happening → Type 0
-FollowsAll w m [] = Unit {0}
+FollowsAll w m [] = Stands w m
 FollowsAll w m (h ∷ hs) = (ss : List IdealStep) × FollowsBy w m h ss × FollowsAll (happens w h).world (after m ss) hs

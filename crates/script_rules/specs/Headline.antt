@@ -46,16 +46,26 @@ abbrev pub Writes : Run → List ℕ → Type 0
 Writes r text = Puts r.held r.held_after text
 
 -- that is all that was to be read, and it read it
-abbrev pub Reads : Run → List ℕ → Type 0
-Reads r text = TakesAll r.left r.left_after text
+abbrev pub ReadsAll : Run → List ℕ → Type 0
+ReadsAll r text = TakesAll r.left r.left_after text
+
+-- the input is read only for `play`
+abbrev pub KeepsInput : Run → Option Command → Type 0
+KeepsInput r (Some Play) = Unit {0}
+KeepsInput r other = r.left_after ≡ r.left
+
+-- what the command does not use is as it was, and no command changes the depot
+pub record KeepsUnused (r : Run) : Type 0 where
+  pub input : KeepsInput r (command r)
+  pub depot : r.stored_after ≡ r.stored
 
 -- bytes of an input at most
 abbrev pub input_limit : ℕ
 input_limit = 1048576
 
--- what the program says of an image is given
-abbrev pub Says : Type 0
-Says = ContextImage → List ℕ
+-- the text of an image, which is given by the definitions of dumps
+abbrev pub ImageText : Type 0
+ImageText = ContextImage → List ℕ
 
 -- the summary of a generated script and of its answers
 abbrev pub bulk_text : ℕ → Mix → List ℕ
@@ -67,7 +77,7 @@ bulk_text seed mix = summary (plan seed mix) (answers_text (plan seed mix))
 -- follows them
 pub record IsAnswered (r : Run) : Type 0 where
   pub text : List ℕ
-  pub read : Reads r text
+  pub read : ReadsAll r text
   pub good : bad_line text ≡ None
   pub written : Writes r (answers_text text)
   pub followed : IsFollowed text
@@ -79,7 +89,7 @@ pub record IsSummedUp (r : Run) (seed : ℕ) (mix : Mix) : Type 0 where
   pub followed : IsFollowed (plan seed mix)
 
 -- `show-dump`: the depot holds a dump under the name, and what was written is what it says
-pub record IsShown (said : Says) (r : Run) (name : Name) : Type 0 where
+pub record IsShown (said : ImageText) (r : Run) (name : Name) : Type 0 where
   pub bytes : List ℕ
   pub found : Has r.stored name (Some bytes)
   pub image : ContextImage
@@ -89,21 +99,20 @@ pub record IsShown (said : Says) (r : Run) (name : Name) : Type 0 where
   pub written : Writes r (said image)
 
 -- the command is done
-abbrev pub IsDoneBy : Says → Run → Option Command → Type 0
+abbrev pub IsDoneBy : ImageText → Run → Option Command → Type 0
 IsDoneBy said r None = ⊥
 IsDoneBy said r (Some Play) = IsAnswered r
 IsDoneBy said r (Some (Bulk seed mix)) = IsSummedUp r seed mix
 IsDoneBy said r (Some (ShowDump name)) = IsShown said r name
 
-abbrev pub IsDone : Says → Run → Type 0
+abbrev pub IsDone : ImageText → Run → Type 0
 IsDone said r = IsDoneBy said r (command r)
 
 -- ---- status 2
 
--- the words are of no command, and nothing was read
+-- the words are of no command
 pub record IsOfNoCommand (r : Run) : Type 0 where
   pub no_command : command r ≡ None
-  pub unread : r.left_after ≡ r.left
   pub written : Writes r usage_line
 
 -- ---- status 3
@@ -112,7 +121,7 @@ pub record IsOfNoCommand (r : Run) : Type 0 where
 -- machine follows, and the last line with the number, the column and the reason of that
 pub record IsStoppedAtBadLine (r : Run) : Type 0 where
   pub text : List ℕ
-  pub read : Reads r text
+  pub read : ReadsAll r text
   pub bad : BadLine
   pub first : bad_line text ≡ Some bad
   pub written : Writes r (answers_text text ++ bad_line_line bad)
@@ -149,7 +158,7 @@ IsStopped r = IsStoppedBy r (command r)
 -- a read failed: the command is `play`, and nothing was written
 pub record IsUnread (r : Run) : Type 0 where
   pub plays : command r ≡ Some Play
-  pub silent : Writes r []
+  pub silent : r.held_after ≡ r.held
 
 -- the depot failed: the command is `show-dump`
 pub record IsWithoutDepot (r : Run) : Type 0 where
@@ -175,12 +184,12 @@ pub record IsMissing (r : Run) : Type 0 where
 -- the input was read to its end, and this is the answers to it; the machine follows its lines
 pub record AreAnswersRead (r : Run) (answers : List ℕ) : Type 0 where
   pub text : List ℕ
-  pub read : Reads r text
+  pub read : ReadsAll r text
   pub are : answers ≡ answers_text text
   pub followed : IsFollowed text
 
 -- the depot holds a dump under the name, and this is what it says
-pub record IsDumpRead (said : Says) (r : Run) (name : Name) (text : List ℕ) : Type 0 where
+pub record IsDumpRead (said : ImageText) (r : Run) (name : Name) (text : List ℕ) : Type 0 where
   pub bytes : List ℕ
   pub found : Has r.stored name (Some bytes)
   pub image : ContextImage
@@ -190,24 +199,24 @@ pub record IsDumpRead (said : Says) (r : Run) (name : Name) (text : List ℕ) : 
   pub is : text ≡ said image
 
 -- what the command writes where nothing stops it; nothing where it was stopped before
-abbrev pub IsToWriteBy : Says → Run → Option Command → List ℕ → Type 0
+abbrev pub IsToWriteBy : ImageText → Run → Option Command → List ℕ → Type 0
 IsToWriteBy said r None text = text ≡ []
 IsToWriteBy said r (Some Play) text = (text ≡ []) ⊎ AreAnswersRead r text
 IsToWriteBy said r (Some (Bulk seed mix)) text = (text ≡ []) ⊎ (text ≡ bulk_text seed mix)
 IsToWriteBy said r (Some (ShowDump name)) text = (text ≡ []) ⊎ IsDumpRead said r name text
 
-abbrev pub IsToWrite : Says → Run → List ℕ → Type 0
+abbrev pub IsToWrite : ImageText → Run → List ℕ → Type 0
 IsToWrite said r text = IsToWriteBy said r (command r) text
 
 -- status 8: what was written is a front of what the command writes, and the last line
-pub record IsShortOfMemory (said : Says) (r : Run) : Type 0 where
+pub record IsShortOfMemory (said : ImageText) (r : Run) : Type 0 where
   pub front : List ℕ
   pub rest : List ℕ
   pub to_write : IsToWrite said r (front ++ rest)
   pub written : Writes r (front ++ memory_line)
 
 -- status 5: what was written is a front of what the command writes, and perhaps a front of a last line
-pub record IsCutOff (said : Says) (r : Run) : Type 0 where
+pub record IsCutOff (said : ImageText) (r : Run) : Type 0 where
   pub front : List ℕ
   pub rest : List ℕ
   pub to_write : IsToWrite said r (front ++ rest)
