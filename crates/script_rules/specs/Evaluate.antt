@@ -1,5 +1,7 @@
 -- What a script says and what is written for it, with all that they compute with opened, for worked examples.
 use Rattle.std.specs.Prelude.{ℕ, List}
+use Rattle.std.specs.Fmt.{digits}
+use Rattle.hex.specs.Hex.{decode_pairs, encode_with}
 use Rattle.rdma_types.specs.declared.answers.Answer.{Answer}
 use Rattle.rdma_types.specs.declared.verbs.Verb.{Verb}
 use Rattle.protocol.specs.Evaluate.{computed}
@@ -21,11 +23,13 @@ unfolding in_scripts.lines_in in_scripts.lines_of
     in_fields.a_name in_fields.an_object in_fields.an_own in_fields.a_number in_fields.an_mtu in_fields.a_key in_fields.a_queue_pair in_fields.some_bytes in_fields.some_rights in_fields.an_address in_fields.the_word in_fields.an_immediate in_fields.some_terms
     in_verbs.verb_form in_verbs.domain_line in_verbs.region_line in_verbs.cq_line in_verbs.qp_line in_verbs.drop_line in_verbs.load_line in_verbs.store_line in_verbs.posted in_verbs.write_line in_verbs.send_line in_verbs.read_line in_verbs.cas_line in_verbs.add_line in_verbs.recv_line in_verbs.poll_line
     in_lines.form_of in_lines.device_line in_lines.connect_line in_lines.line_of in_lines.bytes_offence in_lines.reading_of
+    decode_pairs
 said_in text = script_of text
 
 -- the answers to its lines, as they are written
 unfoldable pub written_for : List ℕ → List ℕ
 unfolding said_in computed in_printed.took_text in_printed.sent_words in_printed.imm_words in_printed.completion_line in_printed.completion_lines in_printed.polled_lines in_printed.left_lines in_printed.shown_words in_printed.printed
+    digits encode_with
 written_for text = answers_text text
 
 -- what applications hear of it

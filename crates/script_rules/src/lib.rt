@@ -20,10 +20,8 @@ ghost use Rattle.script_rules.specs.Follows.{FollowsAll};
 ghost use Rattle.script_rules.specs.Headline.{IsFollowed};
 ghost use Rattle.script_rules.specs.Script.{happenings, heard_from};
 
-mod examples;
 mod playing;
 
-pub use examples::{a_dumped_context, an_unknown_word, nothing_is_said, one_device, words_of_commands};
 pub use playing::{
     answers_stand_in_order, scripts_are_played_line_by_line, scripts_say_their_lines,
 };
