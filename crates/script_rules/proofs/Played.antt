@@ -9,7 +9,15 @@ use Rattle.script_lang.specs.Lines.{reading_of}
 use Rattle.script_lang.specs.Printed.{printed}
 use Rattle.script_lang.specs.Scripts.{lines_of}
 use Rattle.alike_worlds.specs.Alike.{forgetful}
-use Rattle.script_rules.specs.Does.{before, happening_of, happenings_of}
+use Rattle.std.proofs.lemmas.List.Elements.{All-head, All-tail}
+use Rattle.std.proofs.lemmas.List.Sums.{length-filter}
+use Rattle.std.specs.List.{filter}
+use Rattle.std.specs.Prelude.{All, count_by}
+use Rattle.rdma_types.specs.declared.verbs.Verb.{Verb}
+use Rattle.rdma_types.specs.declared.verbs.Verb.TheVariants as verb
+use Rattle.script_lang.specs.declared.lines.Line.TheVariants as line
+use Rattle.script_lang.specs.Ranges.{IsLawfulLine, IsLawfulVerb}
+use Rattle.script_rules.specs.Does.{is_answered, event_happens, event_of, before, happening_of, happenings_of}
 use Rattle.script_rules.specs.Playing.{PlayingBegins, PlayingEnds, PlayingForgets, PlayingGoesOn, PlayingStops, line_text, world_past}
 use Rattle.script_rules.specs.Script.{AreRead, BadLine, IsFirstBad, SaysLines, Script, begins_with, script_from, text_from, text_of, world_left}
 
@@ -84,3 +92,21 @@ playing_forgets alike text done w number rest p = record {
   bad = p.bad;
   count = p.count;
 }
+
+-- ---- a line that is not blank has one answer
+
+verb_counted : (v : Verb) → IsLawfulVerb v → (hs : List Happening) → length (before (event_happens (event_of v)) hs) ≡ suc (length hs)
+verb_counted (verb.Context name made) is hs = absurd is
+verb_counted other is hs = refl
+
+counted : (l : Line) (ls : List Line) → IsLawfulLine l → (hs : List Happening) → length hs ≡ length (filter is_answered ls) → length (before (happening_of l) hs) ≡ length (filter is_answered (l ∷ ls))
+counted line.Blank ls is hs h = h
+counted (line.Verb v) ls is hs h = verb_counted v is hs ∙ ap suc h
+counted other ls is hs h = ap suc h
+
+filtered : (ls : List Line) → All IsLawfulLine ls → length (happenings_of ls) ≡ length (filter is_answered ls)
+filtered [] all = refl
+filtered (l ∷ ls) all = counted l ls (All-head IsLawfulLine l ls all) (happenings_of ls) (filtered ls (All-tail IsLawfulLine l ls all))
+
+pub all_counted : (ls : List Line) → All IsLawfulLine ls → length (happenings_of ls) ≡ count_by is_answered ls
+all_counted ls all = filtered ls all ∙ length-filter is_answered ls

@@ -1,5 +1,5 @@
 -- What a line of a script does in a world: an event of it, a dump, or settling (this project's choice).
-use Rattle.std.specs.Prelude.{List, [], ◌∷◌, Option, Some, None}
+use Rattle.std.specs.Prelude.{Bool, true, false, List, [], ◌∷◌, Option, Some, None}
 use Rattle.rdma_types.specs.declared.verbs.Verb.{Verb}
 use Rattle.rdma_types.specs.declared.verbs.Verb.TheVariants as verb
 use Rattle.protocol.specs.declared.events.Event.TheVariants as event
@@ -48,6 +48,11 @@ happening_of (line.Restore name device) = Some (Event (world_event.Restore name 
 happening_of (line.Release name device) = Some (Event (world_event.Release name device))
 happening_of (line.Dump name) = Some (Dump name)
 happening_of line.Settle = Some Settles
+
+-- a line that is not blank is answered
+abbrev pub is_answered : Line → Bool
+is_answered line.Blank = false
+is_answered other = true
 
 -- one more before the others, where there is one
 abbrev pub before : Option Happening → List Happening → List Happening

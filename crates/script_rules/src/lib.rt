@@ -32,8 +32,9 @@ use simulation_runs::law_holds;
 /// may be asked for what a lawful line does.
 pub fn lines_are_in_range()
     ensures read { (line : List ℕ) (says : Line) → reading_of line ≡ Ok says → IsLineInRange says }
+    ensures lawful { (line : List ℕ) (says : Line) → reading_of line ≡ Ok says → IsLawfulLine says }
     ensures settling { (event : WorldEvent) → IsSettling event → IsInRange event }
-    ensures lawful { (line : Line) → IsLawfulLine line → MayBeAskedOf (happening_of line) }
+    ensures asked { (line : Line) → IsLawfulLine line → MayBeAskedOf (happening_of line) }
 {}
 
 /// The machine follows each list of lines whose fields are in their ranges, one line after the other, from each state for which

@@ -1,11 +1,12 @@
 //! Scripts line by line.
 
-ghost use Rattle.std.specs.Prelude.{◌≡◌, ℕ, ◌++◌, List, length};
+ghost use Rattle.std.specs.Prelude.{◌≡◌, ℕ, ◌++◌, List, length, count_by};
 ghost use Rattle.protocol.specs.Script.{Happening, answers_in};
 ghost use Rattle.protocol.specs.State.{World};
 ghost use Rattle.script_lang.specs.Scripts.{lines_of};
+ghost use Rattle.script_rules.specs.Does.{is_answered};
 ghost use Rattle.script_rules.specs.Playing.{PlayingBegins, PlayingGoesOn, PlayingStops, PlayingEnds, PlayingForgets};
-ghost use Rattle.script_rules.specs.Script.{SaysLines, script_of, text_from, world_left};
+ghost use Rattle.script_rules.specs.Script.{SaysLines, happenings, script_of, text_from, world_left};
 
 use alike_worlds::alike_worlds_are_answered_alike;
 
@@ -18,7 +19,7 @@ pub fn scripts_say_their_lines()
 /// Each line that is not blank has one answer, and what is written for lines is what is written for a front of them, and then for
 /// the others from the world that the front leaves.
 pub fn answers_stand_in_order()
-    ensures count { (w : World) (hs : List Happening) → length (answers_in w hs) ≡ length hs }
+    ensures count { (text : List ℕ) (w : World) → length (answers_in w (happenings text)) ≡ count_by is_answered (script_of text).lines }
     ensures text { (w : World) (front rest : List Happening) → text_from w (front ++ rest) ≡ text_from w front ++ text_from (world_left w front) rest }
 {}
 

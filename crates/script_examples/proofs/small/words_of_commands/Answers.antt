@@ -26,4 +26,3 @@ returns-clause-too_many c = refl
 pub returns-clause-more : goal.returns-clause-more
 unfolding command_of number_in name_of
 returns-clause-more c = refl
-
