@@ -26,3 +26,4 @@ pub mod RetrySpentAfterEight
 pub mod SharedQueueOfOneEntry
 pub mod RefusalsOfVerbs
 pub mod DumpOfAnEmptyContext
+pub mod ASwapAndAWait

@@ -4,6 +4,7 @@ ghost use Rattle.std.specs.Prelude.{◌≡◌, [], ◌∷◌, true, codes, None,
 ghost use Rattle.rdma_types.specs.declared.answers.Answer.TheVariants.{Done};
 ghost use Rattle.rdma_types.specs.declared.verbs.Verb.TheVariants.{Context};
 ghost use Rattle.script_lang.specs.declared.lines.LineWhy.TheVariants.{Word};
+ghost use Rattle.script_examples.specs.ASwapAndAWait as in_a_swap_and_a_wait;
 ghost use Rattle.script_rules.specs.Evaluate.{heard_in, said_in, written_for};
 ghost use Rattle.script_rules.specs.Commands.{Play, Bulk, ShowDump, command_of};
 ghost use Rattle.script_rules.specs.Texts.{bad_line_line};
@@ -40,4 +41,9 @@ pub fn words_of_commands()
     ensures none { command_of [] ≡ None }
     ensures too_many { command_of (codes "bulk" ∷ codes "7" ∷ codes "9" ∷ codes "100" ∷ codes "0" ∷ []) ≡ None }
     ensures more { command_of (codes "play" ∷ codes "x" ∷ []) ≡ None }
+{}
+
+/// A compare and swap, and a send that waits for its timer.
+pub fn a_swap_and_a_wait()
+    ensures { written_for in_a_swap_and_a_wait.script ≡ in_a_swap_and_a_wait.written }
 {}

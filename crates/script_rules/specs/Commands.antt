@@ -4,6 +4,7 @@ use Rattle.rdma_types.specs.declared.names.Name.{Name}
 use Rattle.script_lang.specs.Texts.{◌>>=◌, greatest_u64, name_of, number_in}
 use Rattle.workload_gen.specs.declared.plan.Mix.{Mix}
 
+-- what the program is asked to do
 pub data Command : Type 0 where
   Play : Command  -- the lines of the whole input are answered
   Bulk : (seed : ℕ) → (mix : Mix) → Command  -- a generated script is played, and summed up

@@ -105,6 +105,7 @@ IsDoneBy said r (Some Play) = IsAnswered r
 IsDoneBy said r (Some (Bulk seed mix)) = IsSummedUp r seed mix
 IsDoneBy said r (Some (ShowDump name)) = IsShown said r name
 
+-- .. the run's command
 abbrev pub IsDone : ImageText → Run → Type 0
 IsDone said r = IsDoneBy said r (command r)
 
@@ -150,6 +151,7 @@ IsStoppedBy r (Some Play) = IsStoppedAtBadLine r
 IsStoppedBy r (Some (Bulk seed mix)) = IsStoppedInBulk r seed mix
 IsStoppedBy r (Some (ShowDump name)) = IsStoppedAtBadDump r name
 
+-- .. which the run's command was given
 abbrev pub IsStopped : Run → Type 0
 IsStopped r = IsStoppedBy r (command r)
 
@@ -205,6 +207,7 @@ IsToWriteBy said r (Some Play) text = (text ≡ []) ⊎ AreAnswersRead r text
 IsToWriteBy said r (Some (Bulk seed mix)) text = (text ≡ []) ⊎ (text ≡ bulk_text seed mix)
 IsToWriteBy said r (Some (ShowDump name)) text = (text ≡ []) ⊎ IsDumpRead said r name text
 
+-- .. for the run's command
 abbrev pub IsToWrite : ImageText → Run → List ℕ → Type 0
 IsToWrite said r text = IsToWriteBy said r (command r) text
 
