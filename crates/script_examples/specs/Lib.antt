@@ -27,3 +27,4 @@ pub mod SharedQueueOfOneEntry
 pub mod RefusalsOfVerbs
 pub mod DumpOfAnEmptyContext
 pub mod ASwapAndAWait
+pub mod GeneratedLines

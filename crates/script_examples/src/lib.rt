@@ -17,6 +17,6 @@ pub use sessions::{
     wrapped_numbers, zero_length_and_drop_in_use,
 };
 pub use small::{
-    a_dumped_context, a_swap_and_a_wait, an_unknown_word, nothing_is_said, one_device,
-    words_of_commands,
+    a_dumped_context, a_swap_and_a_wait, an_unknown_word, generated_lines_are_good,
+    nothing_is_said, one_device, words_of_commands,
 };

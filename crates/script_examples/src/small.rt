@@ -5,6 +5,7 @@ ghost use Rattle.rdma_types.specs.declared.answers.Answer.TheVariants.{Done};
 ghost use Rattle.rdma_types.specs.declared.verbs.Verb.TheVariants.{Context};
 ghost use Rattle.script_lang.specs.declared.lines.LineWhy.TheVariants.{Word};
 ghost use Rattle.script_examples.specs.ASwapAndAWait as in_a_swap_and_a_wait;
+ghost use Rattle.script_examples.specs.GeneratedLines as in_generated_lines;
 ghost use Rattle.script_rules.specs.Evaluate.{heard_in, said_in, written_for};
 ghost use Rattle.script_rules.specs.Commands.{Play, Bulk, ShowDump, command_of};
 ghost use Rattle.script_rules.specs.Texts.{bad_line_line};
@@ -46,4 +47,9 @@ pub fn words_of_commands()
 /// A compare and swap, and a send that waits for its timer.
 pub fn a_swap_and_a_wait()
     ensures { written_for in_a_swap_and_a_wait.script ≡ in_a_swap_and_a_wait.written }
+{}
+
+/// Lines of each form that generated scripts have are read: none of them is bad.
+pub fn generated_lines_are_good()
+    ensures { (said_in in_generated_lines.script).bad ≡ None }
 {}
