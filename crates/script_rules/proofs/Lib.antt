@@ -1,0 +1,5 @@
+pub mod Following
+pub mod Tells
+pub mod Reading
+pub mod Lawful
+pub mod Played

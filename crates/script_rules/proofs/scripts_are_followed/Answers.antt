@@ -1,0 +1,28 @@
+use Rattle.std.proofs.Common.{[], subst, List}
+use Rattle.std.proofs.lemmas.List.Elements.{All-nil}
+use Rattle.script_rules.specs.Does.{IsLineInRange}
+use Rattle.protocol.specs.State.{empty_world}
+use Rattle.protocol.specs.Script.{Happening}
+use Rattle.ideal_model.specs.Machine.{empty}
+use Rattle.script_lang.specs.Scripts.{lines_of}
+use Rattle.script_rules.specs.Follows.{FollowsAll}
+use Rattle.script_rules.specs.Script.{script_of}
+use Rattle.script_rules.proofs.Following.{all_legal, front_followed}
+use Rattle.script_rules.proofs.Reading.{lines_in_range}
+use Rattle.script_rules.proofs.scripts_are_followed.Goals as goal
+
+pub returns-clause-whole : goal.returns-clause-whole
+returns-clause-whole c text = record {
+  follows = c.lines_are_followed.ensures.follows (script_of text).lines (lines_in_range 1 (lines_of text));
+  legal = c.lines_are_followed.ensures.legal (script_of text).lines (lines_in_range 1 (lines_of text));
+}
+
+pub returns-clause-follows_front : goal.returns-clause-follows_front
+returns-clause-follows_front c text front rest e =
+    front_followed empty_world empty front rest (c.lines_are_followed.ensures.follows [] (All-nil IsLineInRange))
+    (subst (λ (hs : List Happening). FollowsAll empty_world empty hs) e (c.lines_are_followed.ensures.follows (script_of text).lines (lines_in_range 1 (lines_of text))))
+
+pub returns-clause-legal_front : goal.returns-clause-legal_front
+returns-clause-legal_front c text front rest e =
+    all_legal empty_world empty front (front_followed empty_world empty front rest (c.lines_are_followed.ensures.follows [] (All-nil IsLineInRange))
+    (subst (λ (hs : List Happening). FollowsAll empty_world empty hs) e (c.lines_are_followed.ensures.follows (script_of text).lines (lines_in_range 1 (lines_of text)))))
