@@ -31,7 +31,7 @@ use Rattle.settling_drains.proofs.Replies.{IsReply, IsStop, takes_replies, reply
 
 -- ---- what is read
 
-read_opcode : (bs : List ℕ) (p : Packet) → packet_of bs ≡ Some p → p.opcode ≡ byte_at 0 bs
+pub read_opcode : (bs : List ℕ) (p : Packet) → packet_of bs ≡ Some p → p.opcode ≡ byte_at 0 bs
 unfolding packet_of fields_of
 read_opcode bs p h = by_offence (is_some (offence_of bs)) (layout_of (byte_at 0 bs)) h
   where
@@ -231,7 +231,7 @@ took_back sent k j f there fresh = by_test (is_kept (length sent) k) there
     ]
 
 -- .. and has its bytes
-took_bytes : (sent : List Flight) (k j : ℕ) (f : Flight) → slice_get sent j ≡ Some f → (g : Flight) × (slice_get (took sent k) j ≡ Some g) × (g.bytes ≡ f.bytes)
+pub took_bytes : (sent : List Flight) (k j : ℕ) (f : Flight) → slice_get sent j ≡ Some f → (g : Flight) × (slice_get (took sent k) j ≡ Some g) × (g.bytes ≡ f.bytes)
 unfolding took
 took_bytes sent k j f there = by_test (is_kept (length sent) k)
   where
@@ -240,6 +240,22 @@ took_bytes sent k j f there = by_test (is_kept (length sent) k)
     by_test true = elim (number_or_not j (k - 1)) [
       | inl e ↦ (marked_taken f, subst (λ i. slice_get (changed_at marked_taken (k - 1) sent) i ≡ Some (marked_taken f)) (sym e) (changed_same marked_taken (k - 1) sent ∙ ap (option_map marked_taken) (subst (λ i. slice_get sent i ≡ Some f) e there)), refl)
       | inr ne ↦ (f, changed_other marked_taken (k - 1) j sent ne ∙ there, refl)
+    ]
+
+-- what stands where datagram k is taken has the bytes of what stood there before
+took_bytes_back : (sent : List Flight) (k j : ℕ) (f : Flight) → slice_get (took sent k) j ≡ Some f → (g : Flight) × (slice_get sent j ≡ Some g) × (g.bytes ≡ f.bytes)
+unfolding took
+took_bytes_back sent k j f there = by_test (is_kept (length sent) k) there
+  where
+    marked : (o : Option Flight) → option_map marked_taken o ≡ Some f → (g : Flight) × (o ≡ Some g) × (g.bytes ≡ f.bytes)
+    marked None h = absurd (cc)
+    marked (Some g) h = let is : marked_taken g ≡ f = cc in (g, refl, ap (λ z. z.bytes) is)
+
+    by_test : (b : Bool) → slice_get (if b then changed_at marked_taken (k - 1) sent else sent) j ≡ Some f → (g : Flight) × (slice_get sent j ≡ Some g) × (g.bytes ≡ f.bytes)
+    by_test false h = (f, h, refl)
+    by_test true h = elim (number_or_not j (k - 1)) [
+      | inl e ↦ subst (λ i. (g : Flight) × (slice_get sent i ≡ Some g) × (g.bytes ≡ f.bytes)) (sym e) (marked (slice_get sent (k - 1)) (sym (changed_same marked_taken (k - 1) sent) ∙ subst (λ i. slice_get (changed_at marked_taken (k - 1) sent) i ≡ Some f) e h))
+      | inr ne ↦ (f, sym (changed_other marked_taken (k - 1) j sent ne) ∙ h, refl)
     ]
 
 -- datagram k is not pending once it is taken
@@ -295,4 +311,14 @@ module _ (w w' : World) (k : ℕ) (h : IsDelivered w w' k) where
   still_pending j f p = elim (get_append_cases h.base h.more (j - 1) f (subst (λ fs. slice_get fs (j - 1) ≡ Some f) h.sent p.there)) [
     | inl a ↦ inl (was_pending j f p a)
     | inr b ↦ inr (omega (arith, b.0, base_length, (kept_is (length w'.sent) j p.kept).0), b.1)
+  ]
+
+  -- what stands now is new, or has the bytes of what stood there before
+  pub bytes_back : (j : ℕ) (f : Flight) → slice_get w'.sent j ≡ Some f → ((g : Flight) × (slice_get w.sent j ≡ Some g) × (g.bytes ≡ f.bytes)) ⊎ Contains h.more f
+  bytes_back j f there = elim (get_append_cases h.base h.more j f (subst (λ fs. slice_get fs j ≡ Some f) h.sent there)) [
+    | inr b ↦ inr b.1
+    | inl a ↦ inl (elim h.marked [
+      | inl c ↦ (f, subst (λ fs. slice_get fs j ≡ Some f) c.0 a, refl)
+      | inr c ↦ took_bytes_back w.sent k j f (subst (λ fs. slice_get fs j ≡ Some f) c a)
+    ])
   ]
