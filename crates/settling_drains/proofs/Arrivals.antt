@@ -138,6 +138,7 @@ pub record IsDelivered (w w' : World) (k : ℕ) : Type 0 where
   pub more : List Flight
   pub sent : w'.sent ≡ base ++ more
   pub marked : ((base ≡ w.sent) × ((f : Flight) → IsPending w.sent k f → ⊥)) ⊎ (base ≡ took w.sent k)
+  pub replies : All (λ f. IsReply f.bytes) more
   pub flown : (f : Flight) → slice_get w.sent (k - 1) ≡ Some f → Flown f.bytes more
 
 flown_nothing : (bs : List ℕ) → Flown bs []
@@ -147,7 +148,7 @@ image_sent : (i : Option ContextImage) (w : World) → (with_image i w).sent ≡
 image_sent None w = refl
 image_sent (Some i) w = refl
 
-ran_sent : (w : World) (s : device.Step) → (ran w s).world.sent ≡ w.sent ++ map (flight_of s.device.address) s.outcome.sent
+pub ran_sent : (w : World) (s : device.Step) → (ran w s).world.sent ≡ w.sent ++ map (flight_of s.device.address) s.outcome.sent
 unfolding ran with_device sending
 ran_sent w s = image_sent s.outcome.image _
 
@@ -157,6 +158,7 @@ reached w k f None there = record {
   more = [];
   sent = sym (append-nil (took w.sent k));
   marked = inr refl;
+  replies = All-nil _;
   flown = λ g h. flown_nothing g.bytes;
 }
 reached w k f (Some d) there =
@@ -166,10 +168,11 @@ reached w k f (Some d) there =
       more = map (flight_of s.device.address) s.outcome.sent;
       sent = ran_sent (with_taken w k) s;
       marked = inr refl;
+      replies = (flown f.bytes s.device.address s.outcome.sent (arrival_answered d f.from f.bytes)).replies;
       flown = λ g h. let is : f ≡ g = cc in subst (λ z. Flown z.bytes (map (flight_of s.device.address) s.outcome.sent)) is (flown f.bytes s.device.address s.outcome.sent (arrival_answered d f.from f.bytes));
     }
 
-kept_there : (sent : List Flight) (k : ℕ) (f : Flight) → kept_flight sent k ≡ Some f → (is_kept (length sent) k ≡ true) × (slice_get sent (k - 1) ≡ Some f)
+pub kept_there : (sent : List Flight) (k : ℕ) (f : Flight) → kept_flight sent k ≡ Some f → (is_kept (length sent) k ≡ true) × (slice_get sent (k - 1) ≡ Some f)
 unfolding kept_flight
 kept_there sent k f h = by_test (is_kept (length sent) k) refl h
   where
@@ -186,10 +189,10 @@ kept_none sent k f h p = by_test (is_kept (length sent) k) p.kept h
     by_test false t g = absurd (cc)
 
 aside : (w : World) (k : ℕ) → ((f : Flight) → IsPending w.sent k f → ⊥) → IsDelivered w w k
-aside w k none = record { base = w.sent; more = []; sent = sym (append-nil w.sent); marked = inl (refl, none); flown = λ g h. flown_nothing g.bytes }
+aside w k none = record { base = w.sent; more = []; sent = sym (append-nil w.sent); marked = inl (refl, none); replies = All-nil _; flown = λ g h. flown_nothing g.bytes }
 
 aged : (w : World) (k : ℕ) → IsDelivered w (with_taken w k) k
-aged w k = record { base = took w.sent k; more = []; sent = sym (append-nil (took w.sent k)); marked = inr refl; flown = λ g h. flown_nothing g.bytes }
+aged w k = record { base = took w.sent k; more = []; sent = sym (append-nil (took w.sent k)); marked = inr refl; replies = All-nil _; flown = λ g h. flown_nothing g.bytes }
 
 by_kept : (w : World) (k : ℕ) (r : Option Flight) → kept_flight w.sent k ≡ r → IsDelivered w (delivers_by w k (look_at r (now_of w r))).world k
 by_kept w k None h = aside w k (λ f. kept_none w.sent k f h)

@@ -168,3 +168,12 @@ none_listed sent (k ∷ ks) h none = let g = numbers_pend sent k (subst (λ ns. 
 pub none_pending : (sent : List Flight) → ((k : ℕ) (f : Flight) → IsPending sent k f → ⊥) → pending sent ≡ None
 unfolding pending
 none_pending sent none = none_listed sent (pending_numbers sent) refl none
+
+-- .. and the other way
+listed_none : (ks : List ℕ) (k : ℕ) → first_of ks ≡ None → Contains ks k → ⊥
+listed_none [] k h c = absurd (omega (arith, c.1))
+listed_none (j ∷ ks) k h c = absurd (cc)
+
+pub pending_none : (sent : List Flight) (k : ℕ) (f : Flight) → pending sent ≡ None → IsPending sent k f → ⊥
+unfolding pending
+pending_none sent k f h p = listed_none (pending_numbers sent) k h (pending_listed sent k f p)

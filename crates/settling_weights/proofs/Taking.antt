@@ -109,7 +109,7 @@ module _ (k : ℕ) (N : Type 0) (c : Context) (e : End) (l : Link) (self : c.end
   still s is = record { goes = subst (EndGoesOn k N c e l) (sym is) (record { named = refl; end = e; ends = self; name = refl; number = refl; link = l; linked = there; goes = same k N l }) }
 
   -- the end is stored with another link, over a context with the same ends
-  shape : (x c0 : Context) (e0 : End) (l' : Link) → x.ends ≡ (linked c0 e0 l').ends → x.name ≡ c0.name → c0.ends ≡ c.ends → c0.name ≡ c.name → e0.name ≡ e.name → e0.number ≡ e.number → GoesOn k N l l' → EndGoesOn k N c e l x
+  pub shape : (x c0 : Context) (e0 : End) (l' : Link) → x.ends ≡ (linked c0 e0 l').ends → x.name ≡ c0.name → c0.ends ≡ c.ends → c0.name ≡ c.name → e0.name ≡ e.name → e0.number ≡ e.number → GoesOn k N l l' → EndGoesOn k N c e l x
   unfolding with_end with_link
   shape x c0 e0 l' ends name ends0 name0 name_e number_e goes = record {
     named = name ∙ name0;
@@ -122,10 +122,10 @@ module _ (k : ℕ) (N : Type 0) (c : Context) (e : End) (l : Link) (self : c.end
     goes = goes;
   }
 
-  ended_shape : (c0 : Context) (e0 : End) (l0 : Link) (st : WcStatus) → l.ended ≡ false → c0.ends ≡ c.ends → c0.name ≡ c.name → e0.name ≡ e.name → e0.number ≡ e.number → l0.peer ≡ l.peer → l0.terms ≡ l.terms → l0.moving.own ≡ l.moving.own → EndGoesOn k N c e l (ended_with c0 e0 l0 st)
+  pub ended_shape : (c0 : Context) (e0 : End) (l0 : Link) (st : WcStatus) → l.ended ≡ false → c0.ends ≡ c.ends → c0.name ≡ c.name → e0.name ≡ e.name → e0.number ≡ e.number → l0.peer ≡ l.peer → l0.terms ≡ l.terms → l0.moving.own ≡ l.moving.own → EndGoesOn k N c e l (ended_with c0 e0 l0 st)
   unfolding ended_with ended_link with_unused completing with_queue with_end with_link
   ended_shape c0 e0 l0 st alive ends name name_e number_e peer terms own =
-      shape (ended_with c0 e0 l0 st) c0 (with_unused e0 []) (ended_link l0) refl refl ends name name_e number_e (over k N l (ended_link l0) alive refl peer terms own)
+      shape (ended_with c0 e0 l0 st) c0 (with_unused e0 []) (ended_link l0) refl refl ends name name_e number_e (over k N l (ended_link l0) alive refl peer terms own refl)
 
   -- ---- requests
 
@@ -234,7 +234,7 @@ module _ (k : ℕ) (N : Type 0) (c : Context) (e : End) (l : Link) (self : c.end
       record IsFurther (s : Sender) : Type 0 where
         untold : s.untold ≡ l.sender.untold
         first : s.first ≡ l.sender.first
-        case : IsStill l.sender s ⊎ ((l.sender.una < s.una) × (l.sender.una < end_of_queue l.terms l.sender))
+        case : IsStill l.sender s ⊎ ((l.sender.una < s.una) × (l.sender.una < end_of_queue l.terms l.sender) × (s.spent ≤ l.sender.spent))
 
       same_sender : IsFurther l.sender
       same_sender = record { untold = refl; first = refl; case = inl (record { una = refl; spent = refl; waits = refl; wait = inl refl }) }
@@ -260,7 +260,7 @@ module _ (k : ℕ) (N : Type 0) (c : Context) (e : End) (l : Link) (self : c.end
           waits = told_waits l.terms s ∙ t.waits;
           wait = elim t.wait [ inl a ↦ inl (told_wait l.terms s ∙ a) | inr b ↦ inr (told_wait l.terms s ∙ b) ];
         })
-        | inr r ↦ advances k N l (told_link s) (told_alive s f.untold f.first) refl (omega (arith, told_una l.terms s, r.0)) r.1
+        | inr r ↦ advances k N l (told_link s) (told_alive s f.untold f.first) refl (omega (arith, told_una l.terms s, r.0)) r.1 (omega (arith, told_spent l.terms s, r.2))
       ]
 
       telling_by : (c1 : Context) (s : Sender) → c1.ends ≡ c.ends → c1.name ≡ c.name → GoesOn k N l (told_link s) → EndGoesOn k N c e l (telling c1 e l s)
@@ -287,7 +287,7 @@ module _ (k : ℕ) (N : Type 0) (c : Context) (e : End) (l : Link) (self : c.end
       advancing n below = by_test (nat_lt l.sender.una n) refl
         where
           by_test : (b : Bool) → nat_lt l.sender.una n ≡ b → IsFurther (if b then record l.sender { una = n; spent = 0; waits = 0; next = max l.sender.next n } else l.sender)
-          by_test true t = let r : l.sender.una < n = grind (arith, nat_tests, t) in record { untold = refl; first = refl; case = inr (r, below r) }
+          by_test true t = let r : l.sender.una < n = grind (arith, nat_tests, t) in record { untold = refl; first = refl; case = inr (r, below r, omega arith) }
           by_test false t = same_sender
 
       module _ (n : ℕ) (sent : l.sender.una < l.sender.top) where
@@ -311,7 +311,7 @@ module _ (k : ℕ) (N : Type 0) (c : Context) (e : End) (l : Link) (self : c.end
         wait_link : (s : Sender) → IsFurther s → (not (l.terms.rnr == 7) && (waited s).waits == l.terms.rnr + 1) ≡ false → GoesOn k N l (told_link (waiting (waited s)))
         unfolding with_sender told_link
         wait_link s f t = elim f.case [
-          | inr r ↦ advances k N l (told_link (waiting (waited s))) (told_alive (waiting (waited s)) f.untold f.first) refl (omega (arith, told_una l.terms (waiting (waited s)), r.0)) r.1
+          | inr r ↦ advances k N l (told_link (waiting (waited s))) (told_alive (waiting (waited s)) f.untold f.first) refl (omega (arith, told_una l.terms (waiting (waited s)), r.0)) r.1 (omega (arith, told_spent l.terms (waiting (waited s)), r.2))
           | inl u ↦ waits_once k N l (told_link (waiting (waited s))) (told_alive (waiting (waited s)) f.untold f.first) refl (told_una l.terms (waiting (waited s)) ∙ u.una) (told_spent l.terms (waiting (waited s)) ∙ u.spent)
               (λ ne. counts ne (told_waits l.terms (waiting (waited s))) u.waits)
         ]

@@ -38,9 +38,9 @@ moves_left partner m = 1 + phase_left m.phase + (if nat_lt m.recorded partner th
 unfoldable pub parts : ℕ → Option Waited → Link → ℕ
 parts partner x l = rises_left l + (8 - l.sender.spent) + waits_left x l + moves_left partner l.moving
 
--- nothing is left of an end in Error
+-- .. and of one in Error, where it waits all the same
 unfoldable pub weight : ℕ → Option Waited → Link → ℕ
-weight partner x l = if l.ended then 0 else parts partner x l
+weight partner x l = if l.ended then (if l.sender.rnr_wait then 1 else 0) else parts partner x l
 
 -- ---- what a step does to it
 
@@ -53,12 +53,17 @@ pub record Lightens (partner : ℕ) (l l' : Link) : Type 0 where
   pub no_more : (x : Option Waited) → weight partner x l' ≤ weight partner x l
   pub less : (x : Option Waited) → same_mark (mark_of (Some l)) (mark_of (Some l')) ≡ false → weight partner x l' < weight partner x l
 
+-- the counted expiries of an end in Rts are within its retries
+abbrev pub HasFew : Link → Type 0
+HasFew l = l.ended ≡ false → l.sender.spent ≤ l.terms.retry
+
 -- .. and keeps what no step of settling changes; its unacknowledged numbers do not grow; it lightens where IsNews holds
 pub record GoesOn (partner : ℕ) (IsNews : Type 0) (l l' : Link) : Type 0 where
   pub peer : l'.peer ≡ l.peer
   pub terms : l'.terms ≡ l.terms
   pub own : l'.moving.own ≡ l.moving.own
   pub fewer : unacknowledged (Some l') ≤ unacknowledged (Some l)
+  pub few : HasFew l → HasFew l'
   pub lightens : IsNews → Lightens partner l l'
 
 -- what is true of a link in Rts
