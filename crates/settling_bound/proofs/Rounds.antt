@@ -5,7 +5,7 @@ use Rattle.std.proofs.lemmas.Option.{slice_get_within}
 use Rattle.rdma_types.specs.declared.names.ObjName.{ObjName}
 use Rattle.protocol.specs.declared.events.WorldEvent.{WorldEvent}
 use Rattle.protocol.specs.State.{World, Link}
-use Rattle.protocol.specs.Settle.{Settling, Settled, begun, drained, last_wait, live_ends, live_names, load_of, round, rounds_of, settled, unacknowledged}
+use Rattle.protocol.specs.Settle.{Settling, Settled, begun, drained, last_wait, live_ends, live_names, load_of, round, rounds_of, visited, visiting, settled, unacknowledged}
 use Rattle.ideal_model.specs.Machine as machine
 use Rattle.ideal_model.specs.Machine.{Machine}
 use Rattle.simulation.specs.Law.{AlwaysFollows}
@@ -13,16 +13,16 @@ use Rattle.simulation.specs.Stands.{Stands}
 use Rattle.simulation.specs.Views.{link_of, name_of, net_of, peer}
 use Rattle.simulation.proofs.Grown.{are_made}
 use Rattle.simulation_sending.proofs.GoLive as go_live
-use Rattle.simulation_sending.proofs.GoLive.{LiveEnd, joined_here}
+use Rattle.simulation_sending.proofs.GoLive.{LiveEnd, joined_here, sends_here}
 use Rattle.settling_drains.specs.Drained.{DrainingDrains}
 use Rattle.settling_drains.proofs.Pending.{pending_none}
 use Rattle.settling_weights.specs.Weights.{TakingLightens}
 use Rattle.settling_weights.proofs.Links.{weight_most}
-use Rattle.settling_bound.specs.Ends.{AreFewExpiries, Ends, SettlingEnds, after_rounds, is_moving, started}
-use Rattle.settling_bound.proofs.Lives.{at_end, link_is}
+use Rattle.settling_bound.specs.Ends.{Ends, SettlingEnds, after_rounds, is_moving, started}
+use Rattle.settling_bound.proofs.Lives.{at_end}
 use Rattle.settling_bound.proofs.Turns.{live_end}
 use Rattle.settling_bound.proofs.Sums.{length_listed, load_listed, sum_scaled}
-use Rattle.settling_bound.proofs.Walk.{Base, Drains, Going, Kept, all_there, drained_base, end_weight, link_weight, rest_going, round_going, total}
+use Rattle.settling_bound.proofs.Walk.{drained_going, visits_going, Base, Drains, Going, Kept, all_there, drained_base, end_weight, link_weight, rest_going, round_going, total}
 
 -- ---- a list of rounds
 
@@ -100,9 +100,26 @@ module _ (drains : DrainingDrains) (lightens : TakingLightens) (follows : (e : W
         one_round fuel n s (is_moving (round s)) refl
         (λ t. ends_from fuel (n + 1) (begun (round s)) g.kept refl refl (omega (arith, h, begun_sum (round s), moved_less (sum s) (round s) g t)))
 
+    -- any settling, under a weight that is above its own
+    going_above : (s : Settling) → IsKept s → IsGoing (sum s + 1) s
+    going_above s kept = record { kept = kept; most = omega arith; changed = λ h. omega arith; stepped = λ h. omega arith }
+
+    kept_rounds : (n : ℕ) (s : Settling) → IsKept s → IsKept (after_rounds n s)
+    unfolding after_rounds
+    kept_rounds zero s kept = kept
+    kept_rounds (suc n) s kept = kept_rounds n (begun (round s)) (round_going lightens follows K os N n0 (sum s + 1) s (going_above s kept)).kept
+
+    kept_visits : (s : Settling) → IsKept s → IsKept (visiting visited (drained s) (live_names s.world))
+    kept_visits s kept =
+        (visits_going lightens follows K os N n0 (sum s + 1) (drained s) (live_names s.world) (all_there lightens follows K os N n0 (sum s + 1) (live_names s.world) kept.base.names)
+        (drained_going lightens follows K os N n0 (sum s + 1) s (going_above s kept))).kept
+
+    visits_names : (s : Settling) → IsKept s → live_names (visiting visited (drained s) (live_names s.world)).world ≡ live_names s.world
+    visits_names s kept = (kept_visits s kept).base.names ∙ sym kept.base.names
+
   -- ---- a settling
 
-  module _ (w : World) (m : Machine) (s : Stands w m) (few : AreFewExpiries w) where
+  module _ (w : World) (m : Machine) (s : Stands w m) where
     -- how often the partner of the end with a number moved
     K : ℕ → ℕ
     K n = (link_of w (peer (net_of w m) (name_of m n))).moving.own
@@ -121,6 +138,12 @@ module _ (drains : DrainingDrains) (lightens : TakingLightens) (follows : (e : W
         let back : peer (net_of w m) (name_of m l.peer) ≡ o = ap (peer (net_of w m)) name ∙ j.back in
         sym (ap (λ k. (link_of w k).moving.own) back ∙ ap (λ z. z.moving.own) (go_live.link_is w m o l s h))
 
+    few_is : (o : ObjName) (l : Link) → (at_end w o).link ≡ Some l → l.ended ≡ false → l.sender.spent ≤ l.terms.retry
+    few_is o l at alive =
+        let h : LiveEnd w m o l = live_end w m o l s at in
+        let t = sends_here w m o l s h alive in
+        omega (arith, t.spent, t.few, (joined_here w m o l s h).retry, ap (λ z. z.terms.retry) (go_live.link_is w m o l s h))
+
     base : Base lightens follows K (live_names w) N w
     unfolding N
     base = record {
@@ -129,7 +152,7 @@ module _ (drains : DrainingDrains) (lightens : TakingLightens) (follows : (e : W
       names = refl;
       number = λ o. refl;
       own = own_is;
-      few = λ o l at. few o l (link_is w o ∙ at);
+      few = λ o l at alive. few_is o l at alive;
     }
 
     abbrev d : Settling
@@ -180,6 +203,12 @@ module _ (drains : DrainingDrains) (lightens : TakingLightens) (follows : (e : W
         one_round fuel 0 (started w) (is_moving (round (started w))) refl
         (λ t. ends_from K (live_names w) N n0 fuel (0 + 1) (begun (round (started w))) first_round.kept refl refl (omega (arith, h, first_round.most, begun_sum K (live_names w) N n0 (round (started w)))))
 
+    -- the visits of each round leave the names of the live ends
+    names_same : (n : ℕ) → live_names (visiting visited (drained (after_rounds n (started w))) (live_names (after_rounds n (started w)).world)).world ≡ live_names (after_rounds n (started w)).world
+    unfolding after_rounds
+    names_same zero = (visits_going lightens follows K (live_names w) N n0 (weights + 1) d (live_names w) (all_there lightens follows K (live_names w) N n0 (weights + 1) (live_names w) refl) first_going).kept.base.names
+    names_same (suc n) = visits_names K (live_names w) N n0 (after_rounds n (begun (round (started w)))) (kept_rounds K (live_names w) N n0 n (begun (round (started w))) first_round.kept)
+
     enough : weights + 3 ≤ 32 * load_of w
     unfolding load_of
     enough = omega (arith, weights_most)
@@ -197,4 +226,8 @@ module _ (drains : DrainingDrains) (lightens : TakingLightens) (follows : (e : W
         }
 
   pub ends : SettlingEnds
-  ends w m s few = ended w m s few
+  ends w m s = ended w m s
+
+  pub names_stay : (w : World) (m : Machine) → Stands w m → (n : ℕ) →
+      live_names (visiting visited (drained (after_rounds n (started w))) (live_names (after_rounds n (started w)).world)).world ≡ live_names (after_rounds n (started w)).world
+  names_stay w m s n = names_same w m s n

@@ -299,7 +299,7 @@ module _ (lightens : TakingLightens) (follows : (e : WorldEvent) → AlwaysFollo
       pass_going : (s : Settling) → Going T s → Going T (pass s)
       pass_going s going = delivering_going (pending_numbers s.world.sent) s (λ k c. let p = numbers_pend s.world.sent k c in going.kept.later k p.0 p.1) going
 
-      drained_going : (s : Settling) → Going T s → Going T (drained s)
+      pub drained_going : (s : Settling) → Going T s → Going T (drained s)
       unfolding drained
       drained_going s going = pass_going (pass (pass s)) (pass_going (pass s) (pass_going s going))
 
@@ -426,11 +426,15 @@ module _ (lightens : TakingLightens) (follows : (e : WorldEvent) → AlwaysFollo
 
       -- ---- a round
 
+      -- the visits of a round
+      pub visits_going : (s : Settling) (ns : List ObjName) → All (Contains os) ns → Going T s → Going T (visiting visited s ns)
+      visits_going s ns all h = visiting_going visited (λ z o c g. visited_going z o g) ns s all h
+
       -- what follows the first drain
       pub rest_going : (s : Settling) (ns : List ObjName) → All (Contains os) ns → Going T s → Going T (timers_if_still (visiting visited s ns) ns)
       rest_going s ns all h =
           let t : Settling = visiting visited s ns in
-          let k : Going T t = visiting_going visited (λ z o c g. visited_going z o g) ns s all h in
+          let k : Going T t = visits_going s ns all h in
           if_going t.changed t (timers t ns) k (timers_going t ns all k)
 
       pub all_there : (ns : List ObjName) → ns ≡ os → All (Contains os) ns

@@ -1,8 +1,7 @@
 -- How settling ends: by a round in which nothing changed and nothing was stepped, within its bound.
-use Rattle.std.specs.Prelude.{◌≡◌, ℕ, zero, suc, ◌+◌, ◌*◌, ◌≤◌, ◌||◌, Bool, true, false, [], Some}
-use Rattle.rdma_types.specs.declared.names.ObjName.{ObjName}
-use Rattle.protocol.specs.State.{World, Link}
-use Rattle.protocol.specs.Settle.{Settling, begun, link_at, load_of, round, settled}
+use Rattle.std.specs.Prelude.{◌≡◌, ℕ, zero, suc, ◌+◌, ◌*◌, ◌≤◌, ◌||◌, Bool, true, false, []}
+use Rattle.protocol.specs.State.{World}
+use Rattle.protocol.specs.Settle.{Settling, begun, load_of, round, settled}
 use Rattle.ideal_model.specs.Machine.{Machine}
 use Rattle.simulation.specs.Stands.{Stands}
 
@@ -27,10 +26,6 @@ pub record Ends (w : World) : Type 0 where
   pub within : n + 1 ≤ 32 * load_of w
   pub settled : settled w ≡ record { world = (round (after_rounds n (started w))).world; rounds = n + 1 }
 
--- the counted expiries of each live end in Rts are within its retries
-abbrev pub AreFewExpiries : World → Type 0
-AreFewExpiries w = (o : ObjName) (l : Link) → link_at w o ≡ Some l → l.ended ≡ false → l.sender.spent ≤ l.terms.retry
-
 -- settling ends
 abbrev pub SettlingEnds : Type 0
-SettlingEnds = (w : World) (m : Machine) → Stands w m → AreFewExpiries w → Ends w
+SettlingEnds = (w : World) (m : Machine) → Stands w m → Ends w
