@@ -145,7 +145,7 @@ fresh_joined o p e f t a b terms apart = record {
   terms = terms;
   exchanged = refl;
   in_pieces = record { acting = (zero-mod t.mtu, inl refl); telling = (zero-mod t.mtu, inl refl); sayable = All-nil _; offers = All-nil _; reads = λ i h. absurd (omega (arith, h)); old_words = All-nil _ };
-  sends = λ h. record { first = refl; una = omega (arith, zero-div t.mtu); spent = refl; waits = λ h. (refl, omega arith) };
+  sends = λ h. record { first = refl; una = omega (arith, zero-div t.mtu); spent = refl; few = omega arith; waits = λ h. (refl, omega arith) };
   over = λ h. absurd (cc);
   ordered = record { una_next = omega arith; next_top = omega arith; top_end = omega arith; due_top = omega (arith, zero-div t.mtu); reach = omega arith; limit = omega arith };
   fenced = λ h i l. absurd (omega (arith, l));

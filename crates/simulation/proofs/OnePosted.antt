@@ -143,6 +143,7 @@ posted_joined o x y q p r alive s said limit j =
         first = t.first ∙ sym (first-append q.posted (r ∷ []) q.mtu q.told told);
         una = t.una ∙ sym (oldest_push q r told);
         spent = t.spent;
+        few = t.few;
         waits = t.waits;
       };
       over = λ h. absurd (cc (alive, h));

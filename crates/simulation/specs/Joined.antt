@@ -75,8 +75,9 @@ pub record Sends (s : Sender) (q : End) : Type 0 where
   pub first : s.first ≡ first_number q.posted q.mtu q.told
   -- the oldest unacknowledged number is the first that the owner does not know to be in place
   pub una : s.una ≡ oldest q
-  -- counted expiries are equal
+  -- counted expiries are equal, and no more than the retries
   pub spent : s.spent ≡ q.spent
+  pub few : q.spent ≤ q.retry
   -- counted waits are equal, and no more than the limit, unless they have none
   pub waits : q.rnr ≢ 7 → (s.waits ≡ q.waits) × (q.waits ≤ q.rnr)
 

@@ -70,7 +70,7 @@ joined_moved o x y q p u v goes heard j = record {
   terms = j.terms;
   exchanged = j.exchanged;
   in_pieces = j.in_pieces;
-  sends = λ h. let s = j.sends h in record { first = s.first; una = s.una; spent = s.spent; waits = s.waits };
+  sends = λ h. let s = j.sends h in record { first = s.first; una = s.una; spent = s.spent; few = s.few; waits = s.waits };
   over = λ h. let s = j.over h in record { first = s.first; una = s.una; next = elim goes [ inl e ↦ e ∙ s.next | inr e ↦ e ∙ s.una ]; top = s.top };
   ordered = record {
     una_next = elim goes [ inl e ↦ omega (arith, e, j.ordered.una_next) | inr e ↦ omega (arith, e) ];

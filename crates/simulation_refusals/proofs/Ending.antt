@@ -154,7 +154,7 @@ module _ (o q : ObjName) (x y : Side) (e g : End) (n : ℕ) (why : Why) (rts : x
     terms = k.terms;
     exchanged = k.exchanged;
     in_pieces = record { acting = k.in_pieces.acting; telling = k.in_pieces.telling; sayable = k.in_pieces.sayable; offers = k.in_pieces.offers; reads = k.in_pieces.reads; old_words = All-push IsWordReply g.answers (Denied why) k.in_pieces.old_words tt };
-    sends = λ h. let s = k.sends h in record { first = s.first; una = s.una; spent = s.spent; waits = s.waits };
+    sends = λ h. let s = k.sends h in record { first = s.first; una = s.una; spent = s.spent; few = s.few; waits = s.waits };
     over = λ h. let s = k.over h in record { first = s.first; una = s.una; next = s.next; top = s.top };
     ordered = record {
       una_next = k.ordered.una_next;

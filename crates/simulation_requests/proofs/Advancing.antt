@@ -93,7 +93,7 @@ module _ (o q : ObjName) (x y : Side) (e g : End) (acted into : ℕ) (answers : 
     terms = k.terms;
     exchanged = k.exchanged;
     in_pieces = record { acting = a.acting; telling = k.in_pieces.telling; sayable = k.in_pieces.sayable; offers = a.offers_said; reads = a.reads; old_words = a.old_words };
-    sends = λ h. let s = k.sends h in record { first = s.first; una = s.una; spent = s.spent; waits = s.waits };
+    sends = λ h. let s = k.sends h in record { first = s.first; una = s.una; spent = s.spent; few = s.few; waits = s.waits };
     over = λ h. let s = k.over h in record { first = s.first; una = s.una; next = s.next; top = s.top };
     ordered = record {
       una_next = k.ordered.una_next;

@@ -106,6 +106,18 @@ module _ (w : World) (m : Machine) (o : ObjName) (l : Link) (s : Stands w m) (h 
     unfolding oldest
     oldest_then = ap oldest end_heard ∙ learn.oldest_is
 
+    -- the counted expiries are within the retries: none where `una` rises, and the same where it does not
+    few_learned : learn.spent ≤ f.retry
+    few_learned = by_order (nat_lt l.sender.una n) refl
+      where
+        by_order : (b : Bool) → nat_lt l.sender.una n ≡ b → learn.spent ≤ f.retry
+        by_order true t =
+            let more : l.sender.una < n = grind (arith, nat_tests, leb_tells (suc l.sender.una) n, t) in
+            omega (arith, (learn.fresh (omega (arith, more, una_is))).0)
+        by_order false t =
+            let less : n ≤ l.sender.una = grind (arith, nat_tests, leb_tells (suc l.sender.una) n, t) in
+            omega (arith, (learn.still (omega (arith, low, una_is, less))).0, (sends_here w m o l s h alive).few)
+
     -- .. where more waits were counted
     abbrev pub end_with : ℕ → End
     end_with more_waits = gone_end f (f.told + learn.count) learn.known learn.spent more_waits f.ended
@@ -156,7 +168,7 @@ module _ (w : World) (m : Machine) (o : ObjName) (l : Link) (s : Stands w m) (h 
       goes =
           let u = ordered_here w m o l s h in
           record {
-            sends = record { first = first_then; una = k.una ∙ sym learn.oldest_is; spent = k.spent; waits = k.waits };
+            sends = record { first = first_then; una = k.una ∙ sym learn.oldest_is; spent = k.spent; few = few_learned; waits = k.waits };
             ordered = record {
               una_next = omega (arith, k.una, k.una_next);
               next_top = omega (arith, k.next_top, k.top);

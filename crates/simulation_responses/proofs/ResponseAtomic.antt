@@ -309,7 +309,7 @@ module _ (w : World) (m : Machine) (o : ObjName) (l : Link) (n : ℕ) (bytes : L
     on =
         let u = ordered_here w m o l a.stands h in
         record {
-          sends = record { first = first_then ∙ sym begins; una = omega (arith, begins, zero-div f.mtu); spent = refl; waits = λ k. (refl, omega arith) };
+          sends = record { first = first_then ∙ sym begins; una = omega (arith, begins, zero-div f.mtu); spent = refl; few = omega arith; waits = λ k. (refl, omega arith) };
           ordered = record {
             una_next = omega arith;
             next_top = omega (arith, u.next_top, top);

@@ -99,25 +99,37 @@ module _ (w : World) (m : Machine) (o : ObjName) (s : Stands w m) where
         all_true _ _ _ (connected_here w m o l s h) (ended_here w m o l s h ∙ alive)
         (less_tells f.told (length f.posted) (some_untold (requests_of f) l.sender.next (omega (arith, before, (sends_here w m o l s h alive).una)) within))
 
-    counted_on : Goes_on (counted l.sender) (requests_of (gone_end f f.told f.known (suc f.spent) f.waits f.ended))
+    -- the last expiry is the same on both sides
+    same_spent : (f.spent == f.retry) ≡ (l.sender.spent == l.terms.retry)
+    same_spent =
+        ap (λ k. k == f.retry) (sym (sends_here w m o l s h alive).spent)
+        ∙ ap (λ k. l.sender.spent == k) (sym (joined_here w m o l s h).retry ∙ ap (λ z. z.terms.retry) (link_is w m o l s h))
+
+    one_more : (a b : ℕ) → (a == b) ≡ false → a ≤ b → suc a ≤ b
+    one_more a b h l = elim (eqb_tells a b) [
+      | inl t ↦ absurd (cc (t.0, h))
+      | inr t ↦ omega (arith, t.1, l)
+    ]
+
+    counted_on : (l.sender.spent == l.terms.retry) ≡ false → Goes_on (counted l.sender) (requests_of (gone_end f f.told f.known (suc f.spent) f.waits f.ended))
     unfolding oldest due
-    counted_on =
+    counted_on more =
         let t = sends_here w m o l s h alive in
         let u = ordered_here w m o l s h in
         record {
-          sends = record { first = t.first; una = t.una; spent = omega (arith, t.spent); waits = t.waits };
+          sends = record { first = t.first; una = t.una; spent = omega (arith, t.spent); few = one_more f.spent f.retry (same_spent ∙ more) t.few; waits = t.waits };
           ordered = record { una_next = omega arith; next_top = omega (arith, u.una_next, u.next_top); top_end = u.top_end; due_top = u.due_top; reach = u.reach; limit = u.limit };
           fenced = fenced_here w m o l s h alive;
           telling = (joined_here w m o l s h).in_pieces.telling;
         }
 
-    counted_stands : Stands (counted_world l) (machine.in_end m o expired)
+    counted_stands : (l.sender.spent == l.terms.retry) ≡ false → Stands (counted_world l) (machine.in_end m o expired)
     unfolding expired
-    counted_stands =
+    counted_stands more =
         let sound = sound_here w m o l s h in
         let ended : f.ended ≡ false = ended_here w m o l s h ∙ alive in
         alone_stands w m o l s h (counted l.sender) f.told f.known (suc f.spent) f.waits (answers.Expired (l.sender.spent + 1)) alive (omega arith) (omega arith) (untold_here w m o l s h)
-        (gone_sound _ _ f f.told f.known (suc f.spent) f.waits (connected_here w m o l s h) ended (known_already f sound.sound ended) sound) counted_on
+        (gone_sound _ _ f f.told f.known (suc f.spent) f.waits (connected_here w m o l s h) ended (known_already f sound.sound ended) sound) (counted_on more)
 
     as_before : Goes_on l.sender (requests_of f)
     as_before = record { sends = sends_here w m o l s h alive; ordered = ordered_here w m o l s h; fenced = fenced_here w m o l s h alive; telling = (joined_here w m o l s h).in_pieces.telling }
@@ -139,18 +151,12 @@ module _ (w : World) (m : Machine) (o : ObjName) (s : Stands w m) where
         (over_stands w m o l s h l.sender f.told f.known f.spent f.waits alive (omega arith) (omega arith) as_before (untold_here w m o l s h)
         (machine.with_end m o f) (live_of w o.context) (context_with m o f) status.RetryExceeded answers.Spent refl unchanged (sound_here w m o l s h))
 
-    -- the last expiry is the same on both sides
-    same_spent : (f.spent == f.retry) ≡ (l.sender.spent == l.terms.retry)
-    same_spent =
-        ap (λ k. k == f.retry) (sym (sends_here w m o l s h alive).spent)
-        ∙ ap (λ k. l.sender.spent == k) (sym (joined_here w m o l s h).retry ∙ ap (λ z. z.terms.retry) (link_is w m o l s h))
-
     by_spent : (b : Bool) → (l.sender.spent == l.terms.retry) ≡ b →
         let next = if b then device.answers (device.with_context (home w o.context) (ended_with (live_of w o.context) (end_there_of w o) l status.RetryExceeded)) answers.Spent else device.answers (device.with_context (home w o.context) (linked_of w o (words.with_sender l (counted l.sender)))) (answers.Expired (l.sender.spent + 1)) in
         Reaches w m (world_events.At (events.Expire o)) (ran w next).world (ran w next).answer
     unfolding ran step.numbered is_counted expire
     by_spent true h = expire_reached (spent_world l) answers.Spent refl untold (subst (λ b. Stands (spent_world l) (if b then making.ended_with m o status.RetryExceeded else machine.in_end m o expired)) (sym (same_spent ∙ h)) spent_stands)
-    by_spent false h = expire_reached (counted_world l) (answers.Expired (l.sender.spent + 1)) refl untold (subst (λ b. Stands (counted_world l) (if b then making.ended_with m o status.RetryExceeded else machine.in_end m o expired)) (sym (same_spent ∙ h)) counted_stands)
+    by_spent false h = expire_reached (counted_world l) (answers.Expired (l.sender.spent + 1)) refl untold (subst (λ b. Stands (counted_world l) (if b then making.ended_with m o status.RetryExceeded else machine.in_end m o expired)) (sym (same_spent ∙ h)) (counted_stands h))
 
   by_reason : (l : Link) (r : Option NotWhy) → LiveEnd w m o l → not_counted l ≡ r →
       Reaches w m (world_events.At (events.Expire o)) (ran w (device.expires_by (home w o.context) (live_of w o.context) (end_there_of w o) l r)).world (ran w (device.expires_by (home w o.context) (live_of w o.context) (end_there_of w o) l r)).answer

@@ -103,7 +103,7 @@ module _ (w : World) (m : Machine) (o : ObjName) (s : Stands w m) (l : Link) (h 
     goes =
         let t = sends_here w m o l s h is.alive in
         record {
-          sends = record { first = t.first; una = t.una; spent = t.spent; waits = t.waits };
+          sends = record { first = t.first; una = t.una; spent = t.spent; few = t.few; waits = t.waits };
           ordered = ordered_after l q x (requests_sound f (sound_here w m o l s h).sound) mtu (mtu_is w m o l s h) (untold_here w m o l s h) (joined_here w m o l s h).in_pieces.telling t (ordered_here w m o l s h) (fenced_here w m o l s h is.alive) reach is;
           fenced = fenced_after l q x (requests_sound f (sound_here w m o l s h).sound) mtu (mtu_is w m o l s h) (untold_here w m o l s h) (joined_here w m o l s h).in_pieces.telling t (ordered_here w m o l s h) (fenced_here w m o l s h is.alive) reach is;
           telling = (joined_here w m o l s h).in_pieces.telling;

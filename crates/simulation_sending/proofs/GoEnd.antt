@@ -345,7 +345,7 @@ module _ (o : ObjName) (x y : Side) (q p : End) (b : Bool) (rts : x.rts ≡ not 
       terms = j.terms;
       exchanged = j.exchanged;
       in_pieces = j.in_pieces;
-      sends = λ h. let t = j.sends (rts ∙ h) in record { first = t.first; una = t.una; spent = t.spent; waits = t.waits };
+      sends = λ h. let t = j.sends (rts ∙ h) in record { first = t.first; una = t.una; spent = t.spent; few = t.few; waits = t.waits };
       over = λ h. let t = j.over h in record { first = t.first; una = t.una; next = t.next; top = t.top };
       ordered = let t = j.ordered in record { una_next = t.una_next; next_top = t.next_top; top_end = t.top_end; due_top = t.due_top; reach = t.reach; limit = t.limit };
       fenced = λ h. j.fenced (rts ∙ h);

@@ -1,0 +1,4 @@
+pub mod Replies
+pub mod Pending
+pub mod Arrivals
+pub mod Passes

@@ -1,0 +1,279 @@
+-- What an end sends for a datagram: a request or a RESUME is answered, an answer is not.
+use Rattle.std.proofs.Common.{◌≡◌, ◌-◌, ◌+◌, ℕ, zero, suc, List, [], ◌∷◌, true, false, Bool, refl, sym, ap, ◌∙◌, subst}
+use Rattle.std.specs.Prelude.{All, Option, Some, None, is_some, if◌then◌else◌, ◌==◌, ◌&&◌, ◌||◌, not, nat_le, nat_lt}
+use Rattle.std.proofs.lemmas.List.Elements.{All-nil, All-cons}
+use Rattle.rdma_types.specs.declared.answers.Sent.{Sent}
+use Rattle.rdma_types.specs.declared.answers.Took.{Took}
+use Rattle.rdma_types.specs.declared.answers.Why.{Why}
+use Rattle.rdma_types.specs.declared.answers.Why.TheVariants as refused
+use Rattle.rdma_types.specs.Limits.{number_limit}
+use Rattle.rdma_types.specs.declared.requests.WcStatus.{WcStatus}
+use Rattle.rdma_types.specs.declared.requests.WcStatus.TheVariants as status
+use Rattle.rdma_types.specs.declared.answers.Took.TheVariants as took
+use Rattle.rdma_types.specs.Objects.{Region}
+use Rattle.rdma_types.specs.Spans.{Piece, piece_at, pieces}
+use Rattle.protocol.specs.declared.images.KeptReply.{KeptReply}
+use Rattle.protocol.specs.declared.wire.Aeth.{Aeth}
+use Rattle.protocol.specs.declared.wire.AtomicEth.{AtomicEth}
+use Rattle.protocol.specs.declared.wire.Reth.{Reth}
+use Rattle.protocol.specs.declared.wire.ResumeBody.{ResumeBody}
+use Rattle.protocol.specs.declared.wire.Syndrome.{Syndrome}
+use Rattle.protocol.specs.declared.wire.Syndrome.TheVariants.{Ack, Rnr, Nak}
+use Rattle.protocol.specs.Bytes.{byte_at}
+use Rattle.protocol.specs.Numbers.{unwrap_near}
+use Rattle.protocol.specs.State.{Link, End, Context, Sender}
+use Rattle.protocol.specs.Wire.{Packet, is_request, is_nak_stopped, is_read_response, wire_of}
+use Rattle.rdma_types.specs.declared.answers.SilentWhy.TheVariants as why
+use Rattle.protocol.specs.EndWords.{EndStep, silent, stays, is_paused}
+use Rattle.protocol.specs.Requester as requester
+use Rattle.protocol.specs.Responder as responder
+use Rattle.protocol.specs.Moves.{Control, Stopped, Resume, ResumeAck, MoveTook, GoesPaused, Resumed, Again, GoesRunning, Stale, control_of, stopped_of, resuming_of, moves_by, takes_control}
+use Rattle.protocol.specs.EndStep.{takes, takes_kind, takes_other}
+
+-- bytes that are neither a request nor a RESUME
+pub record IsReply (bs : List ℕ) : Type 0 where
+  pub no_request : is_request (byte_at 0 bs) ≡ false
+  pub no_resume : (byte_at 0 bs == 0x1E) ≡ false
+
+-- the bytes of a NAK_STOPPED
+pub record IsStop (bs : List ℕ) : Type 0 where
+  pub opcode : byte_at 0 bs ≡ 0x11
+  pub syndrome : byte_at 12 bs ≡ 0x65
+
+-- each datagram of a step is an answer
+pub record Replies (s : EndStep) : Type 0 where
+  pub each : All (λ z. IsReply z.bytes) s.sent
+
+-- it sends nothing
+pub record IsSilent (s : EndStep) : Type 0 where
+  pub none : s.sent ≡ []
+
+if_replies : (b : Bool) (x y : EndStep) → Replies x → Replies y → Replies (if b then x else y)
+if_replies true x y h k = h
+if_replies false x y h k = k
+
+-- a datagram is written with its opcode first
+pub opcode_first : (d : Packet) → byte_at 0 (wire_of d) ≡ d.opcode
+unfolding wire_of
+opcode_first d = refl
+
+written : (d : Packet) → is_request d.opcode ≡ false → (d.opcode == 0x1E) ≡ false → IsReply (wire_of d)
+written d a b = record { no_request = ap is_request (opcode_first d) ∙ a; no_resume = ap (λ n. n == 0x1E) (opcode_first d) ∙ b }
+
+none : (c : Context) (t : Took) → Replies (stays c t)
+none c t = record { each = All-nil (λ z. IsReply z.bytes) }
+
+one : (c : Context) (t : Took) (z : Sent) → IsReply z.bytes → Replies (record { context = c; took = t; sent = z ∷ [] })
+one c t z h = record { each = All-cons (λ z. IsReply z.bytes) z [] h (All-nil (λ z. IsReply z.bytes)) }
+
+acknowledged : (l : Link) (n : ℕ) (s : Syndrome) → IsReply (responder.acknowledge l n s).bytes
+unfolding responder.acknowledge is_request
+acknowledged l n s = written _ refl refl
+
+olded : (l : Link) (n old : ℕ) → IsReply (responder.old_answer l n old).bytes
+unfolding responder.old_answer is_request
+olded l n old = written _ refl refl
+
+read_by : (l : Link) (n k count : ℕ) (bytes : List ℕ) (a b c : Bool) →
+    let d : Packet = if a then record (responder.response l 0x10 n Ack) { payload = bytes } else if b then record (responder.response l 0x0D n Ack) { payload = bytes } else if c then record (responder.response l 0x0F n Ack) { payload = bytes } else responder.read_response l n 5 7 bytes in
+    (is_request d.opcode ≡ false) × ((d.opcode == 0x1E) ≡ false)
+unfolding is_request
+read_by l n k count bytes true b c = (refl, refl)
+read_by l n k count bytes false true c = (refl, refl)
+read_by l n k count bytes false false true = (refl, refl)
+read_by l n k count bytes false false false = (refl, refl)
+
+read_one : (l : Link) (r : Region) (off length' n k : ℕ) → IsReply (responder.read_piece l r off length' n k).bytes
+read_one l r off length' n k =
+    let count : ℕ = pieces length' l.terms.mtu in
+    let h = read_by l (n + k) k count _ (count == 1) (k == 0) (k + 1 == count) in
+    written _ h.0 h.1
+
+read_all : (l : Link) (r : Region) (off length' n left : ℕ) → All (λ z. IsReply z.bytes) (responder.read_pieces l r off length' n left)
+unfolding responder.read_pieces
+read_all l r off length' n zero = All-nil (λ z. IsReply z.bytes)
+read_all l r off length' n (suc left) = All-cons (λ z. IsReply z.bytes) _ _ (read_one l r off length' n _) (read_all l r off length' n left)
+
+-- ---- requests
+
+module _ (c : Context) (e : End) (l : Link) (d : Packet) where
+  ahead_replies : Replies (responder.ahead c e l)
+  unfolding responder.ahead
+  ahead_replies = if_replies l.receiver.nak_sent _ _ (none _ _) (one _ _ _ (acknowledged l l.receiver.expected (Nak 0)))
+
+  granted_replies : (o : Option Region) (h : Reth) (n : ℕ) → Replies (responder.answers_read c l o h n)
+  granted_replies None h n = none _ _
+  granted_replies (Some r) h n = record { each = read_all l r (h.address - r.base) h.length n (pieces h.length l.terms.mtu) }
+
+  reread_replies : (o : Option Reth) (n : ℕ) → Replies (responder.repeats_read c e l o n)
+  reread_replies None n = none _ _
+  reread_replies (Some h) n = if_replies (nat_le (n + pieces h.length l.terms.mtu) l.receiver.expected) _ _ (granted_replies _ h n) (none _ _)
+
+  old_replies : (n : ℕ) (o : Option KeptReply) → Replies (responder.answers_old c l n o)
+  old_replies n None = none _ _
+  old_replies n (Some k) = one _ _ _ (olded l n k.old)
+
+  repeated_replies : (n : ℕ) → Replies (responder.repeated c e l d n)
+  unfolding responder.repeated
+  repeated_replies n = if_replies (responder.is_read_request d.opcode) _ _ (reread_replies d.reth n) (if_replies (is_some d.atomic) _ _ (old_replies n _) (one _ _ _ (acknowledged l (l.receiver.expected - 1) Ack)))
+
+  refused_replies : (c' : Context) (e' : End) (l' : Link) (n : ℕ) (w : Why) → Replies (responder.refuses c' e' l' n w)
+  refused_replies c' e' l' n w = one _ _ _ (acknowledged l' n (Nak (responder.nak_code w)))
+
+  acts_replies : (c' : Context) (l' : Link) (n : ℕ) → Replies (responder.acts c' l' d n)
+  acts_replies c' l' n = if_replies (responder.finishes (responder.part_of d.opcode) || d.ack_request) _ _ (one _ _ _ (acknowledged l' n Ack)) (none _ _)
+
+  read_replies : (l' : Link) (r : Region) (n : ℕ) (o : Option Reth) → Replies (responder.read_acts c e l' r n o)
+  read_replies l' r n None = none _ _
+  read_replies l' r n (Some h) = record { each = read_all l' r (h.address - r.base) h.length n (pieces h.length l'.terms.mtu) }
+
+  atomic_replies : (l' : Link) (r : Region) (n : ℕ) (o : Option AtomicEth) → Replies (responder.atomic_acts c e l' d r n o)
+  unfolding responder.atomic_done
+  atomic_replies l' r n None = none _ _
+  atomic_replies l' r n (Some h) = one _ _ _ (olded l' n _)
+
+  packet_replies : (l' : Link) (r : Region) (n : ℕ) → Replies (responder.packet_acts c e l' d r n)
+  unfolding responder.packet_acts
+  packet_replies l' r n =
+      if_replies (responder.is_send d.opcode) _ _ (acts_replies _ l' n)
+      (if_replies (responder.is_write d.opcode) _ _ (acts_replies _ l' n)
+      (if_replies (responder.is_read_request d.opcode) _ _ (read_replies l' r n d.reth) (atomic_replies l' r n d.atomic)))
+
+  target_replies : (n : ℕ) (o : Option Region) → Replies (responder.granted_packet c e l d n o)
+  unfolding responder.not_ready responder.refuses_length
+  target_replies n None = refused_replies c e l n _
+  target_replies n (Some r) =
+      if_replies (responder.is_not_ready e d) _ _ (one _ _ _ (acknowledged l n Rnr))
+      (if_replies (responder.is_too_long e l d) _ _ (refused_replies _ _ _ n _) (packet_replies (responder.executed l d) r n))
+
+  expected_replies : (n : ℕ) → Replies (responder.expected_packet c e l d n)
+  unfolding responder.expected_packet
+  expected_replies n = if_replies (nat_le number_limit (n + responder.span_of_packet d l.terms.mtu d.reth)) _ _ (none c _) (if_replies (responder.is_invalid l d) _ _ (refused_replies c e l n refused.Invalid) (target_replies n (responder.target c e d)))
+
+  request_replies : (o : Option ℕ) → Replies (responder.request_at c e l d o)
+  request_replies None = none _ _
+  request_replies (Some n) = if_replies (nat_lt l.receiver.expected n) _ _ ahead_replies (if_replies (nat_lt n l.receiver.expected) _ _ (repeated_replies n) (expected_replies n))
+
+  -- ---- responses
+
+  silent_if : (b : Bool) (x y : EndStep) → IsSilent x → IsSilent y → IsSilent (if b then x else y)
+  silent_if true x y h k = h
+  silent_if false x y h k = k
+
+  refusal_silent : (s : Sender) (n : ℕ) (status : WcStatus) → IsSilent (requester.takes_refusal c e l s n status)
+  unfolding requester.takes_refusal
+  refusal_silent s n status = silent_if (s.una == n) (requester.ends_after c e l s status) (requester.goes_back c e l s) (record { none = refl }) (record { none = refl })
+
+  nak_silent : (n code : ℕ) → IsSilent (requester.takes_nak c e l n code)
+  unfolding requester.takes_nak
+  nak_silent n code =
+      silent_if (code == 0) (requester.goes_back c e l (requester.acknowledged l n)) _ (record { none = refl })
+      (silent_if (code == 1) _ _ (refusal_silent (requester.acknowledged l n) n status.RemoteInvalid)
+      (silent_if (code == 2) _ (requester.useless c) (refusal_silent (requester.acknowledged l n) n status.RemoteAccess) (record { none = refl })))
+
+  moved_silent : (s : Sender) (before after : Context) → IsSilent (requester.moved_or_useless l s before after)
+  moved_silent s before after = silent_if (nat_lt l.sender.una s.una) (stays after took.Acked) (requester.useless before) (record { none = refl }) (record { none = refl })
+
+  rnr_silent : (s : Sender) (n : ℕ) → IsSilent (requester.takes_rnr c e l s n)
+  unfolding requester.takes_rnr requester.waits_again
+  rnr_silent s n =
+      silent_if (s.una == n) _ _
+      (silent_if (not (l.terms.rnr == 7) && (requester.waited s).waits == l.terms.rnr + 1) (requester.ends_after c e l (requester.waited s) status.RnrExceeded) (stays (requester.telling c e l (requester.waiting (requester.waited s))) took.Waits) (record { none = refl }) (record { none = refl }))
+      (moved_silent s c (requester.telling c e l s))
+
+  syndrome_silent : (n : ℕ) (s : Syndrome) → IsSilent (requester.takes_syndrome c e l n s)
+  unfolding requester.takes_ack
+  syndrome_silent n Ack = moved_silent (requester.acknowledged l (n + 1)) c _
+  syndrome_silent n Rnr = silent_if l.sender.rnr_wait (requester.useless c) _ (record { none = refl }) (rnr_silent (requester.acknowledged l n) n)
+  syndrome_silent n (Nak code) = nak_silent n code
+
+  aeth_silent : (n : ℕ) (h : Option Aeth) → IsSilent (requester.takes_aeth c e l n h)
+  aeth_silent n None = (record { none = refl })
+  aeth_silent n (Some h) = silent_if (nat_le l.sender.una n && nat_lt n l.sender.top) _ (requester.useless c) (syndrome_silent n h.syndrome) (record { none = refl })
+
+  piece_silent : (n : ℕ) (o : Option Piece) → IsSilent (requester.takes_piece c e l d n o)
+  unfolding requester.takes_piece
+  piece_silent n None = (record { none = refl })
+  piece_silent n (Some x) = silent_if (requester.is_this_piece l d x) (stays (requester.telling (requester.landing c l d x) e l (requester.advanced l.sender (n + 1))) took.Landed) (requester.useless c) (record { none = refl }) (record { none = refl })
+
+  landing_silent : (n : ℕ) → IsSilent (requester.takes_landing c e l d n)
+  unfolding requester.takes_landing
+  landing_silent n = silent_if (n == requester.barrier l.terms l.sender && nat_lt n l.sender.top) _ (requester.useless c) (piece_silent n (piece_at l.sender.untold l.terms.mtu (n - l.sender.first))) (record { none = refl })
+
+  response_silent : (o : Option ℕ) → IsSilent (requester.response_at c e l d o)
+  response_silent None = (record { none = refl })
+  response_silent (Some n) = silent_if (is_read_response d.opcode || d.opcode == 0x12) _ _ (landing_silent n) (aeth_silent n d.aeth)
+
+  -- ---- messages of moving
+
+  moves_replies : (m : Control) (r : MoveTook) → Replies (moves_by c e l m r)
+  unfolding moves_by is_request
+  moves_replies (Stopped count) GoesPaused = none _ _
+  moves_replies (Stopped count) Resumed = none _ _
+  moves_replies (Stopped count) Again = none _ _
+  moves_replies (Stopped count) GoesRunning = none _ _
+  moves_replies (Stopped count) Stale = none _ _
+  moves_replies (Resume body) Resumed = one _ _ _ (written _ refl refl)
+  moves_replies (Resume body) Again = one _ _ _ (written _ refl refl)
+  moves_replies (Resume body) GoesPaused = none _ _
+  moves_replies (Resume body) GoesRunning = none _ _
+  moves_replies (Resume body) Stale = none _ _
+  moves_replies (ResumeAck count) GoesRunning = none _ _
+  moves_replies (ResumeAck count) GoesPaused = none _ _
+  moves_replies (ResumeAck count) Resumed = none _ _
+  moves_replies (ResumeAck count) Again = none _ _
+  moves_replies (ResumeAck count) Stale = none _ _
+
+  stopped_silent : (count : ℕ) (r : MoveTook) → IsSilent (moves_by c e l (Stopped count) r)
+  unfolding moves_by
+  stopped_silent count GoesPaused = (record { none = refl })
+  stopped_silent count Resumed = (record { none = refl })
+  stopped_silent count Again = (record { none = refl })
+  stopped_silent count GoesRunning = (record { none = refl })
+  stopped_silent count Stale = (record { none = refl })
+
+  ack_silent : (count : ℕ) (r : MoveTook) → IsSilent (moves_by c e l (ResumeAck count) r)
+  unfolding moves_by
+  ack_silent count GoesPaused = (record { none = refl })
+  ack_silent count Resumed = (record { none = refl })
+  ack_silent count Again = (record { none = refl })
+  ack_silent count GoesRunning = (record { none = refl })
+  ack_silent count Stale = (record { none = refl })
+
+  -- ---- every packet
+
+  silent_replies : (s : EndStep) → IsSilent s → Replies s
+  silent_replies s h = record { each = subst (All (λ z. IsReply z.bytes)) (sym h.none) (All-nil (λ z. IsReply z.bytes)) }
+
+  other_replies : Replies (takes_other c e l d)
+  unfolding responder.takes_request requester.takes_response
+  other_replies = if_replies (is_request d.opcode) _ _ (if_replies (is_paused l.moving.phase) _ _ (none c _) (request_replies (unwrap_near l.terms.peer_start d.psn l.receiver.expected))) (silent_replies (requester.takes_response c e l d) (response_silent (unwrap_near l.terms.own_start d.psn l.sender.una)))
+
+  kind_replies : (m : Option Control) → Replies (takes_kind c e l d m)
+  unfolding takes_control
+  kind_replies None = other_replies
+  kind_replies (Some m) = moves_replies m _
+
+  pub takes_replies : Replies (takes c e l d)
+  unfolding takes
+  takes_replies = if_replies l.ended _ _ (none c _) (kind_replies (control_of d))
+
+  -- an answer is not answered
+  other_by : (b : Bool) → b ≡ false → IsSilent (if b then if is_paused l.moving.phase then silent c why.Paused else responder.takes_request c e l d else requester.takes_response c e l d)
+  unfolding requester.takes_response
+  other_by true h = absurd (cc)
+  other_by false h = response_silent _
+
+  other_silent : is_request d.opcode ≡ false → IsSilent (takes_other c e l d)
+  other_silent h = other_by (is_request d.opcode) h
+
+  control_silent : (b : Bool) (h : Option Aeth) (o : Option ResumeBody) → is_request d.opcode ≡ false → (d.opcode == 0x1E) ≡ false → IsSilent (takes_kind c e l d (if b then stopped_of h else resuming_of d.opcode o))
+  unfolding takes_control requester.takes_response
+  control_silent true None o a k = other_silent a
+  control_silent true (Some h) o a k = stopped_silent h.msn _
+  control_silent false h None a k = other_silent a
+  control_silent false h (Some body) a k = rw k (ack_silent body.count _)
+
+  pub reply_silent : is_request d.opcode ≡ false → (d.opcode == 0x1E) ≡ false → IsSilent (takes c e l d)
+  unfolding takes control_of
+  reply_silent a k = silent_if l.ended (silent c why.Ended) (takes_kind c e l d (if is_nak_stopped d.aeth then stopped_of d.aeth else resuming_of d.opcode d.resume)) (record { none = refl }) (control_silent (is_nak_stopped d.aeth) d.aeth d.resume a k)
