@@ -90,6 +90,10 @@ pub record KeepsOthers (old new : Pool) (held : List Held) : Type 0 where
 abbrev pub IsSpot : List Held → Spot → Type 0
 IsSpot held spot = 0 < spot.length → IsSomeAnd (held_at spot.region held) (λ h. spot.off + spot.length ≤ h.head.length)
 
+-- a part of a spot: so many bytes, from one of its bytes on
+abbrev pub part_of : Spot → ℕ → ℕ → Spot
+part_of spot from count = record { region = spot.region; off = spot.off + from; length = count }
+
 -- the regions with bytes at a spot
 abbrev pub stored_at : Spot → List ℕ → List Region → List Region
 stored_at spot new regions = map (λ r. if r.keys.local == spot.region then stored r spot.off new else r) regions

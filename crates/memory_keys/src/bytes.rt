@@ -5,7 +5,7 @@ ghost use Rattle.rdma_types.specs.Memory.{put, word_of, word_bytes};
 ghost use Rattle.page_pool.specs.Pool.{Pool, Puts, bytes_of, bytes_in, free_pages};
 ghost use Rattle.page_pool.specs.Held.{HoldsPayload, payload_bytes};
 ghost use Rattle.memory_keys.specs.declared.Held.{Held};
-ghost use Rattle.memory_keys.specs.Regions.{AreHeld, KeepsOthers, IsSpot, regions_of, spot_bytes, stored_at, held_at, pages_touched};
+ghost use Rattle.memory_keys.specs.Regions.{AreHeld, KeepsOthers, IsSpot, part_of, regions_of, spot_bytes, stored_at, held_at, pages_touched};
 
 use crate::{MemFault, Regions, Spot};
 use page_pool::{PagePool, Payload};
@@ -50,11 +50,26 @@ impl Regions {
         ensures others { KeepsOthers pool.old pool.new self.old }
         ensures free { free_pages pool.new ≡ free_pages pool.old }
     {
-        if spot.length == 0 {
+        self.store_part(pool, spot, 0, bytes);
+    }
+
+    /// Stores bytes in a part of a spot, from its byte `from` on. Pages are copied as `store` says. It takes no memory.
+    pub fn store_part(&mut self, pool: &mut PagePool, spot: Spot, from: u32, bytes: &[u8])
+        requires held { AreHeld pool.old self.old }
+        requires spot { IsSpot self.old spot }
+        requires inside { from + length bytes.now ≤ spot.length }
+        ensures same { self.new ≡ self.old }
+        ensures held { AreHeld pool.new self.new }
+        ensures regions { regions_of pool.new self.new ≡ stored_at (part_of spot from (length bytes.now)) bytes.now (regions_of pool.old self.old) }
+        ensures others { KeepsOthers pool.old pool.new self.old }
+        ensures free { free_pages pool.new ≡ free_pages pool.old }
+    {
+        if bytes.is_empty() {
             return;
         }
         let held = self.held.get_mut(&spot.region).unwrap();
-        pool.write(&mut held.list, u64::from(spot.off), bytes);
+        let at = u64::from(spot.off) + u64::from(from);
+        pool.write(&mut held.list, at, bytes);
     }
 
     /// Stores a word at a spot of eight bytes (this project's choice: big-endian). It takes no memory.

@@ -130,6 +130,14 @@ impl Regions {
         })
     }
 
+    /// Local keys are those of one region each, and a remote key is the number after the local one. It does nothing else
+    /// than say so.
+    pub fn are_keyed(&self)
+        ensures { AreKeyed self.now }
+    {
+        let _held = &self.held;
+    }
+
     /// The region with a local key.
     pub(crate) fn find(&self, key: u32) -> Option<&Held>
         ensures found { option_copied result ≡ held_at key self.now }

@@ -1,0 +1,13 @@
+pub mod Granted
+pub mod Views
+pub mod Kindly
+pub mod Acts
+pub mod Ends
+pub mod Cases
+pub mod Counts
+pub mod Soundness
+pub mod Leaving
+pub mod Staying
+pub mod Changing
+pub mod Bounds
+pub mod Rows

@@ -1,0 +1,7 @@
+pub mod Kinds
+pub mod Receiving
+pub mod Taking
+pub mod Taken
+pub mod Steps
+pub mod Sound
+pub mod Changes

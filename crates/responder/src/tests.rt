@@ -1,0 +1,141 @@
+//! A responder on datagrams as they arrive, at MTU 256.
+
+ghost use Rattle.std.specs.Prelude.{◌≡◌, ◌≤◌, IfOk};
+ghost use Rattle.memory_keys.specs.Regions.{AreHeld};
+ghost use Rattle.protocol.specs.Wire as wire;
+ghost use Rattle.responder.specs.Receiving.{waiting};
+ghost use Rattle.responder.specs.Sound.{IsSound};
+
+use super::*;
+use completion_queue::Cq;
+use memory_keys::{RegionHead, Regions};
+use page_pool::PagePool;
+use rdma_types::{Keys, Name, Rights};
+use roce_headers::decode;
+use std::alloc::Global;
+use std::test::Fail;
+use work_queues::RecvQueue;
+
+const TERMS: Terms = Terms {
+    mtu: 256,
+    own_start: 0,
+    peer_start: 0xFF_FFFF,
+    retry: 1,
+    rnr: 0,
+    reads: 1,
+};
+
+/// A responder and what it works on.
+#[derive(Drop)]
+struct Place {
+    pool: PagePool,
+    regions: Regions,
+    domain: Name,
+    recvs: RecvQueue,
+    cq: Cq,
+    responder: Responder,
+}
+
+/// A region of 512 bytes from address 4096 on, which the key 0100_0003 opens, and no receive.
+fn make_place(alloc: Global) -> Result<Place, Fail>
+    ensures held { IfOk result (λ p. AreHeld p.pool p.regions) }
+    ensures sound { IfOk result (λ p. IsSound p.regions p.domain p.responder p.recvs.items) }
+    ensures reserved { IfOk result (λ p. waiting p.responder.receiver p.recvs.items ≤ p.cq.reserved) }
+{
+    soundness_stays();
+    let mut pool = PagePool::make(alloc, 1)?;
+    let mut regions = Regions::make(alloc);
+    let domain = Name::read(b"p").ok_or("a name")?;
+    let head = RegionHead {
+        name: Name::read(b"n").ok_or("a name")?,
+        domain,
+        base: 4096,
+        length: 512,
+        rights: Rights(15),
+        keys: Keys {
+            local: 0x0100_0002,
+            remote: 0x0100_0003,
+        },
+    };
+    regions.register(&mut pool, alloc, head)?;
+    let recvs = RecvQueue::make(alloc, 1)?;
+    let cq = Cq::make(alloc, 1)?;
+    let responder = Responder::make(&TERMS);
+    Ok(Place {
+        pool,
+        regions,
+        domain,
+        recvs,
+        cq,
+        responder,
+    })
+}
+
+/// The opcode of a request.
+#[tactic(auto, unfolding(protocol::specs::Wire::is_request))]
+fn is_request(opcode: u8) -> bool
+    ensures { result ≡ wire.is_request opcode }
+{
+    opcode <= 0x0C || opcode == 0x13 || opcode == 0x14
+}
+
+/// A request that arrives; None where it is none.
+fn arrive(p: &mut Place, bytes: &[u8]) -> Option<Reply>
+    requires held { AreHeld p.old.pool p.old.regions }
+    requires sound { IsSound p.old.regions p.old.domain p.old.responder p.old.recvs.items }
+    requires reserved { waiting p.old.responder.receiver p.old.recvs.items ≤ p.old.cq.reserved }
+    ensures held { AreHeld p.new.pool p.new.regions }
+    ensures sound { IsSound p.new.regions p.new.domain p.new.responder p.new.recvs.items }
+    ensures reserved { waiting p.new.responder.receiver p.new.recvs.items ≤ p.new.cq.reserved }
+{
+    let Ok(d) = decode(bytes) else {
+        return None;
+    };
+    if !is_request(d.opcode) {
+        return None;
+    }
+    Some(
+        p.responder.take_request(
+            &mut p.pool,
+            &mut p.regions,
+            p.domain,
+            &mut p.recvs,
+            &mut p.cq,
+            7,
+            &d,
+        ),
+    )
+}
+
+/// A FetchAdd of 5 to the word at address 4096: packet 0, whose wire number is the partner's first.
+const ADD: [u8; 44] = [
+    0x14, 0, 0xFF, 0xFF, 0, 0, 0, 7, 0x80, 0xFF, 0xFF, 0xFF, 0, 0, 0, 0, 0, 0, 0x10, 0, 1, 0, 0, 3,
+    0, 0, 0, 0, 0, 0, 0, 5, 0, 0, 0, 0, 0, 0, 0, 0, 0, 0, 0, 0,
+];
+
+#[test]
+fn a_repeated_atomic_is_not_executed(rt: HostRuntime) -> Result<(), Fail> {
+    let mut p = make_place(rt.alloc())?;
+    let first = Reply::AtomicOld { number: 0, old: 0 };
+    assert_eq!(rt; arrive(&mut p, &ADD), Some(first));
+    assert_eq!(rt; arrive(&mut p, &ADD), Some(first));
+    assert_eq!(rt; p.responder.parts().expected, 1);
+    assert_eq!(rt; p.responder.kept().len(), 1);
+    assert!(rt; p.responder.cut().is_none());
+    Ok(())
+}
+
+/// A SEND Only of no bytes: packet 1, whose wire number is 0.
+const SEND: [u8; 16] = [0x04, 0, 0xFF, 0xFF, 0, 0, 0, 7, 0x80, 0, 0, 0, 0, 0, 0, 0];
+
+#[test]
+fn a_request_ahead_is_told_once(rt: HostRuntime) -> Result<(), Fail> {
+    let mut p = make_place(rt.alloc())?;
+    let silent = Reply::Silent(SilentWhy::NakSent);
+    assert_eq!(rt; arrive(&mut p, &SEND), Some(Reply::SequenceNak));
+    assert_eq!(rt; arrive(&mut p, &SEND), Some(silent));
+    let added = arrive(&mut p, &ADD);
+    assert!(rt; added.is_some());
+    assert_eq!(rt; arrive(&mut p, &SEND), Some(Reply::NotReady));
+    Ok(())
+}
