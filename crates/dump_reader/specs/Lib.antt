@@ -1,2 +1,5 @@
 pub mod Fields
 pub mod Groups
+pub mod Ahead
+pub mod Steps
+pub mod Faults

@@ -36,6 +36,7 @@ impl<'a> Cursor<'a> {
         ensures fits { self.new.place + length self.new.bytes.now ≡ self.old.place + length self.old.bytes.now }
         ensures start { self.new.start ≡ self.old.place }
         ensures len { IfOk result (λ field. length field.now ≡ count) }
+        ensures passed { IfOk result (λ field. self.new.place ≡ self.old.place + count) }
     {
         self.start = self.place;
         if self.bytes.len() < count {
@@ -54,6 +55,7 @@ impl<'a> Cursor<'a> {
     #[tactic(auto, unfolding(protocol::specs::Bytes::big_number))]
     pub fn u8(&mut self) -> Result<u8, Offence>
         requires { self.old.place + length self.old.bytes.now < 2 ^ 64 }
+        ensures passed { IfOk result (λ n. self.new.place ≡ self.old.place + 1) }
         ensures ok { IfOk result (λ n. IsNext 1 n self.old.place self.old.bytes.now self.new.place self.new.bytes.now) }
         ensures short { IfErr result (λ e. IsShort 1 self.old.place self.old.bytes.now e.place e.why) }
         ensures fits { self.new.place + length self.new.bytes.now ≡ self.old.place + length self.old.bytes.now }
@@ -67,6 +69,7 @@ impl<'a> Cursor<'a> {
     #[tactic(auto, unfolding(protocol::specs::Bytes::big_number))]
     pub fn u16(&mut self) -> Result<u16, Offence>
         requires { self.old.place + length self.old.bytes.now < 2 ^ 64 }
+        ensures passed { IfOk result (λ n. self.new.place ≡ self.old.place + 2) }
         ensures ok { IfOk result (λ n. IsNext 2 n self.old.place self.old.bytes.now self.new.place self.new.bytes.now) }
         ensures short { IfErr result (λ e. IsShort 2 self.old.place self.old.bytes.now e.place e.why) }
         ensures fits { self.new.place + length self.new.bytes.now ≡ self.old.place + length self.old.bytes.now }
@@ -80,6 +83,7 @@ impl<'a> Cursor<'a> {
     #[tactic(auto, unfolding(protocol::specs::Bytes::big_number))]
     pub fn u32(&mut self) -> Result<u32, Offence>
         requires { self.old.place + length self.old.bytes.now < 2 ^ 64 }
+        ensures passed { IfOk result (λ n. self.new.place ≡ self.old.place + 4) }
         ensures ok { IfOk result (λ n. IsNext 4 n self.old.place self.old.bytes.now self.new.place self.new.bytes.now) }
         ensures short { IfErr result (λ e. IsShort 4 self.old.place self.old.bytes.now e.place e.why) }
         ensures fits { self.new.place + length self.new.bytes.now ≡ self.old.place + length self.old.bytes.now }
@@ -93,6 +97,7 @@ impl<'a> Cursor<'a> {
     #[tactic(auto, unfolding(protocol::specs::Bytes::big_number))]
     pub fn u64(&mut self) -> Result<u64, Offence>
         requires { self.old.place + length self.old.bytes.now < 2 ^ 64 }
+        ensures passed { IfOk result (λ n. self.new.place ≡ self.old.place + 8) }
         ensures ok { IfOk result (λ n. IsNext 8 n self.old.place self.old.bytes.now self.new.place self.new.bytes.now) }
         ensures short { IfErr result (λ e. IsShort 8 self.old.place self.old.bytes.now e.place e.why) }
         ensures fits { self.new.place + length self.new.bytes.now ≡ self.old.place + length self.old.bytes.now }
@@ -134,6 +139,7 @@ impl<'a> Cursor<'a> {
     #[tactic(auto, unfolding(protocol::specs::Dumps::after))]
     pub fn text(&mut self) -> Result<&'a [u8], Offence>
         requires { self.old.place + length self.old.bytes.now < 2 ^ 64 }
+        ensures passed { IfOk result (λ text. self.old.place < self.new.place) }
         ensures ok { IfOk result (λ text. IsText text.now self.old.place self.old.bytes.now self.new.place self.new.bytes.now) }
         ensures short { IfErr result (λ e. IsShortText self.old.place self.old.bytes.now e.place e.why) }
         ensures fits { self.new.place + length self.new.bytes.now ≡ self.old.place + length self.old.bytes.now }

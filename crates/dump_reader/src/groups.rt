@@ -71,6 +71,7 @@ fn completed_status(n: u8) -> WcStatus
 pub fn read_entry(c: &mut Cursor<'_>) -> Result<Completion, Offence>
     requires { c.old.place + length c.old.bytes.now < 2 ^ 64 }
     ensures entry { entry_field [] c.old.place c.old.bytes.now ≡ came result c.new.place c.new.bytes.now }
+    ensures passed { IfOk result (λ x. c.old.place < c.new.place) }
     ensures fits { c.new.place + length c.new.bytes.now ≡ c.old.place + length c.old.bytes.now }
 {
     let qp = c.u32()?;
@@ -102,6 +103,7 @@ pub fn read_terms(c: &mut Cursor<'_>) -> Result<Terms, Offence>
     requires { c.old.place + length c.old.bytes.now < 2 ^ 64 }
     ensures mtu { IfOk result (λ t. 1 ≤ t.mtu) }
     ensures terms { terms_field c.old.place c.old.bytes.now ≡ came result c.new.place c.new.bytes.now }
+    ensures passed { IfOk result (λ x. c.old.place < c.new.place) }
     ensures fits { c.new.place + length c.new.bytes.now ≡ c.old.place + length c.old.bytes.now }
 {
     let mtu = c.u16()?;
@@ -131,6 +133,7 @@ pub fn read_terms(c: &mut Cursor<'_>) -> Result<Terms, Offence>
 pub fn read_peer(c: &mut Cursor<'_>, ended: bool) -> Result<Peer, Offence>
     requires { c.old.place + length c.old.bytes.now < 2 ^ 64 }
     ensures peer { peer_field ended c.old.place c.old.bytes.now ≡ came result c.new.place c.new.bytes.now }
+    ensures passed { IfOk result (λ x. c.old.place < c.new.place) }
     ensures fits { c.new.place + length c.new.bytes.now ≡ c.old.place + length c.old.bytes.now }
 {
     let peer = c.u32()?;
@@ -161,6 +164,7 @@ fn follows_number(ended: bool, low: u64, n: u64) -> bool
 pub fn read_numbers(c: &mut Cursor<'_>, ended: bool) -> Result<Numbers, Offence>
     requires { c.old.place + length c.old.bytes.now < 2 ^ 64 }
     ensures numbers { numbers_field ended c.old.place c.old.bytes.now ≡ came result c.new.place c.new.bytes.now }
+    ensures passed { IfOk result (λ x. c.old.place < c.new.place) }
     ensures fits { c.new.place + length c.new.bytes.now ≡ c.old.place + length c.old.bytes.now }
 {
     let first = c.u64()?;
@@ -184,6 +188,7 @@ pub fn read_numbers(c: &mut Cursor<'_>, ended: bool) -> Result<Numbers, Offence>
 pub fn read_waiting(c: &mut Cursor<'_>, terms: &Terms) -> Result<Waiting, Offence>
     requires { c.old.place + length c.old.bytes.now < 2 ^ 64 }
     ensures waiting { waiting_field terms.now c.old.place c.old.bytes.now ≡ came result c.new.place c.new.bytes.now }
+    ensures passed { IfOk result (λ x. c.old.place < c.new.place) }
     ensures fits { c.new.place + length c.new.bytes.now ≡ c.old.place + length c.old.bytes.now }
 {
     let spent = c.u8()?;
@@ -222,6 +227,7 @@ fn rises_above(seen: &[KeptReply], n: u64) -> bool
 pub fn read_kept(c: &mut Cursor<'_>, expected: u64, seen: &[KeptReply]) -> Result<KeptReply, Offence>
     requires { c.old.place + length c.old.bytes.now < 2 ^ 64 }
     ensures kept { kept_field expected seen.now c.old.place c.old.bytes.now ≡ came result c.new.place c.new.bytes.now }
+    ensures passed { IfOk result (λ x. c.old.place < c.new.place) }
     ensures fits { c.new.place + length c.new.bytes.now ≡ c.old.place + length c.old.bytes.now }
 {
     let number = c.u64()?;
@@ -241,6 +247,7 @@ fn has_domain(seen: &[Name], text: &[u8]) -> bool
 pub fn read_name(c: &mut Cursor<'_>, seen: &[Name]) -> Result<Name, Offence>
     requires { c.old.place + length c.old.bytes.now < 2 ^ 64 }
     ensures name { name_field seen.now c.old.place c.old.bytes.now ≡ came result c.new.place c.new.bytes.now }
+    ensures passed { IfOk result (λ x. c.old.place < c.new.place) }
     ensures fits { c.new.place + length c.new.bytes.now ≡ c.old.place + length c.old.bytes.now }
 {
     let text = c.text()?;
@@ -268,6 +275,7 @@ fn is_new_key(seen: &[RegionImage], key: u32) -> bool
 fn read_key(c: &mut Cursor<'_>, seen: &[RegionImage]) -> Result<u32, Offence>
     requires { c.old.place + length c.old.bytes.now < 2 ^ 64 }
     ensures key { number 4 (λ n. is_local_key n && not (some (λ r. r.keys.local == n) seen.now)) c.old.place c.old.bytes.now ≡ came result c.new.place c.new.bytes.now }
+    ensures passed { IfOk result (λ x. c.old.place < c.new.place) }
     ensures fits { c.new.place + length c.new.bytes.now ≡ c.old.place + length c.old.bytes.now }
 {
     let key = c.u32()?;
@@ -280,6 +288,7 @@ fn read_key(c: &mut Cursor<'_>, seen: &[RegionImage]) -> Result<u32, Offence>
 pub fn read_region(c: &mut Cursor<'_>, domains: usize, seen: &[RegionImage]) -> Result<RegionHead, Offence>
     requires { c.old.place + length c.old.bytes.now < 2 ^ 64 }
     ensures region { region_head_field domains seen.now c.old.place c.old.bytes.now ≡ came result c.new.place c.new.bytes.now }
+    ensures passed { IfOk result (λ x. c.old.place < c.new.place) }
     ensures fits { c.new.place + length c.new.bytes.now ≡ c.old.place + length c.old.bytes.now }
 {
     let text = c.text()?;
@@ -315,6 +324,7 @@ fn has_queue(seen: &[PlacedQueue], text: &[u8]) -> bool
 fn read_count_u32(c: &mut Cursor<'_>, limit: u32) -> Result<u32, Offence>
     requires { c.old.place + length c.old.bytes.now < 2 ^ 64 }
     ensures count { count_field 4 limit c.old.place c.old.bytes.now ≡ came result c.new.place c.new.bytes.now }
+    ensures passed { IfOk result (λ x. c.old.place < c.new.place) }
     ensures fits { c.new.place + length c.new.bytes.now ≡ c.old.place + length c.old.bytes.now }
 {
     let count = c.u32()?;
@@ -327,6 +337,7 @@ fn read_count_u32(c: &mut Cursor<'_>, limit: u32) -> Result<u32, Offence>
 pub fn read_queue(c: &mut Cursor<'_>, seen: &[PlacedQueue]) -> Result<QueueHead, Offence>
     requires { c.old.place + length c.old.bytes.now < 2 ^ 64 }
     ensures queue { queue_head_field (map placed seen.now) c.old.place c.old.bytes.now ≡ came result c.new.place c.new.bytes.now }
+    ensures passed { IfOk result (λ x. c.old.place < c.new.place) }
     ensures fits { c.new.place + length c.new.bytes.now ≡ c.old.place + length c.old.bytes.now }
 {
     let text = c.text()?;
@@ -364,6 +375,7 @@ fn is_new_number(seen: &[EndImage], number: u32) -> bool
 fn read_number(c: &mut Cursor<'_>, seen: &[EndImage]) -> Result<u32, Offence>
     requires { c.old.place + length c.old.bytes.now < 2 ^ 64 }
     ensures number { number 4 (λ n. is_number n && not (some (λ e. e.number == n) seen.now)) c.old.place c.old.bytes.now ≡ came result c.new.place c.new.bytes.now }
+    ensures passed { IfOk result (λ x. c.old.place < c.new.place) }
     ensures fits { c.new.place + length c.new.bytes.now ≡ c.old.place + length c.old.bytes.now }
 {
     let number = c.u32()?;
@@ -376,6 +388,7 @@ fn read_number(c: &mut Cursor<'_>, seen: &[EndImage]) -> Result<u32, Offence>
 pub fn read_end(c: &mut Cursor<'_>, domains: usize, queues: usize, seen: &[EndImage]) -> Result<EndHead, Offence>
     requires { c.old.place + length c.old.bytes.now < 2 ^ 64 }
     ensures end { end_head_field domains queues seen.now c.old.place c.old.bytes.now ≡ came result c.new.place c.new.bytes.now }
+    ensures passed { IfOk result (λ x. c.old.place < c.new.place) }
     ensures fits { c.new.place + length c.new.bytes.now ≡ c.old.place + length c.old.bytes.now }
 {
     let text = c.text()?;
@@ -403,4 +416,17 @@ pub fn read_end(c: &mut Cursor<'_>, domains: usize, queues: usize, seen: &[EndIm
         recv_depth,
         state,
     })
+}
+
+/// A count of two bytes under its limit.
+#[tactic(auto, unfolding(protocol::specs::Dumps::after, protocol::specs::Dumps::judged))]
+pub fn read_count(c: &mut Cursor<'_>, limit: u16) -> Result<u16, Offence>
+    requires { c.old.place + length c.old.bytes.now < 2 ^ 64 }
+    ensures count { count_field 2 limit c.old.place c.old.bytes.now ≡ came result c.new.place c.new.bytes.now }
+    ensures passed { IfOk result (λ x. c.old.place < c.new.place) }
+    ensures fits { c.new.place + length c.new.bytes.now ≡ c.old.place + length c.old.bytes.now }
+{
+    let count = c.u16()?;
+    c.count(count <= limit)?;
+    Ok(count)
 }

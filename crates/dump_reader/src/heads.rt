@@ -99,3 +99,24 @@ pub struct RequestHead {
     pub imm: u32,
     pub length: u32,
 }
+
+/// The first fields, up to the count of domains.
+#[derive(Clone, Copy)]
+pub struct Opened {
+    pub version: u16,
+    pub name: Name,
+    pub count: u16,
+}
+
+/// Where a request stands among the untold ones of its end.
+#[derive(Clone, Copy)]
+pub struct Standing {
+    pub version: u16,
+    /// How many there are, and how many stand before it.
+    pub count: u16,
+    pub index: u16,
+    /// The number past those before it.
+    pub low: u64,
+    /// A Read or atomic stands before it.
+    pub landing: bool,
+}

@@ -3,10 +3,14 @@
 #![tactic(auto)]
 
 mod cursor;
+mod fault;
 mod heads;
 mod groups;
+mod lists;
 mod places;
 mod requests;
+mod steps;
 
 pub use cursor::{Cursor, Offence};
-pub use heads::LinkHead;
+pub use fault::DumpFault;
+pub use lists::{Lists, Place};

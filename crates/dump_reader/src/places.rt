@@ -99,6 +99,7 @@ fn receives(scope: &Scope<'_>, done: u32, r: &Receive) -> bool
 pub fn read_receive(c: &mut Cursor<'_>, scope: &Scope<'_>, done: u32) -> Result<Receive, Offence>
     requires { c.old.place + length c.old.bytes.now < 2 ^ 64 }
     ensures receive { receive_field (regions_of scope.now.domains.now scope.now.regions.now) scope.now.domain.now done c.old.place c.old.bytes.now ≡ came result c.new.place c.new.bytes.now }
+    ensures passed { IfOk result (λ x. c.old.place < c.new.place) }
     ensures fits { c.new.place + length c.new.bytes.now ≡ c.old.place + length c.old.bytes.now }
 {
     let id = c.u64()?;
@@ -153,6 +154,7 @@ fn read_send(c: &mut Cursor<'_>, scope: &Scope<'_>, mtu: u32) -> Result<Progress
     requires place { c.old.place + length c.old.bytes.now < 2 ^ 64 }
     requires mtu { 1 ≤ mtu }
     ensures send { send_field (regions_of scope.now.domains.now scope.now.regions.now) scope.now.domain.now mtu c.old.place c.old.bytes.now ≡ came result c.new.place c.new.bytes.now }
+    ensures passed { IfOk result (λ x. c.old.place < c.new.place) }
     ensures fits { c.new.place + length c.new.bytes.now ≡ c.old.place + length c.old.bytes.now }
 {
     let done = c.u32()?;
@@ -174,6 +176,7 @@ fn read_write(c: &mut Cursor<'_>, scope: &Scope<'_>, mtu: u32) -> Result<Progres
     requires place { c.old.place + length c.old.bytes.now < 2 ^ 64 }
     requires mtu { 1 ≤ mtu }
     ensures write { write_field (regions_of scope.now.domains.now scope.now.regions.now) scope.now.domain.now mtu c.old.place c.old.bytes.now ≡ came result c.new.place c.new.bytes.now }
+    ensures passed { IfOk result (λ x. c.old.place < c.new.place) }
     ensures fits { c.new.place + length c.new.bytes.now ≡ c.old.place + length c.old.bytes.now }
 {
     let region = c.u16()?;
@@ -197,6 +200,7 @@ pub fn read_message(c: &mut Cursor<'_>, scope: &Scope<'_>, mtu: u32, ended: bool
     requires place { c.old.place + length c.old.bytes.now < 2 ^ 64 }
     requires mtu { 1 ≤ mtu }
     ensures message { message_field (regions_of scope.now.domains.now scope.now.regions.now) scope.now.domain.now mtu ended c.old.place c.old.bytes.now ≡ came result c.new.place c.new.bytes.now }
+    ensures passed { IfOk result (λ x. c.old.place < c.new.place) }
     ensures fits { c.new.place + length c.new.bytes.now ≡ c.old.place + length c.old.bytes.now }
 {
     let code = c.u8()?;
@@ -214,6 +218,7 @@ pub fn read_link(c: &mut Cursor<'_>, scope: &Scope<'_>, ended: bool) -> Result<L
     requires { c.old.place + length c.old.bytes.now < 2 ^ 64 }
     ensures link { link_head_field (regions_of scope.now.domains.now scope.now.regions.now) scope.now.domain.now ended c.old.place c.old.bytes.now ≡ came result c.new.place c.new.bytes.now }
     ensures mtu { IfOk result (λ h. 1 ≤ h.terms.mtu) }
+    ensures passed { IfOk result (λ x. c.old.place < c.new.place) }
     ensures fits { c.new.place + length c.new.bytes.now ≡ c.old.place + length c.old.bytes.now }
 {
     let peer = read_peer(c, ended)?;

@@ -8,22 +8,9 @@ ghost use Rattle.protocol.specs.Dumps.{kind_of, has_flag, keeps_numbers, shape_o
 ghost use Rattle.dump_reader.specs.Groups.{came, regions_of, link_of_head, may_be_flags, may_be_length, request_head_field, request_places_field, payload_length};
 
 use crate::cursor::{Cursor, Offence};
-use crate::heads::{LinkHead, RequestHead};
+use crate::heads::{LinkHead, RequestHead, Standing};
 use crate::places::{is_place_granted, Asked, Scope};
 use rdma_types::{Kind, Request, Shape};
-
-/// Where a request stands among the untold ones of its end.
-#[derive(Clone, Copy)]
-pub struct Standing {
-    pub version: u16,
-    /// How many there are, and how many stand before it.
-    pub count: u16,
-    pub index: u16,
-    /// The number past those before it.
-    pub low: u64,
-    /// A Read or atomic stands before it.
-    pub landing: bool,
-}
 
 fn takes(kind: Kind) -> bool
     ensures { result ≡ takes_bytes kind }
@@ -136,6 +123,7 @@ pub fn read_request_head(
     requires { c.old.place + length c.old.bytes.now < 2 ^ 64 }
     ensures head { request_head_field standing.now.version (link_of_head link.now []) standing.now.count standing.now.index standing.now.low standing.now.landing c.old.place c.old.bytes.now ≡ came result c.new.place c.new.bytes.now }
     ensures limit { IfOk result (λ h. standing.now.low + shape_of_length h.kind h.length link.now.terms.mtu < 2 ^ 62) }
+    ensures passed { IfOk result (λ x. c.old.place < c.new.place) }
     ensures fits { c.new.place + length c.new.bytes.now ≡ c.old.place + length c.old.bytes.now }
 {
     let id = c.u64()?;
@@ -177,6 +165,7 @@ pub fn read_request_places(
 ) -> Result<Request, Offence>
     requires { c.old.place + length c.old.bytes.now < 2 ^ 64 }
     ensures request { request_places_field (regions_of scope.now.domains.now scope.now.regions.now) scope.now.domain.now head.now c.old.place c.old.bytes.now ≡ came result c.new.place c.new.bytes.now }
+    ensures passed { IfOk result (λ x. c.old.place < c.new.place) }
     ensures fits { c.new.place + length c.new.bytes.now ≡ c.old.place + length c.old.bytes.now }
 {
     let kind = head.kind;
