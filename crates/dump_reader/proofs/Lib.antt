@@ -1,3 +1,5 @@
 pub mod Seen
 pub mod Read
 pub mod Split
+pub mod Reserved
+pub mod Ends

@@ -5,11 +5,20 @@ use Rattle.protocol.specs.declared.images.ContextImage.{ContextImage}
 use Rattle.dump_reader.specs.declared.lists.Place.{Place}
 use Rattle.dump_reader.specs.declared.fault.DumpFault.{DumpFault}
 use Rattle.dump_reader.specs.Steps.{Moves}
+use Rattle.std.specs.Prelude.{Bool}
+use Rattle.rdma_types.specs.declared.names.Name.{Name}
+use Rattle.rdma_types.specs.Kinds.{lands}
+use Rattle.rdma_types.specs.Lists.{some}
+use Rattle.rdma_types.specs.Objects.{Region}
+use Rattle.protocol.specs.declared.images.EndImage.{EndImage}
+use Rattle.protocol.specs.declared.images.LinkImage.{LinkImage}
+use Rattle.protocol.specs.declared.images.PostedImage.{PostedImage}
 use Rattle.protocol.specs.declared.images.RegionImage.{RegionImage}
 use Rattle.rdma_types.specs.declared.requests.Completion.{Completion}
-use Rattle.protocol.specs.Dumps.{Reading, Reader, Good, Bad, ReadQueue, after, then_read, gives, raw, items, region_field, queue_field, entry_field}
+use Rattle.protocol.specs.Dumps.{Reading, Reader, Good, Bad, ReadQueue, after, then_read, gives, raw, items, region_field, queue_field, entry_field, end_field, link_field, kept_field, request_field, end_so_far}
+use Rattle.dump_reader.specs.Ahead.{end_rest}
 use Rattle.dump_reader.specs.declared.heads.PlacedQueue.{PlacedQueue}
-use Rattle.dump_reader.specs.Groups.{placed, region_head_field, queue_head_field, region_of_head, queue_of_head}
+use Rattle.dump_reader.specs.Groups.{placed, region_head_field, queue_head_field, region_of_head, queue_of_head, end_head_field, link_head_field, link_of_head, peer_field, numbers_field, waiting_field, message_field, request_head_field, request_places_field, payload_length}
 
 -- readers after one another, grouped
 pub after_after : {A B C : Type 0} (r : Reading A) (f : A → Reader B) (g : B → Reader C) → after (after r f) g ≡ after r (λ x p bs. after (f x p bs) g)
@@ -50,3 +59,62 @@ pub placed_more : (qs : List PlacedQueue) (q : PlacedQueue) → map placed (qs +
 placed_more [] q = refl
 placed_more (x ∷ qs) q = ap (λ (xs : List ReadQueue). placed x ∷ xs) (placed_more qs q)
 
+
+-- the same within one more reader
+pub regroup_in : {A B C D : Type 0} (r : Reading A) (f : A → Reader B) (h : B → Reader C) (k : C → Reader D) (g : A → Reader D) → ((x : A) (p : ℕ) (bs : List ℕ) → g x p bs ≡ after (after (f x p bs) h) k) → after r g ≡ after (after (after r f) h) k
+unfolding after
+regroup_in (Bad p w) f h k g e = refl
+regroup_in (Good x p bs) f h k g e = e x p bs
+
+-- nothing is read before, within one more reader
+pub good_in : {A B C : Type 0} (x : A) (p : ℕ) (bs : List ℕ) (h : A → Reader B) (k : B → Reader C) → after (after (Good x p bs) h) k ≡ after (h x p bs) k
+unfolding after
+good_in x p bs h k = refl
+
+into : {A B C : Type 0} (x : A) (p : ℕ) (bs : List ℕ) (h : A → Reader B) (k : B → Reader C) {r : Reading C} → r ≡ after (h x p bs) k → r ≡ after (after (Good x p bs) h) k
+into x p bs h k e = e ∙ sym (good_in x p bs h k)
+
+past : {A B : Type 0} (x : A) (p : ℕ) (bs : List ℕ) (k : A → Reader B) {r : Reading B} → r ≡ k x p bs → r ≡ after (Good x p bs) k
+past x p bs k e = e ∙ sym (after_good x p bs k)
+
+-- a queue pair: its head, and the rest
+pub end_split : (v : ℕ) (ds : List Name) (rs : List Region) (qs : ℕ) (seen : List EndImage) (p : ℕ) (bs : List ℕ) → end_field v ds rs qs seen p bs ≡ then_read (end_head_field (length ds) qs seen) (end_rest v ds rs) p bs
+unfolding end_field end_head_field end_rest
+end_split v ds rs qs seen p bs =
+    regroup _ _ _ _ λ name p bs. regroup _ _ _ _ λ n p bs. regroup _ _ _ _ λ domain p bs. regroup _ _ _ _ λ send_cq p bs.
+    regroup _ _ _ _ λ recv_cq p bs. regroup _ _ _ _ λ send_depth p bs. regroup _ _ _ _ λ recv_depth p bs. regroup _ _ _ _ λ state p bs. sym (after_good _ _ _ _)
+
+-- what a connected end has: its head, and its kept replies
+pub link_split : (rs : List Region) (domain : Name) (ended : Bool) (p : ℕ) (bs : List ℕ) → link_field rs domain ended p bs ≡ then_read (link_head_field rs domain ended) (λ h. then_read (items h.count (kept_field h.waiting.expected) []) λ kept. gives (link_of_head h kept)) p bs
+unfolding link_field link_head_field peer_field numbers_field waiting_field message_field
+link_split rs domain ended p bs =
+    regroup_in _ _ _ _ _ λ peer p bs. regroup_in _ _ _ _ _ λ ip p bs. regroup_in _ _ _ _ _ λ port p bs. regroup_in _ _ _ _ _ λ moves p bs.
+    regroup_in _ _ _ _ _ λ partner_moves p bs. regroup_in _ _ _ _ _ λ resuming p bs. into _ _ _ _ _ (regroup _ _ _ _ λ terms p bs.
+    regroup_in _ _ _ _ _ λ first p bs. regroup_in _ _ _ _ _ λ una p bs. regroup_in _ _ _ _ _ λ next p bs. regroup_in _ _ _ _ _ λ top p bs. into _ _ _ _ _ (regroup_in _ _ _ _ _ λ spent p bs. regroup_in _ _ _ _ _ λ waits p bs. regroup_in _ _ _ _ _ λ rnr_wait p bs. regroup_in _ _ _ _ _ λ expected p bs.
+    regroup_in _ _ _ _ _ λ nak_sent p bs. regroup_in _ _ _ _ _ λ msn p bs. into _ _ _ _ _ (regroup_in _ _ _ _ _ λ code p bs. regroup _ _ _ _ λ message p bs. after_after _ _ _ ∙ regroup _ _ _ _ λ count p bs. sym (after_good _ _ _ _))))
+
+-- a request: its head, its places, and its payload
+pub request_split : (v : ℕ) (rs : List Region) (domain : Name) (l : LinkImage) (count : ℕ) (seen : List PostedImage) (p : ℕ) (bs : List ℕ) → request_field v rs domain l count seen p bs ≡ then_read (request_head_field v l count (length seen) (end_so_far l seen) (some (λ q. lands q.request.shape.kind) seen)) (λ h. then_read (request_places_field rs domain h) λ r. then_read (raw (payload_length r)) λ payload. gives (record { request = r; payload = payload })) p bs
+unfolding request_field request_head_field request_places_field
+request_split v rs domain l count seen p bs =
+    regroup _ _ _ _ λ id p bs. regroup _ _ _ _ λ k p bs. regroup _ _ _ _ λ flags p bs. regroup _ _ _ _ λ imm p bs. regroup _ _ _ _ λ length' p bs.
+    past _ _ _ _ (regroup _ _ _ _ λ lkey p bs. regroup _ _ _ _ λ local p bs. regroup _ _ _ _ λ remote p bs. regroup _ _ _ _ λ rkey p bs. regroup _ _ _ _ λ swap_add p bs.
+    regroup _ _ _ _ λ compare p bs. sym (after_good _ _ _ _))
+
+-- readers that give the same after the same
+pub after_same : {A B : Type 0} (r : Reading A) (f g : A → Reader B) → ((x : A) (p : ℕ) (bs : List ℕ) → f x p bs ≡ g x p bs) → after r f ≡ after r g
+unfolding after
+after_same (Bad p w) f g h = refl
+after_same (Good x p bs) f g h = h x p bs
+
+-- one reader after another, and what is the same after it
+pub after_then : {A B C : Type 0} (r : Reading A) (f : A → Reader B) (g : B → Reader C) (k : A → Reader C) → ((x : A) (p : ℕ) (bs : List ℕ) → after (f x p bs) g ≡ k x p bs) → after (after r f) g ≡ after r k
+unfolding after
+after_then (Bad p w) f g k h = refl
+after_then (Good x p bs) f g k h = h x p bs
+
+-- the same where it is request i
+pub request_split_at : (v : ℕ) (rs : List Region) (domain : Name) (l : LinkImage) (count : ℕ) (seen : List PostedImage) (i : ℕ) → length seen ≡ i → (p : ℕ) (bs : List ℕ) → request_field v rs domain l count seen p bs ≡ then_read (request_head_field v l count i (end_so_far l seen) (some (λ q. lands q.request.shape.kind) seen)) (λ h. then_read (request_places_field rs domain h) λ r. then_read (raw (payload_length r)) λ payload. gives (record { request = r; payload = payload })) p bs
+request_split_at v rs domain l count seen i e p bs =
+    request_split v rs domain l count seen p bs
+    ∙ ap (λ (j : ℕ). then_read (request_head_field v l count j (end_so_far l seen) (some (λ q. lands q.request.shape.kind) seen)) (λ h. then_read (request_places_field rs domain h) λ r. then_read (raw (payload_length r)) λ payload. gives (record { request = r; payload = payload })) p bs) e

@@ -1,5 +1,5 @@
 -- What is still read of a dump at each place between two groups of fields, with what was read so far.
-use Rattle.std.specs.Prelude.{ℕ, zero, suc, ◌+◌, ◌==◌, ◌||◌, not, List, [], ◌∷◌, ◌++◌, length, map, Option, Some, None}
+use Rattle.std.specs.Prelude.{ℕ, zero, suc, ◌+◌, ◌-◌, false, ◌==◌, ◌||◌, not, List, [], ◌∷◌, ◌++◌, length, map, Option, Some, None, if◌then◌else◌}
 use Rattle.rdma_types.specs.declared.names.Name.{Name}
 use Rattle.rdma_types.specs.declared.requests.Completion.{Completion}
 use Rattle.rdma_types.specs.declared.requests.Receive.{Receive}
@@ -15,12 +15,12 @@ use Rattle.protocol.specs.declared.images.LinkImage.{LinkImage}
 use Rattle.protocol.specs.declared.images.PostedImage.{PostedImage}
 use Rattle.protocol.specs.declared.images.RegionImage.{RegionImage}
 use Rattle.protocol.specs.Images.{name_at}
-use Rattle.protocol.specs.Dumps.{Reading, Reader, Good, Bad, ReadQueue, after, then_read, gives, raw, items, list_field, count_field, count_by, name_field, number_by, region_field, queue_field, entry_field, end_field, link_field, kept_field, receive_field, is_untold_count, untold_items, is_ended, no_overfull, overfull, at_end, is_magic, shape_of_length}
+use Rattle.protocol.specs.Dumps.{Reading, Reader, Good, Bad, ReadQueue, after, then_read, gives, raw, items, list_field, count_field, count_by, name_field, number_by, region_field, queue_field, entry_field, end_field, link_field, kept_field, receive_field, state_field, is_untold_count, untold_items, is_ended, no_overfull, overfull, at_end, is_magic, shape_of_length}
 use Rattle.dump_reader.specs.declared.heads.EndHead.{EndHead}
 use Rattle.dump_reader.specs.declared.heads.LinkHead.{LinkHead}
 use Rattle.dump_reader.specs.declared.heads.QueueHead.{QueueHead}
 use Rattle.dump_reader.specs.declared.heads.Opened.{Opened}
-use Rattle.dump_reader.specs.declared.heads.Standing.{Standing}
+use Rattle.dump_reader.specs.declared.heads.Before.{Before}
 use Rattle.dump_reader.specs.declared.lists.Lists.{Lists}
 use Rattle.dump_reader.specs.declared.lists.Place.{Place}
 use Rattle.dump_reader.specs.declared.lists.Place.TheVariants as place
@@ -72,18 +72,22 @@ more_domains o n ds = then_read (items n name_field ds) λ ds'. then_read (count
 
 -- ---- inside a queue pair
 
--- where the request after one stands
-abbrev pub passed : LinkImage → Standing → Request → Standing
-passed l s r = record s { index = s.index + 1; low = s.low + shape_of_length r.shape.kind r.shape.length l.terms.mtu; landing = s.landing || lands r.shape.kind }
+-- what stands before the request after one
+abbrev pub passed : LinkImage → Before → Request → Before
+passed l s r = record s { low = s.low + shape_of_length r.shape.kind r.shape.length l.terms.mtu; landing = s.landing || lands r.shape.kind }
 
--- so many more untold requests, the first of them where it stands
-unfoldable pub more_requests : ℕ → List Region → Name → LinkImage → Standing → List PostedImage → Reader (List PostedImage)
-more_requests zero regions domain l s ps = gives ps
-more_requests (suc n) regions domain l s ps =
-    then_read (request_head_field s.version l s.count s.index s.low s.landing) λ h.
+-- nothing stands before the first of so many
+abbrev pub first_of : LinkImage → ℕ → Before
+first_of l k = record { count = k; low = l.first; landing = false }
+
+-- so many more untold requests
+unfoldable pub more_requests : ℕ → List Region → Name → LinkImage → ℕ → Before → List PostedImage → Reader (List PostedImage)
+more_requests version regions domain l zero s ps = gives ps
+more_requests version regions domain l (suc n) s ps =
+    then_read (request_head_field version l s.count (s.count - suc n) s.low s.landing) λ h.
     then_read (request_places_field regions domain h) λ r.
     then_read (raw (payload_length r)) λ payload.
-    more_requests n regions domain l (passed l s r) (ps ++ record { request = r; payload = payload } ∷ [])
+    more_requests version regions domain l n (passed l s r) (ps ++ record { request = r; payload = payload } ∷ [])
 
 -- the rest of a queue pair, and what follows it
 abbrev pub next_ends : Opened → List Name → List RegionImage → List ReadQueue → List EndImage → ℕ → EndImage → Reader ContextImage
@@ -102,9 +106,9 @@ unused_list o ds rs qs es n h linked untold =
     more_receives o ds rs qs es n h linked untold k []
 
 -- so many more untold requests of a queue pair
-unfoldable pub more_untold : Opened → List Name → List RegionImage → List ReadQueue → List EndImage → ℕ → EndHead → LinkImage → Standing → ℕ → List PostedImage → Reader ContextImage
+unfoldable pub more_untold : Opened → List Name → List RegionImage → List ReadQueue → List EndImage → ℕ → EndHead → LinkImage → Before → ℕ → List PostedImage → Reader ContextImage
 more_untold o ds rs qs es n h l s k untold =
-    then_read (more_requests k (regions_of ds rs) (name_at ds h.domain) l s untold) λ untold'.
+    then_read (more_requests o.version (regions_of ds rs) (name_at ds h.domain) l k s untold) λ untold'.
     unused_list o ds rs qs es n h (Some l) untold'
 
 -- the count of untold requests, and what follows it
@@ -125,6 +129,16 @@ unfoldable pub linked_list : Opened → List Name → List RegionImage → List 
 linked_list o ds rs qs es n h =
     then_read (link_field (regions_of ds rs) (name_at ds h.domain) (h.state == 2)) λ l.
     untold_list o ds rs qs es n h (Some l)
+
+-- a queue pair from its state on
+unfoldable pub end_rest : ℕ → List Name → List Region → EndHead → Reader EndImage
+end_rest version ds regions h =
+    then_read (state_field regions (name_at ds h.domain) h.state) λ linked.
+    then_read (count_by 2 h.send_depth (is_untold_count linked)) λ untold_count.
+    then_read (untold_items version regions (name_at ds h.domain) linked untold_count) λ untold.
+    then_read (count_by 2 h.recv_depth λ i. i == 0 || not (is_ended linked)) λ unused_count.
+    then_read (items unused_count (λ xs. receive_field regions (name_at ds h.domain) 0) []) λ unused.
+    gives (end_of_head h linked untold unused)
 
 -- ---- places
 
@@ -152,12 +166,21 @@ ahead o s (place.End m) = more_ends o s.domains.items s.regions.items (queues_of
 ahead o s (place.Link h n) = linked_list o s.domains.items s.regions.items (queues_of s) s.ends.items n h
 ahead o s (place.Kept h l m n) = more_kept o s.domains.items s.regions.items (queues_of s) s.ends.items n h l (suc m) s.kept.items
 ahead o s (place.Untold h l n) = untold_list o s.domains.items s.regions.items (queues_of s) s.ends.items n h (linked_of l s.kept.items)
-ahead o s (place.Request h l standing m n) =
-    more_untold o s.domains.items s.regions.items (queues_of s) s.ends.items n h (link_of_head l s.kept.items) standing (suc m) s.untold.items
-ahead o s (place.Payload h l standing k n r missing) =
+ahead o s (place.Request h l before m n) =
+    more_untold o s.domains.items s.regions.items (queues_of s) s.ends.items n h (link_of_head l s.kept.items) before (suc m) s.untold.items
+ahead o s (place.Payload h l before k n r missing) =
     then_read (raw missing) λ more.
-    more_untold o s.domains.items s.regions.items (queues_of s) s.ends.items n h (link_of_head l s.kept.items) standing k (s.untold.items ++ record { request = r; payload = s.run ++ more } ∷ [])
+    more_untold o s.domains.items s.regions.items (queues_of s) s.ends.items n h (link_of_head l s.kept.items) before k (s.untold.items ++ record { request = r; payload = s.run ++ more } ∷ [])
 ahead o s (place.Unused h l n) = unused_list o s.domains.items s.regions.items (queues_of s) s.ends.items n h (linked_of l s.kept.items) s.untold.items
 ahead o s (place.Receive h l m n) =
     more_receives o s.domains.items s.regions.items (queues_of s) s.ends.items n h (linked_of l s.kept.items) s.untold.items (suc m) s.unused.items
 ahead o s place.Done = at_end (image_of o s.domains.items s.regions.items (queues_of s) s.ends.items)
+
+-- what follows the head of a queue pair
+abbrev pub after_head : Opened → List Name → List RegionImage → List ReadQueue → List EndImage → ℕ → EndHead → Reader ContextImage
+after_head o ds rs qs es n h = if h.state == 0 then untold_list o ds rs qs es n h None else linked_list o ds rs qs es n h
+
+-- what follows the count of untold requests
+abbrev pub after_count : Opened → List Name → List RegionImage → List ReadQueue → List EndImage → ℕ → EndHead → Option LinkImage → ℕ → Reader ContextImage
+after_count o ds rs qs es n h None k = unused_list o ds rs qs es n h None []
+after_count o ds rs qs es n h (Some l) k = more_untold o ds rs qs es n h l (first_of l k) k []

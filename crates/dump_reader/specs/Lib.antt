@@ -3,3 +3,4 @@ pub mod Groups
 pub mod Ahead
 pub mod Steps
 pub mod Faults
+pub mod Overfull

@@ -120,3 +120,13 @@ pub struct Standing {
     /// A Read or atomic stands before it.
     pub landing: bool,
 }
+
+/// What stands before a request, and how many untold ones its end has.
+#[derive(Clone, Copy)]
+pub struct Before {
+    pub count: u16,
+    /// The number past those before it.
+    pub low: u64,
+    /// A Read or atomic stands before it.
+    pub landing: bool,
+}

@@ -3,10 +3,12 @@
 #![tactic(auto)]
 
 mod cursor;
+mod end_steps;
 mod fault;
 mod heads;
 mod groups;
 mod lists;
+mod overfull;
 mod places;
 mod requests;
 mod steps;

@@ -2,7 +2,7 @@
 
 ghost use Rattle.std.specs.Prelude.{◌≡◌, ◌++◌, ◌∷◌, [], OnOk, OnErr};
 
-use crate::heads::{EndHead, LinkHead, PlacedQueue, QueueHead, RegionHead, Standing};
+use crate::heads::{Before, EndHead, LinkHead, PlacedQueue, QueueHead, RegionHead};
 use byte_run::ByteRun;
 use protocol::{EndImage, KeptReply, PostedImage, RegionImage};
 use rdma_types::{Completion, Name, Receive, Request};
@@ -41,8 +41,8 @@ pub enum Place {
     Link(EndHead, u16),
     Kept(EndHead, LinkHead, u8, u16),
     Untold(EndHead, Option<LinkHead>, u16),
-    Request(EndHead, LinkHead, Standing, u16, u16),
-    Payload(EndHead, LinkHead, Standing, u16, u16, Request, u32),
+    Request(EndHead, LinkHead, Before, u16, u16),
+    Payload(EndHead, LinkHead, Before, u16, u16, Request, u32),
     Unused(EndHead, Option<LinkHead>, u16),
     Receive(EndHead, Option<LinkHead>, u16, u16),
     Done,

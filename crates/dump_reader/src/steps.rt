@@ -1,6 +1,6 @@
 //! One group of fields before the queue pairs, and the place after it.
 
-ghost use Rattle.std.specs.Prelude.{◌≡◌, ℕ, List, suc, ◌+◌, ◌-◌, ◌<◌, ◌≤◌, ◌^◌, ◌==◌, ◌++◌, ◌∷◌, length, [], map, Some, None, IfOk};
+ghost use Rattle.std.specs.Prelude.{◌≡◌, ℕ, suc, ◌+◌, ◌-◌, ◌<◌, ◌≤◌, ◌^◌, ◌==◌, ◌++◌, ◌∷◌, length, [], map, Some, None, IfOk};
 ghost use Rattle.protocol.specs.Dumps.{then_read, items, entry_field, raw, region_field};
 ghost use Rattle.dump_reader.specs.Groups.{region_of_head, queue_of_head};
 ghost use Rattle.dump_reader.specs.Ahead.{ahead, more_domains, more_regions, more_queues, more_entries, more_ends, queues_of};
@@ -174,11 +174,12 @@ pub fn queue_count_step(
 pub fn enter_entries(
     opened: &Opened,
     lists: &mut Lists,
+    c: &Cursor<'_>,
     head: &QueueHead,
     count: u32,
     after: u16,
 ) -> Result<Place, DumpFault>
-    ensures { (p : ℕ) (b : List ℕ) → Moves (more_entries opened.now lists.old.domains.items lists.old.regions.items (queues_of lists.old) after head.now count lists.old.entries.items p b) (λ next. ahead opened.now lists.new next p b) result }
+    ensures { Moves (more_entries opened.now lists.old.domains.items lists.old.regions.items (queues_of lists.old) after head.now count lists.old.entries.items c.now.place c.now.bytes.now) (λ next. ahead opened.now lists.new next c.now.place c.now.bytes.now) result }
 {
     if count > 0 {
         return Ok(Place::Entry(*head, count - 1, after));
@@ -209,7 +210,7 @@ pub fn queue_step(
 {
     let head = groups::read_queue(c, &lists.queues)?;
     lists.entries = Vec::new(lists.alloc);
-    enter_entries(opened, lists, &head, head.count, more)
+    enter_entries(opened, lists, c, &head, head.count, more)
 }
 
 /// An entry.
@@ -229,5 +230,5 @@ pub fn entry_step(
 {
     let entry = groups::read_entry(c)?;
     push(&mut lists.entries, entry)?;
-    enter_entries(opened, lists, head, more, after)
+    enter_entries(opened, lists, c, head, more, after)
 }
