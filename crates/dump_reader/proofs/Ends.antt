@@ -17,7 +17,9 @@ use Rattle.dump_reader.specs.declared.heads.Before.{Before}
 use Rattle.dump_reader.specs.declared.heads.EndHead.{EndHead}
 use Rattle.dump_reader.specs.declared.heads.LinkHead.{LinkHead}
 use Rattle.dump_reader.specs.declared.heads.Opened.{Opened}
-use Rattle.dump_reader.specs.Groups.{regions_of, end_head_field, link_head_field, link_of_head, end_of_head, request_head_field}
+use Rattle.std.proofs.lemmas.List.{length-map}
+use Rattle.dump_reader.specs.declared.heads.PlacedQueue.{PlacedQueue}
+use Rattle.dump_reader.specs.Groups.{placed, regions_of, end_head_field, link_head_field, link_of_head, end_of_head, request_head_field}
 use Rattle.dump_reader.specs.Ahead.{end_rest, more_ends, more_kept, more_untold, more_requests, more_receives, untold_list, unused_list, linked_list, passed, first_of, after_head, after_count, ends_of, finished}
 use Rattle.dump_reader.proofs.Split.{after_after, after_good, after_same, after_then, good_in, end_split, link_split, request_split_at}
 
@@ -114,3 +116,9 @@ module _ (o : Opened) (ds : List Name) (rs : List RegionImage) (qs : List ReadQu
       after_after _ _ _
       ∙ (ap (λ (r : Reading EndImage). after r (λ e. more_ends o ds rs qs n (es ++ e ∷ []))) (end_split o.version ds (regions_of ds rs) (length qs) es p bs)
       ∙ after_then _ _ _ _ λ h p bs. head_then o ds rs qs es n h p bs)
+
+-- the same, of queues with their places
+pub placed_begin : (o : Opened) (ds : List Name) (rs : List RegionImage) (qs : List PlacedQueue) (es : List EndImage) (n : ℕ) (p : ℕ) (bs : List ℕ) → more_ends o ds rs (map placed qs) (suc n) es p bs ≡ then_read (end_head_field (length ds) (length qs) es) (λ h. after_head o ds rs (map placed qs) es n h) p bs
+placed_begin o ds rs qs es n p bs =
+    ends_begin o ds rs (map placed qs) es n p bs
+    ∙ ap (λ (k : ℕ). then_read (end_head_field (length ds) k es) (λ h. after_head o ds rs (map placed qs) es n h) p bs) (length-map qs placed)

@@ -1,5 +1,5 @@
 -- What is still read of a dump at each place between two groups of fields, with what was read so far.
-use Rattle.std.specs.Prelude.{ℕ, zero, suc, ◌+◌, ◌-◌, false, ◌==◌, ◌||◌, not, List, [], ◌∷◌, ◌++◌, length, map, Option, Some, None, if◌then◌else◌}
+use Rattle.std.specs.Prelude.{ℕ, zero, suc, ◌+◌, ◌-◌, Bool, false, ◌==◌, ◌||◌, not, List, [], ◌∷◌, ◌++◌, length, map, Option, Some, None, if◌then◌else◌}
 use Rattle.rdma_types.specs.declared.names.Name.{Name}
 use Rattle.rdma_types.specs.declared.requests.Completion.{Completion}
 use Rattle.rdma_types.specs.declared.requests.Receive.{Receive}
@@ -184,3 +184,13 @@ after_head o ds rs qs es n h = if h.state == 0 then untold_list o ds rs qs es n 
 abbrev pub after_count : Opened → List Name → List RegionImage → List ReadQueue → List EndImage → ℕ → EndHead → Option LinkImage → ℕ → Reader ContextImage
 after_count o ds rs qs es n h None k = unused_list o ds rs qs es n h None []
 after_count o ds rs qs es n h (Some l) k = more_untold o ds rs qs es n h l (first_of l k) k []
+
+-- counts of untold requests that the link allows
+abbrev pub may_be_untold : Option LinkHead → ℕ → Bool
+may_be_untold None n = n == 0
+may_be_untold (Some l) n = if n == 0 then l.numbers.top == l.numbers.first else not l.ended
+
+-- counts of unused receives that the link allows
+abbrev pub may_be_unused : Option LinkHead → ℕ → Bool
+may_be_unused None n = n == 0 || not false
+may_be_unused (Some l) n = n == 0 || not l.ended

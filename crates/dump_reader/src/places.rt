@@ -20,7 +20,8 @@ use rdma_types::{Name, Receive};
 pub struct Scope<'a> {
     pub domains: &'a [Name],
     pub regions: &'a [RegionImage],
-    pub domain: &'a Name,
+    /// Its name, or nothing where it has none.
+    pub domain: &'a [u8],
 }
 
 /// A place that is asked for.
@@ -44,10 +45,9 @@ fn holds_place(region: &RegionImage, at: u64, count: u32) -> bool
 fn is_of_domain(scope: &Scope<'_>, region: &RegionImage) -> bool
     ensures { result ≡ bytes_eq (name_at scope.now.domains.now region.now.domain) scope.now.domain.now }
 {
-    let domain = scope.domain.as_bytes();
     match scope.domains.get(region.domain as usize) {
-        Some(name) => name.as_bytes() == domain,
-        None => false,
+        Some(name) => name.as_bytes() == scope.domain,
+        None => scope.domain.is_empty(),
     }
 }
 
