@@ -8,6 +8,7 @@ use Rattle.rdma_types.specs.Objects.{Posted, Region}
 use Rattle.rdma_types.specs.Spans.{end_number, span, span_of}
 use Rattle.protocol.specs.declared.images.ContextImage.{ContextImage}
 use Rattle.protocol.specs.declared.images.EndImage.{EndImage}
+use Rattle.protocol.specs.declared.images.KeptReply.{KeptReply}
 use Rattle.protocol.specs.declared.images.LinkImage.{LinkImage}
 use Rattle.protocol.specs.declared.images.PostedImage.{PostedImage}
 use Rattle.protocol.specs.declared.images.RegionImage.{RegionImage}
@@ -19,8 +20,9 @@ use Rattle.dump_reader.specs.declared.heads.LinkHead.{LinkHead}
 use Rattle.dump_reader.specs.declared.heads.Opened.{Opened}
 use Rattle.std.proofs.lemmas.List.{length-map}
 use Rattle.dump_reader.specs.declared.heads.PlacedQueue.{PlacedQueue}
-use Rattle.dump_reader.specs.Groups.{placed, regions_of, end_head_field, link_head_field, link_of_head, end_of_head, request_head_field}
-use Rattle.dump_reader.specs.Ahead.{end_rest, more_ends, more_kept, more_untold, more_requests, more_receives, untold_list, unused_list, linked_list, passed, first_of, after_head, after_count, ends_of, finished}
+use Rattle.dump_reader.specs.Groups.{placed, regions_of, end_head_field, link_head_field, link_of_head, end_of_head, request_head_field, request_places_field, payload_length}
+use Rattle.dump_reader.specs.declared.heads.RequestHead.{RequestHead}
+use Rattle.dump_reader.specs.Ahead.{end_rest, more_ends, more_kept, more_untold, more_requests, more_receives, untold_list, unused_list, linked_list, passed, first_of, after_head, after_count, linked_of, may_be_untold, may_be_unused}
 use Rattle.dump_reader.proofs.Split.{after_after, after_good, after_same, after_then, good_in, end_split, link_split, request_split_at}
 
 -- the number past one more request
@@ -122,3 +124,25 @@ pub placed_begin : (o : Opened) (ds : List Name) (rs : List RegionImage) (qs : L
 placed_begin o ds rs qs es n p bs =
     ends_begin o ds rs (map placed qs) es n p bs
     ∙ ap (λ (k : ℕ). then_read (end_head_field (length ds) k es) (λ h. after_head o ds rs (map placed qs) es n h) p bs) (length-map qs placed)
+
+-- the count of untold requests, as far as the head of a link tells
+pub untold_opens : (o : Opened) (ds : List Name) (rs : List RegionImage) (qs : List ReadQueue) (es : List EndImage) (n : ℕ) (h : EndHead) (lo : Option LinkHead) (kept : List KeptReply) (p : ℕ) (bs : List ℕ) → untold_list o ds rs qs es n h (linked_of lo kept) p bs ≡ then_read (count_by 2 h.send_depth (may_be_untold lo)) (λ k. after_count o ds rs qs es n h (linked_of lo kept) k) p bs
+untold_opens o ds rs qs es n h None kept p bs = untold_begins o ds rs qs es n h None p bs
+untold_opens o ds rs qs es n h (Some l) kept p bs = untold_begins o ds rs qs es n h (Some (link_of_head l kept)) p bs
+
+-- the count of unused receives, as far as the head of a link tells
+pub unused_opens : (o : Opened) (ds : List Name) (rs : List RegionImage) (qs : List ReadQueue) (es : List EndImage) (n : ℕ) (h : EndHead) (untold : List PostedImage) (lo : Option LinkHead) (kept : List KeptReply) (p : ℕ) (bs : List ℕ) → unused_list o ds rs qs es n h (linked_of lo kept) untold p bs ≡ then_read (count_by 2 h.recv_depth (may_be_unused lo)) (λ k. more_receives o ds rs qs es n h (linked_of lo kept) untold k []) p bs
+unfolding unused_list
+unused_opens o ds rs qs es n h untold None kept p bs = refl
+unused_opens o ds rs qs es n h untold (Some l) kept p bs = refl
+
+same_head : (v : ℕ) (l : LinkHead) (kept : List KeptReply) (count i low : ℕ) (landing : Bool) → request_head_field v (link_of_head l kept) count i low landing ≡ request_head_field v (link_of_head l []) count i low landing
+unfolding request_head_field
+same_head v l kept count i low landing = refl
+
+-- one more request: its head, its places, its payload, and what follows
+pub request_begins : (o : Opened) (ds : List Name) (rs : List RegionImage) (qs : List ReadQueue) (es : List EndImage) (n : ℕ) (h : EndHead) (l : LinkHead) (kept : List KeptReply) (s : Before) (k : ℕ) (untold : List PostedImage) (p : ℕ) (bs : List ℕ) → more_untold o ds rs qs es n h (link_of_head l kept) s (suc k) untold p bs ≡ then_read (request_head_field o.version (link_of_head l []) s.count (s.count - suc k) s.low s.landing) (λ head. then_read (request_places_field (regions_of ds rs) (name_at ds h.domain) head) λ r. then_read (raw (payload_length r)) λ payload. more_untold o ds rs qs es n h (link_of_head l kept) (passed (link_of_head l kept) s r) k (untold ++ record { request = r; payload = payload } ∷ [])) p bs
+unfolding more_untold more_requests
+request_begins o ds rs qs es n h l kept s k untold p bs =
+    after_then _ _ _ _ (λ head p bs. after_then _ _ _ _ λ r p bs. after_then _ _ _ _ λ payload p bs. refl)
+    ∙ ap (λ (R : Reader RequestHead). then_read R (λ head. then_read (request_places_field (regions_of ds rs) (name_at ds h.domain) head) λ r. then_read (raw (payload_length r)) λ payload. more_untold o ds rs qs es n h (link_of_head l kept) (passed (link_of_head l kept) s r) k (untold ++ record { request = r; payload = payload } ∷ [])) p bs) (same_head o.version l kept s.count (s.count - suc k) s.low s.landing)

@@ -1,11 +1,11 @@
 -- Readers as their groups.
-use Rattle.std.proofs.Common.{◌≡◌, ℕ, List, [], ◌∷◌, ◌++◌, length, map, refl, ap, sym, subst, ◌∙◌}
-use Rattle.std.specs.Prelude.{Result}
+use Rattle.std.proofs.Common.{◌≡◌, ℕ, List, [], ◌∷◌, ◌++◌, length, map, add-zero, false, nat_lt, arith, subst, refl, ap, sym, ◌∙◌}
 use Rattle.protocol.specs.declared.images.ContextImage.{ContextImage}
 use Rattle.dump_reader.specs.declared.lists.Place.{Place}
 use Rattle.dump_reader.specs.declared.fault.DumpFault.{DumpFault}
 use Rattle.dump_reader.specs.Steps.{Moves}
-use Rattle.std.specs.Prelude.{Bool}
+use Rattle.std.specs.Prelude.{Bool, Result}
+use Rattle.std.proofs.lemmas.Bool.Decides.{nat_tests}
 use Rattle.rdma_types.specs.declared.names.Name.{Name}
 use Rattle.rdma_types.specs.Kinds.{lands}
 use Rattle.rdma_types.specs.Lists.{some}
@@ -118,3 +118,20 @@ pub request_split_at : (v : ℕ) (rs : List Region) (domain : Name) (l : LinkIma
 request_split_at v rs domain l count seen i e p bs =
     request_split v rs domain l count seen p bs
     ∙ ap (λ (j : ℕ). then_read (request_head_field v l count j (end_so_far l seen) (some (λ q. lands q.request.shape.kind) seen)) (λ h. then_read (request_places_field rs domain h) λ r. then_read (raw (payload_length r)) λ payload. gives (record { request = r; payload = payload })) p bs) e
+
+none_below : (n : ℕ) → nat_lt n 0 ≡ false
+none_below n = grind (arith, nat_tests)
+
+-- no bytes
+pub raw_none : (p : ℕ) (bs : List ℕ) → raw 0 p bs ≡ Good [] p bs
+unfolding raw
+raw_none p bs = rw (none_below (length bs), add-zero p) refl
+
+-- no bytes, and what follows
+pub skip : (n p : ℕ) (bs : List ℕ) (k : List ℕ → Reader ContextImage) (x : List ℕ) → n ≡ 0 → x ≡ [] → after (raw n p bs) k ≡ k x p bs
+unfolding after
+skip n p bs k x e x_is = rw (e, raw_none p bs) (ap (λ (y : List ℕ). k y p bs) (sym x_is))
+
+-- what is known of the one is known of the other
+pub moves_from : (a b : Reading ContextImage) (next : Place → Reading ContextImage) (r : Result Place DumpFault) → a ≡ b → Moves b next r → Moves a next r
+moves_from a b next r e h = subst (λ (x : Reading ContextImage). Moves x next r) (sym e) h

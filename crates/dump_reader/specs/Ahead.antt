@@ -1,5 +1,5 @@
 -- What is still read of a dump at each place between two groups of fields, with what was read so far.
-use Rattle.std.specs.Prelude.{ℕ, zero, suc, ◌+◌, ◌-◌, Bool, false, ◌==◌, ◌||◌, not, List, [], ◌∷◌, ◌++◌, length, map, Option, Some, None, if◌then◌else◌}
+use Rattle.std.specs.Prelude.{ℕ, zero, suc, ◌+◌, ◌-◌, Bool, false, ◌==◌, ◌||◌, not, List, [], ◌∷◌, ◌++◌, length, map, Option, Some, None, ⊤, if◌then◌else◌}
 use Rattle.rdma_types.specs.declared.names.Name.{Name}
 use Rattle.rdma_types.specs.declared.requests.Completion.{Completion}
 use Rattle.rdma_types.specs.declared.requests.Receive.{Receive}
@@ -29,8 +29,7 @@ use Rattle.dump_reader.specs.Groups.{placed, region_of_head, queue_of_head, end_
 -- the first fields, up to the count of domains
 unfoldable pub opening_field : Reader Opened
 opening_field =
-    then_read (raw 8) λ bytes.
-    then_read (is_magic bytes) λ same.
+    then_read (then_read (raw 8) is_magic) λ same.
     then_read (number_by dump_why.Version 2 λ n. n == 1 || n == 2) λ version.
     then_read (name_field []) λ name.
     then_read (count_field 2 most_domains) λ count.
@@ -194,3 +193,14 @@ may_be_untold (Some l) n = if n == 0 then l.numbers.top == l.numbers.first else 
 abbrev pub may_be_unused : Option LinkHead → ℕ → Bool
 may_be_unused None n = n == 0 || not false
 may_be_unused (Some l) n = n == 0 || not l.ended
+
+-- 1 where bytes are read that may be none
+abbrev pub weight : Place → ℕ
+weight (place.Bytes h missing n) = 1
+weight (place.Payload h l before k n r missing) = 1
+weight _ = 0
+
+-- some fields are still to come
+abbrev pub IsOpen : Place → Type 0
+IsOpen place.Done = ⊥
+IsOpen _ = ⊤

@@ -164,4 +164,18 @@ impl<'a> Cursor<'a> {
             }),
         }
     }
+
+    /// The field that was read last is a known version.
+    pub fn version(&self, ok: bool) -> Result<(), Offence>
+        ensures { result ≡ (if ok then Ok tt else Err (record { place = self.now.start; why = DumpWhy.Version })) }
+    {
+        if ok {
+            Ok(())
+        } else {
+            Err(Offence {
+                place: self.start,
+                why: DumpWhy::Version,
+            })
+        }
+    }
 }

@@ -8,6 +8,7 @@ mod fault;
 mod heads;
 mod groups;
 mod lists;
+mod machine;
 mod overfull;
 mod places;
 mod requests;

@@ -164,6 +164,8 @@ pub fn read_request_places(
     head: &RequestHead,
 ) -> Result<Request, Offence>
     requires { c.old.place + length c.old.bytes.now < 2 ^ 64 }
+    ensures kind { IfOk result (λ r. r.shape.kind ≡ head.now.kind) }
+    ensures length { IfOk result (λ r. r.shape.length ≡ head.now.length) }
     ensures request { request_places_field (regions_of scope.now.domains.now scope.now.regions.now) scope.now.domain.now head.now c.old.place c.old.bytes.now ≡ came result c.new.place c.new.bytes.now }
     ensures passed { IfOk result (λ x. c.old.place < c.new.place) }
     ensures fits { c.new.place + length c.new.bytes.now ≡ c.old.place + length c.old.bytes.now }

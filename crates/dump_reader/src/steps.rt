@@ -3,7 +3,7 @@
 ghost use Rattle.std.specs.Prelude.{◌≡◌, ℕ, suc, ◌+◌, ◌-◌, ◌<◌, ◌≤◌, ◌^◌, ◌==◌, ◌++◌, ◌∷◌, length, [], map, Some, None, IfOk};
 ghost use Rattle.protocol.specs.Dumps.{then_read, items, entry_field, raw, region_field};
 ghost use Rattle.dump_reader.specs.Groups.{region_of_head, queue_of_head};
-ghost use Rattle.dump_reader.specs.Ahead.{ahead, more_domains, more_regions, more_queues, more_entries, more_ends, queues_of};
+ghost use Rattle.dump_reader.specs.Ahead.{ahead, more_domains, more_regions, more_queues, more_entries, more_ends, queues_of, weight};
 ghost use Rattle.dump_reader.specs.Steps.{Moves};
 
 use crate::cursor::Cursor;
@@ -56,7 +56,8 @@ pub fn enter_regions(
     lists: &Lists,
     count: u16,
 ) -> Place
-    ensures { ahead opened.now lists.now result ≡ more_regions opened.now lists.now.domains.items count lists.now.regions.items }
+    ensures ahead { ahead opened.now lists.now result ≡ more_regions opened.now lists.now.domains.items count lists.now.regions.items }
+    ensures light { weight result ≡ 0 }
 {
     match count {
         0 => Place::QueueCount,
@@ -105,10 +106,9 @@ pub fn bytes_step(
     missing: u32,
     after: u16,
 ) -> Result<Place, DumpFault>
-    requires some { 1 ≤ missing }
-    requires place { c.old.place + length c.old.bytes.now < 2 ^ 64 }
+    requires { c.old.place + length c.old.bytes.now < 2 ^ 64 }
     ensures moves { Moves (ahead opened.now lists.old (Place.Bytes head.now missing after) c.old.place c.old.bytes.now) (λ next. ahead opened.now lists.new next c.new.place c.new.bytes.now) result }
-    ensures passed { IfOk result (λ next. c.old.place < c.new.place) }
+    ensures light { IfOk result (λ next. weight next ≡ 0) }
     ensures fits { c.new.place + length c.new.bytes.now ≡ c.old.place + length c.old.bytes.now }
 {
     let bytes = c.raw(missing as usize)?;
