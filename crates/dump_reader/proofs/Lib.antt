@@ -3,3 +3,5 @@ pub mod Read
 pub mod Split
 pub mod Reserved
 pub mod Ends
+pub mod Loop
+pub mod Whole

@@ -74,7 +74,7 @@ good_in x p bs h k = refl
 into : {A B C : Type 0} (x : A) (p : ℕ) (bs : List ℕ) (h : A → Reader B) (k : B → Reader C) {r : Reading C} → r ≡ after (h x p bs) k → r ≡ after (after (Good x p bs) h) k
 into x p bs h k e = e ∙ sym (good_in x p bs h k)
 
-past : {A B : Type 0} (x : A) (p : ℕ) (bs : List ℕ) (k : A → Reader B) {r : Reading B} → r ≡ k x p bs → r ≡ after (Good x p bs) k
+pub past : {A B : Type 0} (x : A) (p : ℕ) (bs : List ℕ) (k : A → Reader B) {r : Reading B} → r ≡ k x p bs → r ≡ after (Good x p bs) k
 past x p bs k e = e ∙ sym (after_good x p bs k)
 
 -- a queue pair: its head, and the rest

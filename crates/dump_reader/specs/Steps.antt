@@ -11,3 +11,8 @@ abbrev pub Moves : Reading ContextImage → (Place → Reading ContextImage) →
 Moves before next (Ok place) = before ≡ next place
 Moves before next (Err (BadDump place why)) = before ≡ Bad place why
 Moves before next (Err OutOfMemory) = ⊤
+
+-- the bytes are bad there, or memory was wanted
+abbrev pub IsFault : {A : Type 0} → Reading A → DumpFault → Type 0
+IsFault reading (BadDump place why) = reading ≡ Bad place why
+IsFault reading OutOfMemory = ⊤

@@ -381,6 +381,7 @@ pub fn payload_step(
     requires { c.old.place + length c.old.bytes.now < 2 ^ 64 }
     ensures moves { Moves (ahead opened.now lists.old (Place.Payload head.now link.now before.now count after request missing) c.old.place c.old.bytes.now) (λ next. ahead opened.now lists.new next c.new.place c.new.bytes.now) result }
     ensures light { IfOk result (λ next. weight next ≡ 0) }
+    ensures passed { IfOk result (λ next. c.old.place ≤ c.new.place) }
     ensures fits { c.new.place + length c.new.bytes.now ≡ c.old.place + length c.old.bytes.now }
 {
     let bytes = c.raw(missing as usize)?;

@@ -1,11 +1,11 @@
 //! Dumps, group by group.
 
-ghost use Rattle.std.specs.Prelude.{◌≡◌, ℕ, suc, ◌+◌, ◌*◌, ◌-◌, ◌<◌, ◌≤◌, ◌^◌, ◌==◌, ◌++◌, ◌∷◌, length, [], map, Some, None, IfOk, IfErr};
+ghost use Rattle.std.specs.Prelude.{◌≡◌, ℕ, suc, ◌||◌, ◌+◌, ◌*◌, ◌-◌, ◌<◌, ◌≤◌, ◌^◌, ◌==◌, ◌++◌, ◌∷◌, length, [], map, Some, None, IfOk, IfErr, true, false};
 ghost use Rattle.protocol.specs.Dumps.{Good, Bad, read_dump};
 ghost use Rattle.dump_reader.specs.Fields.{IsMagic, IsNoMagic};
 ghost use Rattle.dump_reader.specs.Groups.{came};
 ghost use Rattle.dump_reader.specs.Ahead.{ahead, opening_field, more_domains, image_of, queues_of, weight, IsOpen};
-ghost use Rattle.dump_reader.specs.Steps.{Moves};
+ghost use Rattle.dump_reader.specs.Steps.{Moves, IsFault};
 
 use crate::cursor::{Cursor, Offence};
 use crate::end_steps;
@@ -106,4 +106,29 @@ pub fn step(
         }
         Place::Done => unreachable!(),
     }
+}
+
+fn is_done(place: &Place) -> bool
+    ensures done { result ≡ true → place.now ≡ Place.Done }
+    ensures open { result ≡ false → IsOpen place.now }
+{
+    matches!(place, Place::Done)
+}
+
+/// Every list.
+fn read_lists(
+    opened: &Opened,
+    lists: &mut Lists,
+    c: &mut Cursor<'_>,
+) -> Result<(), DumpFault>
+    requires place { c.old.place + length c.old.bytes.now < 2 ^ 64 }
+    requires empty { lists.old.domains.items ≡ [] }
+    ensures ok { IfOk result (λ u. more_domains opened.now opened.now.count [] c.old.place c.old.bytes.now ≡ ahead opened.now lists.new Place.Done c.new.place c.new.bytes.now) }
+    ensures bad { IfErr result (IsFault (more_domains opened.now opened.now.count [] c.old.place c.old.bytes.now)) }
+{
+    let mut place = steps::enter_domains(opened, lists, opened.count);
+    while !is_done(&place) {
+        place = step(opened, lists, c, &place)?;
+    }
+    Ok(())
 }
