@@ -1,19 +1,18 @@
 -- What is read of a queue pair, group by group.
-use Rattle.std.proofs.Common.{◌≡◌, ℕ, zero, suc, ◌+◌, ◌-◌, not, Bool, true, false, List, [], ◌∷◌, ◌++◌, length, map, refl, ap, sym, subst, ◌∙◌, arith, length-append, add_assoc, add-zero, zero-add}
+use Rattle.std.proofs.Common.{◌≡◌, ℕ, zero, suc, ◌+◌, ◌-◌, not, Bool, true, false, List, [], ◌∷◌, ◌++◌, length, map, refl, ap, sym, ◌∙◌, arith, length-append, add_assoc, add-zero, zero-add}
 use Rattle.std.specs.Prelude.{Option, Some, None, ◌||◌, ◌==◌, if◌then◌else◌}
 use Rattle.rdma_types.specs.declared.names.Name.{Name}
-use Rattle.rdma_types.specs.Kinds.{lands, is_atomic}
+use Rattle.rdma_types.specs.Kinds.{lands}
 use Rattle.rdma_types.specs.Lists.{some}
-use Rattle.rdma_types.specs.Objects.{Posted, Region}
+use Rattle.rdma_types.specs.Objects.{Region}
 use Rattle.rdma_types.specs.Spans.{end_number, span, span_of}
-use Rattle.protocol.specs.declared.images.ContextImage.{ContextImage}
 use Rattle.protocol.specs.declared.images.EndImage.{EndImage}
 use Rattle.protocol.specs.declared.images.KeptReply.{KeptReply}
 use Rattle.protocol.specs.declared.images.LinkImage.{LinkImage}
 use Rattle.protocol.specs.declared.images.PostedImage.{PostedImage}
 use Rattle.protocol.specs.declared.images.RegionImage.{RegionImage}
 use Rattle.protocol.specs.Images.{posted_of_image, name_at}
-use Rattle.protocol.specs.Dumps.{Reading, Reader, Good, Bad, ReadQueue, after, then_read, gives, raw, items, end_field, link_field, kept_field, request_field, end_so_far, shape_of_length, state_field, untold_items, count_by, is_untold_count, is_ended, receive_field}
+use Rattle.protocol.specs.Dumps.{Reading, Reader, ReadQueue, after, then_read, gives, raw, items, link_field, request_field, end_so_far, shape_of_length, untold_items, count_by, is_untold_count, is_ended, receive_field}
 use Rattle.dump_reader.specs.declared.heads.Before.{Before}
 use Rattle.dump_reader.specs.declared.heads.EndHead.{EndHead}
 use Rattle.dump_reader.specs.declared.heads.LinkHead.{LinkHead}
@@ -102,8 +101,8 @@ module _ (o : Opened) (ds : List Name) (rs : List RegionImage) (qs : List ReadQu
   counted_by None k p bs = after_good _ _ _ _
   counted_by (Some l) k p bs =
       ap (λ (r : Reading (List PostedImage)). after r (λ untold. unused_list o ds rs qs es n h (Some l) untold))
-        (requests_are o.version (regions_of ds rs) (name_at ds h.domain) l k k [] (omega arith) p bs
-        ∙ ap (λ (b : Before). more_requests o.version (regions_of ds rs) (name_at ds h.domain) l k b [] p bs) (first_before l k))
+      (requests_are o.version (regions_of ds rs) (name_at ds h.domain) l k k [] (omega arith) p bs
+      ∙ ap (λ (b : Before). more_requests o.version (regions_of ds rs) (name_at ds h.domain) l k b [] p bs) (first_before l k))
 
   -- the count of untold requests, and what follows
   pub untold_begins : (linked : Option LinkImage) (p : ℕ) (bs : List ℕ) → untold_list o ds rs qs es n h linked p bs ≡ then_read (count_by 2 h.send_depth (is_untold_count linked)) (λ k. after_count o ds rs qs es n h linked k) p bs

@@ -4,7 +4,7 @@ use Rattle.std.specs.Prelude.{Result, Ok, Err, if◌then◌else◌}
 use Rattle.dump_reader.specs.declared.cursor.Offence.{Offence}
 use Rattle.protocol.specs.declared.dumps.DumpWhy.{DumpWhy}
 use Rattle.protocol.specs.Bytes.{big_number}
-use Rattle.protocol.specs.Dumps.{Reading, Good, Bad, after, raw, judged, number_by}
+use Rattle.protocol.specs.Dumps.{Good, Bad, after, judged, number_by}
 use Rattle.dump_reader.specs.Fields.{IsNext, IsShort}
 
 module _ (why : DumpWhy) (w n p : ℕ) (b : List ℕ) (p' : ℕ) (b' : List ℕ) (ok : ℕ → Bool) where

@@ -2,10 +2,9 @@
 use Rattle.std.proofs.Math.Seq.{take-length}
 use Rattle.protocol.specs.Dumps.{overfull}
 use Rattle.std.proofs.Common.{◌≡◌, ℕ, suc, Bool, false, nat_lt, arith, get_or, take, drop, ◌-◌, ◌≤◌, ◌+◌, List, [], ◌∷◌, length, map, refl, ap, sym, ◌∙◌}
-use Rattle.std.specs.Prelude.{sum_by, Option, Some, None, option_map, bytes_eq}
+use Rattle.std.specs.Prelude.{sum_by, Option, Some, None, option_map}
 use Rattle.std.proofs.lemmas.List.Sums.{sum_by-cons}
 use Rattle.rdma_types.specs.declared.names.Name.{Name}
-use Rattle.protocol.specs.declared.images.ContextImage.{ContextImage}
 use Rattle.protocol.specs.declared.images.EndImage.{EndImage}
 use Rattle.protocol.specs.declared.images.LinkImage.{LinkImage}
 use Rattle.protocol.specs.declared.images.PostedImage.{PostedImage}
@@ -15,12 +14,12 @@ use Rattle.protocol.specs.declared.images.Progress.TheVariants as progress
 use Rattle.protocol.specs.EndWords.{in_use, in_use_by}
 use Rattle.protocol.specs.Images.{context_of, end_of_image, link_of_image, progress_of_image, posted_of_image}
 use Rattle.protocol.specs.Memory.{untold_of}
-use Rattle.protocol.specs.Refusals.{count_if, reserved, reserved_by}
+use Rattle.protocol.specs.Refusals.{reserved, reserved_by}
 use Rattle.dump_reader.specs.declared.heads.Opened.{Opened}
 use Rattle.dump_reader.specs.declared.heads.PlacedQueue.{PlacedQueue}
 use Rattle.dump_reader.specs.Ahead.{image_of}
 use Rattle.dump_reader.specs.Groups.{placed}
-use Rattle.dump_reader.specs.Overfull.{queue_at, uses_sends, uses_receives, in_message, reserved_at}
+use Rattle.dump_reader.specs.Overfull.{uses_sends, uses_receives, in_message, reserved_at}
 
 names_placed : (qs : List PlacedQueue) → map (λ q. q.name) (map (λ q. q.queue) (map placed qs)) ≡ map (λ q. q.queue.name) qs
 names_placed [] = refl

@@ -1,6 +1,6 @@
 -- Tests over what was read so far.
 use Rattle.std.proofs.Common.{◌≡◌, ℕ, zero, suc, ◌-◌, ◌≤◌, ◌<◌, get_or, List, [], ◌∷◌, length, map, Bool, true, false, refl, ap, sym, ◌∙◌, arith, nat_lt, slice_index_or}
-use Rattle.std.specs.Prelude.{◌||◌, ◌&&◌, bytes_eq, Option, Some, None, is_some, if◌then◌else◌}
+use Rattle.std.specs.Prelude.{◌||◌, ◌&&◌, bytes_eq, Option, Some, is_some, if◌then◌else◌}
 use Rattle.rdma_types.specs.declared.names.Name.{Name}
 use Rattle.rdma_types.specs.Memory.{Right, RemoteWrite, allows, grants, granted, local_key}
 use Rattle.protocol.specs.declared.images.RegionImage.{RegionImage}

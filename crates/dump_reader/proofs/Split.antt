@@ -59,7 +59,6 @@ pub placed_more : (qs : List PlacedQueue) (q : PlacedQueue) → map placed (qs +
 placed_more [] q = refl
 placed_more (x ∷ qs) q = ap (λ (xs : List ReadQueue). placed x ∷ xs) (placed_more qs q)
 
-
 -- the same within one more reader
 pub regroup_in : {A B C D : Type 0} (r : Reading A) (f : A → Reader B) (h : B → Reader C) (k : C → Reader D) (g : A → Reader D) → ((x : A) (p : ℕ) (bs : List ℕ) → g x p bs ≡ after (after (f x p bs) h) k) → after r g ≡ after (after (after r f) h) k
 unfolding after

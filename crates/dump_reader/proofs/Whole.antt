@@ -1,8 +1,8 @@
 -- A dump from its first byte.
 use Rattle.std.proofs.Common.{◌≡◌, ℕ, List, [], refl, sym, ◌∙◌}
-use Rattle.protocol.specs.Dumps.{Reading, after, then_read, raw, is_magic, context_field, read_dump}
+use Rattle.protocol.specs.Dumps.{after, raw, is_magic, context_field, read_dump}
 use Rattle.dump_reader.specs.Ahead.{opening_field, more_domains, more_regions, more_queues, more_ends, finished}
-use Rattle.dump_reader.proofs.Split.{after_after, after_good, after_same, regroup, past}
+use Rattle.dump_reader.proofs.Split.{after_after, after_same, regroup, past}
 
 -- the first fields, and the lists
 pub dump_opens : (bs : List ℕ) → read_dump bs ≡ after (opening_field 0 bs) (λ o. more_domains o o.count [])

@@ -15,7 +15,7 @@ use Rattle.protocol.specs.declared.images.LinkImage.{LinkImage}
 use Rattle.protocol.specs.declared.images.PostedImage.{PostedImage}
 use Rattle.protocol.specs.declared.images.RegionImage.{RegionImage}
 use Rattle.protocol.specs.Images.{name_at}
-use Rattle.protocol.specs.Dumps.{Reading, Reader, Good, Bad, ReadQueue, after, then_read, gives, raw, items, list_field, count_field, count_by, name_field, number_by, region_field, queue_field, entry_field, end_field, link_field, kept_field, receive_field, state_field, is_untold_count, untold_items, is_ended, no_overfull, overfull, at_end, is_magic, shape_of_length}
+use Rattle.protocol.specs.Dumps.{Reader, ReadQueue, then_read, gives, raw, items, count_field, count_by, name_field, number_by, region_field, queue_field, entry_field, end_field, link_field, kept_field, receive_field, state_field, is_untold_count, untold_items, is_ended, no_overfull, overfull, at_end, is_magic, shape_of_length}
 use Rattle.dump_reader.specs.declared.heads.EndHead.{EndHead}
 use Rattle.dump_reader.specs.declared.heads.LinkHead.{LinkHead}
 use Rattle.dump_reader.specs.declared.heads.QueueHead.{QueueHead}

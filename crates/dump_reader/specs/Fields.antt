@@ -2,7 +2,7 @@
 use Rattle.std.specs.Prelude.{ℕ, ◌≡◌, List}
 use Rattle.protocol.specs.declared.dumps.DumpWhy.{DumpWhy}
 use Rattle.protocol.specs.Bytes.{big_number}
-use Rattle.protocol.specs.Dumps.{Reading, Good, Bad, after, raw, name_field, judged_name, is_magic, magic}
+use Rattle.protocol.specs.Dumps.{Good, Bad, after, raw, name_field, judged_name, is_magic, magic}
 use Rattle.rdma_types.specs.declared.names.Name.{Name}
 
 -- the number of that width at a place is n

@@ -1,18 +1,15 @@
 -- The readers of groups of fields between two lists, and how a thing is made of its groups (this project's choice).
-use Rattle.std.specs.Prelude.{ℕ, zero, suc, ◌+◌, ◌^◌, ◌==◌, ◌&&◌, ◌||◌, not, Bool, true, false, List, [], ◌∷◌, ◌++◌, length, map, Option, Some, None, is_some, nat_lt, nat_le, if◌then◌else◌, Result, Ok, Err}
+use Rattle.std.specs.Prelude.{ℕ, ◌+◌, ◌^◌, ◌==◌, ◌&&◌, ◌||◌, not, Bool, List, map, Option, Some, None, nat_lt, nat_le, if◌then◌else◌, Result, Ok, Err}
 use Rattle.rdma_types.specs.declared.names.Name.{Name}
-use Rattle.rdma_types.specs.declared.requests.Address.{Address}
 use Rattle.rdma_types.specs.declared.requests.Kind.{Kind}
 use Rattle.rdma_types.specs.declared.requests.Request.{Request}
 use Rattle.rdma_types.specs.declared.requests.Terms.{Terms}
-use Rattle.rdma_types.specs.Kinds.{is_atomic, is_read, lands, takes_bytes}
+use Rattle.rdma_types.specs.Kinds.{is_atomic, takes_bytes}
 use Rattle.rdma_types.specs.Limits.{most_bytes, most_kept}
 use Rattle.rdma_types.specs.Lists.{some}
 use Rattle.rdma_types.specs.Memory.{is_granted, landing_right, local_key}
 use Rattle.rdma_types.specs.Objects.{Region}
 use Rattle.rdma_types.specs.Shapes.{has_remote, is_swap}
-use Rattle.rdma_types.specs.Spans.{span}
-use Rattle.protocol.specs.declared.images.CqImage.{CqImage}
 use Rattle.protocol.specs.declared.images.EndImage.{EndImage}
 use Rattle.protocol.specs.declared.images.KeptReply.{KeptReply}
 use Rattle.protocol.specs.declared.images.LinkImage.{LinkImage}
@@ -22,7 +19,7 @@ use Rattle.protocol.specs.declared.images.RegionImage.{RegionImage}
 use Rattle.rdma_types.specs.declared.requests.Completion.{Completion}
 use Rattle.rdma_types.specs.declared.requests.Receive.{Receive}
 use Rattle.protocol.specs.Lawful.{is_number, is_local_key, is_whole_pieces}
-use Rattle.protocol.specs.Dumps.{Reading, Reader, Good, Bad, after, then_read, gives, raw, number, any, count_field, name_field, within, is_24, is_bit, is_below_limit, follows, kind_of, has_flag, keeps_numbers, shape_of_length, ReadQueue, queue_names, region_names, terms_field, progress_by, receive_field, may_write_at, length_at}
+use Rattle.protocol.specs.Dumps.{Reading, Reader, Good, Bad, then_read, gives, number, any, count_field, name_field, within, is_24, is_bit, is_below_limit, follows, kind_of, has_flag, keeps_numbers, shape_of_length, ReadQueue, queue_names, region_names, terms_field, progress_by, receive_field, may_write_at, length_at}
 use Rattle.protocol.specs.declared.images.Progress.TheVariants as progress
 use Rattle.dump_reader.specs.declared.cursor.Offence.{Offence}
 use Rattle.dump_reader.specs.declared.heads.RegionHead.{RegionHead}

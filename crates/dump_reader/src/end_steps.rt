@@ -12,7 +12,7 @@ use crate::cursor::{Cursor, Offence};
 use crate::fault::DumpFault;
 use crate::groups;
 use crate::heads::{Before, EndHead, LinkHead, Opened, RequestHead, Standing};
-use crate::lists::{push, Lists, Place};
+use crate::lists::{Lists, Place, push};
 use crate::overfull::find_overfull;
 use crate::places::{self, Scope};
 use crate::requests::{self, lands_bytes, payload_len, span_of};
@@ -62,12 +62,7 @@ pub fn end_count_step(
 
 /// Behind the head of a queue pair.
 #[tactic(auto, unfolding(protocol::specs::Dumps::after, protocol::specs::Dumps::items, crate::specs::Ahead::ahead))]
-pub fn enter_end(
-    opened: &Opened,
-    lists: &Lists,
-    head: &EndHead,
-    after: u16,
-) -> Place
+pub fn enter_end(opened: &Opened, lists: &Lists, head: &EndHead, after: u16) -> Place
     ensures { ahead opened.now lists.now result ≡ after_head opened.now lists.now.domains.items lists.now.regions.items (queues_of lists.now) lists.now.ends.items after head.now }
 {
     match head.state {

@@ -224,7 +224,11 @@ fn rises_above(seen: &[KeptReply], n: u64) -> bool
 
 /// A kept reply.
 #[tactic(auto, unfolding(protocol::specs::Dumps::after, protocol::specs::Dumps::judged, protocol::specs::Dumps::kept_field))]
-pub fn read_kept(c: &mut Cursor<'_>, expected: u64, seen: &[KeptReply]) -> Result<KeptReply, Offence>
+pub fn read_kept(
+    c: &mut Cursor<'_>,
+    expected: u64,
+    seen: &[KeptReply],
+) -> Result<KeptReply, Offence>
     requires { c.old.place + length c.old.bytes.now < 2 ^ 64 }
     ensures kept { kept_field expected seen.now c.old.place c.old.bytes.now ≡ came result c.new.place c.new.bytes.now }
     ensures passed { IfOk result (λ x. c.old.place < c.new.place) }
@@ -285,7 +289,11 @@ fn read_key(c: &mut Cursor<'_>, seen: &[RegionImage]) -> Result<u32, Offence>
 
 /// A region without its bytes.
 #[tactic(auto, unfolding(protocol::specs::Dumps::after, protocol::specs::Dumps::judged, protocol::specs::Dumps::judged_name, crate::specs::Groups::region_head_field))]
-pub fn read_region(c: &mut Cursor<'_>, domains: usize, seen: &[RegionImage]) -> Result<RegionHead, Offence>
+pub fn read_region(
+    c: &mut Cursor<'_>,
+    domains: usize,
+    seen: &[RegionImage],
+) -> Result<RegionHead, Offence>
     requires { c.old.place + length c.old.bytes.now < 2 ^ 64 }
     ensures region { region_head_field domains seen.now c.old.place c.old.bytes.now ≡ came result c.new.place c.new.bytes.now }
     ensures passed { IfOk result (λ x. c.old.place < c.new.place) }
@@ -317,7 +325,8 @@ pub fn read_region(c: &mut Cursor<'_>, domains: usize, seen: &[RegionImage]) -> 
 fn has_queue(seen: &[PlacedQueue], text: &[u8]) -> bool
     ensures { result ≡ has_word text.now (queue_names (map placed seen.now)) }
 {
-    seen.iter().any(|placed| placed.queue.name.as_bytes() == text)
+    seen.iter()
+        .any(|placed| placed.queue.name.as_bytes() == text)
 }
 
 #[tactic(auto, unfolding(protocol::specs::Dumps::after, protocol::specs::Dumps::judged))]
@@ -385,7 +394,12 @@ fn read_number(c: &mut Cursor<'_>, seen: &[EndImage]) -> Result<u32, Offence>
 
 /// A queue pair up to its state.
 #[tactic(auto, unfolding(protocol::specs::Dumps::after, protocol::specs::Dumps::judged, protocol::specs::Dumps::judged_name, crate::specs::Groups::end_head_field))]
-pub fn read_end(c: &mut Cursor<'_>, domains: usize, queues: usize, seen: &[EndImage]) -> Result<EndHead, Offence>
+pub fn read_end(
+    c: &mut Cursor<'_>,
+    domains: usize,
+    queues: usize,
+    seen: &[EndImage],
+) -> Result<EndHead, Offence>
     requires { c.old.place + length c.old.bytes.now < 2 ^ 64 }
     ensures end { end_head_field domains queues seen.now c.old.place c.old.bytes.now ≡ came result c.new.place c.new.bytes.now }
     ensures passed { IfOk result (λ x. c.old.place < c.new.place) }

@@ -1,12 +1,12 @@
-//! The image of a stopped context from its bytes, whole or in pieces of any lengths (the format is this project's
-//! choice).
+//! The image of a stopped context from its bytes (the format is this project's choice).
 #![tactic(auto)]
 
 mod cursor;
+mod decode;
 mod end_steps;
 mod fault;
-mod heads;
 mod groups;
+mod heads;
 mod lists;
 mod machine;
 mod overfull;
@@ -14,6 +14,5 @@ mod places;
 mod requests;
 mod steps;
 
-pub use cursor::{Cursor, Offence};
+pub use decode::decode_dump;
 pub use fault::DumpFault;
-pub use lists::{Lists, Place};

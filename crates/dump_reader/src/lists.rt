@@ -50,7 +50,9 @@ pub enum Place {
 
 impl Lists {
     /// Nothing was read. It takes no memory.
-    pub fn make(alloc: Global) -> Lists {
+    pub fn make(alloc: Global) -> Lists
+        ensures { result.domains.items ≡ [] }
+    {
         Lists {
             alloc,
             domains: Vec::new(alloc),

@@ -8,12 +8,10 @@ ghost use Rattle.dump_reader.specs.Ahead.{ahead, opening_field, more_domains, im
 ghost use Rattle.dump_reader.specs.Steps.{Moves, IsFault};
 
 use crate::cursor::{Cursor, Offence};
-use crate::end_steps;
 use crate::fault::DumpFault;
-use crate::groups;
 use crate::heads::Opened;
 use crate::lists::{Lists, Place};
-use crate::steps;
+use crate::{end_steps, groups, steps};
 use protocol::DumpWhy;
 
 #[tactic(auto, unfolding(protocol::specs::Dumps::is_magic, protocol::specs::Dumps::after))]
@@ -79,7 +77,9 @@ pub fn step(
         Place::Domain(more) => steps::domain_step(opened, lists, c, *more),
         Place::RegionCount => steps::region_count_step(opened, lists, c),
         Place::Region(more) => steps::region_step(opened, lists, c, *more),
-        Place::Bytes(head, missing, after) => steps::bytes_step(opened, lists, c, head, *missing, *after),
+        Place::Bytes(head, missing, after) => steps::bytes_step(
+            opened, lists, c, head, *missing, *after,
+        ),
         Place::QueueCount => steps::queue_count_step(opened, lists, c),
         Place::Queue(more) => steps::queue_step(opened, lists, c, *more),
         Place::Entry(head, more, after) => steps::entry_step(opened, lists, c, head, *more, *after),
@@ -96,7 +96,9 @@ pub fn step(
             end_steps::request_step(opened, lists, c, head, link, before, *more, *after)
         }
         Place::Payload(head, link, before, count, after, request, missing) => {
-            end_steps::payload_step(opened, lists, c, head, link, before, *count, *after, *request, *missing)
+            end_steps::payload_step(
+                opened, lists, c, head, link, before, *count, *after, *request, *missing,
+            )
         }
         Place::Unused(head, link, after) => {
             end_steps::unused_step(opened, lists, c, head, link, *after)
@@ -116,14 +118,11 @@ fn is_done(place: &Place) -> bool
 }
 
 /// Every list.
-fn read_lists(
-    opened: &Opened,
-    lists: &mut Lists,
-    c: &mut Cursor<'_>,
-) -> Result<(), DumpFault>
+pub fn read_lists(opened: &Opened, lists: &mut Lists, c: &mut Cursor<'_>) -> Result<(), DumpFault>
     requires place { c.old.place + length c.old.bytes.now < 2 ^ 64 }
     requires empty { lists.old.domains.items ≡ [] }
     ensures ok { IfOk result (λ u. more_domains opened.now opened.now.count [] c.old.place c.old.bytes.now ≡ ahead opened.now lists.new Place.Done c.new.place c.new.bytes.now) }
+    ensures fits { c.new.place + length c.new.bytes.now ≡ c.old.place + length c.old.bytes.now }
     ensures bad { IfErr result (IsFault (more_domains opened.now opened.now.count [] c.old.place c.old.bytes.now)) }
 {
     let mut place = steps::enter_domains(opened, lists, opened.count);

@@ -39,7 +39,9 @@ fn holds_place(region: &RegionImage, at: u64, count: u32) -> bool
     ensures { (domains : List Name) → result ≡ holds (region_of_image domains region.now) at count }
 {
     let _base = region.base;
-    at >= region.base && count <= region.length && at - region.base <= (region.length - count) as u64
+    at >= region.base
+        && count <= region.length
+        && at - region.base <= (region.length - count) as u64
 }
 
 fn is_of_domain(scope: &Scope<'_>, region: &RegionImage) -> bool
@@ -71,7 +73,10 @@ fn grants_place(scope: &Scope<'_>, asked: &Asked, region: &RegionImage) -> bool
 fn some_region_grants(scope: &Scope<'_>, asked: &Asked) -> bool
     ensures { result ≡ is_some (granted local_key (regions_of scope.now.domains.now scope.now.regions.now) scope.now.domain.now asked.now.lkey asked.now.at asked.now.count (if asked.now.lands then LocalWrite else NoRight)) }
 {
-    scope.regions.iter().any(|region| grants_place(scope, asked, region))
+    scope
+        .regions
+        .iter()
+        .any(|region| grants_place(scope, asked, region))
 }
 
 /// Some region grants a place, or it is empty.
@@ -196,7 +201,12 @@ fn read_write(c: &mut Cursor<'_>, scope: &Scope<'_>, mtu: u32) -> Result<Progres
 
 /// The message in progress.
 #[tactic(auto, unfolding(protocol::specs::Dumps::after, protocol::specs::Dumps::judged, protocol::specs::Dumps::progress_by, crate::specs::Groups::message_field))]
-pub fn read_message(c: &mut Cursor<'_>, scope: &Scope<'_>, mtu: u32, ended: bool) -> Result<Progress, Offence>
+pub fn read_message(
+    c: &mut Cursor<'_>,
+    scope: &Scope<'_>,
+    mtu: u32,
+    ended: bool,
+) -> Result<Progress, Offence>
     requires place { c.old.place + length c.old.bytes.now < 2 ^ 64 }
     requires mtu { 1 ≤ mtu }
     ensures message { message_field (regions_of scope.now.domains.now scope.now.regions.now) scope.now.domain.now mtu ended c.old.place c.old.bytes.now ≡ came result c.new.place c.new.bytes.now }

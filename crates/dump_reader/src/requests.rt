@@ -9,7 +9,7 @@ ghost use Rattle.dump_reader.specs.Groups.{came, regions_of, link_of_head, may_b
 
 use crate::cursor::{Cursor, Offence};
 use crate::heads::{LinkHead, RequestHead, Standing};
-use crate::places::{is_place_granted, Asked, Scope};
+use crate::places::{Asked, Scope, is_place_granted};
 use rdma_types::{Kind, Request, Shape};
 
 fn takes(kind: Kind) -> bool
@@ -78,7 +78,6 @@ pub fn span_of(kind: Kind, length: u32, mtu: u32) -> u64
     let pieces = (length + mtu.saturating_sub(1)).checked_div(mtu);
     1.max(pieces.unwrap_or(0))
 }
-
 
 fn keeps_order(link: &LinkHead, standing: &Standing, kind: Kind, high: u64) -> bool
     ensures test { result ≡ keeps_numbers (link_of_head link.now []) standing.now.count standing.now.index kind standing.now.low high }

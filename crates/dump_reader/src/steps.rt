@@ -10,7 +10,7 @@ use crate::cursor::Cursor;
 use crate::fault::DumpFault;
 use crate::groups;
 use crate::heads::{Opened, PlacedQueue, QueueHead, RegionHead};
-use crate::lists::{push, Lists, Place};
+use crate::lists::{Lists, Place, push};
 use byte_run::ByteRun;
 use protocol::{CqImage, RegionImage};
 use rdma_types::Items;
@@ -18,11 +18,7 @@ use std::mem;
 
 /// So many domains are next.
 #[tactic(auto, unfolding(protocol::specs::Dumps::after, protocol::specs::Dumps::items, crate::specs::Ahead::ahead, crate::specs::Ahead::more_domains))]
-pub fn enter_domains(
-    opened: &Opened,
-    lists: &Lists,
-    count: u16,
-) -> Place
+pub fn enter_domains(opened: &Opened, lists: &Lists, count: u16) -> Place
     ensures { ahead opened.now lists.now result ≡ more_domains opened.now count lists.now.domains.items }
 {
     match count {
@@ -51,11 +47,7 @@ pub fn domain_step(
 
 /// So many regions are next.
 #[tactic(auto, unfolding(protocol::specs::Dumps::after, protocol::specs::Dumps::items, crate::specs::Ahead::ahead, crate::specs::Ahead::more_regions))]
-pub fn enter_regions(
-    opened: &Opened,
-    lists: &Lists,
-    count: u16,
-) -> Place
+pub fn enter_regions(opened: &Opened, lists: &Lists, count: u16) -> Place
     ensures ahead { ahead opened.now lists.now result ≡ more_regions opened.now lists.now.domains.items count lists.now.regions.items }
     ensures light { weight result ≡ 0 }
 {
@@ -140,11 +132,7 @@ pub fn region_step(
 
 /// So many completion queues are next.
 #[tactic(auto, unfolding(protocol::specs::Dumps::after, protocol::specs::Dumps::items, crate::specs::Ahead::ahead, crate::specs::Ahead::more_queues))]
-pub fn enter_queues(
-    opened: &Opened,
-    lists: &Lists,
-    count: u16,
-) -> Place
+pub fn enter_queues(opened: &Opened, lists: &Lists, count: u16) -> Place
     ensures { ahead opened.now lists.now result ≡ more_queues opened.now lists.now.domains.items lists.now.regions.items count (queues_of lists.now) }
 {
     match count {

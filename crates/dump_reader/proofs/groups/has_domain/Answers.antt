@@ -1,8 +1,7 @@
 use Rattle.std.proofs.Common.{rules, tests, ◌∙◌}
-use Rattle.std.specs.Prelude.{bytes_eq, ◌==◌}
+use Rattle.std.specs.Prelude.{bytes_eq}
 use Rattle.std.proofs.lemmas.Iterator.{YieldsList-from_slice}
 use Rattle.std.proofs.lemmas.Iterator.Search.{any_from_yields_List}
-
 use Rattle.rdma_types.specs.declared.names.Name.{Name}
 use Rattle.dump_reader.proofs.Seen.{word_seen}
 use Rattle.dump_reader.proofs.groups.has_domain.Goals as goal

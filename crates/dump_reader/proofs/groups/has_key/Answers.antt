@@ -1,8 +1,7 @@
 use Rattle.std.proofs.Common.{rules, tests, ◌∙◌}
-use Rattle.std.specs.Prelude.{bytes_eq, ◌==◌}
+use Rattle.std.specs.Prelude.{◌==◌}
 use Rattle.std.proofs.lemmas.Iterator.{YieldsList-from_slice}
 use Rattle.std.proofs.lemmas.Iterator.Search.{any_from_yields_List}
-
 use Rattle.protocol.specs.declared.images.RegionImage.{RegionImage}
 use Rattle.dump_reader.proofs.Seen.{some_seen}
 use Rattle.dump_reader.proofs.groups.has_key.Goals as goal

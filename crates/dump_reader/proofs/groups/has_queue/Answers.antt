@@ -1,8 +1,7 @@
 use Rattle.std.proofs.Common.{rules, tests, ◌∙◌, ap, List, ℕ}
-use Rattle.std.specs.Prelude.{bytes_eq, ◌==◌}
+use Rattle.std.specs.Prelude.{bytes_eq}
 use Rattle.std.proofs.lemmas.Iterator.{YieldsList-from_slice}
 use Rattle.std.proofs.lemmas.Iterator.Search.{any_from_yields_List}
-
 use Rattle.dump_reader.specs.declared.heads.PlacedQueue.{PlacedQueue}
 use Rattle.dump_reader.proofs.Seen.{name_seen, placed_names}
 use Rattle.rdma_types.specs.Lists.{has_word}
