@@ -1,0 +1,6 @@
+pub mod Fields
+pub mod Groups
+pub mod Ahead
+pub mod Steps
+pub mod Faults
+pub mod Overfull

@@ -1,0 +1,181 @@
+//! Fields of a dump, read one after the other.
+
+ghost use Rattle.std.specs.Prelude.{◌≡◌, ◌+◌, ◌<◌, ◌≤◌, ◌^◌, length, true, false, if◌then◌else◌, Ok, Err, IfOk, IfErr, OnErr, take, drop, not, ◌&&◌};
+ghost use Rattle.protocol.specs.Bytes.{big_number, big_bytes};
+ghost use Rattle.protocol.specs.Dumps.{raw, Good, Bad, judged};
+ghost use Rattle.dump_reader.specs.Fields.{IsNext, IsShort, IsText, IsShortText};
+ghost use Rattle.rdma_types.specs.Spelled.{is_name};
+
+use byteorder::{BigEndian, ByteOrder};
+use protocol::DumpWhy;
+use rdma_types::Name;
+
+/// Where bytes are no dump, and why.
+#[derive(Clone, Copy, Debug, PartialEq, Eq)]
+pub struct Offence {
+    pub place: usize,
+    pub why: DumpWhy,
+}
+
+/// The bytes that are still to be read, with the place of the first of them in the dump.
+#[derive(Clone, Copy)]
+pub struct Cursor<'a> {
+    pub bytes: &'a [u8],
+    pub place: usize,
+    /// The place of the field that was read last.
+    pub start: usize,
+}
+
+impl<'a> Cursor<'a> {
+    /// The next bytes, so many.
+    #[tactic(auto, unfolding(protocol::specs::Dumps::raw))]
+    pub fn raw(&mut self, count: usize) -> Result<&'a [u8], Offence>
+        requires { self.old.place + length self.old.bytes.now < 2 ^ 64 }
+        ensures ok { IfOk result (λ field. raw count self.old.place self.old.bytes.now ≡ Good field.now self.new.place self.new.bytes.now) }
+        ensures short { IfErr result (λ e. raw count self.old.place self.old.bytes.now ≡ Bad e.place e.why) }
+        ensures fits { self.new.place + length self.new.bytes.now ≡ self.old.place + length self.old.bytes.now }
+        ensures start { self.new.start ≡ self.old.place }
+        ensures len { IfOk result (λ field. length field.now ≡ count) }
+        ensures passed { IfOk result (λ field. self.new.place ≡ self.old.place + count) }
+    {
+        self.start = self.place;
+        if self.bytes.len() < count {
+            return Err(Offence {
+                place: self.place + self.bytes.len(),
+                why: DumpWhy::Short,
+            });
+        }
+        let (field, rest) = self.bytes.split_at(count);
+        self.place += count;
+        self.bytes = rest;
+        Ok(field)
+    }
+
+    /// The next number of one byte.
+    #[tactic(auto, unfolding(protocol::specs::Bytes::big_number))]
+    pub fn u8(&mut self) -> Result<u8, Offence>
+        requires { self.old.place + length self.old.bytes.now < 2 ^ 64 }
+        ensures passed { IfOk result (λ n. self.new.place ≡ self.old.place + 1) }
+        ensures ok { IfOk result (λ n. IsNext 1 n self.old.place self.old.bytes.now self.new.place self.new.bytes.now) }
+        ensures short { IfErr result (λ e. IsShort 1 self.old.place self.old.bytes.now e.place e.why) }
+        ensures fits { self.new.place + length self.new.bytes.now ≡ self.old.place + length self.old.bytes.now }
+        ensures start { self.new.start ≡ self.old.place }
+    {
+        let field = self.raw(1)?;
+        Ok(field[0])
+    }
+
+    /// The next number of two bytes.
+    #[tactic(auto, unfolding(protocol::specs::Bytes::big_number))]
+    pub fn u16(&mut self) -> Result<u16, Offence>
+        requires { self.old.place + length self.old.bytes.now < 2 ^ 64 }
+        ensures passed { IfOk result (λ n. self.new.place ≡ self.old.place + 2) }
+        ensures ok { IfOk result (λ n. IsNext 2 n self.old.place self.old.bytes.now self.new.place self.new.bytes.now) }
+        ensures short { IfErr result (λ e. IsShort 2 self.old.place self.old.bytes.now e.place e.why) }
+        ensures fits { self.new.place + length self.new.bytes.now ≡ self.old.place + length self.old.bytes.now }
+        ensures start { self.new.start ≡ self.old.place }
+    {
+        let field = self.raw(2)?;
+        Ok(BigEndian::read_u16(field))
+    }
+
+    /// The next number of four bytes.
+    #[tactic(auto, unfolding(protocol::specs::Bytes::big_number))]
+    pub fn u32(&mut self) -> Result<u32, Offence>
+        requires { self.old.place + length self.old.bytes.now < 2 ^ 64 }
+        ensures passed { IfOk result (λ n. self.new.place ≡ self.old.place + 4) }
+        ensures ok { IfOk result (λ n. IsNext 4 n self.old.place self.old.bytes.now self.new.place self.new.bytes.now) }
+        ensures short { IfErr result (λ e. IsShort 4 self.old.place self.old.bytes.now e.place e.why) }
+        ensures fits { self.new.place + length self.new.bytes.now ≡ self.old.place + length self.old.bytes.now }
+        ensures start { self.new.start ≡ self.old.place }
+    {
+        let field = self.raw(4)?;
+        Ok(BigEndian::read_u32(field))
+    }
+
+    /// The next number of eight bytes.
+    #[tactic(auto, unfolding(protocol::specs::Bytes::big_number))]
+    pub fn u64(&mut self) -> Result<u64, Offence>
+        requires { self.old.place + length self.old.bytes.now < 2 ^ 64 }
+        ensures passed { IfOk result (λ n. self.new.place ≡ self.old.place + 8) }
+        ensures ok { IfOk result (λ n. IsNext 8 n self.old.place self.old.bytes.now self.new.place self.new.bytes.now) }
+        ensures short { IfErr result (λ e. IsShort 8 self.old.place self.old.bytes.now e.place e.why) }
+        ensures fits { self.new.place + length self.new.bytes.now ≡ self.old.place + length self.old.bytes.now }
+        ensures start { self.new.start ≡ self.old.place }
+    {
+        let field = self.raw(8)?;
+        Ok(BigEndian::read_u64(field))
+    }
+
+    /// The field that was read last keeps a rule.
+    pub fn keep(&self, ok: bool) -> Result<(), Offence>
+        ensures { result ≡ (if ok then Ok tt else Err (record { place = self.now.start; why = DumpWhy.Field })) }
+    {
+        if ok {
+            Ok(())
+        } else {
+            Err(Offence {
+                place: self.start,
+                why: DumpWhy::Field,
+            })
+        }
+    }
+
+    /// The field that was read last is a count under its limit.
+    pub fn count(&self, ok: bool) -> Result<(), Offence>
+        ensures { result ≡ (if ok then Ok tt else Err (record { place = self.now.start; why = DumpWhy.Count })) }
+    {
+        if ok {
+            Ok(())
+        } else {
+            Err(Offence {
+                place: self.start,
+                why: DumpWhy::Count,
+            })
+        }
+    }
+
+    /// The next text: its length byte and its bytes, which are one field.
+    #[tactic(auto, unfolding(protocol::specs::Dumps::after))]
+    pub fn text(&mut self) -> Result<&'a [u8], Offence>
+        requires { self.old.place + length self.old.bytes.now < 2 ^ 64 }
+        ensures passed { IfOk result (λ text. self.old.place < self.new.place) }
+        ensures ok { IfOk result (λ text. IsText text.now self.old.place self.old.bytes.now self.new.place self.new.bytes.now) }
+        ensures short { IfErr result (λ e. IsShortText self.old.place self.old.bytes.now e.place e.why) }
+        ensures fits { self.new.place + length self.new.bytes.now ≡ self.old.place + length self.old.bytes.now }
+        ensures start { self.new.start ≡ self.old.place }
+    {
+        let start = self.place;
+        let count = self.u8()?;
+        let text = self.raw(count as usize);
+        self.start = start;
+        text
+    }
+
+    /// The text that was read last is a name that was not there.
+    pub fn name(&self, text: &[u8], twice: bool) -> Result<Name, Offence>
+        ensures { result ≡ (if is_name text.now && not twice then Ok text.now else Err (record { place = self.now.start; why = DumpWhy.Name })) }
+    {
+        match Name::read(text) {
+            Some(name) if !twice => Ok(name),
+            _ => Err(Offence {
+                place: self.start,
+                why: DumpWhy::Name,
+            }),
+        }
+    }
+
+    /// The field that was read last is a known version.
+    pub fn version(&self, ok: bool) -> Result<(), Offence>
+        ensures { result ≡ (if ok then Ok tt else Err (record { place = self.now.start; why = DumpWhy.Version })) }
+    {
+        if ok {
+            Ok(())
+        } else {
+            Err(Offence {
+                place: self.start,
+                why: DumpWhy::Version,
+            })
+        }
+    }
+}

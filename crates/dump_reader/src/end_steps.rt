@@ -1,0 +1,509 @@
+//! One group of fields of a queue pair, and the place after it.
+
+ghost use Rattle.std.specs.Prelude.{◌≡◌, ℕ, List, suc, ◌+◌, ◌-◌, ◌<◌, ◌≤◌, ◌^◌, ◌==◌, ◌++◌, ◌∷◌, length, [], map, Some, None, IfOk, not, ◌||◌, if◌then◌else◌};
+ghost use Rattle.protocol.specs.Dumps.{then_read, items, raw, shape_of_length, count_by, is_untold_count, is_ended};
+ghost use Rattle.protocol.specs.Images.{name_at};
+ghost use Rattle.dump_reader.specs.Groups.{came, link_of_head, end_of_head, regions_of, payload_length};
+ghost use Rattle.rdma_types.specs.Kinds.{lands};
+ghost use Rattle.dump_reader.specs.Ahead.{ahead, more_ends, more_kept, more_untold, more_receives, untold_list, unused_list, linked_list, after_head, queues_of, linked_of, first_of, passed, may_be_untold, may_be_unused, weight};
+ghost use Rattle.dump_reader.specs.Steps.{Moves};
+
+use crate::cursor::{Cursor, Offence};
+use crate::fault::DumpFault;
+use crate::groups;
+use crate::heads::{Before, EndHead, LinkHead, Opened, RequestHead, Standing};
+use crate::lists::{Lists, Place, push};
+use crate::overfull::find_overfull;
+use crate::places::{self, Scope};
+use crate::requests::{self, lands_bytes, payload_len, span_of};
+use byte_run::ByteRun;
+use protocol::{DumpWhy, EndImage, KeptReply, LinkImage, PostedImage};
+use rdma_types::{Items, Request};
+use std::mem;
+
+/// So many queue pairs are next, or the image is whole.
+#[tactic(auto, unfolding(protocol::specs::Dumps::after, protocol::specs::Dumps::items, crate::specs::Ahead::ahead, crate::specs::Ahead::more_ends, crate::specs::Ahead::finished))]
+pub fn enter_ends(
+    opened: &Opened,
+    lists: &Lists,
+    c: &Cursor<'_>,
+    count: u16,
+) -> Result<Place, DumpFault>
+    ensures { Moves (more_ends opened.now lists.now.domains.items lists.now.regions.items (queues_of lists.now) count lists.now.ends.items c.now.place c.now.bytes.now) (λ next. ahead opened.now lists.now next c.now.place c.now.bytes.now) result }
+{
+    if count > 0 {
+        return Ok(Place::End(count - 1));
+    }
+    match find_overfull(opened, lists, &lists.queues) {
+        None => Ok(Place::Done),
+        Some(place) => Err(DumpFault::BadDump {
+            place,
+            why: DumpWhy::Field,
+        }),
+    }
+}
+
+/// The count of queue pairs.
+#[tactic(auto, unfolding(protocol::specs::Dumps::after, protocol::specs::Dumps::items, crate::specs::Ahead::ahead))]
+pub fn end_count_step(
+    opened: &Opened,
+    lists: &mut Lists,
+    c: &mut Cursor<'_>,
+) -> Result<Place, DumpFault>
+    requires { c.old.place + length c.old.bytes.now < 2 ^ 64 }
+    ensures moves { Moves (ahead opened.now lists.old Place.EndCount c.old.place c.old.bytes.now) (λ next. ahead opened.now lists.new next c.new.place c.new.bytes.now) result }
+    ensures passed { IfOk result (λ next. c.old.place < c.new.place) }
+    ensures fits { c.new.place + length c.new.bytes.now ≡ c.old.place + length c.old.bytes.now }
+{
+    let count = groups::read_count(c, 64)?;
+    lists.ends = Vec::new(lists.alloc);
+    enter_ends(opened, lists, c, count)
+}
+
+/// Behind the head of a queue pair.
+#[tactic(auto, unfolding(protocol::specs::Dumps::after, protocol::specs::Dumps::items, crate::specs::Ahead::ahead))]
+pub fn enter_end(opened: &Opened, lists: &Lists, head: &EndHead, after: u16) -> Place
+    ensures { ahead opened.now lists.now result ≡ after_head opened.now lists.now.domains.items lists.now.regions.items (queues_of lists.now) lists.now.ends.items after head.now }
+{
+    match head.state {
+        0 => Place::Untold(*head, None, after),
+        _ => Place::Link(*head, after),
+    }
+}
+
+/// A queue pair, up to its state.
+#[tactic(auto, unfolding(protocol::specs::Dumps::after, protocol::specs::Dumps::items, crate::specs::Ahead::ahead), using(crate::proofs::Ends::placed_begin))]
+pub fn end_step(
+    opened: &Opened,
+    lists: &mut Lists,
+    c: &mut Cursor<'_>,
+    more: u16,
+) -> Result<Place, DumpFault>
+    requires { c.old.place + length c.old.bytes.now < 2 ^ 64 }
+    ensures moves { Moves (ahead opened.now lists.old (Place.End more) c.old.place c.old.bytes.now) (λ next. ahead opened.now lists.new next c.new.place c.new.bytes.now) result }
+    ensures passed { IfOk result (λ next. c.old.place < c.new.place) }
+    ensures fits { c.new.place + length c.new.bytes.now ≡ c.old.place + length c.old.bytes.now }
+{
+    let domains = lists.domains.len();
+    let head = groups::read_end(c, domains, lists.queues.len(), &lists.ends)?;
+    lists.kept = Vec::new(lists.alloc);
+    Ok(enter_end(opened, lists, &head, more))
+}
+
+/// The regions of the image, and the domain of a queue pair.
+fn scope_of<'a>(lists: &'a Lists, head: &EndHead) -> Scope<'a>
+    ensures domains { result.domains.now ≡ lists.now.domains.items }
+    ensures regions { result.regions.now ≡ lists.now.regions.items }
+    ensures domain { result.domain.now ≡ name_at lists.now.domains.items head.now.domain }
+{
+    Scope {
+        domains: &lists.domains,
+        regions: &lists.regions,
+        domain: match lists.domains.get(head.domain as usize) {
+            Some(name) => name.as_bytes(),
+            None => b"",
+        },
+    }
+}
+
+/// So many kept replies are next.
+#[tactic(auto, unfolding(protocol::specs::Dumps::after, protocol::specs::Dumps::items, crate::specs::Ahead::ahead, crate::specs::Ahead::more_kept))]
+pub fn enter_kept(
+    opened: &Opened,
+    lists: &Lists,
+    head: &EndHead,
+    link: &LinkHead,
+    count: u8,
+    after: u16,
+) -> Place
+    ensures { ahead opened.now lists.now result ≡ more_kept opened.now lists.now.domains.items lists.now.regions.items (queues_of lists.now) lists.now.ends.items after head.now link.now count lists.now.kept.items }
+{
+    match count {
+        0 => Place::Untold(*head, Some(*link), after),
+        _ => Place::Kept(*head, *link, count - 1, after),
+    }
+}
+
+/// A kept reply.
+#[tactic(auto, unfolding(protocol::specs::Dumps::after, protocol::specs::Dumps::items, crate::specs::Ahead::ahead, crate::specs::Ahead::more_kept))]
+pub fn kept_step(
+    opened: &Opened,
+    lists: &mut Lists,
+    c: &mut Cursor<'_>,
+    head: &EndHead,
+    link: &LinkHead,
+    more: u8,
+    after: u16,
+) -> Result<Place, DumpFault>
+    requires { c.old.place + length c.old.bytes.now < 2 ^ 64 }
+    ensures moves { Moves (ahead opened.now lists.old (Place.Kept head.now link.now more after) c.old.place c.old.bytes.now) (λ next. ahead opened.now lists.new next c.new.place c.new.bytes.now) result }
+    ensures passed { IfOk result (λ next. c.old.place < c.new.place) }
+    ensures fits { c.new.place + length c.new.bytes.now ≡ c.old.place + length c.old.bytes.now }
+{
+    let reply = groups::read_kept(c, link.waiting.expected, &lists.kept)?;
+    push(&mut lists.kept, reply)?;
+    Ok(enter_kept(opened, lists, head, link, more, after))
+}
+
+/// So many untold requests are next.
+#[tactic(auto, unfolding(protocol::specs::Dumps::after, protocol::specs::Dumps::items, crate::specs::Ahead::ahead, crate::specs::Ahead::more_untold, crate::specs::Ahead::more_requests))]
+pub fn enter_requests(
+    opened: &Opened,
+    lists: &Lists,
+    head: &EndHead,
+    link: &LinkHead,
+    before: &Before,
+    count: u16,
+    after: u16,
+) -> Place
+    ensures ahead { ahead opened.now lists.now result ≡ more_untold opened.now lists.now.domains.items lists.now.regions.items (queues_of lists.now) lists.now.ends.items after head.now (link_of_head link.now lists.now.kept.items) before.now count lists.now.untold.items }
+    ensures light { weight result ≡ 0 }
+{
+    match count {
+        0 => Place::Unused(*head, Some(*link), after),
+        _ => Place::Request(*head, *link, *before, count - 1, after),
+    }
+}
+
+fn untold_rule(link: &Option<LinkHead>, count: u16) -> bool
+    ensures { result ≡ may_be_untold link.now count }
+{
+    match link {
+        None => count == 0,
+        Some(link) if count == 0 => link.numbers.top == link.numbers.first,
+        Some(link) => !link.ended,
+    }
+}
+
+#[tactic(auto, unfolding(protocol::specs::Dumps::after, protocol::specs::Dumps::judged))]
+fn read_untold_count(
+    c: &mut Cursor<'_>,
+    depth: u16,
+    link: &Option<LinkHead>,
+) -> Result<u16, Offence>
+    requires { c.old.place + length c.old.bytes.now < 2 ^ 64 }
+    ensures count { count_by 2 depth (may_be_untold link.now) c.old.place c.old.bytes.now ≡ came result c.new.place c.new.bytes.now }
+    ensures passed { IfOk result (λ x. c.old.place < c.new.place) }
+    ensures fits { c.new.place + length c.new.bytes.now ≡ c.old.place + length c.old.bytes.now }
+{
+    let count = c.u16()?;
+    c.count(count <= depth)?;
+    c.keep(untold_rule(link, count))?;
+    Ok(count)
+}
+
+fn unused_rule(link: &Option<LinkHead>, count: u16) -> bool
+    ensures { result ≡ may_be_unused link.now count }
+{
+    match link {
+        Some(link) if link.ended => count == 0,
+        _ => true,
+    }
+}
+
+#[tactic(auto, unfolding(protocol::specs::Dumps::after, protocol::specs::Dumps::judged))]
+fn read_unused_count(
+    c: &mut Cursor<'_>,
+    depth: u16,
+    link: &Option<LinkHead>,
+) -> Result<u16, Offence>
+    requires { c.old.place + length c.old.bytes.now < 2 ^ 64 }
+    ensures count { count_by 2 depth (may_be_unused link.now) c.old.place c.old.bytes.now ≡ came result c.new.place c.new.bytes.now }
+    ensures passed { IfOk result (λ x. c.old.place < c.new.place) }
+    ensures fits { c.new.place + length c.new.bytes.now ≡ c.old.place + length c.old.bytes.now }
+{
+    let count = c.u16()?;
+    c.count(count <= depth)?;
+    c.keep(unused_rule(link, count))?;
+    Ok(count)
+}
+
+/// What a connected end has, up to its kept replies.
+#[tactic(auto, unfolding(protocol::specs::Dumps::after, protocol::specs::Dumps::items, crate::specs::Ahead::ahead), using(crate::proofs::Ends::linked_begins))]
+pub fn link_step(
+    opened: &Opened,
+    lists: &mut Lists,
+    c: &mut Cursor<'_>,
+    head: &EndHead,
+    after: u16,
+) -> Result<Place, DumpFault>
+    requires { c.old.place + length c.old.bytes.now < 2 ^ 64 }
+    ensures moves { Moves (ahead opened.now lists.old (Place.Link head.now after) c.old.place c.old.bytes.now) (λ next. ahead opened.now lists.new next c.new.place c.new.bytes.now) result }
+    ensures passed { IfOk result (λ next. c.old.place < c.new.place) }
+    ensures fits { c.new.place + length c.new.bytes.now ≡ c.old.place + length c.old.bytes.now }
+{
+    let link = places::read_link(c, &scope_of(lists, head), head.state == 2)?;
+    lists.kept = Vec::new(lists.alloc);
+    Ok(enter_kept(opened, lists, head, &link, link.count, after))
+}
+
+/// The count of untold requests.
+#[tactic(auto, unfolding(protocol::specs::Dumps::after, protocol::specs::Dumps::items, crate::specs::Ahead::ahead), using(crate::proofs::Ends::untold_opens))]
+pub fn untold_step(
+    opened: &Opened,
+    lists: &mut Lists,
+    c: &mut Cursor<'_>,
+    head: &EndHead,
+    link: &Option<LinkHead>,
+    after: u16,
+) -> Result<Place, DumpFault>
+    requires { c.old.place + length c.old.bytes.now < 2 ^ 64 }
+    ensures moves { Moves (ahead opened.now lists.old (Place.Untold head.now link.now after) c.old.place c.old.bytes.now) (λ next. ahead opened.now lists.new next c.new.place c.new.bytes.now) result }
+    ensures passed { IfOk result (λ next. c.old.place < c.new.place) }
+    ensures fits { c.new.place + length c.new.bytes.now ≡ c.old.place + length c.old.bytes.now }
+{
+    let count = read_untold_count(c, head.send_depth, link)?;
+    lists.untold = Vec::new(lists.alloc);
+    match link {
+        None => Ok(Place::Unused(*head, None, after)),
+        Some(link) => {
+            let before = Before {
+                count,
+                low: link.numbers.first,
+                landing: false,
+            };
+            Ok(enter_requests(opened, lists, head, link, &before, count, after))
+        }
+    }
+}
+
+/// What stands before the request after one.
+fn advanced(link: &LinkHead, before: &Before, head: &RequestHead) -> Before
+    requires { before.now.low + shape_of_length head.now.kind head.now.length link.now.terms.mtu < 2 ^ 62 }
+    ensures { result ≡ record before.now { low = before.now.low + shape_of_length head.now.kind head.now.length link.now.terms.mtu; landing = before.now.landing || lands head.now.kind } }
+{
+    Before {
+        count: before.count,
+        low: before.low + span_of(head.kind, head.length, link.terms.mtu),
+        landing: before.landing || lands_bytes(head.kind),
+    }
+}
+
+/// Where a request stands of which so many more follow.
+fn standing_of(opened: &Opened, before: &Before, more: u16) -> Standing
+    ensures { result ≡ record { version = opened.now.version; count = before.now.count; index = before.now.count - suc more; low = before.now.low; landing = before.now.landing } }
+{
+    Standing {
+        version: opened.version,
+        count: before.count,
+        index: (before.count as u32).saturating_sub(more as u32 + 1) as u16,
+        low: before.low,
+        landing: before.landing,
+    }
+}
+
+/// A request is whole.
+#[tactic(auto, unfolding(protocol::specs::Dumps::after, protocol::specs::Dumps::items, crate::specs::Ahead::ahead))]
+pub fn take_request(
+    opened: &Opened,
+    lists: &mut Lists,
+    c: &Cursor<'_>,
+    head: &EndHead,
+    link: &LinkHead,
+    before: &Before,
+    count: u16,
+    after: u16,
+    request: Request,
+) -> Result<Place, DumpFault>
+    ensures light { IfOk result (λ next. weight next ≡ 0) }
+    ensures moves { Moves (more_untold opened.now lists.old.domains.items lists.old.regions.items (queues_of lists.old) lists.old.ends.items after head.now (link_of_head link.now lists.old.kept.items) before.now count (lists.old.untold.items ++ record { request = request; payload = lists.old.run } ∷ []) c.now.place c.now.bytes.now) (λ next. ahead opened.now lists.new next c.now.place c.now.bytes.now) result }
+{
+    let payload = mem::replace(&mut lists.run, ByteRun::make(lists.alloc));
+    push(&mut lists.untold, PostedImage { request, payload })?;
+    Ok(enter_requests(opened, lists, head, link, before, count, after))
+}
+
+/// The payload of a request is next, or the request is whole.
+#[tactic(auto, unfolding(protocol::specs::Dumps::after, protocol::specs::Dumps::items, crate::specs::Ahead::ahead))]
+pub fn enter_payload(
+    opened: &Opened,
+    lists: &mut Lists,
+    c: &Cursor<'_>,
+    head: &EndHead,
+    link: &LinkHead,
+    before: &Before,
+    count: u16,
+    after: u16,
+    request: Request,
+) -> Result<Place, DumpFault>
+    ensures { Moves (then_read (raw (payload_length request)) (λ payload. more_untold opened.now lists.old.domains.items lists.old.regions.items (queues_of lists.old) lists.old.ends.items after head.now (link_of_head link.now lists.old.kept.items) before.now count (lists.old.untold.items ++ record { request = request; payload = payload } ∷ [])) c.now.place c.now.bytes.now) (λ next. ahead opened.now lists.new next c.now.place c.now.bytes.now) result }
+{
+    lists.run = ByteRun::make(lists.alloc);
+    let missing = payload_len(&request);
+    if missing > 0 {
+        return Ok(Place::Payload(*head, *link, *before, count, after, request, missing));
+    }
+    take_request(opened, lists, c, head, link, before, count, after, request)
+}
+
+/// An untold request, up to its payload.
+#[tactic(auto, unfolding(protocol::specs::Dumps::after, protocol::specs::Dumps::items, crate::specs::Ahead::ahead), using(crate::proofs::Ends::request_begins))]
+pub fn request_step(
+    opened: &Opened,
+    lists: &mut Lists,
+    c: &mut Cursor<'_>,
+    head: &EndHead,
+    link: &LinkHead,
+    before: &Before,
+    more: u16,
+    after: u16,
+) -> Result<Place, DumpFault>
+    requires { c.old.place + length c.old.bytes.now < 2 ^ 64 }
+    ensures moves { Moves (ahead opened.now lists.old (Place.Request head.now link.now before.now more after) c.old.place c.old.bytes.now) (λ next. ahead opened.now lists.new next c.new.place c.new.bytes.now) result }
+    ensures passed { IfOk result (λ next. c.old.place < c.new.place) }
+    ensures fits { c.new.place + length c.new.bytes.now ≡ c.old.place + length c.old.bytes.now }
+{
+    let start = requests::read_request_head(c, link, &standing_of(opened, before, more))?;
+    let request = requests::read_request_places(c, &scope_of(lists, head), &start)?;
+    let before = advanced(link, before, &start);
+    enter_payload(opened, lists, c, head, link, &before, more, after, request)
+}
+
+/// The payload of a request, all that is missing.
+#[tactic(auto, unfolding(protocol::specs::Dumps::after, protocol::specs::Dumps::items, crate::specs::Ahead::ahead))]
+pub fn payload_step(
+    opened: &Opened,
+    lists: &mut Lists,
+    c: &mut Cursor<'_>,
+    head: &EndHead,
+    link: &LinkHead,
+    before: &Before,
+    count: u16,
+    after: u16,
+    request: Request,
+    missing: u32,
+) -> Result<Place, DumpFault>
+    requires { c.old.place + length c.old.bytes.now < 2 ^ 64 }
+    ensures moves { Moves (ahead opened.now lists.old (Place.Payload head.now link.now before.now count after request missing) c.old.place c.old.bytes.now) (λ next. ahead opened.now lists.new next c.new.place c.new.bytes.now) result }
+    ensures light { IfOk result (λ next. weight next ≡ 0) }
+    ensures passed { IfOk result (λ next. c.old.place ≤ c.new.place) }
+    ensures fits { c.new.place + length c.new.bytes.now ≡ c.old.place + length c.old.bytes.now }
+{
+    let bytes = c.raw(missing as usize)?;
+    lists.run.append(lists.alloc, bytes)?;
+    take_request(opened, lists, c, head, link, before, count, after, request)
+}
+
+/// What a queue pair has of its link.
+fn link_image(link: &LinkHead, kept: Vec<KeptReply>) -> LinkImage
+    ensures { result ≡ link_of_head link.now kept.items }
+{
+    LinkImage {
+        ended: link.ended,
+        peer: link.peer.peer,
+        partner: link.peer.partner,
+        moves: link.peer.moves,
+        partner_moves: link.peer.partner_moves,
+        resuming: link.peer.resuming,
+        terms: link.terms,
+        first: link.numbers.first,
+        una: link.numbers.una,
+        next: link.numbers.next,
+        top: link.numbers.top,
+        spent: link.waiting.spent,
+        waits: link.waiting.waits,
+        rnr_wait: link.waiting.rnr_wait,
+        expected: link.waiting.expected,
+        nak_sent: link.waiting.nak_sent,
+        msn: link.waiting.msn,
+        progress: link.progress,
+        kept: Items::new(kept),
+    }
+}
+
+/// The same, unless it was never connected.
+fn linked_image(link: &Option<LinkHead>, kept: Vec<KeptReply>) -> Option<LinkImage>
+    ensures { result ≡ linked_of link.now kept.items }
+{
+    match link {
+        None => None,
+        Some(link) => Some(link_image(link, kept)),
+    }
+}
+
+/// A queue pair of its groups; its lists move out of those that were read.
+fn end_image(lists: &mut Lists, head: &EndHead, link: &Option<LinkHead>) -> EndImage
+    ensures end { result ≡ end_of_head head.now (linked_of link.now lists.old.kept.items) lists.old.untold.items lists.old.unused.items }
+    ensures domains { lists.new.domains ≡ lists.old.domains }
+    ensures regions { lists.new.regions ≡ lists.old.regions }
+    ensures queues { lists.new.queues ≡ lists.old.queues }
+    ensures ends { lists.new.ends ≡ lists.old.ends }
+{
+    let kept = mem::replace(&mut lists.kept, Vec::new(lists.alloc));
+    let untold = mem::replace(&mut lists.untold, Vec::new(lists.alloc));
+    let unused = mem::replace(&mut lists.unused, Vec::new(lists.alloc));
+    EndImage {
+        name: head.name,
+        number: head.number,
+        domain: head.domain,
+        send_cq: head.send_cq,
+        recv_cq: head.recv_cq,
+        send_depth: head.send_depth,
+        recv_depth: head.recv_depth,
+        linked: linked_image(link, kept),
+        untold: Items::new(untold),
+        unused: Items::new(unused),
+    }
+}
+
+/// So many unused receives are next, or the queue pair is whole.
+#[tactic(auto, unfolding(protocol::specs::Dumps::after, protocol::specs::Dumps::items, crate::specs::Ahead::ahead, crate::specs::Ahead::more_receives))]
+pub fn enter_receives(
+    opened: &Opened,
+    lists: &mut Lists,
+    c: &Cursor<'_>,
+    head: &EndHead,
+    link: &Option<LinkHead>,
+    count: u16,
+    after: u16,
+) -> Result<Place, DumpFault>
+    ensures { Moves (more_receives opened.now lists.old.domains.items lists.old.regions.items (queues_of lists.old) lists.old.ends.items after head.now (linked_of link.now lists.old.kept.items) lists.old.untold.items count lists.old.unused.items c.now.place c.now.bytes.now) (λ next. ahead opened.now lists.new next c.now.place c.now.bytes.now) result }
+{
+    if count > 0 {
+        return Ok(Place::Receive(*head, *link, count - 1, after));
+    }
+    let end = end_image(lists, head, link);
+    push(&mut lists.ends, end)?;
+    enter_ends(opened, lists, c, after)
+}
+
+/// The count of unused receives.
+#[tactic(auto, unfolding(protocol::specs::Dumps::after, protocol::specs::Dumps::items, crate::specs::Ahead::ahead), using(crate::proofs::Ends::unused_opens))]
+pub fn unused_step(
+    opened: &Opened,
+    lists: &mut Lists,
+    c: &mut Cursor<'_>,
+    head: &EndHead,
+    link: &Option<LinkHead>,
+    after: u16,
+) -> Result<Place, DumpFault>
+    requires { c.old.place + length c.old.bytes.now < 2 ^ 64 }
+    ensures moves { Moves (ahead opened.now lists.old (Place.Unused head.now link.now after) c.old.place c.old.bytes.now) (λ next. ahead opened.now lists.new next c.new.place c.new.bytes.now) result }
+    ensures passed { IfOk result (λ next. c.old.place < c.new.place) }
+    ensures fits { c.new.place + length c.new.bytes.now ≡ c.old.place + length c.old.bytes.now }
+{
+    let count = read_unused_count(c, head.recv_depth, link)?;
+    lists.unused = Vec::new(lists.alloc);
+    enter_receives(opened, lists, c, head, link, count, after)
+}
+
+/// An unused receive.
+#[tactic(auto, unfolding(protocol::specs::Dumps::after, protocol::specs::Dumps::items, crate::specs::Ahead::ahead, crate::specs::Ahead::more_receives))]
+pub fn receive_step(
+    opened: &Opened,
+    lists: &mut Lists,
+    c: &mut Cursor<'_>,
+    head: &EndHead,
+    link: &Option<LinkHead>,
+    more: u16,
+    after: u16,
+) -> Result<Place, DumpFault>
+    requires { c.old.place + length c.old.bytes.now < 2 ^ 64 }
+    ensures moves { Moves (ahead opened.now lists.old (Place.Receive head.now link.now more after) c.old.place c.old.bytes.now) (λ next. ahead opened.now lists.new next c.new.place c.new.bytes.now) result }
+    ensures passed { IfOk result (λ next. c.old.place < c.new.place) }
+    ensures fits { c.new.place + length c.new.bytes.now ≡ c.old.place + length c.old.bytes.now }
+{
+    let receive = places::read_receive(c, &scope_of(lists, head), 0)?;
+    push(&mut lists.unused, receive)?;
+    enter_receives(opened, lists, c, head, link, more, after)
+}

@@ -1,0 +1,18 @@
+//! The image of a stopped context from its bytes (the format is this project's choice).
+#![tactic(auto)]
+
+mod cursor;
+mod decode;
+mod end_steps;
+mod fault;
+mod groups;
+mod heads;
+mod lists;
+mod machine;
+mod overfull;
+mod places;
+mod requests;
+mod steps;
+
+pub use decode::decode_dump;
+pub use fault::DumpFault;

@@ -1,0 +1,133 @@
+//! Dumps, group by group.
+
+ghost use Rattle.std.specs.Prelude.{◌≡◌, ℕ, suc, ◌||◌, ◌+◌, ◌*◌, ◌-◌, ◌<◌, ◌≤◌, ◌^◌, ◌==◌, ◌++◌, ◌∷◌, length, [], map, Some, None, IfOk, IfErr, true, false};
+ghost use Rattle.protocol.specs.Dumps.{Good, Bad, read_dump};
+ghost use Rattle.dump_reader.specs.Fields.{IsMagic, IsNoMagic};
+ghost use Rattle.dump_reader.specs.Groups.{came};
+ghost use Rattle.dump_reader.specs.Ahead.{ahead, opening_field, more_domains, image_of, queues_of, weight, IsOpen};
+ghost use Rattle.dump_reader.specs.Steps.{Moves, IsFault};
+
+use crate::cursor::{Cursor, Offence};
+use crate::fault::DumpFault;
+use crate::heads::Opened;
+use crate::lists::{Lists, Place};
+use crate::{end_steps, groups, steps};
+use protocol::DumpWhy;
+
+#[tactic(auto, unfolding(protocol::specs::Dumps::is_magic, protocol::specs::Dumps::after))]
+fn read_magic(c: &mut Cursor<'_>) -> Result<(), Offence>
+    requires { c.old.place + length c.old.bytes.now < 2 ^ 64 }
+    ensures ok { IfOk result (λ u. IsMagic c.old.place c.old.bytes.now c.new.place c.new.bytes.now) }
+    ensures bad { IfErr result (λ e. IsNoMagic c.old.place c.old.bytes.now e.place e.why) }
+    ensures passed { IfOk result (λ x. c.old.place < c.new.place) }
+    ensures fits { c.new.place + length c.new.bytes.now ≡ c.old.place + length c.old.bytes.now }
+{
+    let bytes = c.raw(8)?;
+    if bytes == b"MIGDUMP\0".as_slice() {
+        Ok(())
+    } else {
+        Err(Offence {
+            place: 0,
+            why: DumpWhy::Magic,
+        })
+    }
+}
+
+fn is_version(n: u16) -> bool
+    ensures { result ≡ (n == 1 || n == 2) }
+{
+    n == 1 || n == 2
+}
+
+/// The first fields, up to the count of domains.
+#[tactic(auto, unfolding(protocol::specs::Dumps::after, protocol::specs::Dumps::judged, crate::specs::Ahead::opening_field))]
+pub fn read_opening(c: &mut Cursor<'_>) -> Result<Opened, Offence>
+    requires { c.old.place + length c.old.bytes.now < 2 ^ 64 }
+    ensures opened { opening_field c.old.place c.old.bytes.now ≡ came result c.new.place c.new.bytes.now }
+    ensures passed { IfOk result (λ x. c.old.place < c.new.place) }
+    ensures fits { c.new.place + length c.new.bytes.now ≡ c.old.place + length c.old.bytes.now }
+{
+    read_magic(c)?;
+    let version = c.u16()?;
+    c.version(is_version(version))?;
+    let name = groups::read_name(c, &[])?;
+    let count = groups::read_count(c, 64)?;
+    Ok(Opened {
+        version,
+        name,
+        count,
+    })
+}
+
+/// One group of fields.
+#[tactic(auto, unfolding(crate::specs::Ahead::ahead))]
+pub fn step(
+    opened: &Opened,
+    lists: &mut Lists,
+    c: &mut Cursor<'_>,
+    place: &Place,
+) -> Result<Place, DumpFault>
+    requires open { IsOpen place.now }
+    requires place { c.old.place + length c.old.bytes.now < 2 ^ 64 }
+    ensures moves { Moves (ahead opened.now lists.old place.now c.old.place c.old.bytes.now) (λ next. ahead opened.now lists.new next c.new.place c.new.bytes.now) result }
+    ensures less { IfOk result (λ next. 2 * length c.new.bytes.now + weight next < 2 * length c.old.bytes.now + weight place.now) }
+    ensures fits { c.new.place + length c.new.bytes.now ≡ c.old.place + length c.old.bytes.now }
+{
+    match place {
+        Place::Domain(more) => steps::domain_step(opened, lists, c, *more),
+        Place::RegionCount => steps::region_count_step(opened, lists, c),
+        Place::Region(more) => steps::region_step(opened, lists, c, *more),
+        Place::Bytes(head, missing, after) => steps::bytes_step(
+            opened, lists, c, head, *missing, *after,
+        ),
+        Place::QueueCount => steps::queue_count_step(opened, lists, c),
+        Place::Queue(more) => steps::queue_step(opened, lists, c, *more),
+        Place::Entry(head, more, after) => steps::entry_step(opened, lists, c, head, *more, *after),
+        Place::EndCount => end_steps::end_count_step(opened, lists, c),
+        Place::End(more) => end_steps::end_step(opened, lists, c, *more),
+        Place::Link(head, after) => end_steps::link_step(opened, lists, c, head, *after),
+        Place::Kept(head, link, more, after) => {
+            end_steps::kept_step(opened, lists, c, head, link, *more, *after)
+        }
+        Place::Untold(head, link, after) => {
+            end_steps::untold_step(opened, lists, c, head, link, *after)
+        }
+        Place::Request(head, link, before, more, after) => {
+            end_steps::request_step(opened, lists, c, head, link, before, *more, *after)
+        }
+        Place::Payload(head, link, before, count, after, request, missing) => {
+            end_steps::payload_step(
+                opened, lists, c, head, link, before, *count, *after, *request, *missing,
+            )
+        }
+        Place::Unused(head, link, after) => {
+            end_steps::unused_step(opened, lists, c, head, link, *after)
+        }
+        Place::Receive(head, link, more, after) => {
+            end_steps::receive_step(opened, lists, c, head, link, *more, *after)
+        }
+        Place::Done => unreachable!(),
+    }
+}
+
+fn is_done(place: &Place) -> bool
+    ensures done { result ≡ true → place.now ≡ Place.Done }
+    ensures open { result ≡ false → IsOpen place.now }
+{
+    matches!(place, Place::Done)
+}
+
+/// Every list.
+pub fn read_lists(opened: &Opened, lists: &mut Lists, c: &mut Cursor<'_>) -> Result<(), DumpFault>
+    requires place { c.old.place + length c.old.bytes.now < 2 ^ 64 }
+    requires empty { lists.old.domains.items ≡ [] }
+    ensures ok { IfOk result (λ u. more_domains opened.now opened.now.count [] c.old.place c.old.bytes.now ≡ ahead opened.now lists.new Place.Done c.new.place c.new.bytes.now) }
+    ensures fits { c.new.place + length c.new.bytes.now ≡ c.old.place + length c.old.bytes.now }
+    ensures bad { IfErr result (IsFault (more_domains opened.now opened.now.count [] c.old.place c.old.bytes.now)) }
+{
+    let mut place = steps::enter_domains(opened, lists, opened.count);
+    while !is_done(&place) {
+        place = step(opened, lists, c, &place)?;
+    }
+    Ok(())
+}

@@ -1,0 +1,223 @@
+//! One group of fields before the queue pairs, and the place after it.
+
+ghost use Rattle.std.specs.Prelude.{◌≡◌, ℕ, suc, ◌+◌, ◌-◌, ◌<◌, ◌≤◌, ◌^◌, ◌==◌, ◌++◌, ◌∷◌, length, [], map, Some, None, IfOk};
+ghost use Rattle.protocol.specs.Dumps.{then_read, items, entry_field, raw, region_field};
+ghost use Rattle.dump_reader.specs.Groups.{region_of_head, queue_of_head};
+ghost use Rattle.dump_reader.specs.Ahead.{ahead, more_domains, more_regions, more_queues, more_entries, more_ends, queues_of, weight};
+ghost use Rattle.dump_reader.specs.Steps.{Moves};
+
+use crate::cursor::Cursor;
+use crate::fault::DumpFault;
+use crate::groups;
+use crate::heads::{Opened, PlacedQueue, QueueHead, RegionHead};
+use crate::lists::{Lists, Place, push};
+use byte_run::ByteRun;
+use protocol::{CqImage, RegionImage};
+use rdma_types::Items;
+use std::mem;
+
+/// So many domains are next.
+#[tactic(auto, unfolding(protocol::specs::Dumps::after, protocol::specs::Dumps::items, crate::specs::Ahead::ahead, crate::specs::Ahead::more_domains))]
+pub fn enter_domains(opened: &Opened, lists: &Lists, count: u16) -> Place
+    ensures { ahead opened.now lists.now result ≡ more_domains opened.now count lists.now.domains.items }
+{
+    match count {
+        0 => Place::RegionCount,
+        _ => Place::Domain(count - 1),
+    }
+}
+
+/// A domain.
+#[tactic(auto, unfolding(protocol::specs::Dumps::after, protocol::specs::Dumps::items, crate::specs::Ahead::ahead, crate::specs::Ahead::more_domains))]
+pub fn domain_step(
+    opened: &Opened,
+    lists: &mut Lists,
+    c: &mut Cursor<'_>,
+    more: u16,
+) -> Result<Place, DumpFault>
+    requires { c.old.place + length c.old.bytes.now < 2 ^ 64 }
+    ensures moves { Moves (ahead opened.now lists.old (Place.Domain more) c.old.place c.old.bytes.now) (λ next. ahead opened.now lists.new next c.new.place c.new.bytes.now) result }
+    ensures passed { IfOk result (λ next. c.old.place < c.new.place) }
+    ensures fits { c.new.place + length c.new.bytes.now ≡ c.old.place + length c.old.bytes.now }
+{
+    let name = groups::read_name(c, &lists.domains)?;
+    push(&mut lists.domains, name)?;
+    Ok(enter_domains(opened, lists, more))
+}
+
+/// So many regions are next.
+#[tactic(auto, unfolding(protocol::specs::Dumps::after, protocol::specs::Dumps::items, crate::specs::Ahead::ahead, crate::specs::Ahead::more_regions))]
+pub fn enter_regions(opened: &Opened, lists: &Lists, count: u16) -> Place
+    ensures ahead { ahead opened.now lists.now result ≡ more_regions opened.now lists.now.domains.items count lists.now.regions.items }
+    ensures light { weight result ≡ 0 }
+{
+    match count {
+        0 => Place::QueueCount,
+        _ => Place::Region(count - 1),
+    }
+}
+
+/// The count of regions.
+#[tactic(auto, unfolding(protocol::specs::Dumps::after, protocol::specs::Dumps::items, crate::specs::Ahead::ahead))]
+pub fn region_count_step(
+    opened: &Opened,
+    lists: &mut Lists,
+    c: &mut Cursor<'_>,
+) -> Result<Place, DumpFault>
+    requires { c.old.place + length c.old.bytes.now < 2 ^ 64 }
+    ensures moves { Moves (ahead opened.now lists.old Place.RegionCount c.old.place c.old.bytes.now) (λ next. ahead opened.now lists.new next c.new.place c.new.bytes.now) result }
+    ensures passed { IfOk result (λ next. c.old.place < c.new.place) }
+    ensures fits { c.new.place + length c.new.bytes.now ≡ c.old.place + length c.old.bytes.now }
+{
+    let count = groups::read_count(c, 256)?;
+    lists.regions = Vec::new(lists.alloc);
+    Ok(enter_regions(opened, lists, count))
+}
+
+fn region_image(head: &RegionHead, bytes: ByteRun) -> RegionImage
+    ensures { result ≡ region_of_head head.now bytes }
+{
+    RegionImage {
+        name: head.name,
+        domain: head.domain,
+        base: head.base,
+        length: head.length,
+        rights: head.rights,
+        keys: head.keys,
+        bytes,
+    }
+}
+
+/// The bytes of a region, all that are missing.
+#[tactic(auto, unfolding(protocol::specs::Dumps::after, protocol::specs::Dumps::items, crate::specs::Ahead::ahead))]
+pub fn bytes_step(
+    opened: &Opened,
+    lists: &mut Lists,
+    c: &mut Cursor<'_>,
+    head: &RegionHead,
+    missing: u32,
+    after: u16,
+) -> Result<Place, DumpFault>
+    requires { c.old.place + length c.old.bytes.now < 2 ^ 64 }
+    ensures moves { Moves (ahead opened.now lists.old (Place.Bytes head.now missing after) c.old.place c.old.bytes.now) (λ next. ahead opened.now lists.new next c.new.place c.new.bytes.now) result }
+    ensures light { IfOk result (λ next. weight next ≡ 0) }
+    ensures passed { IfOk result (λ next. c.old.place ≤ c.new.place) }
+    ensures fits { c.new.place + length c.new.bytes.now ≡ c.old.place + length c.old.bytes.now }
+{
+    let bytes = c.raw(missing as usize)?;
+    lists.run.append(lists.alloc, bytes)?;
+    let run = mem::replace(&mut lists.run, ByteRun::make(lists.alloc));
+    push(&mut lists.regions, region_image(head, run))?;
+    Ok(enter_regions(opened, lists, after))
+}
+
+/// A region, up to its bytes.
+#[tactic(auto, unfolding(protocol::specs::Dumps::after, protocol::specs::Dumps::items, crate::specs::Ahead::ahead, crate::specs::Ahead::more_regions), using(crate::proofs::Split::region_split))]
+pub fn region_step(
+    opened: &Opened,
+    lists: &mut Lists,
+    c: &mut Cursor<'_>,
+    more: u16,
+) -> Result<Place, DumpFault>
+    requires { c.old.place + length c.old.bytes.now < 2 ^ 64 }
+    ensures moves { Moves (ahead opened.now lists.old (Place.Region more) c.old.place c.old.bytes.now) (λ next. ahead opened.now lists.new next c.new.place c.new.bytes.now) result }
+    ensures passed { IfOk result (λ next. c.old.place < c.new.place) }
+    ensures fits { c.new.place + length c.new.bytes.now ≡ c.old.place + length c.old.bytes.now }
+{
+    let head = groups::read_region(c, lists.domains.len(), &lists.regions)?;
+    lists.run = ByteRun::make(lists.alloc);
+    let missing = head.length;
+    Ok(Place::Bytes(head, missing, more))
+}
+
+/// So many completion queues are next.
+#[tactic(auto, unfolding(protocol::specs::Dumps::after, protocol::specs::Dumps::items, crate::specs::Ahead::ahead, crate::specs::Ahead::more_queues))]
+pub fn enter_queues(opened: &Opened, lists: &Lists, count: u16) -> Place
+    ensures { ahead opened.now lists.now result ≡ more_queues opened.now lists.now.domains.items lists.now.regions.items count (queues_of lists.now) }
+{
+    match count {
+        0 => Place::EndCount,
+        _ => Place::Queue(count - 1),
+    }
+}
+
+/// The count of completion queues.
+#[tactic(auto, unfolding(protocol::specs::Dumps::after, protocol::specs::Dumps::items, crate::specs::Ahead::ahead))]
+pub fn queue_count_step(
+    opened: &Opened,
+    lists: &mut Lists,
+    c: &mut Cursor<'_>,
+) -> Result<Place, DumpFault>
+    requires { c.old.place + length c.old.bytes.now < 2 ^ 64 }
+    ensures moves { Moves (ahead opened.now lists.old Place.QueueCount c.old.place c.old.bytes.now) (λ next. ahead opened.now lists.new next c.new.place c.new.bytes.now) result }
+    ensures passed { IfOk result (λ next. c.old.place < c.new.place) }
+    ensures fits { c.new.place + length c.new.bytes.now ≡ c.old.place + length c.old.bytes.now }
+{
+    let count = groups::read_count(c, 64)?;
+    lists.queues = Vec::new(lists.alloc);
+    Ok(enter_queues(opened, lists, count))
+}
+
+/// So many entries are next, or the queue is whole.
+#[tactic(auto, unfolding(protocol::specs::Dumps::after, protocol::specs::Dumps::items, crate::specs::Ahead::ahead, crate::specs::Ahead::more_entries), using(crate::proofs::Split::placed_more))]
+pub fn enter_entries(
+    opened: &Opened,
+    lists: &mut Lists,
+    c: &Cursor<'_>,
+    head: &QueueHead,
+    count: u32,
+    after: u16,
+) -> Result<Place, DumpFault>
+    ensures { Moves (more_entries opened.now lists.old.domains.items lists.old.regions.items (queues_of lists.old) after head.now count lists.old.entries.items c.now.place c.now.bytes.now) (λ next. ahead opened.now lists.new next c.now.place c.now.bytes.now) result }
+{
+    if count > 0 {
+        return Ok(Place::Entry(*head, count - 1, after));
+    }
+    let entries = mem::replace(&mut lists.entries, Vec::new(lists.alloc));
+    let queue = CqImage {
+        name: head.name,
+        capacity: head.capacity,
+        entries: Items::new(entries),
+    };
+    let place = head.place;
+    push(&mut lists.queues, PlacedQueue { queue, place })?;
+    Ok(enter_queues(opened, lists, after))
+}
+
+/// A completion queue, up to its entries.
+#[tactic(auto, unfolding(protocol::specs::Dumps::after, protocol::specs::Dumps::items, crate::specs::Ahead::ahead, crate::specs::Ahead::more_queues, crate::specs::Ahead::more_entries), using(crate::proofs::Split::queue_split))]
+pub fn queue_step(
+    opened: &Opened,
+    lists: &mut Lists,
+    c: &mut Cursor<'_>,
+    more: u16,
+) -> Result<Place, DumpFault>
+    requires { c.old.place + length c.old.bytes.now < 2 ^ 64 }
+    ensures moves { Moves (ahead opened.now lists.old (Place.Queue more) c.old.place c.old.bytes.now) (λ next. ahead opened.now lists.new next c.new.place c.new.bytes.now) result }
+    ensures passed { IfOk result (λ next. c.old.place < c.new.place) }
+    ensures fits { c.new.place + length c.new.bytes.now ≡ c.old.place + length c.old.bytes.now }
+{
+    let head = groups::read_queue(c, &lists.queues)?;
+    lists.entries = Vec::new(lists.alloc);
+    enter_entries(opened, lists, c, &head, head.count, more)
+}
+
+/// An entry.
+#[tactic(auto, unfolding(protocol::specs::Dumps::after, protocol::specs::Dumps::items, crate::specs::Ahead::ahead, crate::specs::Ahead::more_entries), using(crate::proofs::Split::entry_any))]
+pub fn entry_step(
+    opened: &Opened,
+    lists: &mut Lists,
+    c: &mut Cursor<'_>,
+    head: &QueueHead,
+    more: u32,
+    after: u16,
+) -> Result<Place, DumpFault>
+    requires { c.old.place + length c.old.bytes.now < 2 ^ 64 }
+    ensures moves { Moves (ahead opened.now lists.old (Place.Entry head.now more after) c.old.place c.old.bytes.now) (λ next. ahead opened.now lists.new next c.new.place c.new.bytes.now) result }
+    ensures passed { IfOk result (λ next. c.old.place < c.new.place) }
+    ensures fits { c.new.place + length c.new.bytes.now ≡ c.old.place + length c.old.bytes.now }
+{
+    let entry = groups::read_entry(c)?;
+    push(&mut lists.entries, entry)?;
+    enter_entries(opened, lists, c, head, more, after)
+}

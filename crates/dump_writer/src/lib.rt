@@ -1,0 +1,10 @@
+//! The bytes of the image of a stopped context, in one piece or in pieces of any lengths (the format is this project's
+//! choice).
+#![tactic(auto)]
+
+mod chunk;
+mod fields;
+mod stages;
+mod writer;
+
+pub use writer::{DumpWriter, encode_dump};

@@ -1,0 +1,164 @@
+//! Dumps in pieces, and whole.
+
+ghost use Rattle.std.specs.Prelude.{◌≡◌, ◌+◌, ◌-◌, ◌<◌, ◌≤◌, ◌++◌, [], length, take, drop, min, IfOk, IfSome, IfNone};
+ghost use Rattle.protocol.specs.Dumps.{dump_bytes, Dumps};
+ghost use Rattle.protocol.specs.Lawful.{IsLawful};
+ghost use Rattle.dump_writer.specs.Left.{left, IsPast};
+ghost use Rattle.dump_writer.specs.Gives.{Gives};
+ghost use Rattle.protocol.specs.declared.images.ContextImage.{ContextImage};
+
+use crate::chunk::Chunk;
+use crate::stages::{Stage, next_step};
+use byte_run::ByteRun;
+use protocol::ContextImage;
+use std::alloc::{AllocError, Global};
+use std::marker::Model;
+
+/// The bytes of an image that are not yet handed out.
+#[derive(Drop)]
+pub struct DumpWriter<'a> {
+    image: &'a ContextImage,
+    chunk: Chunk,
+    done: usize,
+    next: Stage<'a>,
+}
+
+impl<'a> Model for DumpWriter<'a> {
+    ghost use Rattle.std.specs.Prelude.{ℕ, List, ◌++◌, ◌≤◌, length, drop};
+    ghost use Rattle.dump_writer.specs.Left.{left};
+
+    ghost Value = { List ℕ };
+
+    ghost view = { λ w. drop w.done w.chunk ++ left w.image.now w.next };
+
+    ghost invariant = { λ w. w.done ≤ length w.chunk };
+}
+
+/// Copies as many bytes as both have.
+fn copy_front(from: &[u8], out: &mut [u8]) -> usize
+    ensures count { result ≡ min (length out.old) (length from.now) }
+    ensures bytes { out.new ≡ take result from.now ++ drop result out.old }
+{
+    let count = out.len().min(from.len());
+    out[..count].copy_from_slice(&from[..count]);
+    count
+}
+
+/// Copies bytes of a run from a place on, as many as both have.
+#[tactic(auto, unfolding(rdma_types::specs::Memory::cut))]
+fn copy_run(run: &ByteRun, at: u64, out: &mut [u8]) -> usize
+    requires { at < length run.now }
+    ensures count { result ≡ min (length out.old) (length run.now - at) }
+    ensures bytes { out.new ≡ take result (drop at run.now) ++ drop result out.old }
+{
+    let count = (out.len() as u64).min(run.len() - at) as usize;
+    run.read(at, &mut out[..count]);
+    count
+}
+
+/// How many bytes of a run were copied, and what is written next.
+#[derive(Drop)]
+struct Copied<'a> {
+    count: usize,
+    next: Stage<'a>,
+}
+
+/// Copies bytes of the run that stands next, unless none are left of one.
+#[tactic(auto, unfolding(crate::specs::Left::left))]
+fn give_run<'a>(stage: Stage<'a>, out: &mut [u8]) -> Option<Copied<'a>>
+    requires { 0 < length out.old }
+    ensures given { IfSome result (λ r. (c : ContextImage) → Gives (left c stage.entry) (left c r.next) out.old out.new r.count) }
+    ensures some { IfSome result (λ r. 0 < r.count) }
+    ensures none { IfNone result (IsPast stage.entry) }
+    ensures same { IfNone result (out.new ≡ out.old) }
+{
+    match stage {
+        Stage::Bytes(at, run, regions) if at < run.len() => {
+            let count = copy_run(run, at, out);
+            let next = Stage::Bytes(at + count as u64, run, regions);
+            Some(Copied { count, next })
+        }
+        Stage::Payload(at, run, requests, end, ends) if at < run.len() => {
+            let count = copy_run(run, at, out);
+            let next = Stage::Payload(at + count as u64, run, requests, end, ends);
+            Some(Copied { count, next })
+        }
+        _ => None,
+    }
+}
+
+impl<'a> DumpWriter<'a> {
+    /// All bytes of an image are to come. It needs an image that keeps the rules.
+    #[tactic(auto, unfolding(crate::specs::Left::left), using(crate::proofs::Parts::whole))]
+    pub fn make(image: &'a ContextImage) -> DumpWriter<'a>
+        requires { IsLawful image.now }
+        ensures { result ≡ dump_bytes 2 image.now }
+    {
+        DumpWriter {
+            image,
+            chunk: Chunk::make(),
+            done: 0,
+            next: Stage::Opening,
+        }
+    }
+
+    /// Hands out some bytes: none only where none are left.
+    #[tactic(auto, unfolding(crate::specs::Left::left))]
+    fn give(&mut self, out: &mut [u8]) -> usize
+        requires { 0 < length out.old }
+        ensures given { Gives self.old self.new out.old out.new result }
+        ensures end { result ≡ 0 → self.old ≡ [] }
+    {
+        let waiting = &self.chunk.as_slice()[self.done..];
+        if !waiting.is_empty() {
+            let count = copy_front(waiting, out);
+            self.done += count;
+            return count;
+        }
+        if let Some(copied) = give_run(self.next, out) {
+            self.next = copied.next;
+            return copied.count;
+        }
+        let step = next_step(self.image, self.next);
+        let count = copy_front(step.chunk.as_slice(), out);
+        self.chunk = step.chunk;
+        self.next = step.next;
+        self.done = count;
+        count
+    }
+
+    /// Writes the next bytes, as many as there is room for, and says how many. It takes no memory.
+    pub fn fill(&mut self, out: &mut [u8]) -> usize
+        ensures count { result ≡ min (length out.old) (length self.old) }
+        ensures bytes { out.new ≡ take result self.old ++ drop result out.old }
+        ensures left { self.new ≡ drop result self.old }
+    {
+        let mut filled = 0;
+        while filled < out.len() {
+            let count = self.give(&mut out[filled..]);
+            if count == 0 {
+                break;
+            }
+            filled += count;
+        }
+        filled
+    }
+}
+
+/// The bytes of an image, in version 2. It needs an image that keeps the rules.
+pub fn encode_dump(alloc: Global, image: &ContextImage) -> Result<Vec<u8>, AllocError>
+    requires { IsLawful image.now }
+    ensures bytes { IfOk result (λ dump. dump.items ≡ dump_bytes 2 image.now) }
+    ensures dumps { IfOk result (λ dump. Dumps image.now dump.items) }
+{
+    let mut dump = Vec::new(alloc);
+    let mut writer = DumpWriter::make(image);
+    let mut page = [0; 4096];
+    loop {
+        let count = writer.fill(&mut page);
+        if count == 0 {
+            return Ok(dump);
+        }
+        dump.extend_from_slice(&page[..count])?;
+    }
+}
