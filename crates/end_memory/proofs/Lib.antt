@@ -1,0 +1,4 @@
+pub mod Given
+pub mod Told
+pub mod Failed
+pub mod Placed

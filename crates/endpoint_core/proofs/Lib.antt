@@ -1,0 +1,16 @@
+pub mod Settled
+pub mod Frames
+pub mod Rows
+pub mod Sendings
+pub mod Connected
+pub mod Given
+pub mod Ended
+pub mod Expired
+pub mod Posted
+pub mod Moved
+pub mod Taken
+pub mod Answering
+pub mod Answered
+pub mod Whole
+pub mod Served
+pub mod Reserved

@@ -1,0 +1,40 @@
+//! What the calls of an end answer.
+
+use memory_keys::Spot;
+use requester::Transmit;
+use rdma_types::{Address, Took};
+use roce_headers::Syndrome;
+
+/// The end is connected already.
+#[derive(Clone, Copy, Debug, PartialEq, Eq)]
+pub struct BadState;
+
+/// What an end sends, or why nothing is sent.
+#[derive(Clone, Copy, Debug, PartialEq, Eq)]
+pub enum EndSend {
+    /// A request packet, or why none is sent.
+    Transmit(Transmit),
+    /// RESUME with the end's move count, to which the device adds its own address.
+    Resume { count: u32 },
+}
+
+/// What an end answers a datagram with.
+#[derive(Clone, Copy, Debug, PartialEq, Eq)]
+pub enum EndReply {
+    Nothing,
+    /// An acknowledge or a NAK.
+    Acknowledge { number: u64, syndrome: Syndrome },
+    /// The bytes at `spot` in so many READ responses, the first with number `first`.
+    ReadBytes { spot: Spot, first: u64, pieces: u64 },
+    /// The old value of an atomic.
+    Old { number: u64, old: u64 },
+    /// RESUME_ACK with this body.
+    ResumeAck { count: u32, address: Address },
+}
+
+/// What a datagram did at an end, and what it is answered with.
+#[derive(Clone, Copy, Debug, PartialEq, Eq)]
+pub struct EndTook {
+    pub took: Took,
+    pub reply: EndReply,
+}
