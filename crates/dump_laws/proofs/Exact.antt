@@ -180,12 +180,12 @@ pub record Both (A B : Type 0) (P : A → Type 0) (g : B → A) (Q : A → B →
   pub others : Q (g b) b
 
 module _ (A B : Type 0) (X : Reader A) (Y : A → Reader B) (P : A → Type 0) (Q : A → B → Type 0) (g : B → A) (s : A → List ℕ) (t : B → List ℕ) where
-  then_found : (place : ℕ) (bs : List ℕ) → AreBytes bs → Exact A X P s → ((x : A) → Exact B (Y x) (Q x) t) → ((x : A) (b : B) → P x → Q x b → g b ≡ x) → (r : Reading A) → X place bs ≡ r → (b : B) (p : ℕ) (rest : List ℕ) → after r Y ≡ Good b p rest → Found B (Both A B P g Q) (λ b. s (g b) ++ t b) bs b rest
+  then_found : (place : ℕ) (bs : List ℕ) → AreBytes bs → Exact A X P s → ((x : A) → P x → Exact B (Y x) (Q x) t) → ((x : A) (b : B) → P x → Q x b → g b ≡ x) → (r : Reading A) → X place bs ≡ r → (b : B) (p : ℕ) (rest : List ℕ) → after r Y ≡ Good b p rest → Found B (Both A B P g Q) (λ b. s (g b) ++ t b) bs b rest
   unfolding after
   then_found place bs all x y dig (Bad q w) e b p rest h = cc
   then_found place bs all x y dig (Good v q more) e b p rest h =
       let f = x.only place bs all v q more e in
-      let k = (y v).only q more f.bytes b p rest h in
+      let k = (y v f.keeps).only q more f.bytes b p rest h in
       let same : g b ≡ v = dig v b f.keeps k.keeps in
       record {
         keeps = record { first = subst P (sym same) f.keeps; others = subst (λ (z : A). Q z b) (sym same) k.keeps };
@@ -193,20 +193,24 @@ module _ (A B : Type 0) (X : Reader A) (Y : A → Reader B) (P : A → Type 0) (
         bytes = k.bytes;
       }
 
-  then_back : Exact A X P s → ((x : A) → Exact B (Y x) (Q x) t) → (b : B) → Both A B P g Q b → (place : ℕ) (rest : List ℕ) → then_read X Y place ((s (g b) ++ t b) ++ rest) ≡ Good b (place + length (s (g b) ++ t b)) rest
+  then_back : Exact A X P s → ((x : A) → P x → Exact B (Y x) (Q x) t) → (b : B) → Both A B P g Q b → (place : ℕ) (rest : List ℕ) → then_read X Y place ((s (g b) ++ t b) ++ rest) ≡ Good b (place + length (s (g b) ++ t b)) rest
   unfolding after
   then_back x y b h place rest =
       let one : X place (s (g b) ++ (t b ++ rest)) ≡ Good (g b) (place + length (s (g b))) (t b ++ rest) = x.back (g b) h.first place (t b ++ rest) in
-      let two : Y (g b) (place + length (s (g b))) (t b ++ rest) ≡ Good b (place + length (s (g b)) + length (t b)) rest = (y (g b)).back b h.others (place + length (s (g b))) rest in
+      let two : Y (g b) (place + length (s (g b))) (t b ++ rest) ≡ Good b (place + length (s (g b)) + length (t b)) rest = (y (g b) h.first).back b h.others (place + length (s (g b))) rest in
       let len : place + length (s (g b)) + length (t b) ≡ place + length (s (g b) ++ t b) = omega (arith, length-append (s (g b)) (t b)) in
       rw append_assoc (rw one (two ∙ ap (λ (q : ℕ). Good b q rest) len))
 
   -- one reader after another, for a value of which the first gives a part
-  pub then_exact : Exact A X P s → ((x : A) → Exact B (Y x) (Q x) t) → ((x : A) (b : B) → P x → Q x b → g b ≡ x) → Exact B (then_read X Y) (Both A B P g Q) (λ b. s (g b) ++ t b)
-  then_exact x y dig = record {
+  pub then_exact_if : Exact A X P s → ((x : A) → P x → Exact B (Y x) (Q x) t) → ((x : A) (b : B) → P x → Q x b → g b ≡ x) → Exact B (then_read X Y) (Both A B P g Q) (λ b. s (g b) ++ t b)
+  then_exact_if x y dig = record {
     back = then_back x y;
     only = λ place bs all b p rest h. then_found place bs all x y dig (X place bs) refl b p rest h;
   }
+
+  -- the same where what is read next is exact whatever came first
+  pub then_exact : Exact A X P s → ((x : A) → Exact B (Y x) (Q x) t) → ((x : A) (b : B) → P x → Q x b → g b ≡ x) → Exact B (then_read X Y) (Both A B P g Q) (λ b. s (g b) ++ t b)
+  then_exact x y dig = then_exact_if x (λ v pass. y v) dig
 
 -- nothing is read
 pub gives_exact : (A : Type 0) (x : A) → Exact A (gives x) (λ y. y ≡ x) (λ y. [])

@@ -27,7 +27,7 @@ use Rattle.protocol.specs.declared.images.RegionImage.{RegionImage}
 use Rattle.protocol.specs.Bytes.{big_bytes, big_number}
 use Rattle.protocol.specs.Lawful.{is_number, is_local_key, is_whole_pieces}
 use Rattle.protocol.specs.Dumps.{Reading, Reader, Good, Bad, after, then_read, gives, raw, any, number, number_by, judged, judged_name, name_field, text, within, is_24, is_bit, is_below_limit, region_names, region_field, region_bytes, receive_field, receive_bytes, terms_field, kept_field, kept_bytes, rises, progress_by, progress_bytes, may_write_at, length_at, link_field, link_bytes, flag_byte, follows, list_field, counted, completed_of, completed_number, status_of, status_number, is_status, kind_of, kind_number, imm_number, entry_field, entry_bytes}
-use Rattle.dump_laws.proofs.Exact.{AreBytes, Exact, Found, Both, Passes, Rises, exact_as, number_exact, raw_exact, then_exact, gives_exact, list_exact, items_exact}
+use Rattle.dump_laws.proofs.Exact.{AreBytes, Exact, Found, Both, Passes, Rises, exact_as, number_exact, raw_exact, then_exact, then_exact_if, gives_exact, list_exact, items_exact}
 
 -- ---- names
 
@@ -313,9 +313,9 @@ write_exact regions domain mtu =
     (then_exact _ _ _ _ _ _ region_of _ _ (number_exact dump_why.Field 2 (may_write_at regions domain)) (λ region. then_exact _ _ _ _ _ _ off_of _ _ (number_exact dump_why.Field 4 any) (λ off. then_exact _ _ _ _ _ _ length_of _ _ (number_exact dump_why.Field 4 (λ n. nat_le n most_bytes && (n == 0 || nat_le (off + n) (length_at regions region)))) (λ length'. then_exact _ _ _ _ _ _ sent_of _ _ (number_exact dump_why.Field 4 (λ n. is_whole_pieces mtu n && nat_lt n length')) (λ done. gives_exact Progress (progress.Write region off length' done)) (λ v b f q. ap sent_of q)) (λ v b f q. ap length_of q.others)) (λ v b f q. ap off_of q.others.others)) (λ v b f q. ap region_of q.others.others.others))
 
 -- a message whose code passed
-record OfCode (regions : List Region) (domain : Name) (mtu code : ℕ) (p : Progress) : Type 0 where
-  same : progress_code p ≡ code
-  message : MessageRule regions domain mtu p
+pub record OfCode (regions : List Region) (domain : Name) (mtu code : ℕ) (p : Progress) : Type 0 where
+  pub same : progress_code p ≡ code
+  pub message : MessageRule regions domain mtu p
 
 idle_exact : (regions : List Region) (domain : Name) (mtu code : ℕ) → code ≡ 0 → Exact Progress (gives progress.Idle) (OfCode regions domain mtu code) progress_tail
 idle_exact regions domain mtu code e = exact_as Progress _ _ _ _ _ _ (λ place bs. refl) (λ x h. idle_to x h.same) (λ x p. idle_from x p) (λ x h. idle_tail x h.same) (gives_exact Progress progress.Idle)
@@ -372,3 +372,76 @@ progressRule_exact regions domain mtu zero h = idle_exact regions domain mtu 0 r
 progressRule_exact regions domain mtu (suc zero) h = send_of_code regions domain mtu 1 refl
 progressRule_exact regions domain mtu (suc (suc zero)) h = write_of_code regions domain mtu 2 refl
 progressRule_exact regions domain mtu (suc (suc (suc n))) h = absurd (omega arith)
+
+-- ---- connected ends
+
+-- 0 or 1
+abbrev pub bit_number : Bool → ℕ
+bit_number b = if b then 1 else 0
+
+bit_again : (b : Bool) → (bit_number b == 1) ≡ b
+bit_again true = refl
+bit_again false = refl
+
+bit_back : (n : ℕ) → n ≤ 1 → bit_number (n == 1) ≡ n
+bit_back zero h = refl
+bit_back (suc zero) h = refl
+bit_back (suc (suc n)) h = absurd (omega arith)
+
+bit_spelled : (b : Bool) → flag_byte b ≡ big_bytes 1 (bit_number b)
+unfolding big_bytes
+bit_spelled true = refl
+bit_spelled false = refl
+
+at_most_one : (n : ℕ) → nat_le n 1 ≡ true → n ≤ 1
+at_most_one n h = grind (arith, nat_tests)
+
+resuming_small : (ended : Bool) (n : ℕ) → nat_le n (if ended then 0 else 1) ≡ true → n ≤ 1
+resuming_small true n h = grind (arith, nat_tests)
+resuming_small false n h = grind (arith, nat_tests)
+
+code_small : (ended : Bool) (n : ℕ) → nat_le n (if ended then 0 else 2) ≡ true → n ≤ 2
+code_small true n h = grind (arith, nat_tests)
+code_small false n h = grind (arith, nat_tests)
+
+progress_spelled : (p : Progress) → progress_bytes p ≡ big_bytes 1 (progress_code p) ++ progress_tail p
+unfolding big_bytes
+progress_spelled progress.Idle = refl
+progress_spelled (progress.Send done receive) = refl
+progress_spelled (progress.Write region off length' done) = refl
+
+-- a list of kept replies
+abbrev pub KeptListRule : ℕ → List KeptReply → Type 0
+KeptListRule expected xs = Both ℕ (List KeptReply) (Passes 1 (λ n. nat_le n most_kept)) length (λ n ys. (length ys ≡ n) × Rises KeptReply (KeptRule expected) [] ys) xs
+
+-- the rules of a connected end, field by field
+pub record LinkRule (regions : List Region) (domain : Name) (ended : Bool) (x : LinkImage) : Type 0 where
+  pub is_ended : x.ended ≡ ended
+  pub peer : Passes 4 (is_24) (x.peer)
+  pub ip : Passes 4 (any) (x.partner.ip)
+  pub port : Passes 2 (any) (x.partner.port)
+  pub moves : Passes 2 (any) (x.moves)
+  pub partner_moves : Passes 2 (any) (x.partner_moves)
+  pub resuming : Passes 1 (λ n. nat_le n (if ended then 0 else 1)) (bit_number x.resuming)
+  pub terms : TermsRule x.terms
+  pub first : Passes 8 (is_below_limit) (x.first)
+  pub una : Passes 8 (λ n. is_below_limit n && nat_le x.first n) x.una
+  pub next : Passes 8 (follows ended x.una) x.next
+  pub top : Passes 8 (follows ended x.next) x.top
+  pub spent : Passes 1 (λ n. nat_le n x.terms.retry) x.spent
+  pub waits : Passes 1 (λ n. x.terms.rnr == 7 || nat_le n x.terms.rnr) x.waits
+  pub rnr_wait : Passes 1 (is_bit) (bit_number x.rnr_wait)
+  pub expected : Passes 8 (is_below_limit) (x.expected)
+  pub nak_sent : Passes 1 (is_bit) (bit_number x.nak_sent)
+  pub msn : Passes 4 (is_24) (x.msn)
+  pub code : Passes 1 (λ n. nat_le n (if ended then 0 else 2)) (progress_code x.progress)
+  pub progress' : OfCode regions domain x.terms.mtu (progress_code x.progress) x.progress
+  pub kept : KeptListRule x.expected x.kept
+
+-- a connected end is read exactly
+pub linkRule_exact : (regions : List Region) (domain : Name) (ended : Bool) → Exact LinkImage (link_field regions domain ended) (LinkRule regions domain ended) (link_bytes)
+unfolding link_field
+linkRule_exact regions domain ended =
+    exact_as LinkImage _ _ _ _ _ _ (λ place bs. refl) (λ x h. record { first = h.peer; others = record { first = h.ip; others = record { first = h.port; others = record { first = h.moves; others = record { first = h.partner_moves; others = record { first = h.resuming; others = record { first = h.terms; others = record { first = h.first; others = record { first = h.una; others = record { first = h.next; others = record { first = h.top; others = record { first = h.spent; others = record { first = h.waits; others = record { first = h.rnr_wait; others = record { first = h.expected; others = record { first = h.nak_sent; others = record { first = h.msn; others = record { first = h.code; others = record { first = h.progress'; others = record { first = h.kept; others = λ i. record { ended = h.is_ended i; peer = x.peer; partner = x.partner; moves = x.moves; partner_moves = x.partner_moves; resuming = sym (bit_again x.resuming) i; terms = x.terms; first = x.first; una = x.una; next = x.next; top = x.top; spent = x.spent; waits = x.waits; rnr_wait = sym (bit_again x.rnr_wait) i; expected = x.expected; nak_sent = sym (bit_again x.nak_sent) i; msn = x.msn; progress = x.progress; kept = x.kept } } } } } } } } } } } } } } } } } } } } }) (λ x p. record { is_ended = ap (λ (z : LinkImage). z.ended) p.others.others.others.others.others.others.others.others.others.others.others.others.others.others.others.others.others.others.others.others; peer = p.first; ip = p.others.first; port = p.others.others.first; moves = p.others.others.others.first; partner_moves = p.others.others.others.others.first; resuming = p.others.others.others.others.others.first; terms = p.others.others.others.others.others.others.first; first = p.others.others.others.others.others.others.others.first; una = p.others.others.others.others.others.others.others.others.first; next = p.others.others.others.others.others.others.others.others.others.first; top = p.others.others.others.others.others.others.others.others.others.others.first; spent = p.others.others.others.others.others.others.others.others.others.others.others.first; waits = p.others.others.others.others.others.others.others.others.others.others.others.others.first; rnr_wait = p.others.others.others.others.others.others.others.others.others.others.others.others.others.first; expected = p.others.others.others.others.others.others.others.others.others.others.others.others.others.others.first; nak_sent = p.others.others.others.others.others.others.others.others.others.others.others.others.others.others.others.first; msn = p.others.others.others.others.others.others.others.others.others.others.others.others.others.others.others.others.first; code = p.others.others.others.others.others.others.others.others.others.others.others.others.others.others.others.others.others.first; progress' = p.others.others.others.others.others.others.others.others.others.others.others.others.others.others.others.others.others.others.first; kept = p.others.others.others.others.others.others.others.others.others.others.others.others.others.others.others.others.others.others.others.first }) (λ x h. rw (bit_spelled x.resuming, bit_spelled x.rnr_wait, bit_spelled x.nak_sent, progress_spelled x.progress) (simp (append_assoc, append-nil)))
+    (then_exact _ _ _ _ _ _ (λ (z : LinkImage). z.peer) _ _ (number_exact dump_why.Field 4 (is_24)) (λ peer. then_exact _ _ _ _ _ _ (λ (z : LinkImage). z.partner.ip) _ _ (number_exact dump_why.Field 4 (any)) (λ ip. then_exact _ _ _ _ _ _ (λ (z : LinkImage). z.partner.port) _ _ (number_exact dump_why.Field 2 (any)) (λ port. then_exact _ _ _ _ _ _ (λ (z : LinkImage). z.moves) _ _ (number_exact dump_why.Field 2 (any)) (λ moves. then_exact _ _ _ _ _ _ (λ (z : LinkImage). z.partner_moves) _ _ (number_exact dump_why.Field 2 (any)) (λ partner_moves. then_exact _ _ _ _ _ _ (λ (z : LinkImage). bit_number z.resuming) _ _ (number_exact dump_why.Field 1 (λ n. nat_le n (if ended then 0 else 1))) (λ resuming. then_exact _ _ _ _ _ _ (λ (z : LinkImage). z.terms) _ _ (termsRule_exact) (λ terms. then_exact _ _ _ _ _ _ (λ (z : LinkImage). z.first) _ _ (number_exact dump_why.Field 8 (is_below_limit)) (λ first. then_exact _ _ _ _ _ _ (λ (z : LinkImage). z.una) _ _ (number_exact dump_why.Field 8 (λ n. is_below_limit n && nat_le first n)) (λ una. then_exact _ _ _ _ _ _ (λ (z : LinkImage). z.next) _ _ (number_exact dump_why.Field 8 (follows ended una)) (λ next. then_exact _ _ _ _ _ _ (λ (z : LinkImage). z.top) _ _ (number_exact dump_why.Field 8 (follows ended next)) (λ top. then_exact _ _ _ _ _ _ (λ (z : LinkImage). z.spent) _ _ (number_exact dump_why.Field 1 (λ n. nat_le n terms.retry)) (λ spent. then_exact _ _ _ _ _ _ (λ (z : LinkImage). z.waits) _ _ (number_exact dump_why.Field 1 (λ n. terms.rnr == 7 || nat_le n terms.rnr)) (λ waits. then_exact _ _ _ _ _ _ (λ (z : LinkImage). bit_number z.rnr_wait) _ _ (number_exact dump_why.Field 1 (is_bit)) (λ rnr_wait. then_exact _ _ _ _ _ _ (λ (z : LinkImage). z.expected) _ _ (number_exact dump_why.Field 8 (is_below_limit)) (λ expected. then_exact _ _ _ _ _ _ (λ (z : LinkImage). bit_number z.nak_sent) _ _ (number_exact dump_why.Field 1 (is_bit)) (λ nak_sent. then_exact _ _ _ _ _ _ (λ (z : LinkImage). z.msn) _ _ (number_exact dump_why.Field 4 (is_24)) (λ msn. then_exact_if _ _ _ _ _ _ (λ (z : LinkImage). progress_code z.progress) _ _ (number_exact dump_why.Field 1 (λ n. nat_le n (if ended then 0 else 2))) (λ code pass. then_exact _ _ _ _ _ _ (λ (z : LinkImage). z.progress) _ _ (progressRule_exact regions domain terms.mtu code (code_small ended code pass.test)) (λ progress'. then_exact _ _ _ _ _ _ (λ (z : LinkImage). z.kept) _ _ (list_exact KeptReply (kept_field expected) (KeptRule expected) kept_bytes (λ seen. keptRule_exact expected seen) 1 most_kept) (λ kept. gives_exact LinkImage _) (λ v b f q. ap (λ (z : LinkImage). z.kept) q)) (λ v b f q. ap (λ (z : LinkImage). z.progress) q.others)) (λ v b f q. q.first.same)) (λ v b f q. ap (λ (z : LinkImage). z.msn) q.others.others.others)) (λ v b f q. ap (λ (z : LinkImage). bit_number z.nak_sent) q.others.others.others.others ∙ bit_back v (at_most_one v f.test))) (λ v b f q. ap (λ (z : LinkImage). z.expected) q.others.others.others.others.others)) (λ v b f q. ap (λ (z : LinkImage). bit_number z.rnr_wait) q.others.others.others.others.others.others ∙ bit_back v (at_most_one v f.test))) (λ v b f q. ap (λ (z : LinkImage). z.waits) q.others.others.others.others.others.others.others)) (λ v b f q. ap (λ (z : LinkImage). z.spent) q.others.others.others.others.others.others.others.others)) (λ v b f q. ap (λ (z : LinkImage). z.top) q.others.others.others.others.others.others.others.others.others)) (λ v b f q. ap (λ (z : LinkImage). z.next) q.others.others.others.others.others.others.others.others.others.others)) (λ v b f q. ap (λ (z : LinkImage). z.una) q.others.others.others.others.others.others.others.others.others.others.others)) (λ v b f q. ap (λ (z : LinkImage). z.first) q.others.others.others.others.others.others.others.others.others.others.others.others)) (λ v b f q. ap (λ (z : LinkImage). z.terms) q.others.others.others.others.others.others.others.others.others.others.others.others.others)) (λ v b f q. ap (λ (z : LinkImage). bit_number z.resuming) q.others.others.others.others.others.others.others.others.others.others.others.others.others.others ∙ bit_back v (resuming_small ended v f.test))) (λ v b f q. ap (λ (z : LinkImage). z.partner_moves) q.others.others.others.others.others.others.others.others.others.others.others.others.others.others.others)) (λ v b f q. ap (λ (z : LinkImage). z.moves) q.others.others.others.others.others.others.others.others.others.others.others.others.others.others.others.others)) (λ v b f q. ap (λ (z : LinkImage). z.partner.port) q.others.others.others.others.others.others.others.others.others.others.others.others.others.others.others.others.others)) (λ v b f q. ap (λ (z : LinkImage). z.partner.ip) q.others.others.others.others.others.others.others.others.others.others.others.others.others.others.others.others.others.others)) (λ v b f q. ap (λ (z : LinkImage). z.peer) q.others.others.others.others.others.others.others.others.others.others.others.others.others.others.others.others.others.others.others))
+
