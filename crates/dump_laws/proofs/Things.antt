@@ -171,7 +171,7 @@ status_again status.RemoteAccess = refl
 status_again status.RetryExceeded = refl
 status_again status.RnrExceeded = refl
 
-kind_again : (k : Kind) → kind_of (kind_number k) ≡ k
+pub kind_again : (k : Kind) → kind_of (kind_number k) ≡ k
 kind_again kind.Write = refl
 kind_again kind.Send = refl
 kind_again kind.Read = refl
@@ -193,7 +193,7 @@ completed_back n h = grind (arith, nat_tests)
 status_back : (n : ℕ) → is_status n ≡ true → status_number (status_of n) ≡ n
 status_back n h = grind (arith, nat_tests)
 
-kind_back : (n : ℕ) → nat_le n 4 ≡ true → kind_number (kind_of n) ≡ n
+pub kind_back : (n : ℕ) → nat_le n 4 ≡ true → kind_number (kind_of n) ≡ n
 kind_back n h = grind (arith, nat_tests)
 
 above_one : (v : ℕ) → nat_le (suc (suc v)) 1 ≡ true → suc (suc v) ≤ 1
@@ -204,7 +204,7 @@ flag_back zero n h = refl
 flag_back (suc zero) n h = refl
 flag_back (suc (suc v)) n h = absurd (omega (arith, above_one v h))
 
-imm_by : (t : Bool) (v : ℕ) → (t || v == 0) ≡ true → imm_number (if t then Some v else None) ≡ v
+pub imm_by : (t : Bool) (v : ℕ) → (t || v == 0) ≡ true → imm_number (if t then Some v else None) ≡ v
 imm_by true v h = refl
 imm_by false v h = grind (arith, nat_tests)
 
