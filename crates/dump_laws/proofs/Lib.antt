@@ -1,3 +1,4 @@
 pub mod Exact
 pub mod Things
 pub mod Groups
+pub mod Context
