@@ -218,3 +218,67 @@ context_back version place bs c p h room =
     let fits : overfull c1 q.0 ≡ None = room_back c1 q.0 (subst (λ (z : ContextImage). HaveRoom z z.queues) (sym same) room) in
     context_is version place bs a.value a.place a.more b.value b.place b.more d.value d.place d.more q.0 e.place e.more f.value f.place a.read b.read d.read q.2 l fits
     ∙ (ap (λ (z : ContextImage). Good z f.place []) same ∙ ap (λ (z : ℕ). Good c z []) fp)
+
+-- ---- the first fields
+
+-- a dump in a version
+pub record IsDump (bs : List ℕ) (c : ContextImage) : Type 0 where
+  pub version : ℕ
+  pub known : (version == 1 || version == 2) ≡ true
+  pub rule : ContextRule version c
+  pub room : HaveRoom c c.queues
+  pub spelled : bs ≡ dump_bytes version c
+
+grouped : (m v n ds rs qs es : List ℕ) → m ++ (v ++ (n ++ (ds ++ (rs ++ (qs ++ (es ++ [])))))) ≡ ((((((m ++ v) ++ n) ++ ds) ++ rs) ++ qs) ++ es)
+grouped m v n ds rs qs es = simp (append_assoc, append-nil)
+
+dump_grouped : (version : ℕ) (c : ContextImage) → magic ++ (big_bytes 2 version ++ context_bytes c) ≡ dump_bytes version c
+unfolding dump_bytes
+dump_grouped version c = grouped magic (big_bytes 2 version) (text c.name) (counted 2 text c.domains) (counted 2 region_bytes c.regions) (counted 2 queue_bytes c.queues) (counted 2 end_bytes c.ends)
+
+magic_by : (t : Bool) (bytes : List ℕ) (place : ℕ) (bs x : List ℕ) (p : ℕ) (rest : List ℕ) → (if t then Good bytes place bs else Bad 0 dump_why.Magic) ≡ Good x p rest → (t ≡ true) × (bs ≡ rest)
+magic_by true bytes place bs x p rest h = (refl, (cc))
+magic_by false bytes place bs x p rest h = cc
+
+magic_only : (bytes : List ℕ) (place : ℕ) (bs x : List ℕ) (p : ℕ) (rest : List ℕ) → is_magic bytes place bs ≡ Good x p rest → (bytes ≡ magic) × (bs ≡ rest)
+unfolding is_magic
+magic_only bytes place bs x p rest h = let m = magic_by (bytes_eq bytes magic) bytes place bs x p rest h in (name_is bytes magic m.0, m.1)
+
+-- what is read is a dump
+pub read_only : (bs : List ℕ) → AreBytes bs → (c : ContextImage) (p : ℕ) (rest : List ℕ) → read_dump bs ≡ Good c p rest → IsDump bs c
+unfolding read_dump
+read_only bs all c p rest h =
+    let a = good_then (raw 8 0 bs) _ c p rest h in
+    let b = good_then (is_magic a.value a.place a.more) _ c p rest a.next in
+    let d = good_then (number_by dump_why.Version 2 (λ n. n == 1 || n == 2) b.place b.more) _ c p rest b.next in
+    let t = raw_only 8 0 bs a.value a.place a.more a.read in
+    let m = magic_only a.value a.place a.more b.value b.place b.more b.read in
+    let rest_bytes : AreBytes a.more = back_bytes a.value a.more (subst (λ (y : List ℕ). AreBytes y) t.whole all) in
+    let v = (number_exact dump_why.Version 2 (λ n. n == 1 || n == 2)).only b.place b.more (subst (λ (y : List ℕ). AreBytes y) m.1 rest_bytes) d.value d.place d.more d.read in
+    let r = context_only d.value d.place d.more c p rest d.next in
+    let x = (context_exact d.value).only d.place d.more v.bytes c r.end [] r.bare in
+    record {
+      version = d.value;
+      known = v.keeps.test;
+      rule = x.keeps;
+      room = r.room;
+      spelled = t.whole ∙ (ap (λ (y : List ℕ). y ++ a.more) m.0 ∙ (ap (λ (y : List ℕ). magic ++ y) (m.1 ∙ (v.spelled ∙ ap (λ (y : List ℕ). big_bytes 2 d.value ++ y) (x.spelled ∙ append-nil (context_bytes c)))) ∙ dump_grouped d.value c));
+    }
+
+-- the first fields, and the lists
+opens : (version : ℕ) (rest : List ℕ) (c : ContextImage) (p : ℕ) → (version == 1 || version == 2) ≡ true → version < 256 ^ 2 → context_field version (8 + length (big_bytes 2 version)) rest ≡ Good c p [] → read_dump (magic ++ (big_bytes 2 version ++ rest)) ≡ Good c p []
+unfolding read_dump after is_magic
+opens version rest c p known fits h =
+    let a : raw 8 0 (magic ++ (big_bytes 2 version ++ rest)) ≡ Good magic 8 (big_bytes 2 version ++ rest) = raw_back 8 magic refl 0 (big_bytes 2 version ++ rest) in
+    let b : number_by dump_why.Version 2 (λ n. n == 1 || n == 2) 8 (big_bytes 2 version ++ rest) ≡ Good version (8 + length (big_bytes 2 version)) rest = (number_exact dump_why.Version 2 (λ n. n == 1 || n == 2)).back version (record { test = known; fits = fits }) 8 rest in
+    rw a (rw b h)
+
+small_version : (n : ℕ) → (n == 1 || n == 2) ≡ true → n < 256 ^ 2
+small_version n h = grind (arith, nat_tests)
+
+-- what is written reads back
+pub read_back : (version : ℕ) (c : ContextImage) → (version == 1 || version == 2) ≡ true → ContextRule version c → HaveRoom c c.queues → (p : ℕ) × (read_dump (dump_bytes version c) ≡ Good c p [])
+read_back version c known rule room =
+    let place : ℕ = 8 + length (big_bytes 2 version) in
+    let bare : bare_context version place (context_bytes c) ≡ Good c (place + length (context_bytes c)) [] = ap (λ (y : List ℕ). bare_context version place y) (sym (append-nil (context_bytes c))) ∙ (context_exact version).back c rule place [] in
+    (place + length (context_bytes c), ap read_dump (sym (dump_grouped version c)) ∙ opens version (context_bytes c) c (place + length (context_bytes c)) known (small_version version known) (context_back version place (context_bytes c) c (place + length (context_bytes c)) bare room))

@@ -2,3 +2,4 @@ pub mod Exact
 pub mod Things
 pub mod Groups
 pub mod Context
+pub mod Lists
