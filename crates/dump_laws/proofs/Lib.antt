@@ -1,0 +1,5 @@
+pub mod Exact
+pub mod Things
+pub mod Groups
+pub mod Context
+pub mod Lists
