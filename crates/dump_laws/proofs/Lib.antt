@@ -1,5 +1,0 @@
-pub mod Exact
-pub mod Things
-pub mod Groups
-pub mod Context
-pub mod Lists

@@ -1,7 +1,0 @@
-//! Laws.
-
-ghost use Rattle.std.specs.Prelude.{◌≡◌, ℕ};
-
-pub fn probe()
-    ensures { (n : ℕ) → n ≡ n }
-{}

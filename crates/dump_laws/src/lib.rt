@@ -1,6 +1,0 @@
-//! The grammar of dumps both ways: what is written reads back, and what is read is a dump.
-#![tactic(auto)]
-
-mod laws;
-
-pub use laws::probe;
