@@ -1,6 +1,6 @@
 -- The step of an end on a response.
-use Rattle.std.proofs.Common.{◌≡◌, ◌≢◌, ℕ, zero, suc, ◌+◌, ◌-◌, ◌≤◌, ◌<◌, Bool, true, false, List, [], ◌∷◌, ◌++◌, drop, take, length, refl, ap, sym, ◌∙◌, arith, subst}
-use Rattle.std.specs.Prelude.{◌==◌, nat_lt, All, Option, Some, None, IsSome, bytes_eq, filter, map, nat_eq, option_map, slice_get, unwrap_or, if◌then◌else◌}
+use Rattle.std.proofs.Common.{◌≡◌, ◌≢◌, ℕ, zero, suc, ◌+◌, ◌-◌, ◌≤◌, Bool, true, false, List, [], ◌∷◌, ◌++◌, drop, take, length, refl, ap, sym, ◌∙◌, arith, subst}
+use Rattle.std.specs.Prelude.{◌==◌, nat_lt, All, Some, IsSome, bytes_eq, filter, map, nat_eq, if◌then◌else◌}
 use Rattle.std.specs.List.{IsDistinct}
 use Rattle.std.proofs.Math.ListN.{get_or}
 use Rattle.std.proofs.lemmas.List.{length-drop, take-append-drop}
@@ -22,9 +22,8 @@ use Rattle.protocol.specs.Memory.{landed}
 use Rattle.responder.specs.Sound.{IsSound as IsServing}
 use Rattle.requester.proofs.Bares.{length-bares}
 use Rattle.rdma_types.proofs.Tables.{same_name}
-use Rattle.page_pool.specs.Pool.{Pool, IsIn, bytes_of, free_pages}
+use Rattle.page_pool.specs.Pool.{Pool, bytes_of}
 use Rattle.completion_queue.specs.Queue.{Queue}
-use Rattle.memory_keys.specs.declared.Held.{Held}
 use Rattle.memory_keys.specs.Regions.{regions_of}
 use Rattle.work_queues.specs.declared.posted.Posted.{Posted}
 use Rattle.work_queues.specs.Untold.{posted_in, untold_in}
@@ -39,18 +38,17 @@ use Rattle.requester.specs.Sending.{KeepsQueue, Sending, bare, bares, numbers_of
 use Rattle.requester.specs.Taking.{Taking, step_by, step_of, taken_response}
 use Rattle.requester.proofs.Payloads.{place_same, response_in}
 use Rattle.requester.proofs.Rows.{response_is}
-use Rattle.end_memory.specs.Payloads.{GivesBack, payload_lists, payload_pages}
+use Rattle.end_memory.specs.Payloads.{payload_lists, payload_pages}
 use Rattle.end_memory.proofs.Given.{AreKept, pages-kept}
-use Rattle.endpoint_core.specs.declared.end.Endpoint.{Endpoint}
 use Rattle.endpoint_core.specs.declared.end.EndLink.{EndLink}
 use Rattle.endpoint_core.specs.Ends.{Names, link_in, untold_by}
-use Rattle.endpoint_core.specs.Queues.{StandsAt, count_at, nothing, promised, queues_of, reserved_in, settle_at}
+use Rattle.endpoint_core.specs.Queues.{StandsAt, count_at, nothing, promised, queues_of, settle_at}
 use Rattle.endpoint_core.specs.Flushed.{all_receives}
 use Rattle.endpoint_core.specs.Responded.{HasAnswered, is_useless, landed_by, request_in, response_took}
 use Rattle.endpoint_core.specs.Sites.{IsHome, IsSound, Keeps, Site, end_at, home}
-use Rattle.endpoint_core.specs.Sound.{IsEnd, IsLinked, IsPosted, KeepsLists}
+use Rattle.endpoint_core.specs.Sound.{IsLinked, IsPosted}
 use Rattle.endpoint_core.proofs.Ended.{count-here, promised-is}
-use Rattle.endpoint_core.proofs.Frames.{all-posted-kept, as-home, link-of, none-of, untold-kept}
+use Rattle.endpoint_core.proofs.Frames.{all-posted-kept, link-of, none-of, untold-kept}
 use Rattle.endpoint_core.proofs.Given.{all-front, append-none, distinct-rest, frame-free, frame-lists, given-held, given-regions, outside, rest-kept}
 use Rattle.endpoint_core.proofs.Rows.{first_same}
 use Rattle.endpoint_core.proofs.Settled.{Settles, completing-settles, keeps-settled, reserved-after, settles-at}
@@ -96,7 +94,7 @@ after-telling t a b ps s new is numbers items kept =
     let k : ℕ = rows.told_count t s in
     let untold : untold_in b new.items ≡ drop k (untold_in a ps) = ap (untold_in b) items ∙ (untold-kept a b (drop k ps) kept ∙ untold-drop a ps k) in
     let first : s.first + first_number s.untold t.mtu k ≡ s.first + first_number (untold_in a ps) t.mtu k =
-        ap (λ us. s.first + first_number us t.mtu k) is ∙ ap (λ n. s.first + n) (sym (first_same a ps t.mtu k)) in
+    ap (λ us. s.first + first_number us t.mtu k) is ∙ ap (λ n. s.first + n) (sym (first_same a ps t.mtu k)) in
     ap (λ us. sender_with us new.numbers) untold
     ∙ (ap (λ x. sender_with (drop k (untold_in a ps)) (numbers_of x)) numbers
     ∙ (ap (λ n. record s { untold = drop k (untold_in a ps); first = n }) first
@@ -130,7 +128,6 @@ end-twice c a b same = ap (λ es. record c { ends = es }) (ap (λ n. store_named
 module _ (s : Site) (l l' : EndLink) (S : Sender) (d : Packet) (T : Taken) (pool' : Pool) (qs' : List (Name × Queue))
     (sound : IsSound s nothing) (is : s.end.link ≡ Some l) (running : l.ended ≡ false)
     (answered : HasAnswered s.end.number s.send S d T l l' s.pool pool' s.held s.queues qs') where
-
   -- the site after it
   abbrev pub told : Site
   told = record s { pool = pool'; queues = qs'; end = record s.end { link = Some l' } }
@@ -159,7 +156,7 @@ module _ (s : Site) (l l' : EndLink) (S : Sender) (d : Packet) (T : Taken) (pool
   unfolding with_sender
   link-after =
       let sender : sender_in pool' l'.requester ≡ after_telling l.requester.terms (in_pool s.pool l.requester.items S) =
-          after-telling l.requester.terms s.pool pool' l.requester.items S l'.requester answered.untold answered.numbers answered.items told-kept in
+      after-telling l.requester.terms s.pool pool' l.requester.items S l'.requester answered.untold answered.numbers answered.items told-kept in
       ap (λ t. record (link_in s.pool l) { sender = after_telling t (in_pool s.pool l.requester.items S) }) (sym linked-before.sending_terms)
       ∙ (ap (λ x. record (link_in s.pool l) { sender = x }) (sym sender)
       ∙ sym (ap (λ (x : EndLink). link_in pool' x) answered.same))
@@ -173,8 +170,8 @@ module _ (s : Site) (l l' : EndLink) (S : Sender) (d : Packet) (T : Taken) (pool
       let m : List Completion = told_completions s.end.number l.terms (in_pool s.pool l.requester.items S) in
       let n : ℕ = rows.told_count l.requester.terms S in
       let same-m : m ≡ told_completions s.end.number l.requester.terms S =
-          ap (λ t. told_completions s.end.number t (in_pool s.pool l.requester.items S)) (sym linked-before.sending_terms)
-          ∙ told-completions s.end.number l.requester.terms s.pool l.requester.items S answered.untold in
+      ap (λ t. told_completions s.end.number t (in_pool s.pool l.requester.items S)) (sym linked-before.sending_terms)
+      ∙ told-completions s.end.number l.requester.terms s.pool l.requester.items S answered.untold in
       let c1 : Context = record c { regions = regions_of answered.mid s.held } in
       ap (λ x. completing (linked x e new) names.send_cq m) (answered.landed'.landing c at.regions)
       ∙ (completing-settles (linked c1 e new) s.queues names.send_cq s.send n m at.queues at.send
@@ -188,8 +185,8 @@ module _ (s : Site) (l l' : EndLink) (S : Sender) (d : Packet) (T : Taken) (pool
   told-first c names at why ends =
       let n : ℕ = rows.told_count l.requester.terms S in
       let same-m : told_completions s.end.number l.terms (in_pool s.pool l.requester.items S) ≡ told_completions s.end.number l.requester.terms S =
-          ap (λ t. told_completions s.end.number t (in_pool s.pool l.requester.items S)) (sym linked-before.sending_terms)
-          ∙ told-completions s.end.number l.requester.terms s.pool l.requester.items S answered.untold in
+      ap (λ t. told_completions s.end.number t (in_pool s.pool l.requester.items S)) (sym linked-before.sending_terms)
+      ∙ told-completions s.end.number l.requester.terms s.pool l.requester.items S answered.untold in
       let none : c ≡ record c { regions = regions_of answered.mid s.held } = sym (ap (landed_by c (bares l.requester.items) d) ends) ∙ answered.landed'.landing c at.regions in
       completing-settles c s.queues names.send_cq s.send n (told_completions s.end.number l.terms (in_pool s.pool l.requester.items S)) at.queues at.send
       ∙ (ap (λ qs. record c { queues = queues_of qs }) (ap (λ x. settle_at s.queues s.send n x) same-m ∙ sym answered.queues)
@@ -335,7 +332,6 @@ useless-taken = useless-is
 module _ (s : Site) (l l' : EndLink) (d : Packet) (T : Taken) (pool' : Pool) (qs' : List (Name × Queue))
     (sound : IsSound s nothing) (is : s.end.link ≡ Some l) (running : l.ended ≡ false) (old : d.opcode ≡ 0x12 → IsSome d.old)
     (taken : T ≡ (taken_response l.requester.terms (sender_of l.requester) d).taken) where
-
   before : IsLinked s.pool s.held s.end l
   before = link-of s.pool s.held s.end l sound.end is
 
@@ -379,17 +375,17 @@ module _ (s : Site) (l l' : EndLink) (d : Packet) (T : Taken) (pool' : Pool) (qs
       let e1 : End = end_at names (record s { pool = pool'; queues = qs'; end = record s.end { link = Some l' } }) in
       let x : Context = record c { regions = regions_of pool' s.held; queues = queues_of qs' } in
       let told : completing c names.send_cq (told_completions s.end.number l.terms S') ≡ x =
-          told-first s l l' (taken_response l.requester.terms (sender_of l.requester) d).sender d T pool' qs' sound is running answered c names at why ends in
+      told-first s l l' (taken_response l.requester.terms (sender_of l.requester) d).sender d T pool' qs' sound is running answered c names at why ends in
       let link = link-after s l l' (taken_response l.requester.terms (sender_of l.requester) d).sender d T pool' qs' sound is running answered in
       by-answer c names
       ∙ (ap (λ t. step_by c e (link_in s.pool l) d t S') ends
       ∙ (ap (λ y. record { context = ended_with y e (with_sender (link_in s.pool l) (after_telling l.terms S')) why; took = took.Ended why; sent = [] }) told
       ∙ (ap (λ y. record { context = ended_with x e y why; took = took.Ended why; sent = [] }) link
       ∙ ap (λ y. record {
-          context = completing (completing y names.send_cq (failing s.end.number why (sender_in pool' l'.requester).untold)) names.recv_cq (map (failed_receive s.end.number status.Flush) (in_use_by l'.responder.receiver.progress ++ s.end.recvs.items));
-          took = took.Ended why;
-          sent = [];
-        }) (sym (end-twice x e1 (with_link (with_unused e1 []) (ended_link (link_in pool' l'))) refl)))))
+        context = completing (completing y names.send_cq (failing s.end.number why (sender_in pool' l'.requester).untold)) names.recv_cq (map (failed_receive s.end.number status.Flush) (in_use_by l'.responder.receiver.progress ++ s.end.recvs.items));
+        took = took.Ended why;
+        sent = [];
+      }) (sym (end-twice x e1 (with_link (with_unused e1 []) (ended_link (link_in pool' l'))) refl)))))
 
 -- a context that holds the end of a site as it is there
 pub home-of : (c : Context) (names : Names) (s : Site) → StandsAt s.queues names.send_cq s.send → StandsAt s.queues names.recv_cq s.recv → IsHome (home c names s) names s

@@ -1,5 +1,5 @@
 -- What the answers to responses say: what lands lies in its request's place, and where nothing happens nothing changed.
-use Rattle.std.proofs.Common.{◌≡◌, ℕ, ◌+◌, ◌-◌, ◌*◌, ◌≤◌, ◌<◌, Bool, true, false, List, length, refl, ap, sym, ◌∙◌, arith, subst}
+use Rattle.std.proofs.Common.{◌≡◌, ℕ, ◌+◌, ◌-◌, ◌*◌, ◌≤◌, ◌<◌, Bool, true, false, length, refl, ap, sym, ◌∙◌, arith}
 use Rattle.std.specs.Prelude.{◌==◌, ◌&&◌, ◌||◌, not, Option, Some, None, nat_le, nat_lt, slice_get, unwrap_or, if◌then◌else◌}
 use Rattle.std.proofs.lemmas.Bool.Decides.{nat_tests}
 use Rattle.rdma_types.specs.declared.requests.Kind.{Kind}
@@ -7,9 +7,8 @@ use Rattle.rdma_types.specs.declared.requests.Kind.TheVariants.{Write, Send, Rea
 use Rattle.rdma_types.specs.declared.requests.Terms.{Terms}
 use Rattle.rdma_types.specs.declared.requests.WcStatus.{WcStatus}
 use Rattle.rdma_types.specs.declared.requests.WcStatus.TheVariants as status
-use Rattle.rdma_types.specs.Kinds.{is_atomic, is_read, kind_of, lands}
-use Rattle.rdma_types.specs.Objects as objects
-use Rattle.rdma_types.specs.Spans.{Piece, next_landing, piece_at, piece_length, pieces, request_of, span_of}
+use Rattle.rdma_types.specs.Kinds.{is_atomic, is_read, lands}
+use Rattle.rdma_types.specs.Spans.{Piece, next_landing, piece_at, piece_length, request_of, span_of}
 use Rattle.protocol.specs.declared.wire.Aeth.{Aeth}
 use Rattle.protocol.specs.declared.wire.Syndrome.{Syndrome}
 use Rattle.protocol.specs.declared.wire.Syndrome.TheVariants.{Ack, Rnr, Nak}
@@ -17,7 +16,6 @@ use Rattle.protocol.specs.Numbers.{unwrap_near}
 use Rattle.protocol.specs.Requester.{advanced, barrier, rewound, waited, waiting}
 use Rattle.protocol.specs.State.{Sender}
 use Rattle.protocol.specs.Wire.{Packet, is_read_response}
-use Rattle.requester.specs.declared.answers.Taken.{Taken}
 use Rattle.requester.specs.declared.answers.Taken.TheVariants.{Acked, Ended, Landed, OldLanded, Rewound, Useless, Waits}
 use Rattle.requester.specs.Taking.{Taking, acknowledge_taking, acknowledging, answers, is_of_piece, landing_of, landing_taking, moved_or_useless, nak_taking, not_ready_taking, number_taking, piece_taking, refusing, rnr_taking, syndrome_taking, taken_response, wait_taking}
 use Rattle.requester.proofs.Flight.{piece_below_span}
@@ -97,7 +95,7 @@ module _ (t : Terms) (s : Sender) (d : Packet) where
   unfolding is_of_piece
   read_fits x mtu below of read =
       let size : (is_read_response d.opcode && length d.payload == piece_length x.posted.request.shape.length x.k t.mtu) ≡ true =
-          sym (ap (λ b. if b then is_read_response d.opcode && length d.payload == piece_length x.posted.request.shape.length x.k t.mtu else d.opcode == 0x12) read) ∙ of in
+      sym (ap (λ b. if b then is_read_response d.opcode && length d.payload == piece_length x.posted.request.shape.length x.k t.mtu else d.opcode == 0x12) read) ∙ of in
       let begins = piece_begins_within x.posted.request.shape.length t.mtu x.k mtu (let within = span_within x.posted.request.shape t.mtu in omega (arith, within, below)) in
       same_size (is_read_response d.opcode) size begins
     where

@@ -1,9 +1,8 @@
 -- An end that is connected.
-use Rattle.std.proofs.Common.{arith, length, ◌≤◌, ◌≡◌, ℕ, true, false, List, [], refl, ap, sym, ◌∙◌, subst}
+use Rattle.std.proofs.Common.{arith, length, ◌≤◌, ◌≡◌, ℕ, false, List, [], refl, ap, sym, ◌∙◌, subst}
 use Rattle.std.specs.Prelude.{All, Option, Some, None, nat_eq}
 use Rattle.std.specs.List.{IsDistinct}
 use Rattle.std.proofs.lemmas.List.Elements.{All-nil}
-use Rattle.rdma_types.specs.declared.names.Name.{Name}
 use Rattle.rdma_types.specs.declared.requests.Address.{Address}
 use Rattle.rdma_types.specs.declared.requests.Terms.{Terms}
 use Rattle.rdma_types.specs.Limits.{AreTerms}
@@ -20,7 +19,7 @@ use Rattle.protocol.specs.State.{fresh_link, fresh_receiver}
 use Rattle.endpoint_core.specs.declared.end.Endpoint.{Endpoint}
 use Rattle.endpoint_core.specs.declared.end.EndLink.{EndLink}
 use Rattle.endpoint_core.specs.Ends.{link_in}
-use Rattle.endpoint_core.specs.Sound.{HoldsQueue, IsEnd, IsInState, IsLinked, IsPosted, payload_lists}
+use Rattle.endpoint_core.specs.Sound.{HoldsQueue, IsEnd, IsInState, IsPosted, payload_lists}
 
 -- the send queue of an end in Init
 pub record Fresh (e : Endpoint) (q : Queue Posted) : Type 0 where

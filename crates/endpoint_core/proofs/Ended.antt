@@ -1,6 +1,6 @@
 -- An end that goes to Error.
-use Rattle.std.proofs.Common.{◌≡◌, ℕ, ◌+◌, ◌-◌, ◌≤◌, ◌<◌, Bool, true, false, List, [], ◌∷◌, ◌++◌, drop, length, refl, ap, sym, ◌∙◌, arith, subst}
-use Rattle.std.specs.Prelude.{◌==◌, All, Option, Some, None, map, nat_eq, option_map, slice_get, if◌then◌else◌}
+use Rattle.std.proofs.Common.{◌≡◌, ℕ, ◌+◌, ◌≤◌, ◌<◌, true, false, List, [], ◌∷◌, ◌++◌, drop, length, refl, ap, sym, ◌∙◌, arith, subst}
+use Rattle.std.specs.Prelude.{◌==◌, All, Option, Some, map, nat_eq, slice_get, if◌then◌else◌}
 use Rattle.std.specs.List.{IsDistinct}
 use Rattle.std.proofs.Math.Seq.{drop-append_seam}
 use Rattle.std.proofs.lemmas.List.{drop_all}
@@ -12,7 +12,6 @@ use Rattle.rdma_types.specs.declared.requests.WcStatus.{WcStatus}
 use Rattle.rdma_types.specs.declared.requests.WcStatus.TheVariants as status
 use Rattle.rdma_types.specs.Kinds.{request_done}
 use Rattle.rdma_types.specs.Limits.{AreTerms}
-use Rattle.rdma_types.specs.Objects as objects
 use Rattle.page_pool.specs.Pool.{Pool, bytes_of}
 use Rattle.completion_queue.specs.Queue.{Queue}
 use Rattle.memory_keys.specs.Regions.{regions_of}
@@ -25,18 +24,18 @@ use Rattle.responder.specs.Receiving.{Receiving, idled}
 use Rattle.responder.specs.Sound.{IsSound as IsServing}
 use Rattle.protocol.specs.EndWords.{completing, failed_receive, failed_request, in_use_by, linked, with_end, with_link, with_unused}
 use Rattle.protocol.specs.Requester.{emptied_at, end_of_queue, ended_link, ended_with, failing}
-use Rattle.protocol.specs.State.{Context, End, Link, NoMessage, InSend, InWrite, Progress}
+use Rattle.protocol.specs.State.{Context, End, NoMessage, InSend, InWrite, Progress}
 use Rattle.end_memory.specs.Completing.{listed}
-use Rattle.end_memory.specs.Payloads.{AreApart, GivesBack, payload_lists}
+use Rattle.end_memory.specs.Payloads.{GivesBack, payload_lists}
 use Rattle.endpoint_core.specs.declared.end.Endpoint.{Endpoint}
 use Rattle.endpoint_core.specs.declared.end.EndLink.{EndLink}
-use Rattle.endpoint_core.specs.Ends.{Names, end_in, link_in, untold_by}
-use Rattle.endpoint_core.specs.Flushed.{IsFlushed, all_receives, flushed_queues}
-use Rattle.endpoint_core.specs.Queues.{AreReserved, KeepsReserved, count_at, nothing, promised, queues_of, reserved_in, settle_at}
+use Rattle.endpoint_core.specs.Ends.{Names, link_in, untold_by}
+use Rattle.endpoint_core.specs.Flushed.{IsFlushed, all_receives}
+use Rattle.endpoint_core.specs.Queues.{count_at, nothing, promised, queues_of, reserved_in, settle_at}
 use Rattle.endpoint_core.specs.Sites.{IsHome, IsSound, Keeps, Site, end_at, home}
-use Rattle.endpoint_core.specs.Sound.{IsEnd, IsLinked, IsPosted}
+use Rattle.endpoint_core.specs.Sound.{IsLinked, IsPosted}
 use Rattle.endpoint_core.proofs.Frames.{link-of, none-of}
-use Rattle.endpoint_core.proofs.Given.{append-none, apart-of, frame-free, frame-lists, given-held, given-regions, outside}
+use Rattle.endpoint_core.proofs.Given.{frame-free, frame-lists, given-held, given-regions, outside}
 use Rattle.endpoint_core.proofs.Connected.{distinct-none}
 use Rattle.endpoint_core.proofs.Rows.{end_of_same}
 use Rattle.endpoint_core.proofs.Settled.{Settles, completing-settles, keeps-settled, reserved-after, same-number, settle-length, settle-reserved, settles-at, settles-both, stands-settled}
@@ -94,7 +93,6 @@ emptied-in pool r n items is = ap (λ ps. sender_with (untold_in pool ps) r.numb
 module _ (s : Site) (status' : WcStatus) (l l' : EndLink) (rs' : WorkQueue Receive) (pool' : Pool) (qs' : List (Name × Queue))
     (sound : IsSound s nothing) (is : s.end.link ≡ Some l)
     (flushed : IsFlushed s.end.number status' s.send s.recv l l' s.end.recvs rs' s.pool pool' s.queues qs') where
-
   -- the site after it
   abbrev pub ended : Site
   ended = record s { pool = pool'; queues = qs'; end = record s.end { recvs = rs'; link = Some l' } }
@@ -109,9 +107,9 @@ module _ (s : Site) (status' : WcStatus) (l l' : EndLink) (rs' : WorkQueue Recei
   unfolding ended_link
   link-after =
       let sender : sender_in pool' l'.requester ≡ emptied_at (end_of_queue l.terms (sender_in s.pool l.requester)) =
-          emptied-in pool' l'.requester _ flushed.items flushed.numbers
-          ∙ (ap (λ t. emptied_at (end_of_queue t (sender_of l.requester))) linked-before.sending_terms
-          ∙ ap emptied_at (sym (end_of_same l.terms s.pool l.requester))) in
+      emptied-in pool' l'.requester _ flushed.items flushed.numbers
+      ∙ (ap (λ t. emptied_at (end_of_queue t (sender_of l.requester))) linked-before.sending_terms
+      ∙ ap emptied_at (sym (end_of_same l.terms s.pool l.requester))) in
       sym (ap (λ (x : EndLink). link_in pool' x) flushed.link
       ∙ ap (λ x. record (link_in pool' (record l { ended = true; requester = l'.requester; responder = record l.responder { receiver = idled l.responder.receiver }; moves = record l.moves { phase = phase.Running } })) { sender = x }) sender)
 
@@ -133,9 +131,9 @@ module _ (s : Site) (status' : WcStatus) (l l' : EndLink) (rs' : WorkQueue Recei
       let q1 : List (Name × Queue) = settle_at s.queues s.send n1 m1 in
       let one : completing c1 e.send_cq m1 ≡ record c1 { queues = queues_of q1 } = completing-settles c1 s.queues names.send_cq s.send n1 m1 at.queues at.send in
       let two : completing (record c1 { queues = queues_of q1 }) e.recv_cq m2 ≡ record c1 { queues = queues_of (settle_at q1 s.recv n2 m2) } =
-          completing-settles (record c1 { queues = queues_of q1 }) q1 names.recv_cq s.recv n2 m2 refl (stands-settled s.queues names.recv_cq s.recv s.send n1 m1 at.recv) in
+      completing-settles (record c1 { queues = queues_of q1 }) q1 names.recv_cq s.recv n2 m2 refl (stands-settled s.queues names.recv_cq s.recv s.send n1 m1 at.recv) in
       let queues : settle_at q1 s.recv n2 m2 ≡ qs' =
-          ap (λ m. settle_at (settle_at s.queues s.send n1 m) s.recv n2 m2) (failing-in s.end.number status' s.pool l.requester.items) ∙ sym flushed.queues in
+      ap (λ m. settle_at (settle_at s.queues s.send n1 m) s.recv n2 m2) (failing-in s.end.number status' s.pool l.requester.items) ∙ sym flushed.queues in
       ap (λ x. completing x e.recv_cq m2) one
       ∙ (two
       ∙ (ap (λ qs. with_end (record c { queues = queues_of qs }) (with_link (with_unused e []) (ended_link (link_in s.pool l)))) queues
@@ -148,9 +146,9 @@ module _ (s : Site) (status' : WcStatus) (l l' : EndLink) (rs' : WorkQueue Recei
   work place =
       let before = promised-is s.end l s.send s.recv place is in
       let after : promised s.send s.recv ended.end place ≡ count_at s.send 0 place + count_at s.recv 0 place =
-          ap (λ ps. count_at s.send (length ps) place + count_at s.recv (length rs'.items + length (in_use_by l'.responder.receiver.progress)) place) flushed.items
-          ∙ (ap (λ (r : WorkQueue Receive). count_at s.send 0 place + count_at s.recv (length r.items + length (in_use_by l'.responder.receiver.progress)) place) flushed.receives
-          ∙ ap (λ (x : EndLink). count_at s.send 0 place + count_at s.recv (0 + length (in_use_by x.responder.receiver.progress)) place) flushed.link) in
+      ap (λ ps. count_at s.send (length ps) place + count_at s.recv (length rs'.items + length (in_use_by l'.responder.receiver.progress)) place) flushed.items
+      ∙ (ap (λ (r : WorkQueue Receive). count_at s.send 0 place + count_at s.recv (length r.items + length (in_use_by l'.responder.receiver.progress)) place) flushed.receives
+      ∙ ap (λ (x : EndLink). count_at s.send 0 place + count_at s.recv (0 + length (in_use_by x.responder.receiver.progress)) place) flushed.link) in
       let none1 = count-none s.send place in
       let none2 = count-none s.recv place in
       omega (arith, before, after, none1, none2)
@@ -166,13 +164,13 @@ module _ (s : Site) (status' : WcStatus) (l l' : EndLink) (rs' : WorkQueue Recei
       let one = settles-at s.queues s.send n1 m1 sound.reserved.send_there (requests-fit s.queues s.send s.recv n1 n2 fits) in
       let within : s.recv < length (settle_at s.queues s.send n1 m1) = let same = settle-length s.queues s.send n1 m1 in let there = sound.reserved.recv_there in omega (arith, same, there) in
       let two = settles-at (settle_at s.queues s.send n1 m1) s.recv n2 (map (failed_receive s.end.number status.Flush) (all_receives l s.end.recvs)) within
-          (receives-fit s.queues s.send s.recv n1 n2 m1 sound.reserved.send_there fits) in
+      (receives-fit s.queues s.send s.recv n1 n2 m1 sound.reserved.send_there fits) in
       subst (λ qs. Settles s.queues qs (λ place. count_at s.send n1 place + count_at s.recv n2 place)) (sym flushed.queues) (settles-both s.queues _ _ (count_at s.send n1) (count_at s.recv n2) one two)
 
   pub failed-keeps : Keeps s ended [] nothing
   failed-keeps =
       let whole : untold_by s.end.link ++ [] ≡ l.requester.items ++ l'.requester.items =
-          ap (λ o. untold_by o ++ []) is ∙ ap (λ ps. l.requester.items ++ ps) (sym flushed.items) in
+      ap (λ o. untold_by o ++ []) is ∙ ap (λ ps. l.requester.items ++ ps) (sym flushed.items) in
       record {
         end = record { number = refl; domain = refl; send_depth = refl; recv_depth = refl };
         untold = record { gone = length (untold_by s.end.link); left = flushed.items ∙ sym (drop-append_seam (untold_by s.end.link) []) };
@@ -193,8 +191,8 @@ module _ (s : Site) (status' : WcStatus) (l l' : EndLink) (rs' : WorkQueue Recei
       let terms : l'.terms ≡ l.terms = ap (λ (x : EndLink). x.terms) flushed.link in
       let unused : rs'.items ≡ [] = ap (λ r. r.items) flushed.receives in
       let serves : IsServing s.held s.end.domain (record l.responder { receiver = idled l.responder.receiver }) [] =
-          subst (λ us. IsServing s.held s.end.domain (record l.responder { receiver = idled l.responder.receiver }) us) (drop_all (length s.end.recvs.items) s.end.recvs.items (omega arith))
-          (flush (record l.responder { receiver = idled l.responder.receiver }) (length s.end.recvs.items) (cut linked-before.serving)) in
+      subst (λ us. IsServing s.held s.end.domain (record l.responder { receiver = idled l.responder.receiver }) us) (drop_all (length s.end.recvs.items) s.end.recvs.items (omega arith))
+      (flush (record l.responder { receiver = idled l.responder.receiver }) (length s.end.recvs.items) (cut linked-before.serving)) in
       record {
         end = record {
           queue = none-of s.pool s.held s.end l sound.end is;

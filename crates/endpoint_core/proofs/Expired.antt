@@ -1,7 +1,6 @@
 -- Expiries that are counted or not.
-use Rattle.std.proofs.Common.{◌≡◌, ℕ, ◌+◌, Bool, true, false, refl, ap, sym, ◌∙◌, subst}
+use Rattle.std.proofs.Common.{◌≡◌, ℕ, ◌+◌, Bool, true, false, refl, ap, sym, ◌∙◌}
 use Rattle.std.specs.Prelude.{◌==◌, ◌||◌, Option, Some, None, if◌then◌else◌}
-use Rattle.rdma_types.specs.declared.answers.Answer.{Answer}
 use Rattle.rdma_types.specs.declared.answers.Answer.TheVariants as answer
 use Rattle.rdma_types.specs.declared.answers.NotWhy.{NotWhy}
 use Rattle.rdma_types.specs.declared.answers.NotWhy.TheVariants as why
@@ -12,7 +11,7 @@ use Rattle.protocol.specs.Requester.{counted, ended_with, not_counted}
 use Rattle.protocol.specs.State.{Context, End, Link}
 use Rattle.requester.specs.declared.answers.Expiry.{Expiry}
 use Rattle.requester.specs.declared.answers.Expiry.TheVariants as expiry
-use Rattle.requester.specs.Sending.{Sending, sender_in, sender_of}
+use Rattle.requester.specs.Sending.{Sending, sender_of}
 use Rattle.endpoint_core.specs.declared.end.EndLink.{EndLink}
 use Rattle.endpoint_core.specs.Answers.{IsExpiry, expired_answer, expired_by, is_spent, link_after_expiry}
 use Rattle.endpoint_core.specs.Ends.{link_in}
@@ -62,8 +61,7 @@ counting waits spent n = if waits then expiry.NotCounted else if spent then expi
 
 module _ (pool : Pool) (l : EndLink) (r : Expiry) (new : Sending) (none : not_counted (link_in pool l) ≡ None) (same : l.requester.terms ≡ l.terms)
     (answered : r ≡ (if l.requester.numbers.rnr_wait || l.requester.numbers.next == l.requester.numbers.una then expiry.NotCounted
-        else if l.requester.numbers.spent == l.requester.terms.retry then expiry.Spent else expiry.Counted (l.requester.numbers.spent + 1))) where
-
+    else if l.requester.numbers.spent == l.requester.terms.retry then expiry.Spent else expiry.Counted (l.requester.numbers.spent + 1))) where
   in-way : (l.requester.numbers.rnr_wait || l.requester.numbers.next == l.requester.numbers.una) ≡ false
   in-way = reason-none l.ended (is_paused (link_in pool l).moving.phase) (is_resuming (link_in pool l).moving.phase) l.requester.numbers.rnr_wait (l.requester.numbers.next == l.requester.numbers.una) (sym (reason-is (link_in pool l)) ∙ none)
 
@@ -97,7 +95,7 @@ module _ (pool : Pool) (l : EndLink) (r : Expiry) (new : Sending) (none : not_co
   counted-is n is numbers items =
       let some : ((l.requester.numbers.spent == l.terms.retry) ≡ false) × (l.requester.numbers.spent + 1 ≡ n) = by_spent (l.requester.numbers.spent == l.terms.retry) (sym counted-by ∙ is) in
       let moved : sender_of new ≡ counted (sender_of l.requester) = numbers ∙ (ap (λ t. if l.requester.numbers.rnr_wait || (l.requester.numbers.next == l.requester.numbers.una || l.requester.numbers.spent == t.retry) then sender_of l.requester else counted (sender_of l.requester)) same
-          ∙ by_way l.requester.numbers.rnr_wait (l.requester.numbers.next == l.requester.numbers.una) (l.requester.numbers.spent == l.terms.retry) in-way some.0) in
+      ∙ by_way l.requester.numbers.rnr_wait (l.requester.numbers.next == l.requester.numbers.una) (l.requester.numbers.spent == l.terms.retry) in-way some.0) in
       record {
         few = ap (is_spent (link_in pool l)) none ∙ some.0;
         answer = sym (ap (expired_answer (link_in pool l)) none ∙ (ap (λ b. if b then answer.Spent else answer.Expired (l.requester.numbers.spent + 1)) some.0 ∙ ap answer.Expired some.1));

@@ -1,20 +1,19 @@
 -- An end whose parts are changed, or beside whose parts a pool is changed.
-use Rattle.std.proofs.Common.{◌≡◌, ◌≢◌, ℕ, zero, suc, ◌+◌, ◌<◌, ◌++◌, ◌≤◌, true, List, [], ◌∷◌, length, refl, ap, sym, ◌∙◌, arith, subst}
-use Rattle.std.specs.Prelude.{◌↔◌, IsErr, OnOk, Result, Ok, Err, All, Option, Some, None, is_some, map, nat_eq, option_map, slice_get, unwrap_or}
+use Rattle.std.proofs.Common.{◌≡◌, ◌≢◌, ℕ, zero, suc, ◌+◌, ◌<◌, ◌++◌, ◌≤◌, List, [], ◌∷◌, length, refl, ap, sym, ◌∙◌, arith, subst}
+use Rattle.std.specs.Prelude.{◌↔◌, IsErr, OnOk, Result, Ok, Err, All, Option, Some, None, is_some, nat_eq, option_map, slice_get, unwrap_or}
 use Rattle.std.specs.List.{IsDistinct}
 use Rattle.std.proofs.lemmas.List.Elements.{All-head, All-tail}
 use Rattle.rdma_types.specs.declared.names.Name.{Name}
 use Rattle.rdma_types.specs.Limits.{AreTerms}
 use Rattle.rdma_types.specs.Memory.{cut}
-use Rattle.page_pool.specs.Pool.{Pool, bytes_of, bytes_in, free_pages}
-use Rattle.page_pool.specs.Held.{HoldsPayload, payload_bytes}
+use Rattle.page_pool.specs.Pool.{Pool, bytes_of, free_pages}
+use Rattle.page_pool.specs.Held.{payload_bytes}
 use Rattle.memory_keys.specs.declared.Held.{Held}
 use Rattle.memory_keys.specs.Regions.{regions_of}
 use Rattle.work_queues.specs.declared.posted.Posted.{Posted}
 use Rattle.work_queues.specs.Untold.{posted_in, untold_in}
-use Rattle.move_core.specs.declared.Phase.TheVariants as phase
 use Rattle.responder.specs.Sound.{IsSound as IsServing}
-use Rattle.protocol.specs.State.{Context, End, Link}
+use Rattle.protocol.specs.State.{Context, Link}
 use Rattle.protocol.specs.EndWords.{linked, with_end, with_link}
 use Rattle.end_memory.proofs.Given.{AreKept}
 use Rattle.endpoint_core.specs.declared.end.Endpoint.{Endpoint}
@@ -22,7 +21,7 @@ use Rattle.endpoint_core.specs.declared.end.EndLink.{EndLink}
 use Rattle.endpoint_core.specs.Ends.{KeepsLink, Names, end_in, link_in, untold_by}
 use Rattle.endpoint_core.specs.Queues.{nothing, promised, queues_of}
 use Rattle.endpoint_core.specs.Sites.{IsHome, IsSound, Keeps, Site, end_at, home}
-use Rattle.endpoint_core.specs.Sound.{HasPayload, HoldsQueue, IsEnd, IsInState, IsLinked, IsPosted, payload_lists, payload_pages}
+use Rattle.endpoint_core.specs.Sound.{HoldsQueue, IsEnd, IsInState, IsLinked, IsPosted, payload_lists, payload_pages}
 use Rattle.endpoint_core.proofs.Settled.{keeps-settled, reserved-after, settles-none}
 
 -- ---- lists

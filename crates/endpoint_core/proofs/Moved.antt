@@ -59,9 +59,9 @@ pub control-step : (c : Context) (e : End) (pool : Pool) (regions : List Region)
 unfolding moves.takes_control
 control-step c e pool regions l l' r control takes row rule next same stays' =
     let link : moved_link (link_in pool l) r control ≡ link_in pool l' =
-        sym (ap (λ (x : EndLink). link_in pool x) same
-        ∙ (ap (λ m. record (link_in pool l) { moving = m; sender = sender_in pool l'.requester }) rule
-        ∙ ap (λ s. record (link_in pool l) { moving = table.moving_by (table.moving_of l.moves) (table.control_of control) (table.row_of r); sender = s }) next)) in
+    sym (ap (λ (x : EndLink). link_in pool x) same
+    ∙ (ap (λ m. record (link_in pool l) { moving = m; sender = sender_in pool l'.requester }) rule
+    ∙ ap (λ s. record (link_in pool l) { moving = table.moving_by (table.moving_of l.moves) (table.control_of control) (table.row_of r); sender = s }) next)) in
     ap (λ x. moves.moves_by c e (link_in pool l) (table.control_of control) x) (sym row)
     ∙ (by_row c e regions (link_in pool l) l.moves.recorded l.moves.own r control takes stays'
     ∙ ap (λ x. moved_step c e regions x r control) link)

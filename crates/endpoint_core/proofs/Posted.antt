@@ -1,14 +1,14 @@
 -- Requests and receives that are posted.
-use Rattle.std.proofs.Common.{◌≡◌, ◌≢◌, ℕ, zero, suc, ◌+◌, ◌≤◌, ◌<◌, Bool, true, false, List, [], ◌∷◌, ◌++◌, drop, length, refl, ap, sym, ◌∙◌, arith, subst}
-use Rattle.std.specs.Prelude.{◌==◌, ◌||◌, All, Option, Some, None, is_some, map, nat_eq, option_map, if◌then◌else◌}
+use Rattle.std.proofs.Common.{◌≡◌, ◌≢◌, ℕ, suc, ◌+◌, ◌<◌, Bool, true, false, List, [], ◌∷◌, ◌++◌, drop, length, refl, ap, sym, ◌∙◌, arith, subst}
+use Rattle.std.specs.Prelude.{◌==◌, ◌||◌, All, Option, Some, None, is_some, nat_eq, option_map, if◌then◌else◌}
 use Rattle.std.specs.List.{IsDistinct, AllByRecursion}
-use Rattle.std.proofs.lemmas.List.Elements.{All-head, All-tail, All-nil, All-cons, All-push, All-append}
+use Rattle.std.proofs.lemmas.List.Elements.{All-head, All-tail, All-nil, All-cons, All-push}
 use Rattle.std.proofs.lemmas.Bool.Decides.{nat_tests}
 use Rattle.rdma_types.specs.declared.names.Name.{Name}
 use Rattle.rdma_types.specs.declared.requests.Completion.{Completion}
 use Rattle.rdma_types.specs.declared.requests.Receive.{Receive}
 use Rattle.rdma_types.specs.declared.requests.WcStatus.TheVariants as status
-use Rattle.rdma_types.specs.Kinds.{receive_done, request_done}
+use Rattle.rdma_types.specs.Kinds.{request_done}
 use Rattle.rdma_types.specs.Lists.{first_that}
 use Rattle.rdma_types.specs.Memory.{Right, granted, grants, holds, is_granted, local_key}
 use Rattle.page_pool.specs.Pool.{Pool, bytes_of, free_pages}
@@ -18,21 +18,20 @@ use Rattle.memory_keys.specs.Regions.{region_of, regions_of}
 use Rattle.work_queues.specs.Queue.{Queue as WorkQueue, posting as queueing}
 use Rattle.work_queues.specs.declared.posted.Posted.{Posted}
 use Rattle.work_queues.specs.Untold.{posted_in, untold_in}
-use Rattle.requester.specs.Sending.{Sending, bare, posting, sender_in}
+use Rattle.requester.specs.Sending.{bare, posting, sender_in}
 use Rattle.responder.specs.Receiving.{Receiving}
 use Rattle.responder.specs.Sound.{IsPlace, IsSound as IsServing}
 use Rattle.protocol.specs.DeviceStep.{posted_at}
 use Rattle.protocol.specs.EndWords.{completing, failed_receive, failed_request, in_use_by, is_in_error, with_end, with_link, with_sender, with_unused}
-use Rattle.protocol.specs.State.{Context, End, Link}
+use Rattle.protocol.specs.State.{Context}
 use Rattle.end_memory.specs.Payloads.{GivesBack, payload_lists, payload_pages}
 use Rattle.end_memory.proofs.Given.{AreKept}
-use Rattle.endpoint_core.specs.declared.end.Endpoint.{Endpoint}
 use Rattle.endpoint_core.specs.declared.end.EndLink.{EndLink}
 use Rattle.endpoint_core.specs.Answers.{posted_by, received_at}
 use Rattle.endpoint_core.specs.Ends.{Names, end_in, is_ended_link, link_in, untold_by, used_by}
 use Rattle.endpoint_core.specs.Queues.{StandsAt, count_at, nothing, promised, queues_of, settle_at}
 use Rattle.endpoint_core.specs.Sites.{IsHome, IsSound, Keeps, Site, end_at, home}
-use Rattle.endpoint_core.specs.Sound.{IsEnd, IsInState, IsLinked, IsNew, IsPlaced, IsPosted, KeepsLists}
+use Rattle.endpoint_core.specs.Sound.{IsInState, IsLinked, IsNew, IsPosted}
 use Rattle.endpoint_core.proofs.Ended.{count-here}
 use Rattle.endpoint_core.proofs.Frames.{as-home, end-kept, home-linked, link-of, none-of, sound-kept}
 use Rattle.endpoint_core.proofs.Given.{AreOutside, frame-free, append-none, frame-lists, given-held, given-regions}
@@ -49,8 +48,8 @@ granted-any a b held domain key at count right = ap (λ v. (count == 0) || v) (f
     found : (hs : List Held) → is_some (first_that (grants local_key domain key at count right) (regions_of a hs)) ≡ is_some (first_that (grants local_key domain key at count right) (regions_of b hs))
     found [] = refl
     found (h ∷ hs) = elim (grants local_key domain key at count right (region_of a h)) as
-      (λ v. is_some (if v then Some (region_of a h) else first_that (grants local_key domain key at count right) (regions_of a hs)) ≡ is_some (if v then Some (region_of b h) else first_that (grants local_key domain key at count right) (regions_of b hs)))
-      [ true ↦ refl | false ↦ found hs ]
+        (λ v. is_some (if v then Some (region_of a h) else first_that (grants local_key domain key at count right) (regions_of a hs)) ≡ is_some (if v then Some (region_of b h) else first_that (grants local_key domain key at count right) (regions_of b hs)))
+        [ true ↦ refl | false ↦ found hs ]
 
 pub placed-any : (pool : Pool) (held : List Held) (domain : Name) (key at count : ℕ) (right : Right) → is_granted local_key (regions_of pool held) domain key at count right ≡ true
     → (other : Pool) → is_granted local_key (regions_of other held) domain key at count right ≡ true
@@ -86,7 +85,6 @@ count-more here n place = let none : ℕ = 0 in elim (here == place) as (λ b. (
 -- ---- a request, where the end is not in Error
 
 module _ (s : Site) (l : EndLink) (p : Posted) (sound : IsSound s (count_at s.send 1)) (new : IsNew s.pool s.held s.end p) (is : s.end.link ≡ Some l) (running : l.ended ≡ false) (room : length l.requester.items < s.end.send_depth) where
-
   -- the connection after it
   abbrev pub queued : EndLink
   queued = record l { requester = posting l.requester p }
@@ -105,7 +103,7 @@ module _ (s : Site) (l : EndLink) (p : Posted) (sound : IsSound s (count_at s.se
   unfolding posted_at with_sender
   posted-step c names at =
       let sender : with_sender (link_in s.pool l) (record (sender_in s.pool l.requester) { untold = untold_in s.pool l.requester.items ++ posted_in s.pool p ∷ [] }) ≡ link_in s.pool queued =
-          ap (λ us. record (link_in s.pool l) { sender = record (sender_in s.pool l.requester) { untold = us } }) (sym (untold-push s.pool l.requester.items p)) in
+      ap (λ us. record (link_in s.pool l) { sender = record (sender_in s.pool l.requester) { untold = us } }) (sym (untold-push s.pool l.requester.items p)) in
       ap (λ o. posted_by c (end_at names s) (option_map (link_in s.pool) o) (posted_in s.pool p)) is
       ∙ (ap (λ b. if b then completing c names.send_cq (failed_request s.end.number status.Flush (posted_in s.pool p) ∷ []) else with_end c (with_link (end_at names s) (with_sender (link_in s.pool l) (record (sender_in s.pool l.requester) { untold = untold_in s.pool l.requester.items ++ posted_in s.pool p ∷ [] })))) running
       ∙ home-linked c names s queued _ at sender)
@@ -114,7 +112,7 @@ module _ (s : Site) (l : EndLink) (p : Posted) (sound : IsSound s (count_at s.se
   posted-work place =
       let before = ap (λ o. promised s.send s.recv (record s.end { link = o }) place) is in
       let after : promised s.send s.recv posted.end place ≡ count_at s.send (suc (length l.requester.items)) place + count_at s.recv (length s.end.recvs.items + length (in_use_by l.responder.receiver.progress)) place =
-          ap (λ n. count_at s.send n place + count_at s.recv (length s.end.recvs.items + length (in_use_by l.responder.receiver.progress)) place) (length-push l.requester.items p) in
+      ap (λ n. count_at s.send n place + count_at s.recv (length s.end.recvs.items + length (in_use_by l.responder.receiver.progress)) place) (length-push l.requester.items p) in
       let more = count-more s.send (length l.requester.items) place in
       omega (arith, before, after, more)
 
@@ -173,7 +171,6 @@ completes-once c names s name place w pool' qs' at stands queues regions same =
 module _ (s : Site) (p : Posted) (l : EndLink) (pool' : Pool) (qs' : List (Name × Queue))
     (sound : IsSound s (count_at s.send 1)) (new : IsNew s.pool s.held s.end p) (is : s.end.link ≡ Some l) (failed : l.ended ≡ true)
     (queues : qs' ≡ settle_at s.queues s.send 1 (failed_request s.end.number status.Flush (bare p) ∷ [])) (gives : GivesBack s.pool pool' (p ∷ [])) where
-
   -- the site after it
   abbrev pub refused : Site
   refused = record s { pool = pool'; queues = qs' }
@@ -193,7 +190,7 @@ module _ (s : Site) (p : Posted) (l : EndLink) (pool' : Pool) (qs' : List (Name 
       ap (λ o. posted_by c (end_at names s) (option_map (link_in s.pool) o) (posted_in s.pool p)) is
       ∙ (ap (λ b. if b then completing c names.send_cq (failed_request s.end.number status.Flush (posted_in s.pool p) ∷ []) else with_end c (with_link (end_at names s) (with_sender (link_in s.pool l) (record (sender_in s.pool l.requester) { untold = untold_in s.pool l.requester.items ++ posted_in s.pool p ∷ [] })))) failed
       ∙ completes-once c names s names.send_cq s.send (failed_request s.end.number status.Flush (bare p)) pool' qs' at at.send queues
-        (given-regions s.pool pool' s.held (p ∷ []) gives beside) (end-kept s.pool pool' names s.end all-kept))
+      (given-regions s.pool pool' s.held (p ∷ []) gives beside) (end-kept s.pool pool' names s.end all-kept))
 
   refused-settles : Settles s.queues qs' (count_at s.send 1)
   refused-settles =
@@ -215,7 +212,7 @@ module _ (s : Site) (p : Posted) (l : EndLink) (pool' : Pool) (qs' : List (Name 
   pub refused-keeps : Keeps s refused (p ∷ []) (count_at s.send 1)
   refused-keeps =
       let whole : untold_by s.end.link ++ p ∷ [] ≡ (p ∷ []) ++ untold_by s.end.link =
-          ap (λ ps. ps ++ p ∷ []) none-left ∙ ap (λ ps. (p ∷ []) ++ ps) (sym none-left) in
+      ap (λ ps. ps ++ p ∷ []) none-left ∙ ap (λ ps. (p ∷ []) ++ ps) (sym none-left) in
       record {
         end = record { number = refl; domain = refl; send_depth = refl; recv_depth = refl };
         untold = record { gone = 1; left = none-left ∙ sym (ap (λ ps. drop 1 (ps ++ p ∷ [])) none-left) };
@@ -230,7 +227,6 @@ module _ (s : Site) (p : Posted) (l : EndLink) (pool' : Pool) (qs' : List (Name 
 
 module _ (s : Site) (r : Receive) (qs' : List (Name × Queue)) (sound : IsSound s (count_at s.recv 1)) (failed : is_ended_link s.end.link ≡ true)
     (queues : qs' ≡ settle_at s.queues s.recv 1 (failed_receive s.end.number status.Flush r ∷ [])) where
-
   in-error : is_in_error (option_map (link_in s.pool) s.end.link) ≡ true
   in-error = by_link s.end.link failed
     where
@@ -271,7 +267,6 @@ module _ (s : Site) (r : Receive) (qs' : List (Name × Queue)) (sound : IsSound 
 module _ (s : Site) (r : Receive) (rs' : WorkQueue Receive) (sound : IsSound s (count_at s.recv 1)) (running : is_ended_link s.end.link ≡ false)
     (place : IsPlace s.held s.end.domain r) (queued : rs' ≡ queueing s.end.recvs r)
     (serves : (v : Receiving) → IsServing s.held s.end.domain v s.end.recvs.items → IsServing s.held s.end.domain v (s.end.recvs.items ++ r ∷ [])) where
-
   -- the site after it
   abbrev pub received : Site
   received = record s { end = record s.end { recvs = rs' } }
@@ -297,8 +292,8 @@ module _ (s : Site) (r : Receive) (rs' : WorkQueue Receive) (sound : IsSound s (
   received-work place =
       let n : ℕ = length s.end.recvs.items + length (used_by s.end.link) in
       let after : promised s.send s.recv received.end place ≡ count_at s.send (length (untold_by s.end.link)) place + count_at s.recv (suc n) place =
-          ap (λ k. count_at s.send (length (untold_by s.end.link)) place + count_at s.recv (k + length (used_by s.end.link)) place) (ap length items ∙ length-push s.end.recvs.items r)
-          ∙ ap (λ k. count_at s.send (length (untold_by s.end.link)) place + count_at s.recv k place) (suc-more (length s.end.recvs.items) (length (used_by s.end.link))) in
+      ap (λ k. count_at s.send (length (untold_by s.end.link)) place + count_at s.recv (k + length (used_by s.end.link)) place) (ap length items ∙ length-push s.end.recvs.items r)
+      ∙ ap (λ k. count_at s.send (length (untold_by s.end.link)) place + count_at s.recv k place) (suc-more (length s.end.recvs.items) (length (used_by s.end.link))) in
       let more = count-more s.recv n place in
       omega (arith, after, more)
     where

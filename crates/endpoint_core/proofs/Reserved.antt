@@ -1,6 +1,6 @@
 -- What the protocol reserves for an end, queue by queue.
-use Rattle.std.proofs.Common.{◌≡◌, ◌≢◌, ℕ, zero, suc, ◌+◌, ◌<◌, Bool, true, false, List, [], ◌∷◌, length, refl, ap, sym, ◌∙◌, arith, subst}
-use Rattle.std.specs.Prelude.{◌==◌, Option, Some, None, bytes_eq, option_map, position, slice_get, if◌then◌else◌}
+use Rattle.std.proofs.Common.{◌≡◌, ℕ, zero, suc, ◌+◌, ◌<◌, Bool, true, false, List, [], ◌∷◌, length, refl, ap, sym, ◌∙◌, arith, subst}
+use Rattle.std.specs.Prelude.{◌==◌, Option, Some, None, bytes_eq, option_map, position, slice_get}
 use Rattle.std.specs.List.{AllByRecursion, IsDistinct}
 use Rattle.std.specs.Map.{keys_of}
 use Rattle.std.proofs.Math.ListN.{get_or}
@@ -18,7 +18,7 @@ use Rattle.protocol.specs.Refusals.{count_if, reserved_by}
 use Rattle.endpoint_core.specs.declared.end.Endpoint.{Endpoint}
 use Rattle.endpoint_core.specs.declared.end.EndLink.{EndLink}
 use Rattle.endpoint_core.specs.Ends.{Names, end_in, link_in, untold_by, used_by}
-use Rattle.endpoint_core.specs.Queues.{StandsAt, count_at, promised, receives_of}
+use Rattle.endpoint_core.specs.Queues.{StandsAt, promised}
 
 -- a key is not behind itself
 apart-at : (ks : List Name) (i : ℕ) (k : Name) → AllByRecursion (λ y. bytes_eq k y ≡ false) ks → slice_get ks i ≡ Some k → ⊥
@@ -61,9 +61,9 @@ eq-place ks here own place name distinct at other = by_test (here == place) refl
         by_name : (b : Bool) → bytes_eq own name ≡ b → bytes_eq own name ≡ false
         by_name false n = n
         by_name true n = absurd (
-          let is : own ≡ name = name_is own name n in
-          let same : here ≡ place = same-key ks here place name distinct (at ∙ ap (λ z. Some z) is) other in
-          let yes : (here == place) ≡ true = grind (arith, nat_tests, same) in cc)
+            let is : own ≡ name = name_is own name n in
+            let same : here ≡ place = same-key ks here place name distinct (at ∙ ap (λ z. Some z) is) other in
+            let yes : (here == place) ≡ true = grind (arith, nat_tests, same) in cc)
 
 length-untold : (pool : Pool) (o : Option EndLink) → length (untold_of (option_map (link_in pool) o)) ≡ length (untold_by o)
 length-untold pool None = refl

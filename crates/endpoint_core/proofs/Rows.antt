@@ -1,14 +1,13 @@
 -- The rows of the table of transmissions look at no payload.
-use Rattle.std.proofs.Common.{◌≡◌, ℕ, zero, suc, ◌+◌, ◌-◌, ◌≤◌, ◌<◌, Bool, true, false, List, [], ◌∷◌, length, refl, ap, sym, ◌∙◌, arith, subst}
-use Rattle.std.specs.Prelude.{◌==◌, ◌&&◌, min, All, Option, Some, None, map, nat_le, nat_lt, option_map, slice_get, unwrap_or, if◌then◌else◌}
+use Rattle.std.proofs.Common.{◌≡◌, ℕ, zero, suc, ◌+◌, ◌-◌, ◌<◌, Bool, true, false, List, [], ◌∷◌, length, refl, ap, sym, ◌∙◌, arith, subst}
+use Rattle.std.specs.Prelude.{◌==◌, ◌&&◌, min, All, Option, Some, None, nat_le, nat_lt, slice_get, unwrap_or, if◌then◌else◌}
 use Rattle.rdma_types.specs.declared.names.Name.{Name}
 use Rattle.rdma_types.specs.declared.requests.Terms.{Terms}
-use Rattle.rdma_types.specs.Kinds.{is_read, lands, takes_bytes}
+use Rattle.rdma_types.specs.Kinds.{lands, takes_bytes}
 use Rattle.rdma_types.specs.Limits.{window}
 use Rattle.rdma_types.specs.Objects as objects
 use Rattle.rdma_types.specs.Objects.{no_posted}
-use Rattle.rdma_types.specs.Spans.{Piece, end_number, first_number, next_landing, piece_at, piece_of, request_of, span_of}
-use Rattle.rdma_types.proofs.Numbers as numbers
+use Rattle.rdma_types.specs.Spans.{Piece, end_number, first_number, next_landing, piece_at, request_of, span_of}
 use Rattle.page_pool.specs.Pool.{Pool, bytes_in}
 use Rattle.page_pool.specs.Held.{HoldsPayload, payload_bytes}
 use Rattle.memory_keys.specs.declared.Held.{Held}
@@ -75,11 +74,11 @@ bare_next : (t : Terms) (s : Sender) (o : Option Piece) → bare_row (next_trans
 unfolding next_transmission
 bare_next t s None = refl
 bare_next t s (Some x) = elim (lands x.posted.request.shape.kind && nat_le t.reads (reads_in_flight s.untold t.mtu s.first s.una s.next)) as
-  (λ b. bare_row (if b then ReadsAreFull else if x.posted.request.fence && (x.k == 0 && nat_lt (barrier t s) s.next) then IsFenced else Sends x)
-      ≡ (if b then ReadsAreFull else if x.posted.request.fence && (x.k == 0 && nat_lt (barrier t s) s.next) then IsFenced else Sends (bare_of x))) [
-    | true ↦ refl
-    | false ↦ elim (x.posted.request.fence && (x.k == 0 && nat_lt (barrier t s) s.next)) as (λ b. bare_row (if b then IsFenced else Sends x) ≡ (if b then IsFenced else Sends (bare_of x))) [ true ↦ refl | false ↦ refl ]
-  ]
+    (λ b. bare_row (if b then ReadsAreFull else if x.posted.request.fence && (x.k == 0 && nat_lt (barrier t s) s.next) then IsFenced else Sends x)
+    ≡ (if b then ReadsAreFull else if x.posted.request.fence && (x.k == 0 && nat_lt (barrier t s) s.next) then IsFenced else Sends (bare_of x))) [
+      | true ↦ refl
+      | false ↦ elim (x.posted.request.fence && (x.k == 0 && nat_lt (barrier t s) s.next)) as (λ b. bare_row (if b then IsFenced else Sends x) ≡ (if b then IsFenced else Sends (bare_of x))) [ true ↦ refl | false ↦ refl ]
+    ]
 
 -- a next row from the tests that it makes
 row_by : (waits idle full : Bool) → Transmission → Transmission
@@ -174,10 +173,10 @@ said-piece t pool v number index (Sends x) next is at =
     let same : bare_of x ≡ piece_said t (sender_of v) number index = cc in
     let place : request_of (untold_in pool v.items) t.mtu (v.numbers.next - v.numbers.first) ≡ index = place_same pool v.items t.mtu (v.numbers.next - v.numbers.first) ∙ sym at in
     let there : slice_get (untold_in pool v.items) index ≡ Some x.posted =
-        sym (ap (λ i. slice_get (untold_in pool v.items) i) place) ∙ sent-request t (sender_in pool v) x next in
+    sym (ap (λ i. slice_get (untold_in pool v.items) i) place) ∙ sent-request t (sender_in pool v) x next in
     let posted : request_at (sender_in pool v) index ≡ x.posted = ap (λ o. unwrap_or o no_posted) there in
     let k : number - (v.numbers.first + first_number (untold_in pool v.items) t.mtu index) ≡ x.k =
-        ap (λ n. number - (v.numbers.first + n)) (first_same pool v.items t.mtu index) ∙ sym (ap (λ (y : Piece). y.k) same) in
+    ap (λ n. number - (v.numbers.first + n)) (first_same pool v.items t.mtu index) ∙ sym (ap (λ (y : Piece). y.k) same) in
     ap (λ (p : objects.Posted). Sends (record { posted = p; k = number - (v.numbers.first + first_number (untold_in pool v.items) t.mtu index) })) posted
     ∙ ap (λ n. Sends (record { posted = x.posted; k = n })) k
 

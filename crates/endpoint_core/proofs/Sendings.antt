@@ -1,10 +1,9 @@
 -- What a connected end transmits.
-use Rattle.std.proofs.Common.{◌≡◌, ℕ, Bool, true, false, List, refl, ap, sym, ◌∙◌, subst}
+use Rattle.std.proofs.Common.{◌≡◌, true, false, List, refl, ap, sym, ◌∙◌, subst}
 use Rattle.std.specs.Prelude.{All}
 use Rattle.rdma_types.specs.declared.names.Name.{Name}
 use Rattle.page_pool.specs.Pool.{Pool}
 use Rattle.memory_keys.specs.declared.Held.{Held}
-use Rattle.move_core.specs.declared.Phase.{Phase}
 use Rattle.move_core.specs.declared.Phase.TheVariants as phase
 use Rattle.move_core.specs.Table.{phase_of}
 use Rattle.protocol.specs.EndWords.{with_sender}
@@ -50,8 +49,8 @@ pub row-running : (pool : Pool) (l : EndLink) (r : Transmit) → l.ended ≡ fal
 row-running pool l r ended is same row head =
     runs pool l ended is
     ∙ row-said l.terms pool l.requester r
-      (subst (λ t. row_said t (sender_of l.requester) r ≡ next_row t (sender_of l.requester)) same row)
-      (subst (λ t. IsHeadOf t (sender_of l.requester) r) same head)
+    (subst (λ t. row_said t (sender_of l.requester) r ≡ next_row t (sender_of l.requester)) same row)
+    (subst (λ t. IsHeadOf t (sender_of l.requester) r) same head)
 
 pub packet-is : (pool : Pool) (held : List Held) (domain : Name) (l : EndLink) (r : Transmit) → l.requester.terms ≡ l.terms → All (IsPosted pool held domain) l.requester.items
     → row_said l.requester.terms (sender_of l.requester) r ≡ next_row l.requester.terms (sender_of l.requester) → IsHeadOf l.requester.terms (sender_of l.requester) r
@@ -86,7 +85,7 @@ pub sent-running : (pool : Pool) (l : EndLink) (new : Sending) → l.ended ≡ f
 unfolding with_sender
 sent-running pool l new ended is same numbers items =
     let numbers' : sender_of new ≡ after_row l.terms (sender_of l.requester) (next_row l.terms (sender_of l.requester)) =
-        numbers ∙ ap (λ t. after_row t (sender_of l.requester) (next_row t (sender_of l.requester))) same in
+    numbers ∙ ap (λ t. after_row t (sender_of l.requester) (next_row t (sender_of l.requester))) same in
     after-link (link_in pool l) (transmission (link_in pool l))
     ∙ (ap (λ r. with_sender (link_in pool l) (after_row l.terms (sender_in pool l.requester) r)) (runs pool l ended is)
     ∙ ap (λ s. record (link_in pool l) { sender = s }) (sym (after-row l.terms pool l.requester new numbers' items)))

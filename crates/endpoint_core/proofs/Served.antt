@@ -1,5 +1,5 @@
 -- The step of an end on a request.
-use Rattle.std.proofs.Common.{◌≡◌, ◌≢◌, ℕ, zero, suc, ◌+◌, ◌-◌, ◌≤◌, Bool, true, false, List, [], ◌∷◌, ◌++◌, drop, length, refl, ap, sym, ◌∙◌, arith, subst}
+use Rattle.std.proofs.Common.{◌≡◌, ◌≢◌, ℕ, zero, suc, ◌+◌, ◌-◌, ◌≤◌, Bool, true, false, List, [], ◌∷◌, ◌++◌, length, refl, ap, sym, ◌∙◌, arith, subst}
 use Rattle.std.specs.Prelude.{◌==◌, ◌||◌, IfSome, All, nat_eq, Option, Some, None, map, option_map, if◌then◌else◌}
 use Rattle.std.specs.List.{IsDistinct}
 use Rattle.std.specs.Option.{option_map_or}
@@ -16,16 +16,15 @@ use Rattle.rdma_types.specs.declared.requests.WcStatus.TheVariants as status
 use Rattle.rdma_types.specs.Limits.{AreTerms}
 use Rattle.rdma_types.specs.Lists.{at}
 use Rattle.rdma_types.specs.Memory.{local_key}
-use Rattle.rdma_types.specs.Objects.{Region, no_region}
-use Rattle.page_pool.specs.Pool.{Pool, bytes_of, free_pages}
+use Rattle.rdma_types.specs.Objects.{no_region}
+use Rattle.page_pool.specs.Pool.{Pool}
 use Rattle.completion_queue.specs.Queue.{Queue}
 use Rattle.memory_keys.specs.Regions.{regions_of}
 use Rattle.memory_keys.proofs.Protocol.{distinct-keys}
 use Rattle.work_queues.specs.Queue.{Queue as WorkQueue}
-use Rattle.work_queues.specs.Untold.{untold_in}
 use Rattle.protocol.specs.declared.wire.Syndrome.{Syndrome}
 use Rattle.protocol.specs.declared.wire.Syndrome.TheVariants.{Ack, Rnr, Nak}
-use Rattle.protocol.specs.EndWords.{EndStep, completing, failed_receive, in_use_by, linked, with_end, with_link, with_receiver, with_unused}
+use Rattle.protocol.specs.EndWords.{completing, failed_receive, in_use_by, linked, with_end, with_link, with_receiver, with_unused}
 use Rattle.protocol.specs.Memory.{region_of_key}
 use Rattle.protocol.specs.Numbers.{wire_number}
 use Rattle.protocol.specs.Requester.{ended_link, ended_with, failing}
@@ -35,7 +34,6 @@ use Rattle.protocol.specs.Wire.{Fits, Packet, plain, wire_of}
 use Rattle.responder.specs.declared.answers.Reply.{Reply}
 use Rattle.responder.specs.declared.answers.Reply.TheVariants as served
 use Rattle.responder.specs.Receiving.{waiting}
-use Rattle.responder.specs.Sound.{IsSound as IsServing}
 use Rattle.responder.specs.Steps.{completing_all, context_after, end_after, link_after, step_by, step_of, with_regions}
 use Rattle.responder.specs.Taken.{IsAsBefore, IsRead, Leaves}
 use Rattle.responder.specs.Taking.{Around, Taking, send_taking, taken_request, taking, too_long_taking, word_taking, write_taking}
@@ -48,7 +46,6 @@ use Rattle.end_memory.specs.Payloads.{payload_lists, payload_pages}
 use Rattle.end_memory.proofs.Given.{AreKept, pages-kept}
 use Rattle.end_memory.proofs.Told.{settled-none}
 use Rattle.endpoint_core.specs.declared.answers.EndReply.TheVariants as reply
-use Rattle.endpoint_core.specs.declared.end.Endpoint.{Endpoint}
 use Rattle.endpoint_core.specs.declared.end.EndLink.{EndLink}
 use Rattle.endpoint_core.specs.Answers.{IsReply, sent_by, sent_of}
 use Rattle.endpoint_core.specs.declared.answers.EndReply.{EndReply}
@@ -56,7 +53,7 @@ use Rattle.rdma_types.specs.Spans.{pieces}
 use Rattle.memory_keys.specs.declared.Held.{Held}
 use Rattle.endpoint_core.specs.Ends.{KeepsPartner, Names, link_in, untold_by}
 use Rattle.endpoint_core.specs.Flushed.{all_receives}
-use Rattle.endpoint_core.specs.Queues.{StandsAt, count_at, nothing, promised, queues_of, reserved_in, settle_at}
+use Rattle.endpoint_core.specs.Queues.{StandsAt, count_at, nothing, promised, queues_of, settle_at}
 use Rattle.endpoint_core.specs.Served.{HasServed, request_answer}
 use Rattle.endpoint_core.specs.Sites.{IsHome, IsSound, Keeps, Site, end_at, home}
 use Rattle.endpoint_core.specs.Sound.{IsLinked, IsPosted}
@@ -133,7 +130,6 @@ module _ (s : Site) (l l' : EndLink) (d : Packet) (pool' : Pool) (rs' : WorkQueu
     (sound : IsSound s nothing) (is : s.end.link ≡ Some l) (running : l.ended ≡ false) (fits : Fits d)
     (row : T ≡ taken_request l.responder.terms s.end.domain s.end.number l.responder.receiver (regions_of s.pool s.held) s.end.recvs.items d)
     (did : HasServed s.recv s.end.domain T l l' s.end.recvs rs' s.pool pool' s.held s.queues qs') where
-
   -- the site after it
   abbrev pub after : Site
   after = record s { pool = pool'; queues = qs'; end = record s.end { recvs = rs'; link = Some l' } }
@@ -174,10 +170,10 @@ module _ (s : Site) (l l' : EndLink) (d : Packet) (pool' : Pool) (rs' : WorkQueu
   as-was c names at same =
       let queues : qs' ≡ s.queues = did.queues ∙ (ap (λ w. settle_at s.queues s.recv (length w) w) same.done ∙ settle-none s.queues s.recv) in
       let end : end_at names after ≡ end_at names s =
-          sym (end-is names)
-          ∙ (ap (λ us. record (end_at names s) { unused = us; link = Some (record (link_in s.pool l) { receiver = T.receiver }) }) same.unused
-          ∙ (ap (λ r. record (end_at names s) { link = Some (record (link_in s.pool l) { receiver = r }) }) same.receiver
-          ∙ ap (λ o. record (end_at names s) { link = option_map (link_in s.pool) o }) (sym is))) in
+      sym (end-is names)
+      ∙ (ap (λ us. record (end_at names s) { unused = us; link = Some (record (link_in s.pool l) { receiver = T.receiver }) }) same.unused
+      ∙ (ap (λ r. record (end_at names s) { link = Some (record (link_in s.pool l) { receiver = r }) }) same.receiver
+      ∙ ap (λ o. record (end_at names s) { link = option_map (link_in s.pool) o }) (sym is))) in
       ap (λ rs. with_end (record c { regions = rs; queues = queues_of qs' }) (end_at names after)) (did.bytes ∙ same.regions)
       ∙ (ap (λ qs. with_end (record c { regions = regions_of s.pool s.held; queues = queues_of qs }) (end_at names after)) queues
       ∙ (ap (λ e. with_end (record c { regions = regions_of s.pool s.held; queues = queues_of s.queues }) e) end
@@ -204,8 +200,8 @@ module _ (s : Site) (l l' : EndLink) (d : Packet) (pool' : Pool) (rs' : WorkQueu
   protocol-step c names at =
       let distinct = subst (λ rs. IsDistinct nat_eq (map local_key rs)) (sym at.regions) (distinct-keys s.pool s.held did.keyed) in
       let same : taken_request l.terms s.end.domain s.end.number l.responder.receiver c.regions s.end.recvs.items d ≡ T =
-          ap (λ t. taken_request t s.end.domain s.end.number l.responder.receiver c.regions s.end.recvs.items d) (sym before.serving_terms)
-          ∙ (ap (λ rs. taken_request l.responder.terms s.end.domain s.end.number l.responder.receiver rs s.end.recvs.items d) at.regions ∙ sym row) in
+      ap (λ t. taken_request t s.end.domain s.end.number l.responder.receiver c.regions s.end.recvs.items d) (sym before.serving_terms)
+      ∙ (ap (λ rs. taken_request l.responder.terms s.end.domain s.end.number l.responder.receiver rs s.end.recvs.items d) at.regions ∙ sym row) in
       request-row c (end_at names s) (link_in s.pool l) d distinct
       ∙ ap (λ (t : Taking). step_by c (end_at names s) (link_in s.pool l) t t.reply) same
 
@@ -292,9 +288,9 @@ module _ (s : Site) (l l' : EndLink) (d : Packet) (pool' : Pool) (rs' : WorkQueu
       let numbers = subst (λ r. Leaves l.responder.receiver (regions_of s.pool s.held) s.end.recvs.items T r) refused leaves in
       let regions : regions_of s.pool s.held ≡ regions_of pool' s.held = sym (did.bytes ∙ writes-none (ap writes_none refused)) in
       let told : completing_all c names.recv_cq T.done ≡ x =
-          all-settles c s.queues names.recv_cq s.recv T.done at.queues at.recv
-          ∙ (ap (λ qs. record c { queues = queues_of qs }) (sym did.queues)
-          ∙ ap (λ rs. record c { regions = rs; queues = queues_of qs' }) (at.regions ∙ regions)) in
+      all-settles c s.queues names.recv_cq s.recv T.done at.queues at.recv
+      ∙ (ap (λ qs. record c { queues = queues_of qs }) (sym did.queues)
+      ∙ ap (λ rs. record c { regions = rs; queues = queues_of qs' }) (at.regions ∙ regions)) in
       let e1 : End = end_at names after in
       let a : List Sent = acknowledge (link_in s.pool l) l.responder.receiver.expected (Nak (nak_code w)) ∷ [] in
       protocol-step c names at
@@ -303,10 +299,10 @@ module _ (s : Site) (l l' : EndLink) (d : Packet) (pool' : Pool) (rs' : WorkQueu
       ∙ (ap (λ y. record { context = ended_with x (with_unused e T.unused) y status.Flush; took = took.Refused w; sent = a }) link
       ∙ (ap (λ us. record { context = ended_with x (record e1 { unused = us }) (link_in pool' l') status.Flush; took = took.Refused w; sent = a }) (sym unused)
       ∙ (ap (λ y. record {
-          context = completing (completing y names.send_cq (failing s.end.number status.Flush (sender_in pool' l'.requester).untold)) names.recv_cq (map (failed_receive s.end.number status.Flush) (in_use_by l'.responder.receiver.progress ++ rs'.items));
-          took = took.Refused w;
-          sent = a;
-        }) (sym (end-twice x e1 (with_link (with_unused e1 []) (ended_link (link_in pool' l'))) refl))
+        context = completing (completing y names.send_cq (failing s.end.number status.Flush (sender_in pool' l'.requester).untold)) names.recv_cq (map (failed_receive s.end.number status.Flush) (in_use_by l'.responder.receiver.progress ++ rs'.items));
+        took = took.Refused w;
+        sent = a;
+      }) (sym (end-twice x e1 (with_link (with_unused e1 []) (ended_link (link_in pool' l'))) refl))
       ∙ ap (λ z. record { context = ended_with (home c names after) (end_at names after) (link_in pool' l') status.Flush; took = took.Refused w; sent = z }) (sent-after s2 w numbers.msn keeps))))))
 
   -- ---- what is kept

@@ -1,6 +1,6 @@
 -- Queues into which work completes, and the places that are reserved in them.
 use Rattle.std.proofs.Common.{◌≡◌, ℕ, zero, suc, ◌+◌, ◌-◌, ◌≤◌, ◌<◌, Bool, true, false, List, [], ◌∷◌, ◌++◌, length, refl, ap, sym, ◌∙◌, arith, subst}
-use Rattle.std.specs.Prelude.{◌==◌, Some, map, slice_get, bytes_eq, position, if◌then◌else◌}
+use Rattle.std.specs.Prelude.{◌==◌, Some, map, slice_get, bytes_eq, position}
 use Rattle.std.specs.Map.{keys_of}
 use Rattle.std.proofs.lemmas.Bool.Decides.{nat_tests}
 use Rattle.std.proofs.lemmas.List.Quantifiers.{position-Some}

@@ -1,12 +1,12 @@
 -- Which table takes a packet.
-use Rattle.std.proofs.Common.{◌≡◌, ℕ, Bool, true, false, List, [], refl, ap, sym, ◌∙◌}
-use Rattle.std.specs.Prelude.{Option, Some, None, option_map, if◌then◌else◌, ⊤}
+use Rattle.std.proofs.Common.{◌≡◌, true, false, List, [], refl, ap, sym, ◌∙◌}
+use Rattle.std.specs.Prelude.{Option, Some, None, option_map, if◌then◌else◌}
 use Rattle.rdma_types.specs.declared.answers.SilentWhy.TheVariants as why
 use Rattle.memory_keys.specs.declared.Held.{Held}
 use Rattle.move_core.specs.declared.Control.{Control}
 use Rattle.move_core.specs.Table as table
 use Rattle.protocol.specs.EndStep.{takes, takes_kind, takes_other}
-use Rattle.protocol.specs.EndWords.{EndStep, is_paused, silent}
+use Rattle.protocol.specs.EndWords.{is_paused, silent}
 use Rattle.protocol.specs.Moves as moves
 use Rattle.protocol.specs.Requester.{takes_response}
 use Rattle.protocol.specs.Responder.{takes_request}

@@ -1,6 +1,6 @@
 -- The step of an end on a response, whole: nothing, or what lands and is told.
-use Rattle.std.proofs.Common.{◌≡◌, ◌≢◌, ℕ, zero, suc, ◌+◌, Bool, true, false, List, [], ◌∷◌, ◌++◌, drop, length, refl, ap, sym, ◌∙◌, arith, subst}
-use Rattle.std.specs.Prelude.{All, Option, Some, None, IsSome, is_some}
+use Rattle.std.proofs.Common.{◌≡◌, ◌≢◌, ℕ, zero, suc, ◌+◌, Bool, true, false, List, [], ◌∷◌, ◌++◌, drop, refl, ap, sym, ◌∙◌, arith, subst}
+use Rattle.std.specs.Prelude.{All, Some, IsSome, is_some}
 use Rattle.std.proofs.Math.Seq.{drop-nil}
 use Rattle.std.proofs.lemmas.List.Elements.{All-tail}
 use Rattle.rdma_types.specs.declared.names.Name.{Name}
@@ -86,8 +86,8 @@ keeps-both a b c send recv one two =
       };
       kept =
           let rest : All (λ p. bytes_of b.pool p.payload.list ≡ bytes_of a.pool p.payload.list) (untold_by c.end.link) =
-              subst (λ ps. All (λ p. bytes_of b.pool p.payload.list ≡ bytes_of a.pool p.payload.list) ps) (sym (two.untold.left ∙ ap (drop two.untold.gone) mid))
-              (all-rest (λ p. bytes_of b.pool p.payload.list ≡ bytes_of a.pool p.payload.list) two.untold.gone (untold_by b.end.link) one.kept) in
+          subst (λ ps. All (λ p. bytes_of b.pool p.payload.list ≡ bytes_of a.pool p.payload.list) ps) (sym (two.untold.left ∙ ap (drop two.untold.gone) mid))
+          (all-rest (λ p. bytes_of b.pool p.payload.list ≡ bytes_of a.pool p.payload.list) two.untold.gone (untold_by b.end.link) one.kept) in
           λ i p within. two.kept i p within ∙ rest i p within;
       free = let x = two.free in let y = one.free in let same = ap (payload_pages b.pool) mid in omega (arith, x, y, same);
       queues = record {
@@ -125,7 +125,6 @@ module _ (s : Site) (l l' : EndLink) (d : Packet) (T : Taken) (pool' : Pool) (he
     (taken : T ≡ (taken_response l.requester.terms (sender_of l.requester) d).taken) (regions : held' ≡ s.held)
     (link : is_useless T ≡ true → l' ≡ l) (pool : is_useless T ≡ true → pool' ≡ s.pool) (queues : is_useless T ≡ true → qs' ≡ s.queues)
     (answered : is_useless T ≡ false → HasAnswered s.end.number s.send (taken_response l.requester.terms (sender_of l.requester) d).sender d T l l' s.pool pool' s.held s.queues qs') where
-
   -- the site after it
   abbrev pub after : Site
   after = record s { pool = pool'; held = held'; queues = qs'; end = record s.end { link = Some l' } }
@@ -136,10 +135,10 @@ module _ (s : Site) (l l' : EndLink) (d : Packet) (T : Taken) (pool' : Pool) (he
       by_busy : (b : Bool) → is_useless T ≡ b → IsStep s after l d T
       by_busy true u =
           let same : s ≡ after =
-              same-site s l l' is (link u)
-              ∙ (ap (λ p. record s { pool = p; end = record s.end { link = Some l' } }) (sym (pool u))
-              ∙ (ap (λ h. record s { pool = pool'; held = h; end = record s.end { link = Some l' } }) (sym regions)
-              ∙ ap (λ q. record s { pool = pool'; held = held'; queues = q; end = record s.end { link = Some l' } }) (sym (queues u)))) in
+          same-site s l l' is (link u)
+          ∙ (ap (λ p. record s { pool = p; end = record s.end { link = Some l' } }) (sym (pool u))
+          ∙ (ap (λ h. record s { pool = pool'; held = h; end = record s.end { link = Some l' } }) (sym regions)
+          ∙ ap (λ q. record s { pool = pool'; held = held'; queues = q; end = record s.end { link = Some l' } }) (sym (queues u)))) in
           record {
             step = λ c names at.
                 useless-step s l l' d T pool' qs' sound is running old taken c names u
@@ -150,7 +149,7 @@ module _ (s : Site) (l l' : EndLink) (d : Packet) (T : Taken) (pool' : Pool) (he
       by_busy false u =
           let S = (taken_response l.requester.terms (sender_of l.requester) d).sender in
           let same : record s { pool = pool'; queues = qs'; end = record s.end { link = Some l' } } ≡ after =
-              ap (λ h. record s { pool = pool'; held = h; queues = qs'; end = record s.end { link = Some l' } }) (sym regions) in
+          ap (λ h. record s { pool = pool'; held = h; queues = qs'; end = record s.end { link = Some l' } }) (sym regions) in
           record {
             step = λ c names at.
                 alive-step s l l' d T pool' qs' sound is running old taken c names at u alive (answered u)

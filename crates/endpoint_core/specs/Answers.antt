@@ -32,7 +32,6 @@ use Rattle.protocol.specs.DeviceStep.{posted_at}
 use Rattle.protocol.specs.EndStep.{takes}
 use Rattle.protocol.specs.Wire.{Packet}
 use Rattle.protocol.specs.EndWords.{EndStep, silent, completing, failed_receive, linked, to_partner, with_end, with_sender, with_unused, is_in_error}
-use Rattle.requester.specs.declared.answers.Transmit.{Transmit}
 use Rattle.requester.specs.declared.answers.Transmit.TheVariants.{Sent as IsSent, Idle, WindowFull, ReadsFull, Fenced, Waiting}
 use Rattle.requester.specs.Sending.{sender_in}
 use Rattle.requester.specs.Taking.{request_at}

@@ -1,6 +1,5 @@
 -- What a request does at a connected end.
 use Rattle.std.specs.Prelude.{ℕ, ◌≡◌, ◌-◌, List, length}
-use Rattle.rdma_types.specs.declared.answers.SilentWhy.TheVariants as why
 use Rattle.rdma_types.specs.declared.answers.Took.TheVariants as took
 use Rattle.rdma_types.specs.declared.names.Name.{Name}
 use Rattle.rdma_types.specs.declared.requests.Receive.{Receive}

@@ -3,7 +3,6 @@ use Rattle.std.specs.Prelude.{ℕ, ◌≡◌, ◌≢◌, ◌+◌, ◌<◌, ◌�
 pub use Rattle.end_memory.specs.Payloads.{payload_lists, payload_pages}
 use Rattle.std.specs.List.{IsDistinct}
 use Rattle.rdma_types.specs.declared.names.Name.{Name}
-use Rattle.rdma_types.specs.declared.requests.Receive.{Receive}
 use Rattle.rdma_types.specs.declared.requests.Request.{Request}
 use Rattle.rdma_types.specs.Kinds.{takes_bytes}
 use Rattle.rdma_types.specs.Limits.{AreTerms}

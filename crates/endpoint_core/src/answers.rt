@@ -1,8 +1,8 @@
 //! What the calls of an end answer.
 
 use memory_keys::Spot;
-use requester::Transmit;
 use rdma_types::{Address, Took};
+use requester::Transmit;
 use roce_headers::Syndrome;
 
 /// The end is connected already.

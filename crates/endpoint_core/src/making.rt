@@ -50,6 +50,7 @@ impl Endpoint {
         requires queue { HoldsQueue self.old.send_depth self.old.unlinked self.old.link }
         ensures state { IsErr result ↔ IsSome self.old.link }
         ensures linked { OnOk result (IsSome self.new.link) }
+        ensures queue { HoldsQueue self.new.send_depth self.new.unlinked self.new.link }
         ensures step { OnOk result ((s : Site) → s.end ≡ self.old → (c : Context) (names : Names) → IsHome c names s
             → linked c (end_at names s) (fresh_link peer partner terms.now) ≡ home c names (record s { end = self.new })) }
         ensures sound { OnOk result ((pool : Pool) (held : List Held) → IsEnd pool held self.old → IsEnd pool held self.new) }

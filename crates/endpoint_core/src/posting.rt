@@ -57,14 +57,7 @@ impl Endpoint {
             send,
             recv: _,
         } = memory;
-        fail_at(
-            &mut *queues,
-            send,
-            p,
-            number,
-            WcStatus::Flush,
-            &mut *pool,
-        );
+        fail_at(&mut *queues, send, p, number, WcStatus::Flush, &mut *pool);
         Ok(())
     }
 

@@ -1,4 +1,4 @@
-use Rattle.std.proofs.Common.{◌≡◌, ◌∙◌, Some, rules}
+use Rattle.std.proofs.Common.{◌≡◌, Some, rules}
 use Rattle.std.specs.Prelude.{map, slice_get}
 use Rattle.endpoint_core.proofs.Settled.{settle-set}
 use Rattle.endpoint_core.proofs.queues.push_at.Goals as goal

@@ -4,10 +4,9 @@ use Rattle.rdma_types.specs.declared.requests.Request.{Request}
 use Rattle.rdma_types.specs.Memory.{word_bytes}
 use Rattle.rdma_types.specs.Objects.{no_posted}
 use Rattle.protocol.specs.Memory.{landed}
-use Rattle.protocol.specs.State.{Context}
 use Rattle.roce_headers.specs.Packets.{packet}
 use Rattle.memory_keys.specs.Regions.{AreHeld, regions_of}
-use Rattle.requester.specs.Sending.{bare, bares}
+use Rattle.requester.specs.Sending.{bares}
 use Rattle.requester.proofs.Bares.{bare_at}
 use Rattle.endpoint_core.specs.Responded.{landed_by, request_in}
 use Rattle.endpoint_core.proofs.responding.land_taken.Goals as goal

@@ -1,7 +1,5 @@
 use Rattle.std.proofs.Common.{◌≡◌, ◌∙◌, None, sym, rules}
-use Rattle.protocol.specs.Requester.{not_counted}
-use Rattle.endpoint_core.specs.Ends.{link_in}
-use Rattle.endpoint_core.proofs.Expired.{counted-is, expiry-why, not-counted-never, spent-is}
+use Rattle.endpoint_core.proofs.Expired.{counted-is, not-counted-never}
 use Rattle.endpoint_core.proofs.end.EndLink.expire.Goals as goal
 
 pub returns-in-Counted-clause-answer : goal.returns-in-Counted-clause-answer

@@ -1,9 +1,9 @@
-use Rattle.std.proofs.Common.{◌≡◌, ◌∙◌, ap, sym, subst}
+use Rattle.std.proofs.Common.{◌∙◌, ap, sym, subst}
 use Rattle.roce_headers.specs.Packets.{packet}
 use Rattle.requester.specs.Sending.{bares, sender_of}
 use Rattle.endpoint_core.specs.Responded.{Lands}
 use Rattle.endpoint_core.proofs.Answered.{sending-same, useless-taken}
-use Rattle.endpoint_core.proofs.Answering.{IsRow, response_row}
+use Rattle.endpoint_core.proofs.Answering.{response_row}
 use Rattle.endpoint_core.proofs.end.EndLink.respond.Goals as goal
 
 pub returns-then-is_useless-clause-useless_link : goal.returns-then-is_useless-clause-useless_link

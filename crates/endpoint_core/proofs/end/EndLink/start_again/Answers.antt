@@ -1,4 +1,4 @@
-use Rattle.std.proofs.Common.{◌≡◌, ◌∙◌, ap}
+use Rattle.std.proofs.Common.{◌∙◌, ap}
 use Rattle.protocol.specs.Requester.{rewound, waited_out}
 use Rattle.requester.specs.Sending.{sender_of}
 use Rattle.endpoint_core.proofs.Rows.{sender-in}

@@ -1,4 +1,4 @@
-use Rattle.std.proofs.Common.{◌≡◌, ◌∙◌, ap, sym}
+use Rattle.std.proofs.Common.{ap, sym}
 use Rattle.protocol.specs.EndWords.{with_sender}
 use Rattle.protocol.specs.Requester.{waited_out}
 use Rattle.requester.specs.Sending.{sender_of}

@@ -1,12 +1,11 @@
-use Rattle.std.proofs.Common.{◌≡◌, ◌∙◌, Some, ap, sym, subst, rules}
+use Rattle.std.proofs.Common.{◌∙◌, ap, sym}
 use Rattle.std.specs.Option.{option_map}
 use Rattle.protocol.specs.Requester.{not_counted}
 use Rattle.endpoint_core.specs.Answers.{IsExpiry, expired_at, expiry_of, link_after_expiry}
 use Rattle.endpoint_core.specs.Ends.{link_in}
-use Rattle.endpoint_core.specs.Queues.{nothing}
-use Rattle.endpoint_core.specs.Sites.{IsHome, IsSound, Keeps, end_at, home, site_at, site_of}
-use Rattle.endpoint_core.proofs.Expired.{answer-spent, expired-few, expired-spent}
-use Rattle.endpoint_core.proofs.Frames.{home-linked, link-keeps, link-of, link-sound, linked-same, same-site}
+use Rattle.endpoint_core.specs.Sites.{end_at, site_of}
+use Rattle.endpoint_core.proofs.Expired.{expired-few}
+use Rattle.endpoint_core.proofs.Frames.{home-linked, link-keeps, link-of, link-sound, linked-same}
 use Rattle.endpoint_core.proofs.end.Endpoint.expire.Goals as goal
 
 pub returns-clause-answer : goal.returns-clause-answer

@@ -1,15 +1,11 @@
-use Rattle.std.proofs.Common.{◌≡◌, ◌+◌, ◌≤◌, ◌<◌, ◌++◌, ◌∙◌, ℕ, Some, ap, sym, subst, refl, arith, length, rules}
-use Rattle.std.specs.Prelude.{Option, map}
+use Rattle.std.proofs.Common.{◌≡◌, ◌+◌, ◌≤◌, ◌<◌, ◌++◌, ◌∙◌, ℕ, Some, ap, sym, subst, refl, arith, length}
 use Rattle.std.specs.Option.{option_map}
-use Rattle.rdma_types.specs.declared.requests.WcStatus.TheVariants.{Flush}
-use Rattle.protocol.specs.EndWords.{failed_receive, in_use_by}
 use Rattle.protocol.specs.Requester.{failing}
 use Rattle.requester.specs.Sending.{bares}
-use Rattle.end_memory.specs.Completing.{listed}
 use Rattle.endpoint_core.specs.Answers.{failed_at}
 use Rattle.endpoint_core.specs.Flushed.{IsFlushed, all_receives}
 use Rattle.endpoint_core.specs.Ends.{link_in}
-use Rattle.endpoint_core.specs.Queues.{count_at, nothing, reserved_in, settle_at}
+use Rattle.endpoint_core.specs.Queues.{count_at, nothing, reserved_in}
 use Rattle.endpoint_core.specs.Sites.{IsSound, Site, end_at, site_of}
 use Rattle.endpoint_core.specs.declared.end.EndLink.{EndLink}
 use Rattle.endpoint_core.proofs.Ended.{failed-keeps, failed-sound, failed-step, flushed-both, promised-is, receives-fit, requests-fit}

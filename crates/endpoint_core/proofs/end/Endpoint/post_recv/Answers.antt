@@ -1,10 +1,8 @@
-use Rattle.std.proofs.Common.{◌≡◌, ◌+◌, ◌<◌, ◌≤◌, ◌∙◌, Some, true, false, length, ap, sym, subst, arith, rules}
-use Rattle.std.specs.Prelude.{◌∷◌, [], OnOk}
-use Rattle.std.proofs.lemmas.Grind.{common_steps}
-use Rattle.endpoint_core.specs.Ends.{is_ended_link}
+use Rattle.std.proofs.Common.{◌≡◌, ◌∙◌, ap, sym}
+use Rattle.std.specs.Prelude.{◌∷◌, []}
 use Rattle.work_queues.specs.Queue.{posting as queueing}
 use Rattle.endpoint_core.specs.Queues.{count_at, nothing, settle_at}
-use Rattle.endpoint_core.specs.Sites.{IsSound, Keeps, home, site_of}
+use Rattle.endpoint_core.specs.Sites.{IsSound, Keeps, site_of}
 use Rattle.endpoint_core.proofs.Frames.{on-ok}
 use Rattle.endpoint_core.proofs.Posted.{flushed-keeps, flushed-sound, flushed-step, received-keeps, received-sound, received-step}
 use Rattle.endpoint_core.proofs.end.Endpoint.post_recv.Goals as goal

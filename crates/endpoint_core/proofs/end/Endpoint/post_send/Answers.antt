@@ -1,14 +1,9 @@
-use Rattle.std.proofs.Common.{◌≡◌, ◌+◌, ◌<◌, ◌≤◌, ◌^◌, ◌∙◌, Some, true, false, length, ap, sym, subst, arith, rules}
+use Rattle.std.proofs.Common.{◌≡◌, ◌<◌, ◌∙◌, length, ap, sym, subst, arith}
 use Rattle.std.specs.Prelude.{◌∷◌, [], OnOk}
-use Rattle.std.proofs.lemmas.Grind.{common_steps}
-use Rattle.rdma_types.specs.declared.requests.WcStatus.TheVariants.{Flush}
-use Rattle.rdma_types.specs.Spans.{span}
-use Rattle.protocol.specs.Requester.{end_of_queue}
-use Rattle.requester.specs.Sending.{posting, sender_of}
+use Rattle.requester.specs.Sending.{posting}
 use Rattle.endpoint_core.specs.Ends.{untold_by}
 use Rattle.endpoint_core.specs.Queues.{count_at, nothing}
 use Rattle.endpoint_core.specs.Sites.{IsSound, Keeps, home, site_of}
-use Rattle.endpoint_core.specs.Sound.{IsBelowLimit}
 use Rattle.endpoint_core.proofs.Frames.{link-of, on-both, room-of, with_link'}
 use Rattle.endpoint_core.proofs.Posted.{posted-keeps, posted-sound, posted-step, refused-keeps, refused-sound, refused-step}
 use Rattle.endpoint_core.proofs.end.Endpoint.post_send.Goals as goal
@@ -21,7 +16,7 @@ returns-then-not-link-clause-step c =
     on-both c.post.result (c.post.new.self ≡ record l { requester = posting l.requester c.args.p }) (length l.requester.items < s.end.send_depth) _
     c.post.ensures.ok (subst (λ d. OnOk c.post.result (length l.requester.items < d)) linked.depth (room-of c.post.result (length l.requester.items) l.requester.depth c.post.ensures.full (rw linked.depth linked.fit)))
     (λ same room. λ ctx names at.
-        posted-step s l c.args.p c.requires.sound c.requires.new c.in-Some.is c.if-not-link.true room ctx names at ∙ ap (λ x. home ctx names (with_link' s x)) (sym same))
+    posted-step s l c.args.p c.requires.sound c.requires.new c.in-Some.is c.if-not-link.true room ctx names at ∙ ap (λ x. home ctx names (with_link' s x)) (sym same))
 
 pub returns-then-not-link-clause-sound : goal.returns-then-not-link-clause-sound
 returns-then-not-link-clause-sound c =

@@ -1,4 +1,4 @@
-use Rattle.std.proofs.Common.{◌≡◌, ◌∙◌, Some, ap, sym, subst}
+use Rattle.std.proofs.Common.{◌≡◌, ◌∙◌, Some, ap}
 use Rattle.std.specs.Option.{option_map}
 use Rattle.protocol.specs.EndWords.{with_sender}
 use Rattle.protocol.specs.Requester.{waited_out}

@@ -1,18 +1,15 @@
-use Rattle.std.proofs.Common.{[], ◌≡◌, ◌∙◌, Some, None, true, false, ap, sym, subst, refl, rules}
+use Rattle.std.proofs.Common.{[], ◌≡◌, ◌∙◌, None, ap, sym, subst, refl, rules}
 use Rattle.std.specs.Option.{option_map}
-use Rattle.std.proofs.lemmas.Grind.{common_steps}
 use Rattle.rdma_types.specs.declared.answers.SilentWhy.TheVariants as why
-use Rattle.protocol.specs.EndWords.{EndStep, is_paused, silent}
+use Rattle.protocol.specs.EndWords.{EndStep, silent}
 use Rattle.protocol.specs.Requester.{takes_response}
 use Rattle.protocol.specs.Responder.{takes_request}
 use Rattle.protocol.specs.State.{Context}
-use Rattle.protocol.specs.Wire.{is_request}
 use Rattle.roce_headers.specs.Packets.{packet}
-use Rattle.move_core.specs.Table.{phase_of}
 use Rattle.memory_keys.specs.Regions.{regions_of}
 use Rattle.endpoint_core.specs.Answers.{sent_by, sent_of, taken_at}
 use Rattle.endpoint_core.specs.Ends.{Names, link_in}
-use Rattle.endpoint_core.specs.Sites.{IsHome, Site, end_at, home, site_at, site_of}
+use Rattle.endpoint_core.specs.Sites.{IsHome, end_at, home, site_at, site_of}
 use Rattle.endpoint_core.proofs.Frames.{home-linked, home-same, link-keeps, link-sound, linked-same, same-site, with_link'}
 use Rattle.endpoint_core.proofs.Taken.{ack-reply, none-sent, taken-control, taken-ended, taken-paused, taken-request, taken-response}
 use Rattle.endpoint_core.proofs.end.Endpoint.take.Goals as goal

@@ -1,7 +1,4 @@
-use Rattle.std.proofs.Common.{[], ℕ, List, ◌≡◌, ◌+◌, ◌≤◌, ◌∙◌, Some, ap, sym, subst, refl, arith, length, rules}
-use Rattle.std.specs.Prelude.{IfSome}
-use Rattle.std.specs.Option.{option_map_or}
-use Rattle.rdma_types.specs.declared.answers.Took.{Took}
+use Rattle.std.proofs.Common.{[], ℕ, List, ◌≡◌, ◌∙◌, Some, ap, sym, subst, refl, arith, length}
 use Rattle.rdma_types.specs.declared.names.Name.{Name}
 use Rattle.memory_keys.specs.declared.Held.{Held}
 use Rattle.memory_keys.specs.Regions.{regions_of}
@@ -13,15 +10,13 @@ use Rattle.protocol.specs.State.{Context}
 use Rattle.roce_headers.specs.Packets.{packet}
 use Rattle.rdma_types.specs.declared.requests.WcStatus.TheVariants as status
 use Rattle.responder.specs.declared.answers.Reply.TheVariants as served
-use Rattle.responder.specs.Receiving.{waiting}
-use Rattle.responder.specs.Taken.{IsRead}
-use Rattle.responder.specs.Taking.{Taking, taken_request}
+use Rattle.responder.specs.Taking.{taken_request}
 use Rattle.endpoint_core.specs.declared.answers.EndTook.{EndTook}
 use Rattle.endpoint_core.specs.declared.end.EndLink.{EndLink}
-use Rattle.endpoint_core.specs.Answers.{IsReply, sent_by, sent_of}
+use Rattle.endpoint_core.specs.Answers.{IsReply, sent_of}
 use Rattle.endpoint_core.specs.Ends.{is_ended_link, link_in}
 use Rattle.endpoint_core.specs.Flushed.{all_receives}
-use Rattle.endpoint_core.specs.Queues.{StandsAt, count_at, nothing, reserved_in}
+use Rattle.endpoint_core.specs.Queues.{StandsAt, nothing}
 use Rattle.endpoint_core.specs.Served.{request_answer}
 use Rattle.endpoint_core.specs.Sites.{IsSound, Keeps, Site, end_at, home, site_at, site_of}
 use Rattle.endpoint_core.proofs.Answered.{home-of, home-twice}
@@ -73,14 +68,14 @@ returns-in-Refused-clause-step c = λ ctx names l at is.
     let answer : request_answer c.serve-reply.result k.responder.receiver.expected c.expected-after.result ≡ a = sym (c.answer_of.ensures ∙ ap (λ n. request_answer c.serve-reply.result n c.expected-after.result) c.expected-before.ensures) in
     let refused : request_answer (served.Refused c.in-Refused.field-0) k.responder.receiver.expected c.expected-after.result ≡ a = sym (ap (λ r. request_answer r k.responder.receiver.expected c.expected-after.result) c.in-Refused.is) ∙ answer in
     let stands : (name : Name) (place : ℕ) → StandsAt s.queues name place → StandsAt s1.queues name place =
-        λ name place there. subst (λ qs. StandsAt qs name place) (sym c.serve-reply.ensures.served.queues) (stands-settled s.queues name place s.recv (length t.done) t.done there) in
+    λ name place there. subst (λ qs. StandsAt qs name place) (sym c.serve-reply.ensures.served.queues) (stands-settled s.queues name place s.recv (length t.done) t.done there) in
     let ended : (h : List Held) → Context = λ h. ended_with (home ctx names (record s1 { held = h })) (end_at names s1) (link_in s1.pool l') status.Flush in
     ap (λ (x : EndLink). takes_request ctx (end_at names s) (link_in s.pool x) (packet c.args.d.now)) same
     ∙ (refused-step s k l' (packet c.args.d.now) s1.pool c.serve-reply.new.recvs s1.queues t c.requires.sound c.in-Some.is (sym (ap is_ended_link c.in-Some.is) ∙ c.requires.running) c.requires.fits refl c.serve-reply.ensures.served
-      ctx names c.in-Refused.field-0 s2 at (sym c.serve-reply.ensures.reply ∙ c.in-Refused.is) (c.fail.ensures.partner l' refl)
+    ctx names c.in-Refused.field-0 s2 at (sym c.serve-reply.ensures.reply ∙ c.in-Refused.is) (c.fail.ensures.partner l' refl)
     ∙ (ap (λ h. record { context = ended h; took = (request_answer (served.Refused c.in-Refused.field-0) k.responder.receiver.expected c.expected-after.result).took; sent = sent_of s2 (request_answer (served.Refused c.in-Refused.field-0) k.responder.receiver.expected c.expected-after.result).reply }) (sym c.serve-reply.ensures.regions)
     ∙ (ap (λ x. record { context = x; took = (request_answer (served.Refused c.in-Refused.field-0) k.responder.receiver.expected c.expected-after.result).took; sent = sent_of s2 (request_answer (served.Refused c.in-Refused.field-0) k.responder.receiver.expected c.expected-after.result).reply })
-      (c.fail.ensures.step (home ctx names s1) names (home-of ctx names s1 (stands names.send_cq s.send at.send) (stands names.recv_cq s.recv at.recv)) ∙ home-twice ctx names s1 s2)
+    (c.fail.ensures.step (home ctx names s1) names (home-of ctx names s1 (stands names.send_cq s.send at.send) (stands names.recv_cq s.recv at.recv)) ∙ home-twice ctx names s1 s2)
     ∙ ap (λ (x : EndTook). record { context = home ctx names s2; took = x.took; sent = sent_of s2 x.reply }) refused)))
 
 pub returns-in-Refused-clause-keeps : goal.returns-in-Refused-clause-keeps
@@ -111,13 +106,13 @@ returns-clause-step c = λ ctx names l at is.
     let after : t.receiver.expected ≡ c.expected-after.result = sym (c.expected-after.ensures ∙ ap (λ (x : EndLink). x.responder.receiver.expected) c.serve-reply.ensures.served.same) in
     let a : EndTook = c.answer_of-2.result in
     let answer : request_answer t.reply k.responder.receiver.expected t.receiver.expected ≡ a =
-        ap (λ n. request_answer t.reply k.responder.receiver.expected n) after
-        ∙ (ap (λ r. request_answer r k.responder.receiver.expected c.expected-after.result) (sym c.serve-reply.ensures.reply)
-        ∙ (ap (λ n. request_answer c.serve-reply.result n c.expected-after.result) (sym c.expected-before.ensures) ∙ sym c.answer_of-2.ensures)) in
+    ap (λ n. request_answer t.reply k.responder.receiver.expected n) after
+    ∙ (ap (λ r. request_answer r k.responder.receiver.expected c.expected-after.result) (sym c.serve-reply.ensures.reply)
+    ∙ (ap (λ n. request_answer c.serve-reply.result n c.expected-after.result) (sym c.expected-before.ensures) ∙ sym c.answer_of-2.ensures)) in
     let s1 : (h : List Held) → Site = λ h. record s { pool = c.serve-reply.new.pool; held = h; queues = c.serve-reply.new.queues.entries; end = record s.end { recvs = c.serve-reply.new.recvs; link = Some l' } } in
     ap (λ (x : EndLink). takes_request ctx (end_at names s) (link_in s.pool x) (packet c.args.d.now)) same
     ∙ (served-step s k l' (packet c.args.d.now) c.serve-reply.new.pool c.serve-reply.new.recvs c.serve-reply.new.queues.entries t c.requires.sound c.in-Some.is (sym (ap is_ended_link c.in-Some.is) ∙ c.requires.running) c.requires.fits refl c.serve-reply.ensures.served
-      ctx names at (λ w e. c.in_default-reply.not-Refused w (c.serve-reply.ensures.reply ∙ e))
+    ctx names at (λ w e. c.in_default-reply.not-Refused w (c.serve-reply.ensures.reply ∙ e))
     ∙ (ap (λ (x : EndTook). record { context = home ctx names (s1 s.held); took = x.took; sent = sent_of (s1 s.held) x.reply }) answer
     ∙ ap (λ h. record { context = home ctx names (s1 h); took = a.took; sent = sent_of (s1 h) a.reply }) (sym c.serve-reply.ensures.regions)))
 

@@ -1,4 +1,4 @@
-use Rattle.std.proofs.Common.{ℕ, List, ◌≡◌, ◌∙◌, Some, false, true, [], ap, sym, subst, refl, rules}
+use Rattle.std.proofs.Common.{ℕ, List, ◌≡◌, ◌∙◌, Some, [], ap, sym, subst, refl}
 use Rattle.rdma_types.specs.declared.answers.Took.TheVariants as took
 use Rattle.rdma_types.specs.declared.names.Name.{Name}
 use Rattle.memory_keys.specs.declared.Held.{Held}
@@ -41,13 +41,13 @@ returns-in-Ended-clause-step c = λ ctx names l at is.
     let s1 : Site = failing c in
     let ended : (h : List Held) → Context = λ h. ended_with (home ctx names (record s1 { held = h })) (end_at names s1) (link_in s1.pool l') c.in-Ended.status in
     let stands : (name : Name) (place : ℕ) → StandsAt s.queues name place → StandsAt s1.queues name place =
-        λ name place there. subst (λ qs. StandsAt qs name place) (sym answered.queues) (stands-settled s.queues name place s.send (rows.told_count k.requester.terms (taken_response k.requester.terms (sender_of k.requester) (packet c.args.d.now)).sender) (told_completions s.end.number k.requester.terms (taken_response k.requester.terms (sender_of k.requester) (packet c.args.d.now)).sender) there) in
+    λ name place there. subst (λ qs. StandsAt qs name place) (sym answered.queues) (stands-settled s.queues name place s.send (rows.told_count k.requester.terms (taken_response k.requester.terms (sender_of k.requester) (packet c.args.d.now)).sender) (told_completions s.end.number k.requester.terms (taken_response k.requester.terms (sender_of k.requester) (packet c.args.d.now)).sender) there) in
     ap (λ (x : EndLink). takes_response ctx (end_at names s) (link_in s.pool x) (packet c.args.d.now)) same
     ∙ (ended-step s k l' (packet c.args.d.now) c.respond-taken.result s1.pool s1.queues c.requires.sound c.in-Some.is (sym (ap is_ended_link c.in-Some.is) ∙ c.requires.running) (old-there (packet c.args.d.now) c.requires.fits) c.respond-taken.ensures.taken ctx names c.in-Ended.status at c.in-Ended.is answered
     ∙ (ap (λ h. record { context = ended h; took = took.Ended c.in-Ended.status; sent = [] }) (sym c.respond-taken.ensures.regions)
     ∙ ap (λ x. record { context = x; took = took.Ended c.in-Ended.status; sent = [] })
-      (c.fail.ensures.step (home ctx names s1) names (home-of ctx names s1 (stands names.send_cq s.send at.send) (stands names.recv_cq s.recv at.recv))
-      ∙ home-twice ctx names s1 (site_at c.args.memory c.fail.new.memory.0 c.fail.new.memory.1.0 c.fail.new.memory.1.1.0.entries c.fail.new.self))))
+    (c.fail.ensures.step (home ctx names s1) names (home-of ctx names s1 (stands names.send_cq s.send at.send) (stands names.recv_cq s.recv at.recv))
+    ∙ home-twice ctx names s1 (site_at c.args.memory c.fail.new.memory.0 c.fail.new.memory.1.0 c.fail.new.memory.1.1.0.entries c.fail.new.self))))
 
 pub returns-in-Ended-clause-keeps : goal.returns-in-Ended-clause-keeps
 returns-in-Ended-clause-keeps c =
