@@ -5,3 +5,4 @@ pub mod Reserved
 pub mod Ends
 pub mod Loop
 pub mod Whole
+pub mod Dumped

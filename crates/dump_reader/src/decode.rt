@@ -1,7 +1,8 @@
 //! Dumps, whole.
 
 ghost use Rattle.std.specs.Prelude.{◌≡◌, ℕ, ◌+◌, ◌<◌, ◌≤◌, ◌^◌, ◌++◌, ◌∷◌, length, [], map, IfOk, IfErr};
-ghost use Rattle.protocol.specs.Dumps.{Good, Bad, read_dump};
+ghost use Rattle.protocol.specs.Dumps.{Dumps, Good, Bad, read_dump};
+ghost use Rattle.protocol.specs.Lawful.{IsLawful};
 ghost use Rattle.dump_reader.specs.Groups.{placed};
 ghost use Rattle.dump_reader.specs.Ahead.{image_of, queues_of};
 ghost use Rattle.dump_reader.specs.Steps.{IsFault};
@@ -47,9 +48,8 @@ fn whole_image(opened: &Opened, lists: Lists) -> Result<ContextImage, AllocError
     })
 }
 
-/// The image that bytes are a dump of, or where they are none and why: the first fault, field by field from the first.
 #[tactic(auto, unfolding(crate::specs::Ahead::ahead, protocol::specs::Dumps::after), using(crate::proofs::Whole::dump_opens))]
-pub fn decode_dump(alloc: Global, bytes: &[u8]) -> Result<ContextImage, DumpFault>
+fn read_whole(alloc: Global, bytes: &[u8]) -> Result<ContextImage, DumpFault>
     ensures image { IfOk result (λ image. read_dump bytes.now ≡ Good image (length bytes.now) []) }
     ensures fault { IfErr result (IsFault (read_dump bytes.now)) }
 {
@@ -68,4 +68,16 @@ pub fn decode_dump(alloc: Global, bytes: &[u8]) -> Result<ContextImage, DumpFaul
         });
     }
     Ok(whole_image(&opened, lists)?)
+}
+
+/// The image that bytes are a dump of, in version 1 or 2, or where they are none and why: the first fault, field by
+/// field from the first. The image keeps the rules.
+pub fn decode_dump(alloc: Global, bytes: &[u8]) -> Result<ContextImage, DumpFault>
+    ensures image { IfOk result (λ image. read_dump bytes.now ≡ Good image (length bytes.now) []) }
+    ensures dumps { IfOk result (λ image. Dumps image bytes.now) }
+    ensures lawful { IfOk result IsLawful }
+    ensures fault { IfErr result (IsFault (read_dump bytes.now)) }
+{
+    let _bytes = bytes;
+    read_whole(alloc, bytes)
 }

@@ -1,0 +1,6 @@
+//! The grammar of dumps both ways: what is written reads back, and what is read is a dump.
+#![tactic(auto)]
+
+mod laws;
+
+pub use laws::what_is_read_is_a_dump;
