@@ -98,7 +98,7 @@ unfolding items
 queues_bare zero seen p bs = refl
 queues_bare (suc n) seen p bs =
     mapped_into (λ (q : ReadQueue). q.queue) (map (λ (q : ReadQueue). q.queue)) (queue_field seen p bs) (bare_queue_field (map (λ q. q.queue) seen) p bs) _ _ (queue_bare seen p bs)
-      (λ x p bs. queues_bare n (seen ++ x ∷ []) p bs ∙ ap (λ (ys : List CqImage). items n bare_queue_field ys p bs) (map_more seen x))
+    (λ x p bs. queues_bare n (seen ++ x ∷ []) p bs ∙ ap (λ (ys : List CqImage). items n bare_queue_field ys p bs) (map_more seen x))
 
 list_bare : (p : ℕ) (bs : List ℕ) → mapped (map (λ q. q.queue)) (list_field 2 most_queues queue_field p bs) ≡ list_field 2 most_queues bare_queue_field p bs
 list_bare p bs = mapped_then _ _ _ _ (λ n p bs. queues_bare n [] p bs)

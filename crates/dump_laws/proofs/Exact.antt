@@ -292,11 +292,11 @@ module _ (A : Type 0) (item : List A → Reader A) (P : List A → A → Type 0)
   items_exact n = record {
     back = λ xs h place rest. ap (λ (k : ℕ). items k item [] place (flat_map s xs ++ rest)) (sym h.0) ∙ items_back xs [] h.1 place rest;
     only = λ place bs b xs p rest h. let l = items_only n [] place bs b xs p rest h in
-      record {
-        keeps = (ap length l.all ∙ l.count, subst (λ (ys : List A). Rises A P [] ys) (sym l.all) l.keeps);
-        spelled = l.spelled ∙ ap (λ (ys : List A). flat_map s ys ++ rest) (sym l.all);
-        bytes = l.bytes;
-      };
+        record {
+          keeps = (ap length l.all ∙ l.count, subst (λ (ys : List A). Rises A P [] ys) (sym l.all) l.keeps);
+          spelled = l.spelled ∙ ap (λ (ys : List A). flat_map s ys ++ rest) (sym l.all);
+          bytes = l.bytes;
+        };
   }
 
   -- a list: a count under its limit, and the items

@@ -118,7 +118,7 @@ unfolding judged
 judged_exact start ok n = record {
   back = λ m h place rest. let t : ok n ≡ true = ap ok (sym h.1) ∙ h.0 in rw t (ap (λ (k : ℕ). Good k place rest) (sym h.1) ∙ ap (λ (q : ℕ). Good m q rest) (sym (add-zero place)));
   only = λ place bs all m p rest h. let j = judged_only start dump_why.Field ok n place bs m p rest h in
-    record { keeps = (ap ok j.1 ∙ j.0, j.1); spelled = sym j.2; bytes = subst (λ (y : List ℕ). AreBytes y) (sym j.2) all };
+      record { keeps = (ap ok j.1 ∙ j.0, j.1); spelled = sym j.2; bytes = subst (λ (y : List ℕ). AreBytes y) (sym j.2) all };
 }
 
 -- a count under its limit that keeps a rule
@@ -189,36 +189,42 @@ pub record StateRule (regions : List Region) (domain : Name) (state : ℕ) (o : 
 state_zero : (regions : List Region) (domain : Name) → Exact (Option LinkImage) (gives None) (StateRule regions domain 0) linked_bytes
 state_zero regions domain = exact_as (Option LinkImage) _ _ _ _ _ _ (λ place bs. refl) (λ x h. to x h.same) (λ x p. from x p) (λ x h. spelled x h.same) (gives_exact (Option LinkImage) None)
   where
-  ended_not : (b : Bool) → state_number b ≡ 0 → ⊥
-  ended_not true h = cc
-  ended_not false h = cc
-  to : (x : Option LinkImage) → state_byte x ≡ 0 → x ≡ None
-  to None h = refl
-  to (Some l) h = absurd (ended_not l.ended h)
-  from : (x : Option LinkImage) → x ≡ None → StateRule regions domain 0 x
-  from None h = record { same = refl; linked = tt }
-  from (Some l) h = cc
-  spelled : (x : Option LinkImage) → state_byte x ≡ 0 → linked_bytes x ≡ []
-  spelled None h = refl
-  spelled (Some l) h = absurd (ended_not l.ended h)
+    ended_not : (b : Bool) → state_number b ≡ 0 → ⊥
+    ended_not true h = cc
+    ended_not false h = cc
+
+    to : (x : Option LinkImage) → state_byte x ≡ 0 → x ≡ None
+    to None h = refl
+    to (Some l) h = absurd (ended_not l.ended h)
+
+    from : (x : Option LinkImage) → x ≡ None → StateRule regions domain 0 x
+    from None h = record { same = refl; linked = tt }
+    from (Some l) h = cc
+
+    spelled : (x : Option LinkImage) → state_byte x ≡ 0 → linked_bytes x ≡ []
+    spelled None h = refl
+    spelled (Some l) h = absurd (ended_not l.ended h)
 
 state_some : (regions : List Region) (domain : Name) (ended : Bool) (n : ℕ) → n ≡ state_number ended → Exact (Option LinkImage) (then_read (link_field regions domain ended) λ l. gives (Some l)) (StateRule regions domain n) linked_bytes
 state_some regions domain ended n e = exact_as (Option LinkImage) _ _ _ _ _ _ (λ place bs. refl) (λ x h. to x h.same h.linked) (λ x p. from x p) (λ x h. refl) (some_exact (LinkRule regions domain ended) (link_field regions domain ended) (linkRule_exact regions domain ended))
   where
-  ended_is : (a b : Bool) → state_number a ≡ state_number b → a ≡ b
-  ended_is true true h = refl
-  ended_is true false h = cc
-  ended_is false true h = cc
-  ended_is false false h = refl
-  not_init : (b : Bool) → 0 ≡ state_number b → ⊥
-  not_init true h = cc
-  not_init false h = cc
-  to : (x : Option LinkImage) → state_byte x ≡ n → LinkedRule regions domain x → SomeRule (LinkRule regions domain ended) x
-  to None h r = absurd (not_init ended (h ∙ e))
-  to (Some l) h r = subst (λ (b : Bool). LinkRule regions domain b l) (ended_is l.ended ended (h ∙ e)) r
-  from : (x : Option LinkImage) → SomeRule (LinkRule regions domain ended) x → StateRule regions domain n x
-  from None p = absurd p
-  from (Some l) p = record { same = ap state_number p.is_ended ∙ sym e; linked = subst (λ (b : Bool). LinkRule regions domain b l) (sym p.is_ended) p }
+    ended_is : (a b : Bool) → state_number a ≡ state_number b → a ≡ b
+    ended_is true true h = refl
+    ended_is true false h = cc
+    ended_is false true h = cc
+    ended_is false false h = refl
+
+    not_init : (b : Bool) → 0 ≡ state_number b → ⊥
+    not_init true h = cc
+    not_init false h = cc
+
+    to : (x : Option LinkImage) → state_byte x ≡ n → LinkedRule regions domain x → SomeRule (LinkRule regions domain ended) x
+    to None h r = absurd (not_init ended (h ∙ e))
+    to (Some l) h r = subst (λ (b : Bool). LinkRule regions domain b l) (ended_is l.ended ended (h ∙ e)) r
+
+    from : (x : Option LinkImage) → SomeRule (LinkRule regions domain ended) x → StateRule regions domain n x
+    from None p = absurd p
+    from (Some l) p = record { same = ap state_number p.is_ended ∙ sym e; linked = subst (λ (b : Bool). LinkRule regions domain b l) (sym p.is_ended) p }
 
 -- the state and the link are read exactly
 pub state_exact : (regions : List Region) (domain : Name) (state : ℕ) → state ≤ 2 → Exact (Option LinkImage) (state_field regions domain state) (StateRule regions domain state) linked_bytes

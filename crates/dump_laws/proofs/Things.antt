@@ -47,9 +47,9 @@ judged_name_exact : (start : ℕ) (seen : List Name) (n : Name) → Exact Name (
 unfolding judged_name
 judged_name_exact start seen n = record {
   back = λ x h place rest. let t : (is_name n && not (has_word n seen)) ≡ true = subst (λ (y : Name). IsNewName seen y) h.1 h.0 in
-    rw t (ap (λ (y : Name). Good y place rest) (sym h.1) ∙ ap (λ (q : ℕ). Good x q rest) (sym (add-zero place)));
+      rw t (ap (λ (y : Name). Good y place rest) (sym h.1) ∙ ap (λ (q : ℕ). Good x q rest) (sym (add-zero place)));
   only = λ place bs all x p rest h. let j = judged_name_by (is_name n && not (has_word n seen)) start n place bs x p rest h in
-    record { keeps = (subst (λ (y : Name). IsNewName seen y) (sym j.1) j.0, j.1); spelled = j.2; bytes = subst (λ (y : List ℕ). AreBytes y) j.2 all };
+      record { keeps = (subst (λ (y : Name). IsNewName seen y) (sym j.1) j.0, j.1); spelled = j.2; bytes = subst (λ (y : List ℕ). AreBytes y) j.2 all };
 }
 
 -- a name at a start
@@ -77,10 +77,10 @@ named_by seen place (Good x q bs) = refl
 named_from_exact : (start : ℕ) (seen : List Name) → Exact Name (named_from start seen) (IsNewName seen) text
 named_from_exact start seen =
     exact_as Name _ _ _ _ _ _ (λ place bs. refl)
-      (λ x h. record { first = record { test = refl; fits = name_short x (name_of seen x h) }; others = record { first = refl; others = (h, refl) } })
-      (λ x p. p.others.others.0)
-      (λ x h. text_spelled x (name_short x (name_of seen x h)))
-      (then_exact _ _ _ _ _ _ (λ (z : Name). length z) _ _ (number_exact dump_why.Field 1 any) (λ n. then_exact _ _ _ _ _ _ (λ (z : Name). z) _ _ (raw_exact n) (λ x. judged_name_exact start seen x) (λ v b f q. q.1)) (λ v b f q. q.first))
+    (λ x h. record { first = record { test = refl; fits = name_short x (name_of seen x h) }; others = record { first = refl; others = (h, refl) } })
+    (λ x p. p.others.others.0)
+    (λ x h. text_spelled x (name_short x (name_of seen x h)))
+    (then_exact _ _ _ _ _ _ (λ (z : Name). length z) _ _ (number_exact dump_why.Field 1 any) (λ n. then_exact _ _ _ _ _ _ (λ (z : Name). z) _ _ (raw_exact n) (λ x. judged_name_exact start seen x) (λ v b f q. q.1)) (λ v b f q. q.first))
 
 named_same : (seen : List Name) (place : ℕ) (bs : List ℕ) → name_field seen place bs ≡ named_from place seen place bs
 unfolding after judged
@@ -320,50 +320,56 @@ pub record OfCode (regions : List Region) (domain : Name) (mtu code : ℕ) (p : 
 idle_exact : (regions : List Region) (domain : Name) (mtu code : ℕ) → code ≡ 0 → Exact Progress (gives progress.Idle) (OfCode regions domain mtu code) progress_tail
 idle_exact regions domain mtu code e = exact_as Progress _ _ _ _ _ _ (λ place bs. refl) (λ x h. idle_to x h.same) (λ x p. idle_from x p) (λ x h. idle_tail x h.same) (gives_exact Progress progress.Idle)
   where
-  idle_to : (x : Progress) → progress_code x ≡ code → x ≡ progress.Idle
-  idle_to progress.Idle h = refl
-  idle_to (progress.Send done receive) h = cc
-  idle_to (progress.Write region off length' done) h = cc
-  idle_from : (x : Progress) → x ≡ progress.Idle → OfCode regions domain mtu code x
-  idle_from progress.Idle h = record { same = sym e; message = tt }
-  idle_from (progress.Send done receive) h = cc
-  idle_from (progress.Write region off length' done) h = cc
-  idle_tail : (x : Progress) → progress_code x ≡ code → progress_tail x ≡ []
-  idle_tail progress.Idle h = refl
-  idle_tail (progress.Send done receive) h = cc
-  idle_tail (progress.Write region off length' done) h = cc
+    idle_to : (x : Progress) → progress_code x ≡ code → x ≡ progress.Idle
+    idle_to progress.Idle h = refl
+    idle_to (progress.Send done receive) h = cc
+    idle_to (progress.Write region off length' done) h = cc
+
+    idle_from : (x : Progress) → x ≡ progress.Idle → OfCode regions domain mtu code x
+    idle_from progress.Idle h = record { same = sym e; message = tt }
+    idle_from (progress.Send done receive) h = cc
+    idle_from (progress.Write region off length' done) h = cc
+
+    idle_tail : (x : Progress) → progress_code x ≡ code → progress_tail x ≡ []
+    idle_tail progress.Idle h = refl
+    idle_tail (progress.Send done receive) h = cc
+    idle_tail (progress.Write region off length' done) h = cc
 
 send_of_code : (regions : List Region) (domain : Name) (mtu code : ℕ) → code ≡ 1 → Exact Progress (then_read (number 4 (is_whole_pieces mtu)) λ done. then_read (receive_field regions domain done) λ receive. gives (progress.Send done receive)) (OfCode regions domain mtu code) progress_tail
 send_of_code regions domain mtu code e = exact_as Progress _ _ _ _ _ _ (λ place bs. refl) (λ x h. to x h.same h.message) (λ x p. from x p) (λ x h. tail x h.same) (send_exact regions domain mtu)
   where
-  to : (x : Progress) → progress_code x ≡ code → MessageRule regions domain mtu x → IsSend regions domain mtu x
-  to progress.Idle h m = cc
-  to (progress.Send done receive) h m = record { done = m.done'; receive = m.receive; whole = refl }
-  to (progress.Write region off length' done) h m = cc
-  from : (x : Progress) → IsSend regions domain mtu x → OfCode regions domain mtu code x
-  from progress.Idle p = let h = p.whole in cc
-  from (progress.Send done receive) p = record { same = sym e; message = record { done' = p.done; receive = p.receive } }
-  from (progress.Write region off length' done) p = let h = p.whole in cc
-  tail : (x : Progress) → progress_code x ≡ code → progress_tail x ≡ big_bytes 4 (sent_of x) ++ (receive_bytes (receive_of x) ++ [])
-  tail progress.Idle h = cc
-  tail (progress.Send done receive) h = simp append-nil
-  tail (progress.Write region off length' done) h = cc
+    to : (x : Progress) → progress_code x ≡ code → MessageRule regions domain mtu x → IsSend regions domain mtu x
+    to progress.Idle h m = cc
+    to (progress.Send done receive) h m = record { done = m.done'; receive = m.receive; whole = refl }
+    to (progress.Write region off length' done) h m = cc
+
+    from : (x : Progress) → IsSend regions domain mtu x → OfCode regions domain mtu code x
+    from progress.Idle p = let h = p.whole in cc
+    from (progress.Send done receive) p = record { same = sym e; message = record { done' = p.done; receive = p.receive } }
+    from (progress.Write region off length' done) p = let h = p.whole in cc
+
+    tail : (x : Progress) → progress_code x ≡ code → progress_tail x ≡ big_bytes 4 (sent_of x) ++ (receive_bytes (receive_of x) ++ [])
+    tail progress.Idle h = cc
+    tail (progress.Send done receive) h = simp append-nil
+    tail (progress.Write region off length' done) h = cc
 
 write_of_code : (regions : List Region) (domain : Name) (mtu code : ℕ) → code ≡ 2 → Exact Progress (then_read (number 2 (may_write_at regions domain)) λ region. then_read (number 4 any) λ off. then_read (number 4 λ n. nat_le n most_bytes && (n == 0 || nat_le (off + n) (length_at regions region))) λ length'. then_read (number 4 λ n. is_whole_pieces mtu n && nat_lt n length') λ done. gives (progress.Write region off length' done)) (OfCode regions domain mtu code) progress_tail
 write_of_code regions domain mtu code e = exact_as Progress _ _ _ _ _ _ (λ place bs. refl) (λ x h. to x h.same h.message) (λ x p. from x p) (λ x h. tail x h.same) (write_exact regions domain mtu)
   where
-  to : (x : Progress) → progress_code x ≡ code → MessageRule regions domain mtu x → IsWrite regions domain mtu x
-  to progress.Idle h m = cc
-  to (progress.Send done receive) h m = cc
-  to (progress.Write region off length' done) h m = record { parts = m; whole = refl }
-  from : (x : Progress) → IsWrite regions domain mtu x → OfCode regions domain mtu code x
-  from progress.Idle p = let h = p.whole in cc
-  from (progress.Send done receive) p = let h = p.whole in cc
-  from (progress.Write region off length' done) p = record { same = sym e; message = p.parts }
-  tail : (x : Progress) → progress_code x ≡ code → progress_tail x ≡ big_bytes 2 (region_of x) ++ (big_bytes 4 (off_of x) ++ (big_bytes 4 (length_of x) ++ (big_bytes 4 (sent_of x) ++ [])))
-  tail progress.Idle h = cc
-  tail (progress.Send done receive) h = cc
-  tail (progress.Write region off length' done) h = simp (append_assoc, append-nil)
+    to : (x : Progress) → progress_code x ≡ code → MessageRule regions domain mtu x → IsWrite regions domain mtu x
+    to progress.Idle h m = cc
+    to (progress.Send done receive) h m = cc
+    to (progress.Write region off length' done) h m = record { parts = m; whole = refl }
+
+    from : (x : Progress) → IsWrite regions domain mtu x → OfCode regions domain mtu code x
+    from progress.Idle p = let h = p.whole in cc
+    from (progress.Send done receive) p = let h = p.whole in cc
+    from (progress.Write region off length' done) p = record { same = sym e; message = p.parts }
+
+    tail : (x : Progress) → progress_code x ≡ code → progress_tail x ≡ big_bytes 2 (region_of x) ++ (big_bytes 4 (off_of x) ++ (big_bytes 4 (length_of x) ++ (big_bytes 4 (sent_of x) ++ [])))
+    tail progress.Idle h = cc
+    tail (progress.Send done receive) h = cc
+    tail (progress.Write region off length' done) h = simp (append_assoc, append-nil)
 
 -- the message in progress is read exactly
 progressRule_exact : (regions : List Region) (domain : Name) (mtu code : ℕ) → code ≤ 2 → Exact Progress (progress_by regions domain mtu code) (OfCode regions domain mtu code) progress_tail
@@ -444,4 +450,3 @@ unfolding link_field
 linkRule_exact regions domain ended =
     exact_as LinkImage _ _ _ _ _ _ (λ place bs. refl) (λ x h. record { first = h.peer; others = record { first = h.ip; others = record { first = h.port; others = record { first = h.moves; others = record { first = h.partner_moves; others = record { first = h.resuming; others = record { first = h.terms; others = record { first = h.first; others = record { first = h.una; others = record { first = h.next; others = record { first = h.top; others = record { first = h.spent; others = record { first = h.waits; others = record { first = h.rnr_wait; others = record { first = h.expected; others = record { first = h.nak_sent; others = record { first = h.msn; others = record { first = h.code; others = record { first = h.progress'; others = record { first = h.kept; others = λ i. record { ended = h.is_ended i; peer = x.peer; partner = x.partner; moves = x.moves; partner_moves = x.partner_moves; resuming = sym (bit_again x.resuming) i; terms = x.terms; first = x.first; una = x.una; next = x.next; top = x.top; spent = x.spent; waits = x.waits; rnr_wait = sym (bit_again x.rnr_wait) i; expected = x.expected; nak_sent = sym (bit_again x.nak_sent) i; msn = x.msn; progress = x.progress; kept = x.kept } } } } } } } } } } } } } } } } } } } } }) (λ x p. record { is_ended = ap (λ (z : LinkImage). z.ended) p.others.others.others.others.others.others.others.others.others.others.others.others.others.others.others.others.others.others.others.others; peer = p.first; ip = p.others.first; port = p.others.others.first; moves = p.others.others.others.first; partner_moves = p.others.others.others.others.first; resuming = p.others.others.others.others.others.first; terms = p.others.others.others.others.others.others.first; first = p.others.others.others.others.others.others.others.first; una = p.others.others.others.others.others.others.others.others.first; next = p.others.others.others.others.others.others.others.others.others.first; top = p.others.others.others.others.others.others.others.others.others.others.first; spent = p.others.others.others.others.others.others.others.others.others.others.others.first; waits = p.others.others.others.others.others.others.others.others.others.others.others.others.first; rnr_wait = p.others.others.others.others.others.others.others.others.others.others.others.others.others.first; expected = p.others.others.others.others.others.others.others.others.others.others.others.others.others.others.first; nak_sent = p.others.others.others.others.others.others.others.others.others.others.others.others.others.others.others.first; msn = p.others.others.others.others.others.others.others.others.others.others.others.others.others.others.others.others.first; code = p.others.others.others.others.others.others.others.others.others.others.others.others.others.others.others.others.others.first; progress' = p.others.others.others.others.others.others.others.others.others.others.others.others.others.others.others.others.others.others.first; kept = p.others.others.others.others.others.others.others.others.others.others.others.others.others.others.others.others.others.others.others.first }) (λ x h. rw (bit_spelled x.resuming, bit_spelled x.rnr_wait, bit_spelled x.nak_sent, progress_spelled x.progress) (simp (append_assoc, append-nil)))
     (then_exact _ _ _ _ _ _ (λ (z : LinkImage). z.peer) _ _ (number_exact dump_why.Field 4 (is_24)) (λ peer. then_exact _ _ _ _ _ _ (λ (z : LinkImage). z.partner.ip) _ _ (number_exact dump_why.Field 4 (any)) (λ ip. then_exact _ _ _ _ _ _ (λ (z : LinkImage). z.partner.port) _ _ (number_exact dump_why.Field 2 (any)) (λ port. then_exact _ _ _ _ _ _ (λ (z : LinkImage). z.moves) _ _ (number_exact dump_why.Field 2 (any)) (λ moves. then_exact _ _ _ _ _ _ (λ (z : LinkImage). z.partner_moves) _ _ (number_exact dump_why.Field 2 (any)) (λ partner_moves. then_exact _ _ _ _ _ _ (λ (z : LinkImage). bit_number z.resuming) _ _ (number_exact dump_why.Field 1 (λ n. nat_le n (if ended then 0 else 1))) (λ resuming. then_exact _ _ _ _ _ _ (λ (z : LinkImage). z.terms) _ _ (termsRule_exact) (λ terms. then_exact _ _ _ _ _ _ (λ (z : LinkImage). z.first) _ _ (number_exact dump_why.Field 8 (is_below_limit)) (λ first. then_exact _ _ _ _ _ _ (λ (z : LinkImage). z.una) _ _ (number_exact dump_why.Field 8 (λ n. is_below_limit n && nat_le first n)) (λ una. then_exact _ _ _ _ _ _ (λ (z : LinkImage). z.next) _ _ (number_exact dump_why.Field 8 (follows ended una)) (λ next. then_exact _ _ _ _ _ _ (λ (z : LinkImage). z.top) _ _ (number_exact dump_why.Field 8 (follows ended next)) (λ top. then_exact _ _ _ _ _ _ (λ (z : LinkImage). z.spent) _ _ (number_exact dump_why.Field 1 (λ n. nat_le n terms.retry)) (λ spent. then_exact _ _ _ _ _ _ (λ (z : LinkImage). z.waits) _ _ (number_exact dump_why.Field 1 (λ n. terms.rnr == 7 || nat_le n terms.rnr)) (λ waits. then_exact _ _ _ _ _ _ (λ (z : LinkImage). bit_number z.rnr_wait) _ _ (number_exact dump_why.Field 1 (is_bit)) (λ rnr_wait. then_exact _ _ _ _ _ _ (λ (z : LinkImage). z.expected) _ _ (number_exact dump_why.Field 8 (is_below_limit)) (λ expected. then_exact _ _ _ _ _ _ (λ (z : LinkImage). bit_number z.nak_sent) _ _ (number_exact dump_why.Field 1 (is_bit)) (λ nak_sent. then_exact _ _ _ _ _ _ (λ (z : LinkImage). z.msn) _ _ (number_exact dump_why.Field 4 (is_24)) (λ msn. then_exact_if _ _ _ _ _ _ (λ (z : LinkImage). progress_code z.progress) _ _ (number_exact dump_why.Field 1 (λ n. nat_le n (if ended then 0 else 2))) (λ code pass. then_exact _ _ _ _ _ _ (λ (z : LinkImage). z.progress) _ _ (progressRule_exact regions domain terms.mtu code (code_small ended code pass.test)) (λ progress'. then_exact _ _ _ _ _ _ (λ (z : LinkImage). z.kept) _ _ (list_exact KeptReply (kept_field expected) (KeptRule expected) kept_bytes (λ seen. keptRule_exact expected seen) 1 most_kept) (λ kept. gives_exact LinkImage _) (λ v b f q. ap (λ (z : LinkImage). z.kept) q)) (λ v b f q. ap (λ (z : LinkImage). z.progress) q.others)) (λ v b f q. q.first.same)) (λ v b f q. ap (λ (z : LinkImage). z.msn) q.others.others.others)) (λ v b f q. ap (λ (z : LinkImage). bit_number z.nak_sent) q.others.others.others.others ∙ bit_back v (at_most_one v f.test))) (λ v b f q. ap (λ (z : LinkImage). z.expected) q.others.others.others.others.others)) (λ v b f q. ap (λ (z : LinkImage). bit_number z.rnr_wait) q.others.others.others.others.others.others ∙ bit_back v (at_most_one v f.test))) (λ v b f q. ap (λ (z : LinkImage). z.waits) q.others.others.others.others.others.others.others)) (λ v b f q. ap (λ (z : LinkImage). z.spent) q.others.others.others.others.others.others.others.others)) (λ v b f q. ap (λ (z : LinkImage). z.top) q.others.others.others.others.others.others.others.others.others)) (λ v b f q. ap (λ (z : LinkImage). z.next) q.others.others.others.others.others.others.others.others.others.others)) (λ v b f q. ap (λ (z : LinkImage). z.una) q.others.others.others.others.others.others.others.others.others.others.others)) (λ v b f q. ap (λ (z : LinkImage). z.first) q.others.others.others.others.others.others.others.others.others.others.others.others)) (λ v b f q. ap (λ (z : LinkImage). z.terms) q.others.others.others.others.others.others.others.others.others.others.others.others.others)) (λ v b f q. ap (λ (z : LinkImage). bit_number z.resuming) q.others.others.others.others.others.others.others.others.others.others.others.others.others.others ∙ bit_back v (resuming_small ended v f.test))) (λ v b f q. ap (λ (z : LinkImage). z.partner_moves) q.others.others.others.others.others.others.others.others.others.others.others.others.others.others.others)) (λ v b f q. ap (λ (z : LinkImage). z.moves) q.others.others.others.others.others.others.others.others.others.others.others.others.others.others.others.others)) (λ v b f q. ap (λ (z : LinkImage). z.partner.port) q.others.others.others.others.others.others.others.others.others.others.others.others.others.others.others.others.others)) (λ v b f q. ap (λ (z : LinkImage). z.partner.ip) q.others.others.others.others.others.others.others.others.others.others.others.others.others.others.others.others.others.others)) (λ v b f q. ap (λ (z : LinkImage). z.peer) q.others.others.others.others.others.others.others.others.others.others.others.others.others.others.others.others.others.others.others))
-
