@@ -1,8 +1,9 @@
 -- What the network's store knows of the list of every datagram ever sent: it keeps the last 16,384.
-use Rattle.std.specs.Prelude.{ℕ, ◌≡◌, ◌+◌, ◌-◌, ◌^◌, ◌<◌, ◌≤◌, ◌||◌, Bool, false, List, [], ◌++◌, length, drop, replicate, None}
+use Rattle.std.specs.Prelude.{ℕ, ◌≡◌, ◌+◌, ◌-◌, ◌^◌, ◌<◌, ◌≤◌, ◌&&◌, ◌||◌, not, Bool, false, List, [], ◌++◌, length, drop, replicate, Option, Some, None}
 use Rattle.std.specs.List.{prefix_len}
 use Rattle.rdma_types.specs.Limits.{most_flights}
 use Rattle.rdma_types.specs.Objects.{no_address}
+use Rattle.protocol.specs.Fabric.{kept_flight}
 use Rattle.protocol.specs.State.{Flight}
 
 -- what stands for a datagram that is not kept any more
@@ -20,6 +21,15 @@ forgetting sent = after_blanks (length sent - most_flights) (drop (length sent -
 -- it is lost or taken, so it is not pending
 abbrev pub is_settled : Flight → Bool
 is_settled f = f.lost || f.taken
+
+-- neither lost nor taken
+abbrev pub is_open : Option Flight → Bool
+is_open None = false
+is_open (Some f) = not f.lost && not f.taken
+
+-- datagram k is kept and neither lost nor taken
+abbrev pub is_pending : List Flight → ℕ → Bool
+is_pending sent k = is_open (kept_flight sent k)
 
 -- the datagrams that are kept, how many are not any more, and how many of the oldest ones are settled
 pub record IsStore (gone settled : ℕ) (kept : List Flight) : Type 0 where

@@ -2,7 +2,7 @@
 
 ghost use Rattle.std.specs.Prelude.{◌≡◌, Some};
 ghost use Rattle.protocol.specs.Fabric.{flight_of, look_at, marked_lost, marked_taken};
-ghost use Rattle.fabric.specs.Store.{is_settled};
+ghost use Rattle.fabric.specs.Store.{is_open, is_settled};
 
 use rdma_types::{Address, Sent};
 use std::marker::Model;
@@ -62,6 +62,13 @@ impl Flight {
         ensures { result ≡ is_settled self.now }
     {
         self.lost || self.taken
+    }
+
+    /// Whether it is neither lost nor taken.
+    pub(crate) fn is_open(&self) -> bool
+        ensures { result ≡ is_open (Some self.now) }
+    {
+        !self.lost && !self.taken
     }
 
     /// It is taken.

@@ -7,7 +7,7 @@ ghost use Rattle.std.specs.List.{prefix_len};
 ghost use Rattle.std.specs.Option.{option_copied};
 ghost use Rattle.std.specs.VecDeque.{deque_capacity, deque_len};
 ghost use Rattle.protocol.specs.Fabric as rules;
-ghost use Rattle.fabric.specs.Store.{forgetting, is_settled};
+ghost use Rattle.fabric.specs.Store.{forgetting, is_pending, is_settled};
 
 mod flights;
 mod laws;
@@ -126,6 +126,16 @@ impl Fabric {
         self.ring[place].lose();
         self.settled = unsettled_from(&self.ring, self.settled);
         true
+    }
+
+    /// Whether datagram `k` is kept and neither lost nor taken.
+    pub fn is_pending(&self, k: u64) -> bool
+        ensures { result ≡ is_pending self.now k }
+    {
+        match self.kept(k) {
+            None => false,
+            Some(flight) => flight.is_open(),
+        }
     }
 
     /// The least number of a datagram that is kept and neither lost nor taken.

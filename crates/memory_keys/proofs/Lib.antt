@@ -3,4 +3,7 @@ pub mod Spots
 pub mod Stores
 pub mod Made
 pub mod Dropped
+pub mod Places
+pub mod Restored
+pub mod Released
 pub mod Protocol

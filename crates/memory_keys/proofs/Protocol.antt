@@ -99,7 +99,7 @@ stored-key : (r : Region) (off : ℕ) (new : List ℕ) → (stored r off new).ke
 unfolding stored
 stored-key r off new = refl
 
-written-some : (c : Context) (rs : List Region) (spot : Spot) (new : List ℕ) → c.regions ≡ rs → IsDistinct nat_eq (map local_key rs) → has local_key spot.region rs ≡ true → with_region c (stored (region_of_key c spot.region) spot.off new) ≡ record c { regions = stored_at spot new c.regions }
+pub written-some : (c : Context) (rs : List Region) (spot : Spot) (new : List ℕ) → c.regions ≡ rs → IsDistinct nat_eq (map local_key rs) → has local_key spot.region rs ≡ true → with_region c (stored (region_of_key c spot.region) spot.off new) ≡ record c { regions = stored_at spot new c.regions }
 unfolding with_region region_of_key
 written-some c rs spot new e d h =
     let has' : has local_key spot.region c.regions ≡ true = ap (has local_key spot.region) e ∙ h in

@@ -11,6 +11,7 @@ use Rattle.rdma_types.specs.Lists.{first_that}
 use Rattle.rdma_types.specs.Memory.{cut}
 use Rattle.byte_run.proofs.Cuts.{cut-cut, length-cut}
 use Rattle.page_pool.specs.Pool.{Pool, Puts, bytes_of, bytes_in, pages_of, pages_for}
+use Rattle.page_pool.specs.Store.{blank}
 use Rattle.page_pool.proofs.Writes.{bytes-after}
 use Rattle.page_pool.specs.declared.PoolFault.{PoolFault}
 use Rattle.page_pool.specs.declared.PoolFault.TheVariants as pool
@@ -101,6 +102,21 @@ snap a b h k off n count l inside c p =
     let fits : off % 4096 + n ≤ 4096 * count = omega (arith, c) in
     let at : 4096 * (off / 4096) + off % 4096 ≡ off = omega arith in
     (omega arith, ap (cut (off % 4096) n) is ∙ (cut-cut (off % 4096) n (4096 * (off / 4096)) (4096 * count) (bytes_in a h.list) fits room ∙ ap (λ x. cut x n (bytes_in a h.list)) at))
+
+-- .. and the pages that its spot touches
+pub snap-pages : (a b : Pool) (h : Held) (k off n count : ℕ) → Lies a h → off + n ≤ h.head.length → count ≡ div_ceil (off % 4096 + n) 4096 → Puts a b k (Some (cut (4096 * (off / 4096)) (4096 * count) (bytes_in a h.list))) → pages_of (bytes_of b k) ≡ count
+snap-pages a b h k off n count l inside c p =
+    let pages = pages-within off n h.head.length (pages_for h.head.length) inside refl in
+    let room : 4096 * (off / 4096) + 4096 * count ≤ length (bytes_in a h.list) = omega (arith, l.size, pages, c) in
+    let size : length (cut (4096 * (off / 4096)) (4096 * count) (bytes_in a h.list)) ≡ 4096 * count = length-cut (4096 * (off / 4096)) (4096 * count) (bytes_in a h.list) room in
+    ap pages_of p.here ∙ omega (arith, size)
+
+pub none-pages : (b : Pool) (k : ℕ) (spot : Spot) → spot.length ≡ 0 → bytes_of b k ≡ Some (blank 0) → pages_of (bytes_of b k) ≡ pages_touched spot
+unfolding blank
+none-pages b k spot none e = ap pages_of e ∙ sym (touched none)
+  where
+    touched : spot.length ≡ 0 → pages_touched spot ≡ 0
+    touched z = rw z refl
 
 -- a pool's refusal told by regions
 pub told : {T S : Type 0} (r : Result T MemFault) (fault : PoolFault) (free n : ℕ) → IsErrAnd r (λ e. e ≡ fault_of fault) → (IsErrOf {T = S} (Err fault) pool.NoPage ↔ (free < n)) → IsErrOf r NoPage ↔ (free < n)

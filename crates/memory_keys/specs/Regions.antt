@@ -1,10 +1,10 @@
 -- What the regions of a context hold and grant, over a pool of pages.
-use Rattle.std.specs.Prelude.{ℕ, ◌≡◌, ◌≢◌, ◌+◌, ◌-◌, ◌*◌, ◌%◌, ◌≤◌, ◌<◌, ◌==◌, ◌&&◌, Bool, List, [], length, take, map, Option, Some, option_map, IsSomeAnd, All, nat_eq, nat_le, bytes_eq, if◌then◌else◌, unwrap_or, replicate}
+use Rattle.std.specs.Prelude.{ℕ, ◌≡◌, ◌≢◌, ◌+◌, ◌-◌, ◌*◌, ◌%◌, ◌≤◌, ◌<◌, ◌==◌, ◌&&◌, Bool, List, [], ◌∷◌, ◌++◌, length, take, map, Option, Some, None, option_map, IsSomeAnd, All, nat_eq, nat_le, bytes_eq, if◌then◌else◌, unwrap_or, replicate, slice_get, remove}
 use Rattle.std.specs.List.{IsDistinct}
 use Rattle.rdma_types.specs.declared.names.Name.{Name}
-use Rattle.rdma_types.specs.Lists.{first_that}
+use Rattle.rdma_types.specs.Lists.{first_that, named}
 use Rattle.rdma_types.specs.Memory.{Right, allows, granted, cut}
-use Rattle.rdma_types.specs.Objects.{Region}
+use Rattle.rdma_types.specs.Objects.{Region, no_region}
 use Rattle.page_pool.specs.Pool.{Pool, IsIn, bytes_of, bytes_in, pages_for}
 use Rattle.protocol.specs.Memory.{stored}
 use Rattle.memory_keys.specs.declared.Held.{Held}
@@ -86,6 +86,13 @@ pub record KeepsOthers (old new : Pool) (held : List Held) : Type 0 where
   pub pages : new.pages ≡ old.pages
   pub others : (list : ℕ) → IsIn old list → All (λ h. h.list ≢ list) held → bytes_of new list ≡ bytes_of old list
 
+-- one region more behind the others, of this head, with a list that was new
+pub record IsAdded (pool : Pool) (old new : List Held) (head : RegionHead) : Type 0 where
+  pub held : Held
+  pub head_is : held.head ≡ head
+  pub fresh : bytes_of pool held.list ≡ None
+  pub behind : new ≡ old ++ held ∷ []
+
 -- a spot of no bytes, or one inside a region that is held
 abbrev pub IsSpot : List Held → Spot → Type 0
 IsSpot held spot = 0 < spot.length → IsSomeAnd (held_at spot.region held) (λ h. spot.off + spot.length ≤ h.head.length)
@@ -105,3 +112,18 @@ spot_bytes pool held spot = unwrap_or (option_map (λ h. cut spot.off spot.lengt
 -- the pages that a spot touches, counted from its region's base
 abbrev pub pages_touched : Spot → ℕ
 pages_touched spot = if spot.length == 0 then 0 else pages_for (spot.off % 4096 + spot.length)
+
+-- the first region with a name: what is told of it, under which key it is found, and the protocol's region that it is
+pub record IsNamed (list : List Held) (name : Name) (head : RegionHead) : Type 0 where
+  pub held : Held
+  pub head_is : held.head ≡ head
+  pub found : held_at head.keys.local list ≡ Some held
+  pub region : (pool : Pool) → named (λ r. r.name) no_region name (regions_of pool list) ≡ region_of pool held
+
+-- the first region with a name is gone from among the others
+pub record IsRemoved (old new : List Held) (name : Name) : Type 0 where
+  pub place : ℕ
+  pub held : Held
+  pub there : slice_get old place ≡ Some held
+  pub rest : new ≡ remove old place
+  pub region : (pool : Pool) → named (λ r. r.name) no_region name (regions_of pool old) ≡ region_of pool held

@@ -2,7 +2,7 @@
 
 ghost use Rattle.std.specs.Prelude.{◌≡◌, ◌≢◌, All, ℕ, ◌+◌, ◌<◌, ◌≤◌, ◌↔◌, length, Some, None, OnOk, OnErr, IfOk, IsErrOf};
 ghost use Rattle.rdma_types.specs.Memory.{put, word_of, word_bytes};
-ghost use Rattle.page_pool.specs.Pool.{Pool, Puts, bytes_of, bytes_in, free_pages};
+ghost use Rattle.page_pool.specs.Pool.{Pool, Puts, bytes_of, bytes_in, free_pages, pages_of};
 ghost use Rattle.page_pool.specs.Held.{HoldsPayload, payload_bytes};
 ghost use Rattle.memory_keys.specs.declared.Held.{Held};
 ghost use Rattle.memory_keys.specs.Regions.{AreHeld, KeepsOthers, IsSpot, part_of, regions_of, spot_bytes, stored_at, held_at, pages_touched};
@@ -105,6 +105,7 @@ impl Regions {
         ensures holds { IfOk result (λ p. HoldsPayload pool.new p) }
         ensures length { IfOk result (λ p. p.length ≡ spot.length) }
         ensures bytes { IfOk result (λ p. payload_bytes pool.new p ≡ spot_bytes pool.old self.old spot) }
+        ensures pages { IfOk result (λ p. pages_of (bytes_of pool.new p.list) ≡ pages_touched spot) }
         ensures free { OnOk result (free_pages pool.new + pages_touched spot ≡ free_pages pool.old) }
         ensures no_page { IsErrOf result MemFault.NoPage ↔ (free_pages pool.old < pages_touched spot) }
         ensures err { OnErr result (pool.new ≡ pool.old) }

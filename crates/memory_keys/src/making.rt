@@ -1,15 +1,15 @@
 //! Regions made and dropped.
 
-ghost use Rattle.std.specs.Prelude.{◌≡◌, ℕ, ◌+◌, ◌++◌, ◌∷◌, [], None, OnOk, OnErr, bytes_eq, position};
+ghost use Rattle.std.specs.Prelude.{◌≡◌, ℕ, ◌+◌, ◌++◌, ◌∷◌, [], length, sum_by, All, None, IfSome, OnOk, OnErr, bytes_eq, is_some, position};
 ghost use Rattle.std.specs.Result.{result_err};
 ghost use Rattle.rdma_types.specs.Causes.{first_cause};
-ghost use Rattle.rdma_types.specs.Lists.{without};
-ghost use Rattle.page_pool.specs.Pool.{free_pages, pages_for};
+ghost use Rattle.rdma_types.specs.Lists.{has_name, without};
+ghost use Rattle.page_pool.specs.Pool.{Pool, bytes_of, free_pages, pages_for};
 ghost use Rattle.memory_keys.specs.Causes.{register_causes, deregister_causes, region_named, refusal_of};
-ghost use Rattle.memory_keys.specs.Regions.{AreHeld, KeepsOthers, held_at, regions_of, blank_region};
+ghost use Rattle.memory_keys.specs.Regions.{AreHeld, AreKeyed, IsAdded, IsNamed, IsRemoved, KeepsOthers, held_at, regions_of, blank_region};
 
 use crate::{Held, MemFault, RegionHead, Regions};
-use page_pool::PagePool;
+use page_pool::{ByteRun, PagePool};
 use rdma_types::{Name, Refusal};
 use std::alloc::Global;
 
@@ -33,6 +33,7 @@ impl Regions {
         ensures held { AreHeld pool.new self.new }
         ensures regions { OnOk result (regions_of pool.new self.new ≡ regions_of pool.old self.old ++ blank_region head ∷ []) }
         ensures others { KeepsOthers pool.old pool.new self.old }
+        ensures added { OnOk result (IsAdded pool.old self.old self.new head) }
         ensures free { OnOk result (free_pages pool.new + pages_for head.length ≡ free_pages pool.old) }
         ensures refused { refusal_of result ≡ first_cause (register_causes (regions_of pool.old self.old) (free_pages pool.old) head) }
         ensures err { OnErr result (self.new ≡ self.old) }
@@ -55,6 +56,33 @@ impl Regions {
         Ok(())
     }
 
+    /// Makes a region of these bytes behind the others, as many as it is long. It is refused as `register` says.
+    pub fn restore(
+        &mut self,
+        pool: &mut PagePool,
+        alloc: Global,
+        head: RegionHead,
+        bytes: &ByteRun,
+    ) -> Result<(), MemFault>
+        requires held { AreHeld pool.old self.old }
+        requires new { held_at head.keys.local self.old ≡ None }
+        requires pair { head.keys.remote ≡ head.keys.local + 1 }
+        requires length { length bytes.now ≡ head.length }
+        ensures held { AreHeld pool.new self.new }
+        ensures regions { OnOk result (regions_of pool.new self.new ≡ regions_of pool.old self.old ++ record (blank_region head) { bytes = bytes.now } ∷ []) }
+        ensures others { KeepsOthers pool.old pool.new self.old }
+        ensures added { OnOk result (IsAdded pool.old self.old self.new head) }
+        ensures free { OnOk result (free_pages pool.new + pages_for head.length ≡ free_pages pool.old) }
+        ensures refused { refusal_of result ≡ first_cause (register_causes (regions_of pool.old self.old) (free_pages pool.old) head) }
+        ensures err { OnErr result (self.new ≡ self.old) }
+        ensures err_pool { OnErr result (pool.new ≡ pool.old) }
+    {
+        self.register(pool, alloc, head)?;
+        let held = self.held.get_mut(&head.keys.local).unwrap();
+        pool.write_run(&mut held.list, 0, bytes);
+        Ok(())
+    }
+
     /// Drops the region with a name, and gives its pages back. `NoSuch` comes exactly where no region has the name, and
     /// else `InUse` exactly where its local key is busy; all is then as before. It takes no memory.
     pub fn deregister(
@@ -67,6 +95,7 @@ impl Regions {
         ensures held { AreHeld pool.new self.new }
         ensures regions { OnOk result (regions_of pool.new self.new ≡ without (λ r. r.name) name (regions_of pool.old self.old)) }
         ensures others { KeepsOthers pool.old pool.new self.old }
+        ensures removed { OnOk result (IsRemoved self.old self.new name) }
         ensures free { OnOk result (free_pages pool.new ≡ free_pages pool.old + pages_for (region_named name (regions_of pool.old self.old)).length) }
         ensures refused { result_err result ≡ first_cause (deregister_causes (regions_of pool.old self.old) name busy.now) }
         ensures err { OnErr result (self.new ≡ self.old) }
@@ -82,6 +111,33 @@ impl Regions {
         let (_, held) = self.held.shift_remove_index(place).unwrap();
         pool.give(held.list);
         Ok(())
+    }
+
+    /// Drops all regions, and gives their pages back. It takes no memory.
+    pub fn release(self, pool: &mut PagePool)
+        requires { AreHeld pool.old self }
+        ensures others { KeepsOthers pool.old pool.new self }
+        ensures gone { All (λ h. bytes_of pool.new h.list ≡ None) self }
+        ensures free { free_pages pool.new ≡ free_pages pool.old + sum_by (λ h. pages_for h.head.length) self }
+    {
+        let Regions { mut held } = self;
+        while let Some((_, last)) = held.pop() {
+            pool.give(last.list);
+        }
+    }
+
+    /// What is told of the region with a name; None exactly where there is none.
+    pub fn named(&self, name: Name) -> Option<RegionHead>
+        ensures there { (pool : Pool) → is_some result ≡ has_name (λ r. r.name) name (regions_of pool self.now) }
+        ensures named { IfSome result (λ head. IsNamed self.now name head) }
+        ensures keyed { AreKeyed self.now }
+    {
+        let _held = &self.held;
+        let Some(place) = self.place_of(name) else {
+            return None;
+        };
+        let (_, held) = self.held.get_index(place).unwrap();
+        Some(held.head)
     }
 
     /// The place of the region with a name.

@@ -1,18 +1,19 @@
 //! The regions of a context.
 
-ghost use Rattle.std.specs.Prelude.{◌≡◌, ℕ, ◌+◌, ◌-◌, ◌^◌, ◌≤◌, ◌<◌, ◌==◌, ◌&&◌, List, [], length, Bool, if◌then◌else◌, option_map, slice_get, bytes_eq, true, IfSome};
+ghost use Rattle.std.specs.Prelude.{◌≡◌, ℕ, ◌+◌, ◌-◌, ◌^◌, ◌≤◌, ◌<◌, ◌==◌, ◌&&◌, ◌||◌, List, [], length, Bool, if◌then◌else◌, option_map, slice_get, bytes_eq, true, IfOk, IfSome};
 ghost use Rattle.std.specs.Option.{option_copied};
 ghost use Rattle.std.specs.Bool.{OnTrue};
-ghost use Rattle.rdma_types.specs.Lists.{first_that};
+ghost use Rattle.std.specs.List.{list_any};
+ghost use Rattle.rdma_types.specs.Lists.{first_that, some};
 ghost use Rattle.rdma_types.specs.Memory.{Right, NoRight, LocalWrite, allows, set_of, local_key, remote_key, cut};
 ghost use Rattle.page_pool.specs.Pool.{Pool};
-ghost use Rattle.memory_keys.specs.Regions.{held_at, AreKeyed, regions_of, gives, granted_spot, holds_range, IsSpot, AreHeld};
+ghost use Rattle.memory_keys.specs.Regions.{held_at, AreKeyed, region_of, regions_of, gives, granted_spot, holds_range, IsSpot, AreHeld};
 
 use crate::{Held, RegionHead, Spot};
 use indexmap::IndexMap;
-use page_pool::PagePool;
-use rdma_types::{Name, Rights};
-use std::alloc::Global;
+use page_pool::{ByteRun, PagePool};
+use rdma_types::{Keys, Name, Rights};
+use std::alloc::{AllocError, Global};
 use std::marker::Model;
 
 /// The regions of a context, in order of making, each under its local key.
@@ -51,6 +52,30 @@ impl Regions {
     {
         let (_, held) = self.held.get_index(i)?;
         Some(held.head)
+    }
+
+    /// How many regions there are.
+    pub fn len(&self) -> usize
+        ensures { result ≡ length self.now }
+    {
+        self.held.len()
+    }
+
+    /// A copy of the bytes of region `i` in order of making.
+    pub fn bytes_at(&self, alloc: Global, pool: &PagePool, i: usize) -> Result<ByteRun, AllocError>
+        requires held { AreHeld pool.now self.now }
+        requires there { i < length self.now }
+        ensures { IfOk result (λ run. IfSome (slice_get self.now i) (λ h. run ≡ (region_of pool.now h).bytes)) }
+    {
+        let (_, held) = self.held.get_index(i).unwrap();
+        pool.copy_out(alloc, &held.list, 0, held.head.length as usize)
+    }
+
+    /// Whether a region has the key, local or remote.
+    pub fn has_key(&self, key: u32) -> bool
+        ensures { (pool : Pool) → result ≡ some (λ r. r.keys.local == key || r.keys.remote == key) (regions_of pool self.now) }
+    {
+        self.finds_key(key)
     }
 
     /// The place that a local key grants; None exactly where it is not granted. Where bytes land there, the right to write
@@ -138,6 +163,13 @@ impl Regions {
         let _held = &self.held;
     }
 
+    /// Whether a region that is held has the key.
+    fn finds_key(&self, key: u32) -> bool
+        ensures { result ≡ list_any (λ h. h.head.keys.local == key || h.head.keys.remote == key) self.now }
+    {
+        self.held.values().any(|h| has(h.head.keys, key))
+    }
+
     /// The region with a local key.
     pub(crate) fn find(&self, key: u32) -> Option<&Held>
         ensures found { option_copied result ≡ held_at key self.now }
@@ -145,6 +177,13 @@ impl Regions {
     {
         self.held.get(&key)
     }
+}
+
+/// Whether one of the keys is this one.
+fn has(keys: Keys, key: u32) -> bool
+    ensures { result ≡ (keys.local == key || keys.remote == key) }
+{
+    keys.local == key || keys.remote == key
 }
 
 /// Whether a region of the domain gives a right over that many bytes.

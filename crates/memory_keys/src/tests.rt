@@ -4,7 +4,7 @@ ghost use Rattle.std.specs.Prelude.{◌≡◌, ◌<◌, ◌+◌, IfOk, IfSome, N
 ghost use Rattle.memory_keys.specs.Regions.{AreHeld, held_at};
 
 use super::*;
-use page_pool::PagePool;
+use page_pool::{ByteRun, PagePool};
 use rdma_types::Refusal;
 use std::alloc::Global;
 use std::test::Fail;
@@ -12,7 +12,8 @@ use std::test::Fail;
 /// The head of a region of the domain `p` from address 8192 on, with all four rights and the keys from `local` on.
 fn head(name: &[u8], local: u32, length: u32) -> Option<RegionHead>
     requires { local < 1000 }
-    ensures { IfSome result (λ h. h.keys ≡ record { local = local; remote = local + 1 }) }
+    ensures keys { IfSome result (λ h. h.keys ≡ record { local = local; remote = local + 1 }) }
+    ensures length { IfSome result (λ h. h.length ≡ length) }
 {
     Some(RegionHead {
         name: Name::read(name)?,
@@ -110,6 +111,23 @@ fn a_dropped_region_is_gone(rt: HostRuntime) -> Result<(), Fail> {
     assert_eq!(rt; pool.free(), 2);
     let told = regions.deregister(&mut pool, n, &[]);
     assert_eq!(rt; told, Err(Refusal::NoSuch));
+    Ok(())
+}
+
+#[test]
+fn bytes_come_back(rt: HostRuntime) -> Result<(), Fail> {
+    let (mut pool, mut regions) = memory(rt.alloc(), 2)?;
+    let mut bytes = ByteRun::make(rt.alloc());
+    bytes.append(rt.alloc(), &[7, 8])?;
+    let m = head(b"m", 4, 2).ok_or("a name")?;
+    regions.restore(&mut pool, rt.alloc(), m, &bytes)?;
+    assert_eq!(rt; regions.len(), 2);
+    assert_eq!(rt; regions.has_key(5), true);
+    let copy = regions.bytes_at(rt.alloc(), &pool, 1)?;
+    assert_eq!(rt; copy.len(), 2);
+    assert_eq!(rt; copy.piece(0), [7, 8].as_slice());
+    regions.release(&mut pool);
+    assert_eq!(rt; pool.free(), 2);
     Ok(())
 }
 

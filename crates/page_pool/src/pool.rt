@@ -198,7 +198,7 @@ impl PagePool {
         ensures back { IfErr result (λ other. other ≡ list) }
         ensures err { OnErr result (self.new ≡ self.old) }
     {
-        match self.run_of(alloc, &list, first, count as usize) {
+        match self.copy_out(alloc, &list, first, count as usize) {
             Ok(run) => {
                 self.give(list);
                 Ok(run)
@@ -207,8 +207,8 @@ impl PagePool {
         }
     }
 
-    /// A copy of bytes of a list.
-    fn run_of(
+    /// A copy of `count` bytes of a list from `first` on.
+    pub fn copy_out(
         &self,
         alloc: Global,
         list: &PageList,
@@ -263,8 +263,8 @@ impl PagePool {
         }
     }
 
-    /// Writes a run of bytes into a list from `at` on.
-    fn write_run(&mut self, list: &mut PageList, at: u64, bytes: &ByteRun)
+    /// Writes a run of bytes into a list from `at` on, as `write` does. It takes no memory.
+    pub fn write_run(&mut self, list: &mut PageList, at: u64, bytes: &ByteRun)
         requires held { IsIn self.old list.old }
         requires inside { at + length bytes.now ≤ length (bytes_in self.old list.old) }
         ensures puts { Puts self.old self.new list.old (Some (put (bytes_in self.old list.old) at bytes.now)) }

@@ -72,6 +72,14 @@ impl Requester {
         self.queue.at(i)
     }
 
+    /// How many requests are not told.
+    pub fn untold(&self) -> u32
+        ensures { result ≡ length self.now.items }
+    {
+        let _most = self.queue.depth();
+        self.queue.len() as u32
+    }
+
     /// The number past the last request.
     pub fn end(&self) -> u64
         ensures { result ≡ end_of_queue self.now.terms (sender_of self.now) }

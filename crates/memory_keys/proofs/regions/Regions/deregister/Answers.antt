@@ -73,3 +73,17 @@ returns-clause-refused c =
     let at : slice_get c.self.inside.held.entries c.in-Some.place ≡ Some e = sym c.get_index.ensures.entry ∙ ap (option_map deref_pair) c.unwrap.ensures in
     let key = asked-key c.args.pool.now c.args.name c.self.inside.held.entries c.args.self.now c.in-Some.place e c.args.busy.now c.contains.result c.self.view_is c.self.invariant.local c.in-Some.ensures at c.contains.ensures.value in
     free-to-drop (regions_of c.args.pool.now c.args.self.now) c.args.name c.args.busy.now key.0 (key.1 ∙ c.if-contains.false)
+
+pub returns-clause-removed : goal.returns-clause-removed
+returns-clause-removed c =
+    let h = c.unwrap-held.result.1 in
+    let at = sym c.shift_remove_index.ensures.entry ∙ c.unwrap-held.ensures in
+    let seen = ap (λ hs. slice_get hs c.in-Some.place) (sym c.self.view_is) ∙ seen-at c.self.inside.held.entries c.in-Some.place c.unwrap-held.result at in
+    let others = ap values_of c.shift_remove_index.ensures.entries ∙ (seen-removed c.self.inside.held.entries c.in-Some.place ∙ ap (λ hs. remove hs c.in-Some.place) c.self.view_is) in
+    record {
+      place = c.in-Some.place;
+      held = h;
+      there = seen;
+      rest = others;
+      region = λ pool. (is-first pool c.args.name c.args.self.now c.in-Some.place h c.in-Some.ensures seen).first;
+    }

@@ -88,3 +88,12 @@ returns-clause-regions c =
     let seen = ap values_of entries ∙ (seen-more c.self.inside.held.entries (c.args.head.keys.local, v) ∙ ap (λ hs. hs ++ v ∷ []) c.self.view_is) in
     let pages = pages-are c.div_ceil-pages.result c.args.head.length 0 c.div_ceil-pages.ensures in
     ap (regions_of c.take.new.self) seen ∙ regions-more c.args.pool.now c.take.new.self c.args.self.now v c.div_ceil-pages.result c.requires.held c.in_ok-list.ensures.new c.in_ok-list.ensures.puts pages
+
+pub returns-clause-added : goal.returns-clause-added
+returns-clause-added c =
+    let v : Held = record { head = c.args.head; list = c.in_ok-list.list } in
+    let none = ap (λ es. lookup (nat_eq c.args.head.keys.local) es) c.reserve.ensures.entries ∙ (found c.args.head.keys.local c.self.inside.held.entries c.self.invariant.local ∙ (ap (held_at c.args.head.keys.local) c.self.view_is ∙ c.requires.new)) in
+    let stored : c.insert.new.self.entries ≡ insert_entry nat_eq c.reserve.new.self.entries c.args.head.keys.local v = subst (λ r. OnOk r (c.insert.new.self.entries ≡ insert_entry nat_eq c.reserve.new.self.entries c.args.head.keys.local v)) c.unwrap.ensures c.insert.ensures.entries in
+    let entries : c.insert.new.self.entries ≡ c.self.inside.held.entries ++ (c.args.head.keys.local, v) ∷ [] = stored ∙ (insert_entry-new nat_eq c.reserve.new.self c.args.head.keys.local v none ∙ ap (λ es. es ++ (c.args.head.keys.local, v) ∷ []) c.reserve.ensures.entries) in
+    let seen = ap values_of entries ∙ (seen-more c.self.inside.held.entries (c.args.head.keys.local, v) ∙ ap (λ hs. hs ++ v ∷ []) c.self.view_is) in
+    record { held = v; head_is = refl; fresh = c.in_ok-list.ensures.new; behind = seen }

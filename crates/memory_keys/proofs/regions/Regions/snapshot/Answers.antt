@@ -3,7 +3,7 @@ use Rattle.std.specs.Option.{option_copied}
 use Rattle.rdma_types.specs.Memory.{cut}
 use Rattle.page_pool.specs.Held.{payload_bytes}
 use Rattle.page_pool.proofs.Writes.{in-after}
-use Rattle.memory_keys.proofs.Spots.{spot-in, spot-is, spot-empty, lies-pages, pages-within, touched-is, snap, told}
+use Rattle.memory_keys.proofs.Spots.{spot-in, spot-is, spot-empty, lies-pages, pages-within, touched-is, none-pages, snap, snap-pages, told}
 use Rattle.memory_keys.proofs.Stores.{others-new, regions-new}
 use Rattle.memory_keys.proofs.regions.Regions.snapshot.Goals as goal
 
@@ -66,3 +66,14 @@ returns-then-spot-eq0-clause-apart c = others-new c.args.pool.now c.in_ok-list.l
 
 pub returns-clause-apart : goal.returns-clause-apart
 returns-clause-apart c = others-new c.args.pool.now c.in_ok-list-2.list c.args.self.now c.requires.held.lie c.in_ok-list-2.ensures.new
+
+pub returns-then-spot-eq0-clause-pages : goal.returns-then-spot-eq0-clause-pages
+returns-then-spot-eq0-clause-pages c = none-pages c.take.new.self c.in_ok-list.list c.args.spot c.if-spot-eq0.true c.in_ok-list.ensures.puts.here
+
+pub returns-clause-pages : goal.returns-clause-pages
+returns-clause-pages c =
+    let e = sym c.find.ensures.found ∙ ap option_copied c.unwrap-held.ensures in
+    let s = spot-in c.args.pool.now c.args.self.now c.args.spot c.unwrap-held.result.now c.requires.held c.requires.spot (omega arith) e in
+    let touched = touched-is c.args.spot c.div_ceil-count.result c.from.result c.from-2.result c.if-spot-eq0.false c.div_ceil-count.ensures c.from.ensures c.from-2.ensures in
+    snap-pages c.args.pool.now c.share.new.self c.unwrap-held.result.now c.in_ok-list-2.list c.args.spot.off c.args.spot.length c.div_ceil-count.result s.0 s.1 (omega (arith, c.div_ceil-count.ensures, c.from.ensures, c.from-2.ensures)) c.in_ok-list-2.ensures.puts
+    ∙ sym touched

@@ -2,7 +2,7 @@ use Rattle.std.proofs.Common.{◌≡◌, ◌+◌, ◌-◌, ◌%◌, ◌<◌, ◌
 use Rattle.rdma_types.specs.Memory.{cut}
 use Rattle.page_pool.specs.Pool.{bytes_in}
 use Rattle.page_pool.proofs.Writes.{run-more, piece-fits}
-use Rattle.page_pool.proofs.pool.PagePool.run_of.Goals as goal
+use Rattle.page_pool.proofs.pool.PagePool.copy_out.Goals as goal
 
 pub loop-done-init : goal.loop-done-init
 unfolding cut
