@@ -14,3 +14,4 @@ pub mod Answered
 pub mod Whole
 pub mod Served
 pub mod Reserved
+pub mod DueReads

@@ -1,6 +1,6 @@
 -- The step of an end on a request.
 use Rattle.std.proofs.Common.{◌≡◌, ◌≢◌, ℕ, zero, suc, ◌+◌, ◌-◌, ◌≤◌, Bool, true, false, List, [], ◌∷◌, ◌++◌, length, refl, ap, sym, ◌∙◌, arith, subst}
-use Rattle.std.specs.Prelude.{◌==◌, ◌||◌, IfSome, All, nat_eq, Option, Some, None, map, option_map, if◌then◌else◌}
+use Rattle.std.specs.Prelude.{◌==◌, ◌||◌, IfSome, IsTrue, All, nat_eq, Option, Some, None, map, option_map, if◌then◌else◌}
 use Rattle.std.specs.List.{IsDistinct}
 use Rattle.std.specs.Option.{option_map_or}
 use Rattle.std.proofs.Math.ListN.{get_or}
@@ -8,6 +8,7 @@ use Rattle.std.proofs.lemmas.Bool.Decides.{nat_tests}
 use Rattle.rdma_types.specs.declared.answers.Sent.{Sent}
 use Rattle.rdma_types.specs.declared.answers.Took.TheVariants as took
 use Rattle.rdma_types.specs.declared.answers.Why.{Why}
+use Rattle.rdma_types.specs.declared.answers.Why.TheVariants as refused
 use Rattle.rdma_types.specs.declared.names.Name.{Name}
 use Rattle.rdma_types.specs.declared.requests.Address.{Address}
 use Rattle.rdma_types.specs.declared.requests.Completion.{Completion}
@@ -24,13 +25,13 @@ use Rattle.memory_keys.proofs.Protocol.{distinct-keys}
 use Rattle.work_queues.specs.Queue.{Queue as WorkQueue}
 use Rattle.protocol.specs.declared.wire.Syndrome.{Syndrome}
 use Rattle.protocol.specs.declared.wire.Syndrome.TheVariants.{Ack, Rnr, Nak}
-use Rattle.protocol.specs.EndWords.{completing, failed_receive, in_use_by, linked, with_end, with_link, with_receiver, with_unused}
+use Rattle.protocol.specs.EndWords.{completing, is_paused, failed_receive, in_use_by, linked, with_end, with_link, with_receiver, with_unused}
 use Rattle.protocol.specs.Memory.{region_of_key}
 use Rattle.protocol.specs.Numbers.{wire_number}
 use Rattle.protocol.specs.Requester.{ended_link, ended_with, failing}
 use Rattle.protocol.specs.Responder.{acknowledge, finishes, nak_code, old_answer, part_of, read_pieces, takes_request}
 use Rattle.protocol.specs.State.{Context, End, Link}
-use Rattle.protocol.specs.Wire.{Fits, Packet, plain, wire_of}
+use Rattle.protocol.specs.Wire.{Fits, Packet, fits_syndrome, plain, wire_of}
 use Rattle.responder.specs.declared.answers.Reply.{Reply}
 use Rattle.responder.specs.declared.answers.Reply.TheVariants as served
 use Rattle.responder.specs.Receiving.{waiting}
@@ -51,6 +52,10 @@ use Rattle.endpoint_core.specs.Answers.{IsReply, sent_by, sent_of}
 use Rattle.endpoint_core.specs.declared.answers.EndReply.{EndReply}
 use Rattle.rdma_types.specs.Spans.{pieces}
 use Rattle.memory_keys.specs.declared.Held.{Held}
+use Rattle.memory_keys.specs.declared.Spot.{Spot}
+use Rattle.move_core.specs.Table.{phase_of}
+use Rattle.endpoint_core.specs.Due.{IsDue, WasDue, due_read, telling}
+use Rattle.endpoint_core.proofs.DueReads.{responses-same, taken-due}
 use Rattle.endpoint_core.specs.Ends.{KeepsPartner, Names, link_in, untold_by}
 use Rattle.endpoint_core.specs.Flushed.{all_receives}
 use Rattle.endpoint_core.specs.Queues.{StandsAt, count_at, nothing, promised, queues_of, settle_at}
@@ -305,6 +310,38 @@ module _ (s : Site) (l l' : EndLink) (d : Packet) (pool' : Pool) (rs' : WorkQueu
       }) (sym (end-twice x e1 (with_link (with_unused e1 []) (ended_link (link_in pool' l'))) refl))
       ∙ ap (λ z. record { context = ended_with (home c names after) (end_at names after) (link_in pool' l') status.Flush; took = took.Refused w; sent = z }) (sent-after s2 w numbers.msn keeps))))))
 
+  -- ---- what was due
+
+  pub due-after : is_paused (phase_of l.moves.phase) ≡ false → (spot : Spot) (first count : ℕ) → T.reply ≡ served.ReadBytes spot first count → count ≡ pieces spot.length l.responder.terms.mtu → IsDue s after l d spot first count
+  unfolding around
+  due-after paused spot first count is' all =
+      let bytes : regions_of pool' s.held ≡ regions_of s.pool s.held = did.bytes ∙ writes-none (ap writes_none is') in
+      record {
+        msn = T.receiver.msn;
+        all = all ∙ ap (λ t. pieces spot.length t.mtu) before.serving_terms;
+        due =
+            ap (λ b. if b || is_paused (phase_of l.moves.phase) then None else due_read l.terms l.responder.receiver (regions_of s.pool s.held) s.end.domain d) running
+            ∙ (ap (λ b. if b then None else due_read l.terms l.responder.receiver (regions_of s.pool s.held) s.end.domain d) paused
+            ∙ (ap (λ t. due_read t l.responder.receiver (regions_of s.pool s.held) s.end.domain d) (sym before.serving_terms)
+            ∙ (taken-due around d (fits-names d fits) spot first count (sym (ap (λ (t : Taking). t.reply) row) ∙ is')
+            ∙ ap (λ (t : Taking). Some (record { spot = spot; first = first; msn = t.receiver.msn })) (sym row))));
+        sent =
+            ap (λ rs. read_pieces (link_in pool' l') (at local_key no_region spot.region rs) spot.off spot.length first count) bytes
+            ∙ responses-same (link_in pool' l') (telling (link_in s.pool l) T.receiver.msn) (at local_key no_region spot.region (regions_of s.pool s.held)) spot.off spot.length first count
+            (ap (λ (x : EndLink). x.moves.partner) did.same) (ap (λ (x : EndLink). x.peer) did.same) (ap (λ (x : EndLink). x.terms) did.same) (ap (λ (x : EndLink). x.responder.receiver.msn) did.same);
+      }
+
+  pub served-due : is_paused (phase_of l.moves.phase) ≡ false → (old new : ℕ) (held : List Held) (r : Reply) → IsRead held l.responder.terms.mtu r → T.reply ≡ r → WasDue s after l d (request_answer r old new).reply
+  served-due paused old new held served.Acted read is' = tt
+  served-due paused old new held served.Ack read is' = tt
+  served-due paused old new held (served.ReadBytes spot first count) read is' = due-after paused spot first count is' read.1
+  served-due paused old new held (served.AtomicOld number value) read is' = tt
+  served-due paused old new held served.SequenceNak read is' = tt
+  served-due paused old new held served.NotReady read is' = tt
+  served-due paused old new held (served.Refused w) read is' = tt
+  served-due paused old new held served.DupAck read is' = tt
+  served-due paused old new held (served.Silent w) read is' = tt
+
   -- ---- what is kept
 
   counts : waiting T.receiver T.unused + length T.done ≡ waiting l.responder.receiver s.end.recvs.items
@@ -382,17 +419,22 @@ module _ (s : Site) (l l' : EndLink) (d : Packet) (pool' : Pool) (rs' : WorkQueu
 
 -- ---- what a reply hands out
 
+pub nak-fits : (w : Why) → IsTrue (fits_syndrome 0x11 (Nak (nak_code w)))
+nak-fits refused.Invalid = refl
+nak-fits refused.Access = refl
+nak-fits refused.Length = refl
+
 pub read-reply : (held : List Held) (l : EndLink) (r : Reply) (mtu old new : ℕ) → l.terms.mtu ≡ mtu → IsRead held mtu r → IsReply held l (request_answer r old new).reply
 read-reply held l served.Acted mtu old new same read = tt
-read-reply held l served.Ack mtu old new same read = tt
+read-reply held l served.Ack mtu old new same read = refl
 read-reply held l (served.ReadBytes spot first count) mtu old new same read = (read.0, read.1 ∙ ap (λ n. pieces spot.length n) (sym same))
 read-reply held l (served.AtomicOld number value) mtu old new same read = tt
-read-reply held l served.SequenceNak mtu old new same read = tt
-read-reply held l served.NotReady mtu old new same read = tt
-read-reply held l (served.Refused w) mtu old new same read = tt
-read-reply held l served.DupAck mtu old new same read = tt
+read-reply held l served.SequenceNak mtu old new same read = refl
+read-reply held l served.NotReady mtu old new same read = refl
+read-reply held l (served.Refused w) mtu old new same read = nak-fits w
+read-reply held l served.DupAck mtu old new same read = refl
 read-reply held l (served.Silent w) mtu old new same read = tt
 
-pub refused-reply : (held : List Held) (o : Option EndLink) (a : EndReply) (number : ℕ) (y : Syndrome) → a ≡ reply.Acknowledge number y → IfSome o (λ l. IsReply held l a)
-refused-reply held None a number y is = tt
-refused-reply held (Some l) a number y is = subst (λ x. IsReply held l x) (sym is) tt
+pub refused-reply : (held : List Held) (o : Option EndLink) (a : EndReply) (number : ℕ) (w : Why) → a ≡ reply.Acknowledge number (Nak (nak_code w)) → IfSome o (λ l. IsReply held l a)
+refused-reply held None a number w is = tt
+refused-reply held (Some l) a number w is = subst (λ x. IsReply held l x) (sym is) (nak-fits w)

@@ -1,5 +1,5 @@
 -- What the calls of an end answer, in the words of the protocol's rules.
-use Rattle.std.specs.Prelude.{ℕ, ◌≡◌, ◌+◌, ◌<◌, ◌==◌, List, [], ◌∷◌, ◌++◌, Bool, false, Option, Some, None, length, ⊤, if◌then◌else◌}
+use Rattle.std.specs.Prelude.{ℕ, ◌≡◌, ◌+◌, ◌<◌, ◌==◌, List, [], ◌∷◌, ◌++◌, Bool, false, Option, Some, None, length, ⊤, IsTrue, if◌then◌else◌}
 use Rattle.std.specs.Option.{option_map_or}
 use Rattle.rdma_types.specs.declared.answers.Answer.{Answer}
 use Rattle.rdma_types.specs.declared.answers.Answer.TheVariants as answer
@@ -30,7 +30,7 @@ use Rattle.protocol.specs.Segments.{packet_of_piece}
 use Rattle.protocol.specs.State.{Context, End, Link, Sender}
 use Rattle.protocol.specs.DeviceStep.{posted_at}
 use Rattle.protocol.specs.EndStep.{takes}
-use Rattle.protocol.specs.Wire.{Packet}
+use Rattle.protocol.specs.Wire.{Packet, fits_syndrome}
 use Rattle.protocol.specs.EndWords.{EndStep, silent, completing, failed_receive, linked, to_partner, with_end, with_sender, with_unused, is_in_error}
 use Rattle.requester.specs.declared.answers.Transmit.TheVariants.{Sent as IsSent, Idle, WindowFull, ReadsFull, Fenced, Waiting}
 use Rattle.requester.specs.Sending.{sender_in}
@@ -60,11 +60,11 @@ sent_by regions l (reply.ResumeAck count address) = to_partner l None (resume_pa
 abbrev pub sent_of : Site → EndReply → List Sent
 sent_of s r = option_map_or (λ l. sent_by (regions_of s.pool s.held) (link_in s.pool l) r) s.end.link []
 
--- the bytes of a read are there, and it has as many responses as they have pieces
+-- the bytes of a read are there, and it has as many responses as they have pieces; an acknowledge or a NAK can be written
 abbrev pub IsReply : List Held → EndLink → EndReply → Type 0
 IsReply held l (reply.ReadBytes spot first count) = IsSpot held spot × (count ≡ pieces spot.length l.terms.mtu)
 IsReply held l reply.Nothing = ⊤
-IsReply held l (reply.Acknowledge number syndrome) = ⊤
+IsReply held l (reply.Acknowledge number syndrome) = IsTrue (fits_syndrome 0x11 syndrome)
 IsReply held l (reply.Old number old) = ⊤
 IsReply held l (reply.ResumeAck count address) = ⊤
 

@@ -6,3 +6,4 @@ pub mod Responded
 pub mod Served
 pub mod Sites
 pub mod Answers
+pub mod Due

@@ -38,3 +38,12 @@ pub struct EndTook {
     pub took: Took,
     pub reply: EndReply,
 }
+
+/// READ responses that may be due: the bytes at `spot`, the first with number `first`, and the count of finished messages
+/// that they tell.
+#[derive(Clone, Copy, Debug, PartialEq, Eq)]
+pub struct DueRead {
+    pub spot: Spot,
+    pub first: u64,
+    pub msn: u32,
+}

@@ -2,6 +2,7 @@
 #![tactic(auto)]
 
 mod answers;
+mod due;
 mod end;
 mod failing;
 mod laws;
@@ -15,7 +16,7 @@ mod sending;
 mod serving;
 mod taking;
 
-pub use answers::{BadState, EndReply, EndSend, EndTook};
+pub use answers::{BadState, DueRead, EndReply, EndSend, EndTook};
 pub use end::{EndLink, Endpoint};
 pub use laws::{an_end_stays, reservations_are_the_protocols};
 pub use memory::EndMemory;

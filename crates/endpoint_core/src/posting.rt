@@ -1,6 +1,6 @@
 //! Requests and receives are posted.
 
-ghost use Rattle.std.specs.Prelude.{◌≡◌, ◌+◌, ◌^◌, ◌<◌, ◌≤◌, ◌↔◌, ◌∷◌, [], length, IsErr, IsSome, IfErr, OnErr, OnOk};
+ghost use Rattle.std.specs.Prelude.{◌≡◌, ◌+◌, ◌^◌, ◌<◌, ◌≤◌, ◌↔◌, ◌∷◌, [], length, true, IsErr, IsSome, IfErr, OnErr, OnOk};
 ghost use Rattle.protocol.specs.State.{Context};
 ghost use Rattle.protocol.specs.Requester.{end_of_queue};
 ghost use Rattle.rdma_types.specs.Spans.{span};
@@ -33,6 +33,7 @@ impl Endpoint {
             ≡ home c names (site_at memory.entry memory.exit.0.now memory.exit.1.0.now memory.exit.1.1.0.now.entries self.new)) }
         ensures sound { OnOk result (IsSound (site_at memory.entry memory.exit.0.now memory.exit.1.0.now memory.exit.1.1.0.now.entries self.new) nothing) }
         ensures keeps { OnOk result (Keeps (site_of memory.entry self.old) (site_at memory.entry memory.exit.0.now memory.exit.1.0.now memory.exit.1.1.0.now.entries self.new) (p ∷ []) (count_at memory.entry.send 1)) }
+        ensures still { OnOk result (is_ended_link self.old.link ≡ true → self.new ≡ self.old) }
         ensures full { IsErr result ↔ (self.old.send_depth ≤ length (untold_by self.old.link)) }
         ensures back { IfErr result (λ x. x ≡ p) }
         ensures err { OnErr result (self.new ≡ self.old) }

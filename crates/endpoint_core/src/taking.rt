@@ -1,6 +1,8 @@
 //! What an end does with a datagram.
 
-ghost use Rattle.std.specs.Prelude.{◌≡◌, [], false, IsSome, IfSome, IsTrue};
+ghost use Rattle.std.specs.Prelude.{◌≡◌, [], false, IsSome, IfSome, IsTrue, Some};
+ghost use Rattle.move_core.specs.Table.{phase_of};
+ghost use Rattle.protocol.specs.EndWords.{is_paused};
 ghost use Rattle.protocol.specs.Requester.{takes_response};
 ghost use Rattle.protocol.specs.Responder.{takes_request};
 ghost use Rattle.protocol.specs.State.{Context};
@@ -8,6 +10,7 @@ ghost use Rattle.protocol.specs.Wire.{Fits, is_request as is_request_opcode};
 ghost use Rattle.roce_headers.specs.Packets.{packet};
 ghost use Rattle.endpoint_core.specs.declared.end.EndLink.{EndLink};
 ghost use Rattle.endpoint_core.specs.Answers.{IsReply, sent_of, taken_at};
+ghost use Rattle.endpoint_core.specs.Due.{WasDue};
 ghost use Rattle.endpoint_core.specs.Ends.{Names, is_ended_link, link_in};
 ghost use Rattle.endpoint_core.specs.Queues.{nothing};
 ghost use Rattle.endpoint_core.specs.Sites.{IsHome, IsSound, Keeps, end_at, home, site_at, site_of};
@@ -46,6 +49,8 @@ impl Endpoint {
             → (taken_at c (end_at names (site_of memory.entry self.old)) (end_at names (site_of memory.entry self.old)).link (packet d.now)).sent
             ≡ sent_of (site_at memory.entry memory.exit.0.now memory.exit.1.0.now memory.exit.1.1.0.now.entries self.new) result.reply }
         ensures reply { IfSome self.new.link (λ l. IsReply memory.exit.1.0.now l result.reply) }
+        ensures due { (l : EndLink) → self.old.link ≡ Some l
+            → WasDue (site_of memory.entry self.old) (site_at memory.entry memory.exit.0.now memory.exit.1.0.now memory.exit.1.1.0.now.entries self.new) l (packet d.now) result.reply }
         ensures sound { IsSound (site_at memory.entry memory.exit.0.now memory.exit.1.0.now memory.exit.1.1.0.now.entries self.new) nothing }
         ensures keeps { Keeps (site_of memory.entry self.old) (site_at memory.entry memory.exit.0.now memory.exit.1.0.now memory.exit.1.1.0.now.entries self.new) [] nothing }
     {
@@ -134,6 +139,8 @@ impl Endpoint {
               sent = sent_of (site_at memory.entry memory.exit.0.now memory.exit.1.0.now memory.exit.1.1.0.now.entries self.new) result.reply;
             } }
         ensures reply { IfSome self.new.link (λ l. IsReply memory.exit.1.0.now l result.reply) }
+        ensures due { (l : EndLink) → self.old.link ≡ Some l → is_paused (phase_of l.moves.phase) ≡ false
+            → WasDue (site_of memory.entry self.old) (site_at memory.entry memory.exit.0.now memory.exit.1.0.now memory.exit.1.1.0.now.entries self.new) l (packet d.now) result.reply }
         ensures sound { IsSound (site_at memory.entry memory.exit.0.now memory.exit.1.0.now memory.exit.1.1.0.now.entries self.new) nothing }
         ensures keeps { Keeps (site_of memory.entry self.old) (site_at memory.entry memory.exit.0.now memory.exit.1.0.now memory.exit.1.1.0.now.entries self.new) [] nothing }
     {

@@ -12,6 +12,11 @@ use Rattle.endpoint_core.specs.Ends.{Names, link_in}
 use Rattle.endpoint_core.specs.Sites.{IsHome, end_at, home, site_at, site_of}
 use Rattle.endpoint_core.proofs.Frames.{home-linked, home-same, link-keeps, link-sound, linked-same, same-site, with_link'}
 use Rattle.endpoint_core.proofs.Taken.{ack-reply, none-sent, taken-control, taken-ended, taken-paused, taken-request, taken-response}
+use Rattle.std.specs.Prelude.{Some}
+use Rattle.endpoint_core.specs.declared.answers.EndTook.{EndTook}
+use Rattle.endpoint_core.specs.declared.end.EndLink.{EndLink}
+use Rattle.endpoint_core.specs.Due.{WasDue}
+use Rattle.endpoint_core.proofs.DueReads.{ack-due, none-due}
 use Rattle.endpoint_core.proofs.end.Endpoint.take.Goals as goal
 
 -- ---- in Error
@@ -153,3 +158,24 @@ returns-clause-took c = λ ctx names at. ap (λ (x : EndStep). x.took) (request 
 
 pub returns-clause-sent : goal.returns-clause-sent
 returns-clause-sent c = λ ctx names at. ap (λ (x : EndStep). x.sent) (request c ctx names at)
+
+-- ---- what was due
+
+pub returns-then-link-clause-due : goal.returns-then-link-clause-due
+returns-then-link-clause-due c = λ l is. none-due _ _ l (packet c.args.d.now) c.silent.result.reply (ap (λ (x : EndTook). x.reply) c.silent.ensures)
+
+pub returns-in-Some-control_of-clause-due : goal.returns-in-Some-control_of-clause-due
+returns-in-Some-control_of-clause-due c = λ l is. ack-due _ _ l (packet c.args.d.now) c.take_control.result.reply c.take_control.ensures.reply
+
+pub returns-then-is_paused-clause-due : goal.returns-then-is_paused-clause-due
+returns-then-is_paused-clause-due c = λ l is. none-due _ _ l (packet c.args.d.now) c.silent-then-is_paused.result.reply (ap (λ (x : EndTook). x.reply) c.silent-then-is_paused.ensures)
+
+pub returns-clause-due : goal.returns-clause-due
+returns-clause-due c = λ l at.
+    let s = site_of c.args.memory c.args.self.now in
+    let k = c.in-Some.link in
+    let some : Some l ≡ Some k = sym at ∙ c.in-Some.is in
+    let same : l ≡ k = cc in
+    let after = site_at c.args.memory c.take_request.new.memory.0 c.take_request.new.memory.1.0 c.take_request.new.memory.1.1.0.entries c.take_request.new.self in
+    subst (λ x. WasDue x after l (packet c.args.d.now) c.take_request.result.reply) (sym (same-site s k k c.in-Some.is refl))
+    (subst (λ (x : EndLink). WasDue (with_link' s k) after x (packet c.args.d.now) c.take_request.result.reply) (sym same) (c.take_request.ensures.due k refl (sym c.is_paused.ensures ∙ c.if-is_paused.false)))

@@ -1,4 +1,4 @@
-use Rattle.std.proofs.Common.{[], ℕ, List, ◌≡◌, ◌∙◌, Some, ap, sym, subst, refl, arith, length}
+use Rattle.std.proofs.Common.{[], false, ℕ, List, ◌≡◌, ◌∙◌, Some, ap, sym, subst, refl, arith, length}
 use Rattle.rdma_types.specs.declared.names.Name.{Name}
 use Rattle.memory_keys.specs.declared.Held.{Held}
 use Rattle.memory_keys.specs.Regions.{regions_of}
@@ -22,7 +22,11 @@ use Rattle.endpoint_core.specs.Sites.{IsSound, Keeps, Site, end_at, home, site_a
 use Rattle.endpoint_core.proofs.Answered.{home-of, home-twice}
 use Rattle.endpoint_core.proofs.Ended.{count-here, length-both, promised-is}
 use Rattle.endpoint_core.proofs.Frames.{link-of}
-use Rattle.endpoint_core.proofs.Served.{read-reply, refused-reply, refused-step, served-keeps, served-sound, served-step}
+use Rattle.move_core.specs.Table.{phase_of}
+use Rattle.protocol.specs.EndWords.{is_paused}
+use Rattle.endpoint_core.specs.Due.{WasDue}
+use Rattle.endpoint_core.proofs.DueReads.{refused-due}
+use Rattle.endpoint_core.proofs.Served.{read-reply, refused-reply, refused-step, served-due, served-keeps, served-sound, served-step}
 use Rattle.endpoint_core.proofs.Settled.{stands-settled}
 use Rattle.endpoint_core.proofs.Whole.{keeps-both}
 use Rattle.endpoint_core.proofs.end.Endpoint.take_request.Goals as goal
@@ -90,7 +94,13 @@ returns-in-Refused-clause-keeps c =
 pub returns-in-Refused-clause-reply : goal.returns-in-Refused-clause-reply
 returns-in-Refused-clause-reply c =
     let before : ℕ = c.expected-before.result in
-    refused-reply c.fail.new.memory.1.0 c.fail.new.self.link c.answer_of.result.reply before (Nak (nak_code c.in-Refused.field-0))
+    refused-reply c.fail.new.memory.1.0 c.fail.new.self.link c.answer_of.result.reply before c.in-Refused.field-0
+    (ap (λ (x : EndTook). x.reply) (c.answer_of.ensures ∙ ap (λ r. request_answer r before c.expected-after.result) c.in-Refused.is))
+
+pub returns-in-Refused-clause-due : goal.returns-in-Refused-clause-due
+returns-in-Refused-clause-due c = λ l is paused.
+    let before : ℕ = c.expected-before.result in
+    refused-due (site_of c.args.memory c.args.self.now) (site_at c.args.memory c.fail.new.memory.0 c.fail.new.memory.1.0 c.fail.new.memory.1.1.0.entries c.fail.new.self) l (packet c.args.d.now) c.answer_of.result.reply before (Nak (nak_code c.in-Refused.field-0))
     (ap (λ (x : EndTook). x.reply) (c.answer_of.ensures ∙ ap (λ r. request_answer r before c.expected-after.result) c.in-Refused.is))
 
 -- ---- any other answer
@@ -139,3 +149,17 @@ returns-clause-keeps c =
     let t = taken_request l.responder.terms c.args.self.now.domain c.args.self.now.number l.responder.receiver (regions_of c.args.memory.pool.now c.args.memory.regions.now) c.args.self.now.recvs.items (packet c.args.d.now) in
     subst (λ h. Keeps s (record s { pool = c.serve-reply.new.pool; held = h; queues = c.serve-reply.new.queues.entries; end = record s.end { recvs = c.serve-reply.new.recvs; link = Some c.serve-reply.new.self } }) [] nothing) (sym c.serve-reply.ensures.regions)
     (served-keeps s l c.serve-reply.new.self (packet c.args.d.now) c.serve-reply.new.pool c.serve-reply.new.recvs c.serve-reply.new.queues.entries t c.requires.sound c.in-Some.is (sym (ap is_ended_link c.in-Some.is) ∙ c.requires.running) c.requires.fits refl c.serve-reply.ensures.served)
+
+pub returns-clause-due : goal.returns-clause-due
+returns-clause-due c = λ l at paused.
+    let s = site_of c.args.memory c.args.self.now in
+    let k = c.in-Some.link in
+    let some : Some l ≡ Some k = sym at ∙ c.in-Some.is in
+    let same : l ≡ k = cc in
+    let t = taken_request k.responder.terms c.args.self.now.domain c.args.self.now.number k.responder.receiver (regions_of c.args.memory.pool.now c.args.memory.regions.now) c.args.self.now.recvs.items (packet c.args.d.now) in
+    let s1 : (h : List Held) → Site = λ h. record s { pool = c.serve-reply.new.pool; held = h; queues = c.serve-reply.new.queues.entries; end = record s.end { recvs = c.serve-reply.new.recvs; link = Some c.serve-reply.new.self } } in
+    let due = served-due s k c.serve-reply.new.self (packet c.args.d.now) c.serve-reply.new.pool c.serve-reply.new.recvs c.serve-reply.new.queues.entries t c.requires.sound c.in-Some.is (sym (ap is_ended_link c.in-Some.is) ∙ c.requires.running) c.requires.fits refl c.serve-reply.ensures.served
+    (subst (λ (x : EndLink). is_paused (phase_of x.moves.phase) ≡ false) same paused) c.expected-before.result c.expected-after.result c.serve-reply.new.regions c.serve-reply.result c.serve-reply.ensures.read (sym c.serve-reply.ensures.reply) in
+    let answered = subst (λ (x : EndTook). WasDue s (s1 s.held) k (packet c.args.d.now) x.reply) (sym c.answer_of-2.ensures) due in
+    let held = subst (λ h. WasDue s (s1 h) k (packet c.args.d.now) c.answer_of-2.result.reply) (sym c.serve-reply.ensures.regions) answered in
+    subst (λ (x : EndLink). WasDue s (s1 c.serve-reply.new.regions) x (packet c.args.d.now) c.answer_of-2.result.reply) (sym same) held
