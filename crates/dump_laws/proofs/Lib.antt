@@ -6,3 +6,5 @@ pub mod Lists
 pub mod Keeps
 pub mod Numbering
 pub mod Whole
+pub mod Back
+pub mod BackWhole

@@ -31,11 +31,11 @@ not_true false h = refl
 pub not_false : (a : Bool) → a ≡ false → not a ≡ true
 not_false a h = rw h refl
 
-or_none_first : (a b : Bool) → (a || b) ≡ false → a ≡ false
+pub or_none_first : (a b : Bool) → (a || b) ≡ false → a ≡ false
 or_none_first true b h = cc
 or_none_first false b h = refl
 
-or_none_second : (a b : Bool) → (a || b) ≡ false → b ≡ false
+pub or_none_second : (a b : Bool) → (a || b) ≡ false → b ≡ false
 or_none_second true b h = cc
 or_none_second false b h = h
 
@@ -73,7 +73,7 @@ module _ (A B : Type 0) (f : A → B) (P : List A → A → Type 0) where
 
 -- ---- names
 
-word_some : (A : Type 0) (f : A → Name) (n : Name) (seen : List A) → has_word n (map f seen) ≡ some (λ a. bytes_eq (f a) n) seen
+pub word_some : (A : Type 0) (f : A → Name) (n : Name) (seen : List A) → has_word n (map f seen) ≡ some (λ a. bytes_eq (f a) n) seen
 unfolding has_name some
 word_some A f n [] = refl
 word_some A f n (x ∷ seen) = ap (λ (b : Bool). bytes_eq (f x) n || b) (word_some A f n seen)

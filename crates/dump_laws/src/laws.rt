@@ -1,8 +1,9 @@
 //! What is written reads back, and what is read is a dump.
 
-ghost use Rattle.std.specs.Prelude.{◌≡◌, ℕ, List};
+ghost use Rattle.std.specs.Prelude.{◌≡◌, ℕ, List, []};
 ghost use Rattle.protocol.specs.declared.images.ContextImage.{ContextImage};
 ghost use Rattle.protocol.specs.Dumps.{Dumps, Good, read_dump};
+ghost use Rattle.dump_laws.specs.Fits.{FitsFields};
 
 /// An image that is read from bytes keeps the rules, and the bytes are those of a dump of it.
 pub fn what_is_read_is_a_dump(bytes: &[u8])
@@ -10,3 +11,8 @@ pub fn what_is_read_is_a_dump(bytes: &[u8])
 {
     let _bytes = bytes;
 }
+
+/// A dump of an image whose numbers fit their fields reads back as that image.
+pub fn what_is_written_reads_back()
+    ensures { (c : ContextImage) (bytes : List ℕ) → Dumps c bytes → FitsFields c → (place : ℕ) × (read_dump bytes ≡ Good c place []) }
+{}

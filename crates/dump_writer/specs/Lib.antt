@@ -1,3 +1,4 @@
 pub mod Groups
 pub mod Left
 pub mod Gives
+pub mod Text

@@ -5,6 +5,8 @@
 mod chunk;
 mod fields;
 mod stages;
+mod text;
 mod writer;
 
+pub use text::dump_text;
 pub use writer::{DumpWriter, encode_dump};
