@@ -1,0 +1,17 @@
+use Rattle.std.proofs.Common.{◌≡◌, ◌++◌, ◌∷◌, [], ap, ◌∙◌, arith}
+use Rattle.std.specs.Prelude.{Some, slice_get}
+use Rattle.std.proofs.lemmas.Grind.{common_steps}
+use Rattle.rdma_types.specs.Objects.{CompletionQueue}
+use Rattle.rdma_types.specs.declared.names.Name.{Name}
+use Rattle.completion_queue.specs.Queue.{Queue}
+use Rattle.protocol.specs.Images.{queue_image}
+use Rattle.context_core.proofs.Fronts.{both_of}
+use Rattle.context_core.proofs.image_queues.queue_images.Goals as goal
+
+abbrev shown : Name × Queue → CompletionQueue
+shown q = record { name = q.0; capacity = q.1.capacity; entries = q.1.entries }
+
+pub loop-i-preserved : goal.loop-i-preserved
+loop-i-preserved c =
+    let there : slice_get c.args.queues.now.entries c.loop-i.i ≡ Some (c.unwrap.result.0.now, c.unwrap.result.1.now) = grind (arith, common_steps) in
+    c.in_ok-push.ensures.items ∙ (ap (λ xs. xs ++ c.in_ok-image.image ∷ []) c.loop-i.invariant ∙ both_of queue_image shown c.args.queues.now.entries c.loop-i.i (c.unwrap.result.0.now, c.unwrap.result.1.now) c.in_ok-image.image there c.in_ok-image.ensures)

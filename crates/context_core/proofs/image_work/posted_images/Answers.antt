@@ -1,0 +1,12 @@
+use Rattle.std.proofs.Common.{◌≡◌, ◌++◌, ◌∷◌, [], ap, ◌∙◌, arith}
+use Rattle.std.specs.Prelude.{Some, slice_get}
+use Rattle.std.proofs.lemmas.Grind.{common_steps}
+use Rattle.protocol.specs.Images.{posted_image}
+use Rattle.work_queues.specs.Untold.{posted_in}
+use Rattle.context_core.proofs.Fronts.{both_of}
+use Rattle.context_core.proofs.image_work.posted_images.Goals as goal
+
+pub loop-i-preserved : goal.loop-i-preserved
+loop-i-preserved c =
+    let there : slice_get c.args.requester.now.items c.loop-i.i ≡ Some c.unwrap-posted.result.now = grind (arith, common_steps) in
+    c.in_ok-push.ensures.items ∙ (ap (λ xs. xs ++ c.in_ok-image.image ∷ []) c.loop-i.invariant ∙ both_of posted_image (posted_in c.args.pool.now) c.args.requester.now.items c.loop-i.i c.unwrap-posted.result.now c.in_ok-image.image there c.in_ok-image.ensures)

@@ -1,0 +1,15 @@
+use Rattle.std.proofs.Common.{◌≡◌, ◌∙◌, arith}
+use Rattle.std.specs.Prelude.{None, Some, slice_get}
+use Rattle.std.proofs.lemmas.Grind.{common_steps}
+use Rattle.context_core.proofs.Telling.{told-none, told-some}
+use Rattle.context_core.proofs.state.ContextState.end_at.Goals as goal
+
+pub returns-in_err-name : goal.returns-in_err-name
+returns-in_err-name c =
+    let there : slice_get c.self.inside.ends.entries c.args.place ≡ None = grind (arith, common_steps) in
+    rw (← c.self.view_is) (λ pool n. c.from_residual.ensures ∙ told-none pool n _ c.args.place there)
+
+pub returns : goal.returns
+returns c =
+    let there : slice_get c.self.inside.ends.entries c.args.place ≡ Some (c.in_ok-name.name.now, c.in_ok-name.slot.now) = grind (arith, common_steps) in
+    rw (← c.self.view_is) (λ pool n. told-some pool n _ c.args.place (c.in_ok-name.name.now, c.in_ok-name.slot.now) c.end_head.result there (c.end_head.ensures pool c.self.inside.queues.entries))

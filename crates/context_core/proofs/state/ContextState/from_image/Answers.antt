@@ -1,0 +1,22 @@
+use Rattle.std.proofs.Common.{◌∙◌, ap}
+use Rattle.page_pool.specs.Pool.{free_pages}
+use Rattle.protocol.specs.Images.{context_of}
+use Rattle.protocol.specs.Memory.{pages_of_context}
+use Rattle.context_core.specs.Faults.{told_as}
+use Rattle.context_core.proofs.Begun.{enough-so, image-may, queue-pairs, whole-part}
+use Rattle.context_core.proofs.state.ContextState.from_image.Goals as goal
+
+pub queues_of-requires-clause-names : goal.queues_of-requires-clause-names
+queues_of-requires-clause-names c = queue-pairs c.args.image.now c.as_slice-2.result.now c.as_slice-2.ensures c.requires.lawful
+
+pub put_rest-requires-clause-moves : goal.put_rest-requires-clause-moves
+put_rest-requires-clause-moves c = image-may c.args.image.now c.requires.moves
+
+pub returns-in-Ok-clause-refused : goal.returns-in-Ok-clause-refused
+returns-in-Ok-clause-refused c = enough-so c.less_image.result c.free.result (free_pages c.args.pool.now) (pages_of_context (context_of c.args.image.now)) c.is_none.result c.free.ensures.free c.less_image.ensures c.is_none.ensures c.if-is_none.false
+
+pub returns-in-Ok-clause-moved : goal.returns-in-Ok-clause-moved
+returns-in-Ok-clause-moved c = whole-part c.put_rest.new.pool c.args.image.now c.put_rest.new.self c.in-Ok.ensures.part
+
+pub returns-in-Err-clause-refused : goal.returns-in-Err-clause-refused
+returns-in-Err-clause-refused c = ap told_as c.into-in-Err.ensures ∙ enough-so c.less_image.result c.free.result (free_pages c.args.pool.now) (pages_of_context (context_of c.args.image.now)) c.is_none.result c.free.ensures.free c.less_image.ensures c.is_none.ensures c.if-is_none.false

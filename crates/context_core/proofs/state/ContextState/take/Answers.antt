@@ -1,0 +1,98 @@
+use Rattle.std.proofs.Common.{◌≡◌, sym, subst, ap, ◌∙◌, refl}
+use Rattle.std.specs.Option.{option_copied_mut}
+use Rattle.std.specs.Prelude.{Some, IsSome}
+use Rattle.rdma_types.specs.declared.names.Name.{Name}
+use Rattle.memory_keys.specs.Regions.{regions_of}
+use Rattle.roce_headers.specs.Packets.{packet}
+use Rattle.endpoint_core.specs.declared.answers.DueRead.{DueRead}
+use Rattle.endpoint_core.specs.Due.{due_in}
+use Rattle.endpoint_core.specs.Queues.{nothing}
+use Rattle.endpoint_core.proofs.Frames.{link-of}
+use Rattle.context_core.specs.declared.state.EndSlot.{EndSlot}
+use Rattle.context_core.specs.Context.{IsContext, site_in}
+use Rattle.context_core.proofs.Arrives.{are-ready, few-sent, none-linked, none-there, sent-for, some-linked, takes-is}
+use Rattle.context_core.proofs.Steps.{site_after}
+use Rattle.context_core.proofs.Stepping.{steps, end-sound, entry, entry-there}
+use Rattle.context_core.proofs.state.ContextState.take.Goals as goal
+
+pub returns-in_default-clause-none : goal.returns-in_default-clause-none
+returns-in_default-clause-none c = rw (← c.self.view_is) (λ n. sym (none-there c.args.pool.now n (record { domains = c.self.inside.domains.keys; regions = c.self.inside.regions; queues = c.self.inside.queues.entries; ends = c.self.inside.ends.entries }) c.args.place (sym c.in_default.ensures.entry)))
+
+pub returns-in_default-link-clause-none : goal.returns-in_default-link-clause-none
+returns-in_default-link-clause-none c = rw (← c.self.view_is) (λ n. sym (none-linked c.args.pool.now n (record { domains = c.self.inside.domains.keys; regions = c.self.inside.regions; queues = c.self.inside.queues.entries; ends = c.self.inside.ends.entries }) c.args.place (c.in-Some.field-0-0.now, c.in-Some.slot.now) (sym c.in-Some.ensures.entry) c.in_default-link.is))
+
+pub make-requires-clause-terms : goal.make-requires-clause-terms
+make-requires-clause-terms c =
+    let is = subst (IsContext c.args.pool.now) (sym c.self.view_is) c.requires.is in
+    (link-of c.args.pool.now c.self.inside.regions c.in-Some.slot.now.endpoint c.in-Some-link.link (end-sound c.args.pool.now (record { domains = c.self.inside.domains.keys; regions = c.self.inside.regions; queues = c.self.inside.queues.entries; ends = c.self.inside.ends.entries }) nothing c.args.place (c.in-Some.field-0-0.now, c.in-Some.slot.now) is.is (sym c.in-Some.ensures.entry)).end c.in-Some-link.is).terms
+
+pub take-done-requires-clause-connected : goal.take-done-requires-clause-connected
+take-done-requires-clause-connected c =
+    let is = subst (IsContext c.args.pool.now) (sym c.self.view_is) c.requires.is in
+    let value = sym c.get_index_mut.ensures.value ∙ ap option_copied_mut c.unwrap-slot.ensures in
+    let both : Some (c.in-Some.field-0-0.now, c.in-Some.slot.now) ≡ Some (entry c.self.inside.ends.entries c.args.place c.unwrap-slot.result.now) = c.in-Some.ensures.entry ∙ entry-there c.self.inside.ends.entries c.args.place c.unwrap-slot.result.now value in
+    let pair : (c.in-Some.field-0-0.now, c.in-Some.slot.now) ≡ entry c.self.inside.ends.entries c.args.place c.unwrap-slot.result.now = cc in
+    let same : c.in-Some.slot.now ≡ c.unwrap-slot.result.now = ap (λ (e : Name × EndSlot). e.1) pair in
+    subst (λ (v : EndSlot). IsSome v.endpoint.link) same (subst IsSome (sym c.in-Some-link.is) refl)
+
+pub take-done-requires-clause-sound : goal.take-done-requires-clause-sound
+take-done-requires-clause-sound c =
+    let is = subst (IsContext c.args.pool.now) (sym c.self.view_is) c.requires.is in
+    let value = sym c.get_index_mut.ensures.value ∙ ap option_copied_mut c.unwrap-slot.ensures in
+    end-sound c.args.pool.now (record { domains = c.self.inside.domains.keys; regions = c.self.inside.regions; queues = c.self.inside.queues.entries; ends = c.self.inside.ends.entries }) nothing c.args.place (entry c.self.inside.ends.entries c.args.place c.unwrap-slot.result.now) is.is (entry-there c.self.inside.ends.entries c.args.place c.unwrap-slot.result.now value)
+
+pub sent-sent-requires-clause-ready : goal.sent-sent-requires-clause-ready
+sent-sent-requires-clause-ready c =
+    let is = subst (IsContext c.args.pool.now) (sym c.self.view_is) c.requires.is in
+    let value = sym c.get_index_mut.ensures.value ∙ ap option_copied_mut c.unwrap-slot.ensures in
+    let both : Some (c.in-Some.field-0-0.now, c.in-Some.slot.now) ≡ Some (entry c.self.inside.ends.entries c.args.place c.unwrap-slot.result.now) = c.in-Some.ensures.entry ∙ entry-there c.self.inside.ends.entries c.args.place c.unwrap-slot.result.now value in
+    let pair : (c.in-Some.field-0-0.now, c.in-Some.slot.now) ≡ entry c.self.inside.ends.entries c.args.place c.unwrap-slot.result.now = cc in
+    let same : c.in-Some.slot.now ≡ c.unwrap-slot.result.now = ap (λ (e : Name × EndSlot). e.1) pair in
+    let link : c.unwrap-slot.result.now.endpoint.link ≡ Some c.in-Some-link.link = ap (λ (v : EndSlot). v.endpoint.link) (sym same) ∙ c.in-Some-link.is in
+    let made = λ (due : DueRead) (h : due_in c.in-Some-link.link (regions_of c.args.pool.now c.self.inside.regions) c.unwrap-slot.result.now.endpoint.domain (packet c.args.d.now) ≡ Some due). c.in_ok-replies.ensures.read due (subst (λ (v : EndSlot). due_in c.in-Some-link.link (regions_of c.args.pool.now c.self.inside.regions) v.endpoint.domain (packet c.args.d.now) ≡ Some due) (sym same) h) in
+    are-ready (site_in c.args.pool.now (record { domains = c.self.inside.domains.keys; regions = c.self.inside.regions; queues = c.self.inside.queues.entries; ends = c.self.inside.ends.entries }) (entry c.self.inside.ends.entries c.args.place c.unwrap-slot.result.now)) (site_after c.take-done.new.memory.0 (entry c.self.inside.ends.entries c.args.place c.unwrap-slot.result.now) c.take-done.new.memory.1.0 c.take-done.new.memory.1.1.0.entries c.take-done.new.self) c.in-Some-link.link (packet c.args.d.now) c.take-done.result.reply c.in_ok-replies.replies.read (c.take-done.ensures.due c.in-Some-link.link link) made
+
+pub sent-sent-requires-clause-reply : goal.sent-sent-requires-clause-reply
+sent-sent-requires-clause-reply c = (c.take-done.new.memory.1.0, c.take-done.ensures.reply)
+
+pub returns-clause-none : goal.returns-clause-none
+returns-clause-none c = rw (← c.self.view_is) (λ n. sym (some-linked c.args.pool.now n (record { domains = c.self.inside.domains.keys; regions = c.self.inside.regions; queues = c.self.inside.queues.entries; ends = c.self.inside.ends.entries }) c.args.place (c.in-Some.field-0-0.now, c.in-Some.slot.now) c.in-Some-link.link (sym c.in-Some.ensures.entry) c.in-Some-link.is))
+
+pub returns-clause-took : goal.returns-clause-took
+returns-clause-took c =
+    let is = subst (IsContext c.args.pool.now) (sym c.self.view_is) c.requires.is in
+    let value = sym c.get_index_mut.ensures.value ∙ ap option_copied_mut c.unwrap-slot.ensures in
+    let both : Some (c.in-Some.field-0-0.now, c.in-Some.slot.now) ≡ Some (entry c.self.inside.ends.entries c.args.place c.unwrap-slot.result.now) = c.in-Some.ensures.entry ∙ entry-there c.self.inside.ends.entries c.args.place c.unwrap-slot.result.now value in
+    let pair : (c.in-Some.field-0-0.now, c.in-Some.slot.now) ≡ entry c.self.inside.ends.entries c.args.place c.unwrap-slot.result.now = cc in
+    let same : c.in-Some.slot.now ≡ c.unwrap-slot.result.now = ap (λ (e : Name × EndSlot). e.1) pair in
+    let link : c.unwrap-slot.result.now.endpoint.link ≡ Some c.in-Some-link.link = ap (λ (v : EndSlot). v.endpoint.link) (sym same) ∙ c.in-Some-link.is in
+    let made = λ (due : DueRead) (h : due_in c.in-Some-link.link (regions_of c.args.pool.now c.self.inside.regions) c.unwrap-slot.result.now.endpoint.domain (packet c.args.d.now) ≡ Some due). c.in_ok-replies.ensures.read due (subst (λ (v : EndSlot). due_in c.in-Some-link.link (regions_of c.args.pool.now c.self.inside.regions) v.endpoint.domain (packet c.args.d.now) ≡ Some due) (sym same) h) in
+    let st = steps c.args.pool.now c.take-done.new.memory.0 (record { domains = c.self.inside.domains.keys; regions = c.self.inside.regions; queues = c.self.inside.queues.entries; ends = c.self.inside.ends.entries }) c.args.place c.unwrap-slot.result.now c.take-done.new.memory.1.0 c.take-done.new.memory.1.1.0.entries c.take-done.new.self is value c.take-done.ensures.keeps c.take-done.ensures.sound in
+    let sent = sent-for (site_in c.args.pool.now (record { domains = c.self.inside.domains.keys; regions = c.self.inside.regions; queues = c.self.inside.queues.entries; ends = c.self.inside.ends.entries }) (entry c.self.inside.ends.entries c.args.place c.unwrap-slot.result.now)) (site_after c.take-done.new.memory.0 (entry c.self.inside.ends.entries c.args.place c.unwrap-slot.result.now) c.take-done.new.memory.1.0 c.take-done.new.memory.1.1.0.entries c.take-done.new.self) c.in-Some-link.link (packet c.args.d.now) c.take-done.result.reply c.in_ok-replies.replies.read c.sent-sent.result (c.take-done.ensures.due c.in-Some-link.link link) made (c.sent-sent.ensures c.take-done.new.memory.0 (regions_of c.take-done.new.memory.0 c.take-done.new.memory.1.0)) in
+    rw (← c.self.view_is) (λ n e l there linked.
+    takes-is c.args.pool.now c.take-done.new.memory.0 (record { domains = c.self.inside.domains.keys; regions = c.self.inside.regions; queues = c.self.inside.queues.entries; ends = c.self.inside.ends.entries }) c.args.place c.unwrap-slot.result.now c.take-done.new.memory.1.0 c.take-done.new.memory.1.1.0.entries c.take-done.new.self n e l (packet c.args.d.now) c.take-done.result.took c.sent-sent.result value st there linked
+    c.take-done.ensures.step c.take-done.ensures.took (λ k names home. c.take-done.ensures.sent k names home ∙ sent))
+
+pub returns-clause-few : goal.returns-clause-few
+returns-clause-few c = few-sent (site_after c.take-done.new.memory.0 (entry c.self.inside.ends.entries c.args.place c.unwrap-slot.result.now) c.take-done.new.memory.1.0 c.take-done.new.memory.1.1.0.entries c.take-done.new.self) c.take-done.result.reply c.in_ok-replies.replies.read c.sent-sent.result c.in_ok-replies.ensures.few (c.sent-sent.ensures c.take-done.new.memory.0 (regions_of c.take-done.new.memory.0 c.take-done.new.memory.1.0))
+
+pub returns-clause-is : goal.returns-clause-is
+returns-clause-is c =
+    let is = subst (IsContext c.args.pool.now) (sym c.self.view_is) c.requires.is in
+    let value = sym c.get_index_mut.ensures.value ∙ ap option_copied_mut c.unwrap-slot.ensures in
+    let st = steps c.args.pool.now c.take-done.new.memory.0 (record { domains = c.self.inside.domains.keys; regions = c.self.inside.regions; queues = c.self.inside.queues.entries; ends = c.self.inside.ends.entries }) c.args.place c.unwrap-slot.result.now c.take-done.new.memory.1.0 c.take-done.new.memory.1.1.0.entries c.take-done.new.self is value c.take-done.ensures.keeps c.take-done.ensures.sound in
+    st.is
+
+pub returns-clause-moves : goal.returns-clause-moves
+returns-clause-moves c =
+    let is = subst (IsContext c.args.pool.now) (sym c.self.view_is) c.requires.is in
+    let value = sym c.get_index_mut.ensures.value ∙ ap option_copied_mut c.unwrap-slot.ensures in
+    let st = steps c.args.pool.now c.take-done.new.memory.0 (record { domains = c.self.inside.domains.keys; regions = c.self.inside.regions; queues = c.self.inside.queues.entries; ends = c.self.inside.ends.entries }) c.args.place c.unwrap-slot.result.now c.take-done.new.memory.1.0 c.take-done.new.memory.1.1.0.entries c.take-done.new.self is value c.take-done.ensures.keeps c.take-done.ensures.sound in
+    rw (← c.self.view_is) st.moves
+
+pub returns-clause-numbers : goal.returns-clause-numbers
+returns-clause-numbers c =
+    let is = subst (IsContext c.args.pool.now) (sym c.self.view_is) c.requires.is in
+    let value = sym c.get_index_mut.ensures.value ∙ ap option_copied_mut c.unwrap-slot.ensures in
+    let st = steps c.args.pool.now c.take-done.new.memory.0 (record { domains = c.self.inside.domains.keys; regions = c.self.inside.regions; queues = c.self.inside.queues.entries; ends = c.self.inside.ends.entries }) c.args.place c.unwrap-slot.result.now c.take-done.new.memory.1.0 c.take-done.new.memory.1.1.0.entries c.take-done.new.self is value c.take-done.ensures.keeps c.take-done.ensures.sound in
+    rw (← c.self.view_is) st.numbers

@@ -1,0 +1,39 @@
+-- What a datagram may be answered with, as it is taken before.
+use Rattle.std.specs.Prelude.{ℕ, ◌≡◌, ◌+◌, ◌==◌, List, Option, Some, None, IsSome, ⊤, if◌then◌else◌}
+use Rattle.rdma_types.specs.declared.answers.Sent.{Sent}
+use Rattle.protocol.specs.declared.wire.Aeth.{Aeth}
+use Rattle.protocol.specs.declared.wire.Syndrome.TheVariants.{Ack}
+use Rattle.endpoint_core.specs.declared.answers.EndReply.{EndReply}
+use Rattle.endpoint_core.specs.declared.answers.EndReply.TheVariants.{Nothing, Acknowledge, ReadBytes, Old, ResumeAck}
+
+-- the READ responses are there, where the reply has bytes
+abbrev pub AreReady : EndReply → Option (List Sent) → Type 0
+AreReady (ReadBytes spot first count) read = IsSome read
+AreReady Nothing read = ⊤
+AreReady (Acknowledge number syndrome) read = ⊤
+AreReady (Old number value) read = ⊤
+AreReady (ResumeAck count address) read = ⊤
+
+-- what is sent for a reply: the READ responses that were there, or else these
+abbrev pub IsSentFor : EndReply → Option (List Sent) → List Sent → List Sent → Type 0
+IsSentFor (ReadBytes spot first count) read other sent = read ≡ Some sent
+IsSentFor Nothing read other sent = sent ≡ other
+IsSentFor (Acknowledge number syndrome) read other sent = sent ≡ other
+IsSentFor (Old number value) read other sent = sent ≡ other
+IsSentFor (ResumeAck count address) read other sent = sent ≡ other
+
+-- the reply hands out no bytes
+abbrev pub HasNoBytes : EndReply → Type 0
+HasNoBytes (ReadBytes spot first count) = ⊥
+HasNoBytes Nothing = ⊤
+HasNoBytes (Acknowledge number syndrome) = ⊤
+HasNoBytes (Old number value) = ⊤
+HasNoBytes (ResumeAck count address) = ⊤
+
+-- the opcode of READ response k of so many: Only, First, Last or Middle
+abbrev pub opcode_at : ℕ → ℕ → ℕ
+opcode_at k count = if count == 1 then 0x10 else if k == 0 then 0x0D else if k + 1 == count then 0x0F else 0x0E
+
+-- its AETH with this count of finished messages; a Middle has none
+abbrev pub aeth_at : ℕ → ℕ → Option Aeth
+aeth_at opcode msn = if opcode == 0x0E then None else Some (record { syndrome = Ack; msn = msn })

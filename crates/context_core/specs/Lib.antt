@@ -1,0 +1,16 @@
+pub mod Context
+pub mod Causes
+pub mod Faults
+pub mod Heads
+pub mod Queues
+pub mod Ranges
+pub mod NewEnds
+pub mod Requests
+pub mod Naming
+pub mod Asked
+pub mod Fits
+pub mod Sending
+pub mod Transmitting
+pub mod Arriving
+pub mod Coming
+pub mod Links

@@ -1,0 +1,310 @@
+//! Datagrams taken.
+
+ghost use Rattle.std.specs.Prelude.{ℕ, ◌≡◌, ◌+◌, ◌*◌, ◌<◌, ◌≤◌, ◌^◌, List, [], length, Some, IfNone, IfOk, IfSome, OnErr, is_none, map, slice_get};
+ghost use Rattle.std.specs.Option.{option_map_or};
+ghost use Rattle.rdma_types.specs.Limits.{AreTerms};
+ghost use Rattle.rdma_types.specs.Objects.{Region};
+ghost use Rattle.rdma_types.specs.Memory.{cut};
+ghost use Rattle.rdma_types.specs.Spans.{piece_length, pieces};
+ghost use Rattle.page_pool.specs.Pool.{Pool};
+ghost use Rattle.memory_keys.specs.declared.Held.{Held};
+ghost use Rattle.memory_keys.specs.Regions.{AreHeld, IsSpot, regions_of};
+ghost use Rattle.protocol.specs.Bytes.{bytes_at};
+ghost use Rattle.protocol.specs.EndStep.{takes};
+ghost use Rattle.protocol.specs.Responder.{read_piece, read_response};
+ghost use Rattle.protocol.specs.State.{End, Link};
+ghost use Rattle.protocol.specs.Wire.{Fits};
+ghost use Rattle.rdma_types.specs.declared.names.Name.{Name};
+ghost use Rattle.roce_headers.specs.Packets.{packet};
+ghost use Rattle.endpoint_core.specs.declared.answers.DueRead.{DueRead};
+ghost use Rattle.endpoint_core.specs.Answers.{IsReply, sent_by};
+ghost use Rattle.endpoint_core.specs.Due.{due_in, responses, telling};
+ghost use Rattle.endpoint_core.specs.Ends.{link_in};
+ghost use Rattle.context_core.specs.Arriving.{AreReady, HasNoBytes, IsSentFor, aeth_at, opcode_at};
+ghost use Rattle.context_core.specs.Context.{IsContext, Moves, context_in};
+ghost use Rattle.context_core.specs.Heads.{link_at};
+ghost use Rattle.context_core.specs.Sending.{IsRoom, addressed};
+
+use crate::ContextState;
+use crate::datagrams::{Room, answer, encoded, moving};
+use crate::sending::MOST_HEADERS;
+use endpoint_core::{DueRead, EndLink, EndMemory, EndReply, Endpoint};
+use memory_keys::Regions;
+use page_pool::PagePool;
+use protocol::{Aeth, ResumeBody, Syndrome};
+use rdma_types::{Items, Name, Sent, Took};
+use roce_headers::Datagram;
+use segmenter::{piece_at, pieces_of};
+use std::alloc::{AllocError, Global};
+
+/// Acknowledge and ATOMIC Acknowledge (IBA 9.2).
+const ACKNOWLEDGE: u8 = 0x11;
+
+const ATOMIC_ACKNOWLEDGE: u8 = 0x12;
+
+/// RESUME_ACK (this project's choice).
+const RESUME_ACK: u8 = 0x1F;
+
+/// READ response Middle, which has no AETH (IBA 9.2).
+const MIDDLE: u8 = 0x0E;
+
+/// What a datagram did, and what is sent for it.
+#[derive(Drop)]
+pub struct Taken {
+    pub took: Took,
+    pub sent: Items<Sent>,
+}
+
+/// What a datagram may be answered with: memory for one datagram, and the READ responses that are due.
+#[derive(Drop)]
+struct Replies {
+    room: Room,
+    read: Option<Items<Sent>>,
+}
+
+/// The opcode of READ response `k` of so many, which is a First, Middle, Last or Only.
+fn response_opcode(k: u64, count: u64) -> u8
+    requires { k < count }
+    ensures { result ≡ opcode_at k count }
+{
+    if count == 1 {
+        0x10
+    } else if k == 0 {
+        0x0D
+    } else if k + 1 == count {
+        0x0F
+    } else {
+        0x0E
+    }
+}
+
+/// The AETH of a READ response, which a Middle does not have.
+fn response_aeth(opcode: u8, msn: u32) -> Option<Aeth>
+    ensures { result ≡ aeth_at opcode msn }
+{
+    if opcode == MIDDLE {
+        return None;
+    }
+    let syndrome = Syndrome::Ack;
+    Some(Aeth { syndrome, msn })
+}
+
+/// READ response `k` of so many, with these bytes.
+fn read_datagram<'a>(
+    link: &EndLink,
+    msn: u32,
+    n: u64,
+    k: u64,
+    count: u64,
+    payload: &'a [u8],
+) -> Datagram<'a>
+    requires number { n < 2 ^ 63 }
+    requires msn { msn < 2 ^ 24 }
+    requires inside { k < count }
+    requires few { length payload.now ≤ 4096 }
+    ensures says { (pool : Pool) → packet result ≡ addressed (read_response (telling (link_in pool link.now) msn) n k count payload.now) }
+    ensures fits { Fits (packet result) }
+{
+    let opcode = response_opcode(k, count);
+    let aeth = response_aeth(opcode, msn);
+    let start = link.terms.peer_start;
+    answer(opcode, link.peer, start, n, aeth, None, payload)
+}
+
+/// READ response `k` of so many, in memory of its own.
+fn response(
+    alloc: Global,
+    link: &EndLink,
+    due: &DueRead,
+    k: u64,
+    count: u64,
+    bytes: &[u8],
+) -> Result<Sent, AllocError>
+    requires terms { AreTerms link.now.terms }
+    requires number { due.now.first < 2 ^ 62 }
+    requires msn { due.now.msn < 2 ^ 24 }
+    requires all { count ≡ pieces due.now.spot.length link.now.terms.mtu }
+    requires few { count ≤ 2 ^ 32 }
+    requires inside { k < count }
+    requires bytes { length bytes.now ≡ due.now.spot.length }
+    ensures { (pool : Pool) (r : Region) → bytes_at (k * link.now.terms.mtu) (piece_length due.now.spot.length k link.now.terms.mtu) bytes.now ≡ cut (due.now.spot.off + k * link.now.terms.mtu) (piece_length due.now.spot.length k link.now.terms.mtu) r.bytes
+        → IfOk result (λ s. s ≡ read_piece (telling (link_in pool link.now) due.now.msn) r due.now.spot.off due.now.spot.length due.now.first k) }
+{
+    let (from, length) = piece_at(due.spot.length, k, link.terms.mtu);
+    let (from, length) = (from as usize, length as usize);
+    let payload = part_of(bytes, from, length);
+    let number = due.first + k;
+    let d = read_datagram(link, due.msn, number, k, count, payload);
+    Ok(Sent {
+        to: link.moves.partner,
+        number: Some(number),
+        bytes: encoded(alloc, &d)?,
+    })
+}
+
+/// So many bytes from a place on.
+#[tactic(auto, unfolding(protocol::specs::Bytes::bytes_at))]
+fn part_of(bytes: &[u8], from: usize, count: usize) -> &[u8]
+    requires { from + count ≤ length bytes.now }
+    ensures { result.now ≡ bytes_at from count bytes.now }
+{
+    &bytes[from..from + count]
+}
+
+/// How many responses a READ of so many bytes has.
+fn count_of(length: u32, mtu: u32) -> u64
+    requires { 0 < mtu }
+    ensures rule { result ≡ pieces length mtu }
+    ensures few { result ≤ 2 ^ 32 }
+{
+    pieces_of(length, mtu)
+}
+
+/// The READ responses that are due.
+fn responses(
+    alloc: Global,
+    pool: &PagePool,
+    regions: &Regions,
+    link: &EndLink,
+    due: &DueRead,
+) -> Result<Items<Sent>, AllocError>
+    requires held { AreHeld pool.now regions.now }
+    requires terms { AreTerms link.now.terms }
+    requires spot { IsSpot regions.now due.now.spot }
+    requires number { due.now.first < 2 ^ 62 }
+    requires msn { due.now.msn < 2 ^ 24 }
+    ensures all { IfOk result (λ list. list ≡ responses pool.now (regions_of pool.now regions.now) link.now due.now (pieces due.now.spot.length link.now.terms.mtu)) }
+    ensures few { IfOk result (λ list. length list ≤ 2 ^ 32) }
+{
+    regions.are_keyed();
+    let mut bytes = vec![in alloc; 0; due.spot.length as usize]?;
+    regions.load(pool, due.spot, &mut bytes);
+    let count = count_of(due.spot.length, link.terms.mtu);
+    let mut sent = Items::new(Vec::with_capacity(alloc, count as usize)?);
+    for k in 0..count {
+        sent.push(response(alloc, link, due, k, count, &bytes)?)?;
+    }
+    Ok(sent)
+}
+
+impl Replies {
+    /// Memory for each reply to a datagram, and the READ responses that are due for it.
+    fn make(
+        alloc: Global,
+        pool: &PagePool,
+        regions: &Regions,
+        domain: Name,
+        link: &EndLink,
+        d: &Datagram<'_>,
+    ) -> Result<Replies, AllocError>
+        requires held { AreHeld pool.now regions.now }
+        requires terms { AreTerms link.now.terms }
+        requires fits { Fits (packet d.now) }
+        ensures room { IfOk result (λ r. IsRoom r.room 92) }
+        ensures few { IfOk result (λ r. IfSome r.read (λ list. length list ≤ 2 ^ 32)) }
+        ensures read { (due : DueRead) → due_in link.now (regions_of pool.now regions.now) domain (packet d.now) ≡ Some due
+            → IfOk result (λ r. r.read ≡ Some (responses pool.now (regions_of pool.now regions.now) link.now due (pieces due.spot.length link.now.terms.mtu))) }
+    {
+        let room = Room::make(alloc, MOST_HEADERS)?;
+        let Some(due) = link.due(regions, domain, d) else {
+            return Ok(Replies { room, read: None });
+        };
+        let read = Some(responses(alloc, pool, regions, link, &due)?);
+        Ok(Replies { room, read })
+    }
+
+    /// What is sent for a reply of an end. It takes no memory.
+    fn sent(self, alloc: Global, endpoint: &Endpoint, reply: EndReply) -> Items<Sent>
+        requires room { IsRoom self.room 92 }
+        requires ready { AreReady reply self.read }
+        requires reply { (held : List Held) × IfSome endpoint.now.link (λ l. IsReply held l reply) }
+        ensures { (pool : Pool) (regions : List Region)
+            → IsSentFor reply self.read (option_map_or (λ l. sent_by regions (link_in pool l) reply) endpoint.now.link []) result }
+    {
+        let Replies { room, read } = self;
+        if let EndReply::ReadBytes { .. } = reply {
+            return read.unwrap();
+        }
+        let Some(link) = &endpoint.link else {
+            return Items::new(Vec::new(alloc));
+        };
+        reply_sent(alloc, room, link, reply)
+    }
+}
+
+/// What is sent for a reply without bytes, to the recorded place of the partner.
+fn reply_sent(alloc: Global, room: Room, link: &EndLink, reply: EndReply) -> Items<Sent>
+    requires room { IsRoom room 92 }
+    requires reply { (held : List Held) × IsReply held link.now reply }
+    requires bare { HasNoBytes reply }
+    ensures { (pool : Pool) (regions : List Region) → result ≡ sent_by regions (link_in pool link.now) reply }
+{
+    let (to, peer, start) = (link.moves.partner, link.peer, link.terms.peer_start);
+    let msn = link.responder.parts().msn;
+    match reply {
+        EndReply::Nothing => Items::new(Vec::new(alloc)),
+        EndReply::Acknowledge { number, syndrome } => {
+            let aeth = Some(Aeth { syndrome, msn });
+            let d = answer(ACKNOWLEDGE, peer, start, number, aeth, None, &[]);
+            room.fill(MOST_HEADERS, to, Some(number), &d)
+        }
+        EndReply::Old { number, old } => {
+            let syndrome = Syndrome::Ack;
+            let aeth = Some(Aeth { syndrome, msn });
+            let old = Some(old);
+            let d = answer(ATOMIC_ACKNOWLEDGE, peer, start, number, aeth, old, &[]);
+            room.fill(MOST_HEADERS, to, Some(number), &d)
+        }
+        EndReply::ResumeAck { count, address } => {
+            let d = moving(RESUME_ACK, peer, ResumeBody { count, address });
+            room.fill(MOST_HEADERS, to, None, &d)
+        }
+        EndReply::ReadBytes { .. } => unreachable!(),
+    }
+}
+
+impl ContextState {
+    /// Takes a datagram at the connected end of that place. `None` comes exactly where no connected end stands there.
+    pub fn take(
+        &mut self,
+        alloc: Global,
+        pool: &mut PagePool,
+        place: usize,
+        d: &Datagram<'_>,
+    ) -> Result<Option<Taken>, AllocError>
+        requires is { IsContext pool.old self.old }
+        requires fits { Fits (packet d.now) }
+        ensures none { (n : Name) → IfOk result (λ r. is_none r ≡ is_none (link_at (context_in pool.old n self.old) place)) }
+        ensures took { (n : Name) (e : End) (l : Link) → slice_get (context_in pool.old n self.old).ends place ≡ Some e → e.link ≡ Some l
+            → IfOk result (λ r. IfSome r (λ t. takes (context_in pool.old n self.old) e l (packet d.now) ≡ record { context = context_in pool.new n self.new; took = t.took; sent = t.sent })) }
+        ensures nothing { IfOk result (λ r. IfNone r (self.new ≡ self.old)) }
+        ensures nothing_pool { IfOk result (λ r. IfNone r (pool.new ≡ pool.old)) }
+        ensures few { IfOk result (λ r. IfSome r (λ t. length t.sent ≤ 2 ^ 32)) }
+        ensures is { IsContext pool.new self.new }
+        ensures moves { Moves pool.old pool.new self.old self.new }
+        ensures numbers { (n : Name) → map (λ e. e.number) (context_in pool.new n self.new).ends ≡ map (λ e. e.number) (context_in pool.old n self.old).ends }
+        ensures err { OnErr result (self.new ≡ self.old) }
+        ensures err_pool { OnErr result (pool.new ≡ pool.old) }
+    {
+        let Some((_, slot)) = self.ends.get_index(place) else {
+            return Ok(None);
+        };
+        let Some(link) = &slot.endpoint.link else {
+            return Ok(None);
+        };
+        let domain = slot.endpoint.domain;
+        let replies = Replies::make(alloc, pool, &self.regions, domain, link, d)?;
+        let slot = self.ends.get_index_mut(place).unwrap();
+        let memory = EndMemory {
+            pool,
+            regions: &mut self.regions,
+            queues: &mut self.queues,
+            send: slot.send,
+            recv: slot.recv,
+        };
+        let done = slot.endpoint.take(memory, d);
+        let sent = replies.sent(alloc, &slot.endpoint, done.reply);
+        let took = done.took;
+        Ok(Some(Taken { took, sent }))
+    }
+}

@@ -1,0 +1,34 @@
+//! Readers, which take no memory.
+
+ghost use Rattle.std.specs.Prelude.{◌≡◌, bytes_eq, length, position, slice_get};
+ghost use Rattle.std.specs.Option.{option_map};
+ghost use Rattle.rdma_types.specs.declared.names.Name.{Name};
+ghost use Rattle.page_pool.specs.Pool.{Pool};
+ghost use Rattle.context_core.specs.Context.{context_in};
+
+use crate::ContextState;
+use rdma_types::{Keys, Name};
+
+impl ContextState {
+    /// How many queue pairs there are.
+    pub fn end_count(&self) -> usize
+        ensures { (pool : Pool) (n : Name) → result ≡ length (context_in pool n self.now).ends }
+    {
+        self.ends.len()
+    }
+
+    /// The place of the queue pair with a name. It stays, since queue pairs are only added.
+    pub fn place_of_end(&self, name: Name) -> Option<usize>
+        ensures { (pool : Pool) (n : Name) → result ≡ position (λ e. bytes_eq name e.name) (context_in pool n self.now).ends }
+    {
+        self.ends.get_index_of(&name)
+    }
+
+    /// The keys of the region at a place; None where there are fewer.
+    pub fn keys_at(&self, place: usize) -> Option<Keys>
+        ensures { (pool : Pool) (n : Name) → result ≡ option_map (λ r. r.keys) (slice_get (context_in pool n self.now).regions place) }
+    {
+        let head = self.regions.at(place)?;
+        Some(head.keys)
+    }
+}

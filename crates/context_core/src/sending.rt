@@ -1,0 +1,235 @@
+//! What an end sends by itself.
+
+ghost use Rattle.std.specs.Prelude.{ℕ, ◌≡◌, ◌+◌, ◌<◌, ◌≤◌, ◌^◌, IfOk, IfSome, IsSome, OnErr, Some, length, map, slice_get};
+ghost use Rattle.std.specs.Result.{result_err};
+ghost use Rattle.rdma_types.specs.Causes.{first_cause};
+ghost use Rattle.rdma_types.specs.declared.names.Name.{Name};
+ghost use Rattle.page_pool.specs.Held.{HoldsPayload, payload_bytes};
+ghost use Rattle.page_pool.specs.Pool.{Pool};
+ghost use Rattle.protocol.specs.Bytes.{bytes_at};
+ghost use Rattle.protocol.specs.DeviceStep.{gives, transmits, with_context};
+ghost use Rattle.protocol.specs.Memory.{pages_of_context};
+ghost use Rattle.protocol.specs.Refusals.{connected_causes};
+ghost use Rattle.protocol.specs.State.{Device, end_at};
+ghost use Rattle.endpoint_core.specs.declared.answers.EndSend.TheVariants as send;
+ghost use Rattle.endpoint_core.specs.declared.end.EndLink.{EndLink};
+ghost use Rattle.endpoint_core.specs.Answers.{row_in};
+ghost use Rattle.endpoint_core.specs.Ends.{link_in, untold_by};
+ghost use Rattle.requester.specs.declared.answers.Transmit.TheVariants as transmission;
+ghost use Rattle.context_core.specs.Context.{IsContext, context_in, lists_of};
+ghost use Rattle.context_core.specs.Faults.{refusal_of};
+ghost use Rattle.context_core.specs.Sending.{IsInRange, IsRoom, row_answer, row_sent};
+ghost use Rattle.context_core.specs.Transmitting.{IsSending, IsWay};
+
+use crate::datagrams::{Room, moving, request};
+use crate::{ContextFault, ContextState, EndSlot, ends};
+use endpoint_core::{EndSend, Endpoint};
+use indexmap::IndexMap;
+use page_pool::{PagePool, Payload};
+use protocol::ResumeBody;
+use psn_math::wire_of;
+use rdma_types::{Address, Answer, Items, Name, Sent, Shape};
+use requester::Transmit;
+use segmenter::PacketHead;
+use std::alloc::{AllocError, Global};
+use work_queues::Posted;
+
+/// More bytes than a datagram has besides its payload.
+pub const MOST_HEADERS: usize = 92;
+
+/// RESUME (this project's choice).
+const RESUME: u8 = 0x1E;
+
+/// An answer, and the datagrams that are sent.
+#[derive(Drop)]
+pub struct Answered {
+    pub answer: Answer,
+    pub sent: Items<Sent>,
+}
+
+/// Where the requests of a connected end go.
+#[derive(Clone, Copy)]
+struct Way {
+    peer: u32,
+    to: Address,
+    mtu: u32,
+    start: u32,
+}
+
+/// The way to the partner of the connected end at a place.
+fn way_at(ends: &IndexMap<Name, EndSlot>, place: usize) -> Way
+    requires there { place < length ends.now.entries }
+    requires linked { IfSome (slice_get ends.now.entries place) (λ e. IsSome e.1.endpoint.link) }
+    ensures { IfSome (slice_get ends.now.entries place) (λ e. IfSome e.1.endpoint.link (IsWay result)) }
+{
+    let (_, slot) = ends.get_index(place).unwrap();
+    let Some(link) = &slot.endpoint.link else {
+        unreachable!()
+    };
+    let _numbers = link.requester.parts();
+    Way {
+        peer: link.peer,
+        to: link.moves.partner,
+        mtu: link.terms.mtu,
+        start: link.terms.own_start,
+    }
+}
+
+/// Memory for the bytes of a request's packet, and for its datagram.
+#[derive(Drop)]
+struct Store {
+    payload: Vec<u8>,
+    room: Room,
+}
+
+/// Memory for a packet with at most so many bytes.
+fn store_for(alloc: Global, most: usize) -> Result<Store, AllocError>
+    requires { most ≤ 4096 }
+    ensures payload { IfOk result (λ s. length s.payload.items ≡ most) }
+    ensures room { IfOk result (λ s. IsRoom s.room (most + 92)) }
+{
+    let payload = vec![in alloc; 0; most]?;
+    let room = Room::make(alloc, most + MOST_HEADERS)?;
+    Ok(Store { payload, room })
+}
+
+/// The fields of a request are in the ranges of their types. It does nothing else than say so.
+fn are_in_range(_shape: Shape)
+    ensures { IsInRange _shape }
+{}
+
+/// What a transmission is answered.
+fn answer_of(send: EndSend) -> Answer
+    ensures { (pool : Pool) (l : EndLink) → result ≡ row_answer (row_in pool (Some l) send) }
+{
+    match send {
+        EndSend::Resume { .. } => Answer::Sent { first: 0 },
+        EndSend::Transmit(transmit) => match transmit {
+            Transmit::Sent { .. } => Answer::Sent { first: 0 },
+            Transmit::Idle => Answer::Idle,
+            Transmit::WindowFull => Answer::WindowFull,
+            Transmit::ReadsFull => Answer::ReadsFull,
+            Transmit::Fenced => Answer::Fenced,
+            Transmit::Waiting => Answer::Waiting,
+        },
+    }
+}
+
+/// A request that is not told.
+fn posted_at(endpoint: &Endpoint, index: usize) -> &Posted
+    requires { index < length (untold_by endpoint.now.link) }
+    ensures { slice_get (untold_by endpoint.now.link) index ≡ Some result.now }
+{
+    let Some(link) = &endpoint.link else {
+        unreachable!()
+    };
+    link.requester.posted(index).unwrap()
+}
+
+/// The bytes of a packet, as many as the request has there, in this memory.
+fn payload_in(pool: &PagePool, payload: &Payload, head: &PacketHead, mut out: Vec<u8>) -> Vec<u8>
+    requires held { HoldsPayload pool.now payload.now }
+    requires room { length (bytes_at head.now.off head.now.length (payload_bytes pool.now payload.now)) ≤ length out.items }
+    ensures { result.items ≡ bytes_at head.now.off head.now.length (payload_bytes pool.now payload.now) }
+{
+    let (first, length) = (payload.first, payload.length);
+    let off = head.off.min(length);
+    let count = head.length.min(length - off);
+    out.truncate(count as usize);
+    pool.read(&payload.list, u64::from(first) + u64::from(off), &mut out);
+    out
+}
+
+/// A packet of a request, with the bytes that the request took.
+fn request_sent(
+    pool: &PagePool,
+    endpoint: &Endpoint,
+    way: &Way,
+    store: Store,
+    number: u64,
+    index: usize,
+    head: &PacketHead,
+) -> Items<Sent>
+    requires sending { (l : EndLink) × IsSending pool.now endpoint.now way.now (send.Transmit (transmission.Sent number index head.now)) l }
+    requires payload { length store.payload.items ≡ way.now.mtu }
+    requires room { IsRoom store.room (way.now.mtu + 92) }
+    ensures { (l : EndLink) (own : Address) → IsSending pool.now endpoint.now way.now (send.Transmit (transmission.Sent number index head.now)) l
+        → result ≡ row_sent (link_in pool.now l) own (row_in pool.now (Some l) (send.Transmit (transmission.Sent number index head.now))) }
+{
+    let Store { payload, room } = store;
+    let posted = posted_at(endpoint, index);
+    are_in_range(posted.request.shape);
+    let bytes = payload_in(pool, &posted.payload, head, payload);
+    let psn = wire_of(number, way.start);
+    let d = request(head, &posted.request.shape, way.peer, psn, &bytes);
+    room.fill(way.mtu as usize + MOST_HEADERS, way.to, Some(number), &d)
+}
+
+/// What a transmission sends.
+fn sent_for(
+    alloc: Global,
+    pool: &PagePool,
+    endpoint: &Endpoint,
+    way: &Way,
+    own: Address,
+    store: Store,
+    send: EndSend,
+) -> Items<Sent>
+    requires sending { (l : EndLink) × IsSending pool.now endpoint.now way.now send l }
+    requires payload { length store.payload.items ≡ way.now.mtu }
+    requires room { IsRoom store.room (way.now.mtu + 92) }
+    ensures { (l : EndLink) → IsSending pool.now endpoint.now way.now send l
+        → result ≡ row_sent (link_in pool.now l) own (row_in pool.now (Some l) send) }
+{
+    match send {
+        EndSend::Resume { count } => {
+            let address = own;
+            let d = moving(RESUME, way.peer, ResumeBody { count, address });
+            let most = way.mtu as usize + MOST_HEADERS;
+            store.room.fill(most, way.to, None, &d)
+        }
+        EndSend::Transmit(transmit) => match transmit {
+            Transmit::Sent {
+                number,
+                index,
+                head,
+            } => request_sent(pool, endpoint, way, store, number, index, &head),
+            Transmit::Idle
+            | Transmit::WindowFull
+            | Transmit::ReadsFull
+            | Transmit::Fenced
+            | Transmit::Waiting => Items::new(Vec::new(alloc)),
+        },
+    }
+}
+
+impl ContextState {
+    /// The next packet of an end may be sent. A RESUME tells the address of the device, `own`.
+    pub fn transmit(
+        &mut self,
+        alloc: Global,
+        pool: &PagePool,
+        name: Name,
+        own: Address,
+    ) -> Result<Answered, ContextFault>
+        requires is { IsContext pool.now self.old }
+        ensures refused { (n : Name) → refusal_of result ≡ first_cause (connected_causes (context_in pool.now n self.old) name) }
+        ensures sent { (n : Name) (d : Device) → d.address ≡ own → with_context d (context_in pool.now n self.old) ≡ d
+            → IfOk result (λ a. transmits d (context_in pool.now n self.old) (end_at (context_in pool.now n self.old) name)
+            ≡ gives (with_context d (context_in pool.now n self.new)) a.answer a.sent) }
+        ensures is { IsContext pool.now self.new }
+        ensures lists { lists_of self.new ≡ lists_of self.old }
+        ensures pages { (n : Name) → pages_of_context (context_in pool.now n self.new) ≡ pages_of_context (context_in pool.now n self.old) }
+        ensures numbers { (n : Name) → map (λ e. e.number) (context_in pool.now n self.new).ends ≡ map (λ e. e.number) (context_in pool.now n self.old).ends }
+        ensures err { OnErr result (self.new ≡ self.old) }
+    {
+        let place = ends::connected(&self.ends, name)?;
+        let way = way_at(&self.ends, place);
+        let store = store_for(alloc, way.mtu as usize)?;
+        let slot = self.ends.get_index_mut(place).unwrap();
+        let send = slot.endpoint.transmit();
+        let answer = answer_of(send);
+        let sent = sent_for(alloc, pool, &slot.endpoint, &way, own, store, send);
+        Ok(Answered { answer, sent })
+    }
+}
