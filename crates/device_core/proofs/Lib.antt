@@ -1,0 +1,25 @@
+pub mod Laws
+pub mod Pairs
+pub mod Contexts
+pub mod Indexes
+pub mod Dones
+pub mod Helds
+pub mod HuskNames
+pub mod Stepping
+pub mod Made
+pub mod Adding
+pub mod IndexAdds
+pub mod NewDevices
+pub mod FoundEnds
+pub mod Arrivals
+pub mod MadeEnds
+mod Releases
+mod Leavings
+mod Withouts
+mod Stops
+mod Departures
+mod Brought
+mod Restores
+mod Steps
+mod Seen
+mod LiveEnds

@@ -1,0 +1,99 @@
+-- What an event leaves: the next device with what is given, or the device as it was.
+use Rattle.std.specs.Prelude.{◌≡◌, ◌≤◌, ◌^◌, ℕ, List, [], Option, None, Some, Result, Ok, Err, IfOk, IfSome, alloc_error, length}
+use Rattle.std.specs.declared.alloc.AllocError.{AllocError}
+use Rattle.rdma_types.specs.declared.answers.Answer.{Answer}
+use Rattle.rdma_types.specs.declared.answers.Answer.TheVariants as answer
+use Rattle.rdma_types.specs.declared.answers.Refusal.{Refusal}
+use Rattle.rdma_types.specs.declared.answers.Sent.{Sent}
+use Rattle.rdma_types.specs.declared.answers.SilentWhy.{SilentWhy}
+use Rattle.rdma_types.specs.declared.answers.SilentWhy.TheVariants as why
+use Rattle.rdma_types.specs.declared.answers.Took.TheVariants as took
+use Rattle.context_core.specs.declared.arriving.Taken.{Taken}
+use Rattle.rdma_types.specs.declared.requests.Keys.{Keys}
+use Rattle.rdma_types.specs.declared.names.Name.{Name}
+use Rattle.context_core.specs.declared.making.NewEnd.{NewEnd}
+use Rattle.protocol.specs.declared.events.Event.{Event}
+use Rattle.protocol.specs.declared.events.Event.TheVariants as event
+use Rattle.protocol.specs.declared.images.Outcome.{Outcome}
+use Rattle.protocol.specs.DeviceStep.{answers, device_step}
+use Rattle.protocol.specs.Lawful.{IsLawful}
+use Rattle.protocol.specs.State.{Device}
+use Rattle.context_core.specs.declared.ContextFault.{ContextFault}
+use Rattle.context_core.specs.declared.ContextFault.TheVariants.{Refused, OutOfMemory}
+
+-- an answer with datagrams
+abbrev pub giving : Answer → List Sent → Outcome
+giving a sent = record { answer = a; sent = sent; image = None }
+
+-- an answer alone
+abbrev pub plain : Answer → Outcome
+plain a = giving a []
+
+-- the event is done, or refused, or there was no memory
+abbrev pub IsDone : Device → Event → Device → Result Outcome ContextFault → Type 0
+IsDone d e new (Ok o) = device_step d e ≡ record { device = new; outcome = o }
+IsDone d e new (Err (Refused r)) = (device_step d e ≡ answers d (answer.Refused r)) × (new ≡ d)
+IsDone d e new (Err OutOfMemory) = new ≡ d
+
+-- what is told of a call that may be refused or lack memory
+abbrev pub told_by : {T : Type 0} → (T → Outcome) → Result T ContextFault → Result Outcome ContextFault
+told_by tell (Ok x) = Ok (tell x)
+told_by tell (Err fault) = Err fault
+
+-- what is told of a call that may be refused
+abbrev pub told_plainly : {T : Type 0} → (T → Outcome) → Result T Refusal → Result Outcome ContextFault
+told_plainly tell (Ok x) = Ok (tell x)
+told_plainly tell (Err r) = Err (Refused r)
+
+-- the answer that tells the keys of a region
+abbrev pub region_answer : Option Keys → Answer
+region_answer None = answer.Done
+region_answer (Some keys) = answer.Region keys
+
+-- the answer that tells the number of a queue pair
+abbrev pub number_answer : Option ℕ → Answer
+number_answer None = answer.Done
+number_answer (Some number) = answer.Qp number
+
+-- a datagram without effect
+abbrev pub silent : SilentWhy → Outcome
+silent why = plain (answer.Took (took.Silent why) 0 0)
+
+-- what an end did with a datagram
+abbrev pub taking : Taken → Outcome
+taking t = giving (answer.Took t.took 0 (length t.sent)) t.sent
+
+-- .. where it may have taken none
+abbrev pub told_taken : Result (Option Taken) AllocError → Result Outcome ContextFault
+told_taken (Ok None) = Ok (silent why.Unknown)
+told_taken (Ok (Some t)) = Ok (taking t)
+told_taken (Err e) = Err OutOfMemory
+
+-- a step that lacks memory or not
+abbrev pub told_memory : Result Outcome AllocError → Result Outcome ContextFault
+told_memory (Ok o) = Ok o
+told_memory (Err e) = Err OutOfMemory
+
+-- there was no want of memory
+abbrev pub IsSure : Result Outcome ContextFault → Type 0
+IsSure (Ok o) = Unit {0}
+IsSure (Err (Refused r)) = Unit {0}
+IsSure (Err OutOfMemory) = ⊥
+
+-- few datagrams are sent
+abbrev pub AreFew : Result Outcome ContextFault → Type 0
+AreFew r = IfOk r (λ o. length o.sent ≤ 2 ^ 32)
+
+-- an image that is handed out keeps the rules
+abbrev pub AreLawful : Result Outcome ContextFault → Type 0
+AreLawful r = IfOk r (λ o. IfSome o.image (λ i. IsLawful i))
+
+-- what is told of a step: a refusal is an answer
+abbrev pub told_step : Result Outcome ContextFault → Result Outcome AllocError
+told_step (Ok o) = Ok o
+told_step (Err (Refused r)) = Ok (plain (answer.Refused r))
+told_step (Err OutOfMemory) = Err alloc_error
+
+-- a queue pair is made in a context
+abbrev pub qp_event : Name → NewEnd → Event
+qp_event n asked = event.MakeQp (record { context = n; name = asked.name }) asked.domain asked.send_cq asked.recv_cq asked.send_depth asked.recv_depth

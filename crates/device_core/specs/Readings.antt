@@ -1,0 +1,106 @@
+-- A new device, and what its readers tell (this project's choice).
+use Rattle.std.specs.Prelude.{ℕ, ◌==◌, ◌&&◌, not, Bool, false, List, [], map, flat_map, Option, Some, None, option_map, if◌then◌else◌}
+use Rattle.rdma_types.specs.declared.answers.EndState.{EndState}
+use Rattle.rdma_types.specs.declared.answers.EndState.TheVariants as state
+use Rattle.rdma_types.specs.declared.answers.EndView.{EndView}
+use Rattle.rdma_types.specs.declared.names.Name.{Name}
+use Rattle.context_core.specs.declared.heads.EndHead.{EndHead}
+use Rattle.context_core.specs.declared.heads.LinkHead.{LinkHead}
+use Rattle.context_core.specs.declared.lives.LinkView.{LinkView}
+use Rattle.context_core.specs.declared.lives.LiveEnd.{LiveEnd}
+use Rattle.context_core.specs.Links.{link_view, live_end}
+use Rattle.rdma_types.specs.declared.names.ObjName.{ObjName}
+use Rattle.rdma_types.specs.declared.requests.Address.{Address}
+use Rattle.rdma_types.specs.Lists.{some}
+use Rattle.protocol.specs.declared.events.Event.{Event}
+use Rattle.protocol.specs.declared.events.Event.TheVariants as event
+use Rattle.protocol.specs.EndWords.{is_in_error, is_resuming_link}
+use Rattle.protocol.specs.Readers.{Marks, marks_of, view_of}
+use Rattle.protocol.specs.Refusals.{has_context, has_end}
+use Rattle.protocol.specs.State.{Device, context_at, end_at}
+
+-- a device without contexts
+abbrev pub new_device : ℕ → Address → Device
+new_device id address = record { id = id; address = address; qp_count = 0; key_count = 0; contexts = []; husks = [] }
+
+-- the end that a word names, where it lives
+unfoldable pub end_named : Device → ObjName → Option EndView
+end_named d o =
+    if has_context d o.context && has_end (context_at d o.context) o.name
+    then Some (view_of (context_at d o.context) (end_at (context_at d o.context) o.name))
+    else None
+
+-- a live end with that number is Resuming
+abbrev pub has_resuming_end : Device → ℕ → Bool
+has_resuming_end d n = some (λ c. some (λ e. e.number == n && is_resuming_link e.link) c.ends) d.contexts
+
+-- .. is in Error
+abbrev pub has_ended_end : Device → ℕ → Bool
+has_ended_end d n = some (λ c. some (λ e. e.number == n && is_in_error e.link) c.ends) d.contexts
+
+-- what settling looks at of the live ends, in order of contexts and queue pairs
+abbrev pub live_ends : Device → List LiveEnd
+live_ends d = flat_map (λ c. map (live_end c) c.ends) d.contexts
+
+-- .. of the connection of the end that a word names
+abbrev pub link_named : Device → ObjName → Option LinkView
+link_named d o = option_map link_view (end_at (context_at d o.context) o.name).link
+
+-- the expected number and `top` as a pair
+abbrev pub mark_pair : Marks → ℕ × ℕ
+mark_pair m = (m.expected, m.top)
+
+-- the expected number and `top` of the connected end with a number
+abbrev pub marks_at : Device → ℕ → Option (ℕ × ℕ)
+marks_at d n = option_map mark_pair (marks_of d n)
+
+-- ---- from what a context tells of an end
+
+-- the state of a connected end
+abbrev pub head_state : LinkHead → EndState
+head_state l = if l.ended then state.Error else if l.paused then state.Paused else if l.resuming then state.Resuming else state.Running
+
+-- the view of an end
+abbrev pub head_view_by : Name → EndHead → Option LinkHead → EndView
+head_view_by n h None = record { name = record { context = n; name = h.name }; number = h.number; peer = 0; state = state.Init; una = 0; next = 0; untold = 0; rnr = 0; rnr_wait = false }
+head_view_by n h (Some l) = record { name = record { context = n; name = h.name }; number = h.number; peer = l.peer; state = head_state l; una = l.una; next = l.next; untold = l.untold; rnr = l.rnr; rnr_wait = l.rnr_wait }
+
+-- .. of the context with a name
+abbrev pub head_view : Name → EndHead → EndView
+head_view n h = head_view_by n h h.link
+
+-- the marks of an end, where it is connected
+abbrev pub link_marks : Option LinkHead → Option (ℕ × ℕ)
+link_marks None = None
+link_marks (Some l) = Some (l.expected, l.top)
+
+-- .. where it is there
+abbrev pub head_marks : Option EndHead → Option (ℕ × ℕ)
+head_marks None = None
+head_marks (Some h) = link_marks h.link
+
+-- an end is in Rts and Resuming
+abbrev pub link_resumes : Option LinkHead → Bool
+link_resumes None = false
+link_resumes (Some l) = not l.ended && l.resuming
+
+-- .. where it is there
+abbrev pub head_resumes : Option EndHead → Bool
+head_resumes None = false
+head_resumes (Some h) = link_resumes h.link
+
+-- an end is in Error
+abbrev pub link_ended : Option LinkHead → Bool
+link_ended None = false
+link_ended (Some l) = l.ended
+
+-- .. where it is there
+abbrev pub head_ended : Option EndHead → Bool
+head_ended None = false
+head_ended (Some h) = link_ended h.link
+
+-- an event that takes no memory
+abbrev pub TakesNoMemory : Event → Type 0
+TakesNoMemory (event.Connect o peer partner terms) = Unit {0}
+TakesNoMemory (event.Release name) = Unit {0}
+TakesNoMemory e = ⊥

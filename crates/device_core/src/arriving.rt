@@ -1,0 +1,223 @@
+//! What arriving bytes do.
+
+ghost use Rattle.std.specs.Prelude.{ℕ, ◌≡◌, ◌⊎◌, ◌<◌, ◌≤◌, ◌^◌, ◌∷◌, [], Some, None, IfOk, IfSome, IfNone, length, slice_get};
+ghost use Rattle.protocol.specs.DeviceStep.{at_husk, found_in, husk_entries};
+ghost use Rattle.protocol.specs.Moves.{nak_stopped};
+ghost use Rattle.protocol.specs.State.{HuskEntry as Entry};
+ghost use Rattle.protocol.specs.Wire.{Fits, is_control as is_control_packet, is_nak_stopped, wire_of};
+ghost use Rattle.roce_headers.specs.Packets.{packet};
+ghost use Rattle.device_core.specs.Done.{AreFew, IsDone, silent as silent_outcome, told_memory as memory_told, told_taken as taken_told};
+ghost use Rattle.device_core.specs.Index.{IsEndAt, IsEntryAt, husk_at};
+ghost use Rattle.device_core.specs.Parts.{entry_of};
+
+use crate::Device;
+use crate::device::answered;
+use crate::husks::HuskEntry;
+use crate::index::Spot;
+use context_core::{ContextFault, Taken};
+use protocol::{Aeth, Event, Outcome, Syndrome};
+use rdma_types::{Address, Answer, Items, Sent, SilentWhy, Took};
+use roce_headers::{Datagram, decode, encode, encoded_len};
+use std::alloc::{AllocError, Global};
+
+/// Acknowledge (IBA 9.2).
+const ACKNOWLEDGE: u8 = 0x11;
+
+/// The NAK code of NAK_STOPPED (this project's choice).
+const STOPPED: u8 = 5;
+
+/// A datagram without effect.
+fn silent(alloc: Global, why: SilentWhy) -> Outcome
+    ensures { result ≡ silent_outcome why }
+{
+    answered(
+        alloc,
+        Answer::Took {
+            took: Took::Silent(why),
+            first: 0,
+            count: 0,
+        },
+    )
+}
+
+/// What is told where an end may have taken a datagram.
+fn told_taken(
+    alloc: Global,
+    taken: Result<Option<Taken>, AllocError>,
+) -> Result<Outcome, ContextFault>
+    requires { IfOk taken (λ r. IfSome r (λ t. length t.sent ≤ 2 ^ 32)) }
+    ensures told { result ≡ taken_told taken }
+    ensures few { AreFew result }
+{
+    match taken {
+        Ok(Some(Taken { took, sent })) => Ok(Outcome {
+            answer: Answer::Took {
+                took,
+                first: 0,
+                count: sent.len() as u64,
+            },
+            sent,
+            image: None,
+        }),
+        Ok(None) => Ok(silent(alloc, SilentWhy::Unknown)),
+        Err(_) => Err(ContextFault::OutOfMemory),
+    }
+}
+
+/// The answer of a husk: the arrived packet sequence number, and the move count in the MSN field.
+fn stopped_datagram(entry: &HuskEntry, psn: u32) -> Datagram<'static>
+    requires peer { entry.now.peer < 2 ^ 24 }
+    requires moves { entry.now.moves < 2 ^ 16 }
+    requires psn { psn < 2 ^ 24 }
+    ensures says { packet result ≡ nak_stopped (entry_of entry.now) psn }
+    ensures fits { Fits (packet result) }
+{
+    Datagram {
+        opcode: ACKNOWLEDGE,
+        dest: entry.peer,
+        ack_request: false,
+        psn,
+        reth: None,
+        imm: None,
+        aeth: Some(Aeth {
+            syndrome: Syndrome::Nak(STOPPED),
+            msn: u32::from(entry.moves),
+        }),
+        atomic: None,
+        old: None,
+        resume: None,
+        payload: &[],
+    }
+}
+
+/// A step that lacks memory or not.
+fn told_memory(done: Result<Outcome, AllocError>) -> Result<Outcome, ContextFault>
+    ensures told { result ≡ memory_told done }
+    ensures few { IfOk done (λ o. length o.sent ≤ 2 ^ 32) → AreFew result }
+{
+    match done {
+        Ok(outcome) => Ok(outcome),
+        Err(_) => Err(ContextFault::OutOfMemory),
+    }
+}
+
+/// Whether a datagram is NAK_STOPPED, RESUME or RESUME_ACK.
+#[tactic(auto, unfolding(protocol::specs::Wire::is_control, protocol::specs::Wire::is_nak_stopped))]
+fn is_control(d: &Datagram<'_>) -> bool
+    ensures { result ≡ is_control_packet (packet d.now) }
+{
+    d.resume.is_some() || is_stopped(d.aeth)
+}
+
+/// Whether there is a NAK of code 5.
+#[tactic(auto, unfolding(protocol::specs::Wire::is_nak_stopped))]
+fn is_stopped(aeth: Option<Aeth>) -> bool
+    ensures { result ≡ is_nak_stopped aeth }
+{
+    match aeth {
+        None => false,
+        Some(aeth) => match aeth.syndrome {
+            Syndrome::Ack | Syndrome::Rnr => false,
+            Syndrome::Nak(code) => code == STOPPED,
+        },
+    }
+}
+
+/// One datagram without a true number, in memory of its own.
+fn sent_to(alloc: Global, to: Address, datagram: &Datagram<'_>) -> Result<Items<Sent>, AllocError>
+    requires { Fits (packet datagram.now) }
+    ensures { IfOk result (λ l. l ≡ record { to = to; number = None; bytes = wire_of (packet datagram.now) } ∷ []) }
+{
+    let mut bytes = vec![in alloc; 0u8; encoded_len(datagram)]?;
+    encode(datagram, &mut bytes);
+    let sent = Sent {
+        to,
+        number: None,
+        bytes: Items::new(bytes),
+    };
+    Ok(Items::new(vec![in alloc; sent]?))
+}
+
+impl Device {
+    /// Where a queue pair number lives, or in which husk it is left.
+    fn spot_of(&self, number: u32) -> Option<Spot>
+        ensures nowhere { IfNone result ((found_in number self.now.contexts ≡ []) × (husk_entries number self.now.husks ≡ [])) }
+        ensures there { IfSome result (λ s. IsEndAt self.now s.context s.place number ⊎ IsEntryAt self.now s.context s.place number) }
+    {
+        let spot = self.index.get(&number)?;
+        Some(Spot {
+            context: spot.context,
+            place: spot.place,
+        })
+    }
+
+    /// The entry of a husk.
+    fn entry_at(&self, spot: &Spot) -> HuskEntry
+        requires { (number : ℕ) × IsEntryAt self.now spot.now.context spot.now.place number }
+        ensures entry { slice_get (husk_at self.now spot.now.context).entries spot.now.place ≡ Some (entry_of result) }
+        ensures peer { result.peer < 2 ^ 24 }
+    {
+        let entries = self.husks.get(&spot.context).unwrap();
+        let entry = &entries.as_slice()[spot.place];
+        HuskEntry {
+            number: entry.number,
+            peer: entry.peer,
+            moves: entry.moves,
+        }
+    }
+
+    /// The answer of a husk goes to where the datagram came from; a message of moving has none.
+    #[tactic(auto, unfolding(protocol::specs::Wire::is_control))]
+    fn answer_stopped(
+        &self,
+        alloc: Global,
+        from: Address,
+        d: &Datagram<'_>,
+        spot: &Spot,
+    ) -> Result<Outcome, AllocError>
+        requires entry { IsEntryAt self.now spot.now.context spot.now.place d.now.dest }
+        requires psn { d.now.psn < 2 ^ 24 }
+        ensures few { IfOk result (λ o. length o.sent ≤ 2 ^ 32) }
+        ensures done { IfOk result (λ o. (h : Entry) → slice_get (husk_at self.now spot.now.context).entries spot.now.place ≡ Some h → at_husk self.now from (packet d.now) (h ∷ []) ≡ record { device = self.now; outcome = o }) }
+    {
+        if is_control(d) {
+            return Ok(silent(alloc, SilentWhy::Unknown));
+        }
+        let entry = self.entry_at(spot);
+        let datagram = stopped_datagram(&entry, d.psn);
+        let sent = sent_to(alloc, from, &datagram)?;
+        Ok(Outcome {
+            answer: Answer::Took {
+                took: Took::Stopped,
+                first: 0,
+                count: 1,
+            },
+            sent,
+            image: None,
+        })
+    }
+
+    /// Bytes arrive from an address.
+    pub(crate) fn take_bytes(
+        &mut self,
+        alloc: Global,
+        from: Address,
+        bytes: &[u8],
+    ) -> Result<Outcome, ContextFault>
+        ensures done { IsDone self.old (Event.Arrive from bytes.now) self.new result }
+        ensures few { AreFew result }
+    {
+        let Ok(d) = decode(bytes) else {
+            return Ok(silent(alloc, SilentWhy::Malformed));
+        };
+        let Some(spot) = self.spot_of(d.dest) else {
+            return Ok(silent(alloc, SilentWhy::Unknown));
+        };
+        if !self.contexts.contains_key(&spot.context) {
+            return told_memory(self.answer_stopped(alloc, from, &d, &spot));
+        }
+        let state = self.contexts.get_mut(&spot.context).unwrap();
+        let taken = state.take(alloc, &mut self.pool, spot.place, &d);
+        told_taken(alloc, taken)
+    }
+}

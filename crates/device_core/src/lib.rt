@@ -1,0 +1,22 @@
+//! One device: its contexts, the husks of those that moved away, and the pages that all of them share; and its step on
+//! one event.
+#![tactic(auto)]
+
+mod arriving;
+mod coming;
+mod device;
+mod events;
+mod husks;
+mod index;
+mod leaving;
+mod lives;
+mod making;
+mod moving;
+mod readers;
+mod running;
+mod telling;
+
+pub use context_core::{LinkView, LiveEnd};
+pub use device::Device;
+pub use protocol::{ContextImage, Event, Outcome};
+pub use rdma_types::{Address, EndView, Name, ObjName, Sent};

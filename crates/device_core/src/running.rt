@@ -1,0 +1,133 @@
+//! One step of a device.
+
+ghost use Rattle.std.specs.Prelude.{◌≡◌, ◌≤◌, ◌^◌, length, IfOk, IfSome, IsOk, OnErr};
+ghost use Rattle.protocol.specs.DeviceStep.{device_step};
+ghost use Rattle.protocol.specs.Events.{IsLawfulEvent};
+ghost use Rattle.protocol.specs.Lawful.{IsLawful};
+ghost use Rattle.device_core.specs.Done.{AreFew, AreLawful, IsDone, IsSure, told_step as step_told};
+ghost use Rattle.device_core.specs.Readings.{TakesNoMemory};
+
+use crate::Device;
+use crate::device::answered;
+use context_core::{ContextFault, NewEnd};
+use protocol::{ContextImage, Event, Outcome};
+use rdma_types::{Address, Answer};
+use std::alloc::{AllocError, Global};
+
+/// What is told of a step: a refusal is an answer.
+fn told_step(alloc: Global, done: Result<Outcome, ContextFault>) -> Result<Outcome, AllocError>
+    ensures { result ≡ step_told done }
+{
+    match done {
+        Ok(outcome) => Ok(outcome),
+        Err(ContextFault::Refused(refusal)) => Ok(answered(alloc, Answer::Refused(refusal))),
+        Err(ContextFault::OutOfMemory) => Err(AllocError),
+    }
+}
+
+impl Device {
+    /// What an event does, each by its own call.
+    fn run(&mut self, alloc: Global, event: &Event) -> Result<Outcome, ContextFault>
+        requires { IsLawfulEvent event.now }
+        ensures done { IsDone self.old event.now self.new result }
+        ensures few { AreFew result }
+        ensures image { AreLawful result }
+        ensures sure { TakesNoMemory event.now → IsSure result }
+    {
+        match event {
+            Event::MakeContext { name } => self.make_context(alloc, *name),
+            Event::MakeDomain { name } => self.make_domain(alloc, name),
+            Event::MakeRegion {
+                name,
+                domain,
+                base,
+                length,
+                rights,
+            } => { self.make_region(alloc, name, *domain, *base, *length, *rights) }
+            Event::MakeCq { name, capacity } => self.make_cq(alloc, name, *capacity),
+            Event::MakeQp {
+                name,
+                domain,
+                send_cq,
+                recv_cq,
+                send_depth,
+                recv_depth,
+            } => {
+                let asked = NewEnd {
+                    name: name.name,
+                    domain: *domain,
+                    send_cq: *send_cq,
+                    recv_cq: *recv_cq,
+                    send_depth: *send_depth,
+                    recv_depth: *recv_depth,
+                };
+                self.make_qp(alloc, name.context, &asked)
+            }
+            Event::Connect {
+                end,
+                peer,
+                partner,
+                terms,
+            } => { self.connect(alloc, end, *peer, *partner, terms) }
+            Event::DropRegion { name } => self.drop_region(alloc, name),
+            Event::Store { region, at, bytes } => self.store(alloc, region, *at, bytes.as_slice()),
+            Event::Load { region, at, length } => self.load(alloc, region, *at, *length),
+            Event::PostSend { end, request } => self.post_send(alloc, end, request),
+            Event::PostRecv { end, receive } => self.post_recv(alloc, end, receive),
+            Event::Poll { cq, max } => self.poll(alloc, cq, *max),
+            Event::Transmit { end } => self.transmit(alloc, end),
+            Event::Arrive { from, bytes } => self.take_bytes(alloc, *from, bytes.as_slice()),
+            Event::Expire { end } => self.expire(alloc, end),
+            Event::RnrOver { end } => self.rnr_over(alloc, end),
+            Event::Stop { context, alone } => self.stop(alloc, *context, *alone),
+            Event::Restore { image } => self.put_image(alloc, image),
+            Event::Release { context } => self.release(alloc, *context),
+        }
+    }
+
+    /// One step on an event. A refusal is an answer; after it, and after want of memory, the device is as before. A
+    /// connection and a release take no memory.
+    pub fn step(&mut self, alloc: Global, event: &Event) -> Result<Outcome, AllocError>
+        requires { IsLawfulEvent event.now }
+        ensures ok { IfOk result (λ o. device_step self.old event.now ≡ record { device = self.new; outcome = o }) }
+        ensures few { IfOk result (λ o. length o.sent ≤ 2 ^ 32) }
+        ensures image { IfOk result (λ o. IfSome o.image (λ i. IsLawful i)) }
+        ensures id { self.new.id ≡ self.old.id }
+        ensures address { self.new.address ≡ self.old.address }
+        ensures sure { TakesNoMemory event.now → IsOk result }
+        ensures err { OnErr result (self.new ≡ self.old) }
+    {
+        let done = self.run(alloc, event);
+        told_step(alloc, done)
+    }
+
+    /// The step on `Event::Restore`, with an image that stays with its owner.
+    pub fn restore(&mut self, alloc: Global, image: &ContextImage) -> Result<Outcome, AllocError>
+        requires { IsLawful image.now }
+        ensures ok { IfOk result (λ o. device_step self.old (Event.Restore image.now) ≡ record { device = self.new; outcome = o }) }
+        ensures few { IfOk result (λ o. length o.sent ≤ 2 ^ 32) }
+        ensures id { self.new.id ≡ self.old.id }
+        ensures address { self.new.address ≡ self.old.address }
+        ensures err { OnErr result (self.new ≡ self.old) }
+    {
+        let done = self.put_image(alloc, image);
+        told_step(alloc, done)
+    }
+
+    /// The step on `Event::Arrive`, with bytes that stay with their owner.
+    pub fn arrive(
+        &mut self,
+        alloc: Global,
+        from: Address,
+        bytes: &[u8],
+    ) -> Result<Outcome, AllocError>
+        ensures ok { IfOk result (λ o. device_step self.old (Event.Arrive from bytes.now) ≡ record { device = self.new; outcome = o }) }
+        ensures few { IfOk result (λ o. length o.sent ≤ 2 ^ 32) }
+        ensures id { self.new.id ≡ self.old.id }
+        ensures address { self.new.address ≡ self.old.address }
+        ensures err { OnErr result (self.new ≡ self.old) }
+    {
+        let done = self.take_bytes(alloc, from, bytes);
+        told_step(alloc, done)
+    }
+}

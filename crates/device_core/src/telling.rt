@@ -1,0 +1,116 @@
+//! What is told of a call of a context.
+
+ghost use Rattle.std.specs.Prelude.{◌≡◌, ◌+◌, ◌<◌, ◌^◌, Some, None, is_ok, if◌then◌else◌};
+ghost use Rattle.device_core.specs.Done.{IsSure, giving, plain, region_answer, number_answer, told_by, told_plainly};
+
+use crate::device::answered;
+use context_core::{Answered, ContextFault};
+use protocol::Outcome;
+use rdma_types::{Answer, Completion, Items, Keys, Refusal};
+use std::alloc::Global;
+
+/// One more, where a thing was made.
+pub(crate) fn counted(count: u32, made: &Result<(), ContextFault>) -> u32
+    requires { count + 1 < 2 ^ 32 }
+    ensures { result ≡ (if is_ok made.now then count + 1 else count) }
+{
+    if made.is_ok() { count + 1 } else { count }
+}
+
+/// The answer that tells the keys of a region.
+pub(crate) fn told_keys(keys: Option<Keys>) -> Answer
+    ensures { result ≡ region_answer keys }
+{
+    match keys {
+        Some(keys) => Answer::Region(keys),
+        None => Answer::Done,
+    }
+}
+
+/// The answer that tells the number of a queue pair.
+pub(crate) fn told_number(number: Option<u32>) -> Answer
+    ensures { result ≡ number_answer number }
+{
+    match number {
+        Some(number) => Answer::Qp(number),
+        None => Answer::Done,
+    }
+}
+
+/// A call that hands nothing out, and its answer.
+pub(crate) fn told(
+    alloc: Global,
+    made: Result<(), ContextFault>,
+    answer: Answer,
+) -> Result<Outcome, ContextFault>
+    ensures { result ≡ told_by (λ x. plain answer) made }
+{
+    match made {
+        Ok(()) => Ok(answered(alloc, answer)),
+        Err(fault) => Err(fault),
+    }
+}
+
+/// A call that hands nothing out and takes no memory.
+pub(crate) fn told_done(alloc: Global, made: Result<(), Refusal>) -> Result<Outcome, ContextFault>
+    ensures told { result ≡ told_plainly (λ x. plain Answer.Done) made }
+    ensures sure { IsSure result }
+{
+    match made {
+        Ok(()) => Ok(answered(alloc, Answer::Done)),
+        Err(refusal) => Err(ContextFault::Refused(refusal)),
+    }
+}
+
+/// A call that answers and takes no memory.
+pub(crate) fn told_answer(
+    alloc: Global,
+    made: Result<Answer, Refusal>,
+) -> Result<Outcome, ContextFault>
+    ensures { result ≡ told_plainly plain made }
+{
+    match made {
+        Ok(answer) => Ok(answered(alloc, answer)),
+        Err(refusal) => Err(ContextFault::Refused(refusal)),
+    }
+}
+
+/// The bytes of a range.
+pub(crate) fn told_bytes(
+    alloc: Global,
+    loaded: Result<Items<u8>, ContextFault>,
+) -> Result<Outcome, ContextFault>
+    ensures { result ≡ told_by (λ bytes. plain (Answer.Bytes bytes)) loaded }
+{
+    match loaded {
+        Ok(bytes) => Ok(answered(alloc, Answer::Bytes(bytes))),
+        Err(fault) => Err(fault),
+    }
+}
+
+/// The completions of a queue.
+pub(crate) fn told_polled(
+    alloc: Global,
+    polled: Result<Items<Completion>, ContextFault>,
+) -> Result<Outcome, ContextFault>
+    ensures { result ≡ told_by (λ entries. plain (Answer.Polled entries)) polled }
+{
+    match polled {
+        Ok(entries) => Ok(answered(alloc, Answer::Polled(entries))),
+        Err(fault) => Err(fault),
+    }
+}
+
+/// What is sent, and its answer.
+pub(crate) fn told_sent(sent: Result<Answered, ContextFault>) -> Result<Outcome, ContextFault>
+    ensures { result ≡ told_by (λ a. giving a.answer a.sent) sent }
+{
+    match sent {
+        Ok(Answered { answer, sent }) => Ok(Outcome {
+            answer,
+            sent,
+            image: None,
+        }),
+        Err(fault) => Err(fault),
+    }
+}
