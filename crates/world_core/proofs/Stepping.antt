@@ -1,0 +1,166 @@
+-- A device's step in a world, done to the world's parts.
+use Rattle.std.proofs.Common.{◌≡◌, ℕ, ◌+◌, List, [], ◌∷◌, ◌++◌, length, Bool, true, false, Option, Some, None, refl, sym, ap, ◌∙◌, subst, nat_eq, slice_get, if◌then◌else◌, reverse}
+use Rattle.std.specs.Prelude.{All, IfSome}
+use Rattle.std.specs.List.{remove, IsDistinct}
+use Rattle.std.proofs.Math.ListN.{set}
+use Rattle.std.proofs.lemmas.List.{append-nil, reverse-append}
+use Rattle.std.proofs.lemmas.List.Elements.{All-push}
+use Rattle.rdma_types.specs.declared.answers.Answer.{Answer}
+use Rattle.rdma_types.specs.declared.answers.Answer.TheVariants as answer
+use Rattle.rdma_types.specs.declared.answers.Refusal.{Refusal}
+use Rattle.rdma_types.specs.declared.answers.SilentWhy.TheVariants as why
+use Rattle.rdma_types.specs.declared.answers.Took.TheVariants as took
+use Rattle.rdma_types.specs.declared.names.Name.{Name}
+use Rattle.rdma_types.specs.declared.requests.Address.{Address}
+use Rattle.rdma_types.specs.Lists.{store, has}
+use Rattle.protocol.specs.declared.events.Event.{Event}
+use Rattle.protocol.specs.declared.events.Event.TheVariants as event
+use Rattle.protocol.specs.declared.images.ContextImage.{ContextImage}
+use Rattle.protocol.specs.declared.images.Outcome.{Outcome}
+use Rattle.protocol.specs.DeviceStep as device
+use Rattle.protocol.specs.DeviceStep.{device_step}
+use Rattle.protocol.specs.Fabric.{sending}
+use Rattle.protocol.specs.Refusals.{refusal_of}
+use Rattle.protocol.specs.Moves.{nak_stopped}
+use Rattle.protocol.specs.Wire.{Packet, is_control, packet_of, wire_of}
+use Rattle.protocol.specs.State.{Device, Flight, HuskEntry, World}
+use Rattle.protocol.specs.WorldStep.{has_device, is_done, numbered, ran, runs, with_device, with_image}
+use Rattle.protocol.specs.Lawful.{IsLawful}
+use Rattle.fabric.specs.Store.{forgetting}
+use Rattle.alike_worlds.specs.Alike.{forgetful}
+use Rattle.world_core.specs.Kept.{Makes}
+use Rattle.world_core.specs.Places.{AreParts, HaveOwnIds, images_of, names_of}
+use Rattle.world_core.specs.Sites.{joined_at}
+use Rattle.world_core.proofs.Places.{All-remove, distinct-push, map-place, store-place}
+use Rattle.world_core.proofs.Worlds.{kept_is}
+
+-- ---- a device's step in a world
+
+image_parts : (w : World) (o : Option ContextImage) → with_image o w ≡ record w { carried = w.carried ++ images_of o; stopped = reverse (names_of o) ++ w.stopped }
+image_parts w None = ap (λ xs. record w { carried = xs }) (sym (append-nil w.carried))
+image_parts w (Some x) = refl
+
+-- what a step does to a world, where it is done to its parts
+pub ran_makes : (w : World) (place : ℕ) (d d' : Device) (e : Event) (o : Outcome) (a : Answer) (new : World) →
+    HaveOwnIds w.devices → slice_get w.devices place ≡ Some d → device_step d e ≡ record { device = d'; outcome = o } → d'.id ≡ d.id →
+    new.devices ≡ set w.devices place d' → new.sent ≡ forgetting (sending w.sent d'.address o.sent) →
+    new.carried ≡ w.carried ++ images_of o.image → new.stopped ≡ reverse (names_of o.image) ++ w.stopped →
+    a ≡ numbered (length w.sent + 1) o.answer → Makes (runs w d e) a new
+unfolding ran with_device
+ran_makes w place d d' e o a new ids here step same devices sent carried stopped answered =
+    subst (λ s. Makes (ran w s) a new) (sym step) (record {
+      answered = answered;
+      left =
+          let stored : store (λ x. x.id) d'.id d' w.devices ≡ set w.devices place d' =
+          ap (λ k. store (λ x. x.id) k d' w.devices) same ∙ store-place (λ x. x.id) place w.devices d d' ids here in
+          parts new.devices (set w.devices place d') new.sent _ new.carried _ new.stopped _ devices sent carried stopped
+          ∙ (ap (λ ds. record { devices = ds; sent = forgetting (sending w.sent d'.address o.sent); carried = w.carried ++ images_of o.image; stopped = reverse (names_of o.image) ++ w.stopped }) (sym stored)
+          ∙ ap forgetful (sym (image_parts (record w { devices = store (λ x. x.id) d'.id d' w.devices; sent = sending w.sent d'.address o.sent }) o.image)));
+    })
+  where
+    parts : (a a' : List Device) (b b' : List Flight) (c c' : List ContextImage) (d d' : List Name) → a ≡ a' → b ≡ b' → c ≡ c' → d ≡ d' →
+        (let x : World = record { devices = a; sent = b; carried = c; stopped = d } in x) ≡ record { devices = a'; sent = b'; carried = c'; stopped = d' }
+    parts a a' b b' c c' d d' h i j k = cc
+
+-- .. behind what a loan holds
+pub ran_all : (v w new : World) (place : ℕ) (d x x' : Device) (e : Event) (o : Outcome) (a : Answer) (from : Address) (next : ℕ) →
+    v ≡ w → HaveOwnIds v.devices → slice_get v.devices place ≡ Some x → device_step x e ≡ record { device = x'; outcome = o } → x'.id ≡ x.id →
+    new.devices ≡ set v.devices place x' → from ≡ x'.address → new.sent ≡ forgetting (sending v.sent from o.sent) →
+    new.carried ≡ v.carried ++ images_of o.image → new.stopped ≡ reverse (names_of o.image) ++ v.stopped →
+    next ≡ length v.sent + 1 → a ≡ numbered next o.answer → slice_get w.devices place ≡ Some d → Makes (runs w d e) a new
+ran_all v w new place d x x' e o a from next seen ids here step same devices address sent carried stopped number answered there =
+    let is_it : x ≡ d = some_is x d (sym here ∙ (ap (λ (y : World). slice_get y.devices place) seen ∙ there)) in
+    subst (λ (y : World). Makes (runs y d e) a new) seen
+    (subst (λ z. Makes (runs v z e) a new) is_it
+    (ran_makes v place x x' e o a new ids here step same devices
+    (sent ∙ ap (λ f. forgetting (sending v.sent f o.sent)) address) carried stopped (answered ∙ ap (λ n. numbered n o.answer) number)))
+  where
+    some_is : (y z : Device) → Some y ≡ Some z → y ≡ z
+    some_is y z h = cc
+
+-- one end is connected, behind what a loan holds
+pub joined_makes : (v w new : World) (p : ℕ) (x x' d : Device) (e : Event) (o : Outcome) → v ≡ w → new ≡ record v { devices = set v.devices p x' } → slice_get v.devices p ≡ Some x →
+    device_step x e ≡ record { device = x'; outcome = o } → slice_get w.devices p ≡ Some d → new ≡ joined_at w p d e
+joined_makes v w new p x x' d e o seen left here step there =
+    let is_it : x ≡ d = some_is x d (sym here ∙ (ap (λ (y : World). slice_get y.devices p) seen ∙ there)) in
+    left ∙ (ap (λ (y : World). record y { devices = set y.devices p x' }) seen
+    ∙ ap (λ y. record w { devices = set w.devices p y }) (sym (ap (λ (s : device.Step). s.device) step) ∙ ap (λ z. (device_step z e).device) is_it))
+  where
+    some_is : (y z : Device) → Some y ≡ Some z → y ≡ z
+    some_is y z h = cc
+
+pub parts_stay : (ds : List Device) (carried : List ContextImage) (p : ℕ) (x x' : Device) → AreParts ds carried → slice_get ds p ≡ Some x → x'.id ≡ x.id → AreParts (set ds p x') carried
+parts_stay ds carried p x x' parts here same = record {
+  ids = subst (λ ks. IsDistinct nat_eq ks) (sym (map-place (λ d. d.id) p ds x x' here same)) parts.ids;
+  lawful = parts.lawful;
+}
+
+-- one device more
+pub parts_more : (w : World) (ds : List Device) (carried : List ContextImage) (more : List Device) (d : Device) (id : ℕ) → ds ≡ w.devices → AreParts ds carried → has_device w id ≡ false → d.id ≡ id → more ≡ ds ++ d ∷ [] → AreParts more carried
+parts_more w ds carried more d id seen parts free same left = record {
+  ids =
+      let apart : has (λ x. x.id) d.id ds ≡ false = ap (λ k. has (λ x. x.id) k ds) same ∙ (ap (λ xs. has (λ x. x.id) id xs) seen ∙ free) in
+      subst (λ xs. HaveOwnIds xs) (sym left) (distinct-push (λ x. x.id) ds d parts.ids apart);
+  lawful = parts.lawful;
+}
+
+pub added_makes : (v w new : World) (d : Device) → v ≡ w → forgetting w.sent ≡ w.sent → new ≡ record v { devices = v.devices ++ d ∷ [] } → new ≡ forgetful (record w { devices = w.devices ++ d ∷ [] })
+added_makes v w new d seen kept left = left ∙ (ap (λ (x : World). record x { devices = x.devices ++ d ∷ [] }) seen ∙ kept_is (record w { devices = w.devices ++ d ∷ [] }) kept)
+
+-- .. an image more
+pub parts_carry : (ds : List Device) (carried more : List ContextImage) (o : Option ContextImage) → AreParts ds carried → more ≡ carried ++ images_of o → IfSome o (λ i. IsLawful i) → AreParts ds more
+parts_carry ds carried more None parts left lawful = record { ids = parts.ids; lawful = subst (λ xs. All IsLawful xs) (sym (left ∙ append-nil carried)) parts.lawful }
+parts_carry ds carried more (Some x) parts left lawful = record { ids = parts.ids; lawful = subst (λ xs. All IsLawful xs) (sym left) (All-push IsLawful carried x parts.lawful lawful) }
+
+-- .. and one less
+pub parts_less : (ds : List Device) (carried less : List ContextImage) (spot : ℕ) → AreParts ds carried → less ≡ remove carried spot → AreParts ds less
+parts_less ds carried less spot parts left = record { ids = parts.ids; lawful = subst (λ xs. All IsLawful xs) (sym left) (All-remove IsLawful carried spot parts.lawful) }
+
+-- nothing is carried off
+pub bare_carried : (carried : List ContextImage) (o : Option ContextImage) → o ≡ None → carried ≡ carried ++ images_of o
+bare_carried carried o none = sym (append-nil carried) ∙ ap (λ x. carried ++ images_of x) (sym none)
+
+pub bare_stopped : (names : List Name) (o : Option ContextImage) → o ≡ None → names ≡ reverse (names_of o) ++ names
+bare_stopped names o none = ap (λ x. reverse (names_of x) ++ names) (sym none)
+
+pub not_done : (a : Answer) → (a ≡ answer.Done → ⊥) → is_done a ≡ false
+not_done answer.Done other = absurd (other refl)
+not_done a other = refl
+
+-- the names in the other order
+pub names_reversed : (names : List Name) (o : Option ContextImage) → reverse (names ++ names_of o) ≡ reverse (names_of o) ++ reverse names
+names_reversed names o = reverse-append names (names_of o)
+
+-- ---- events that carry nothing off
+
+pub arrives_bare : (d : Device) (from : Address) (bytes : List ℕ) → (device_step d (event.Arrive from bytes)).outcome.image ≡ None
+unfolding device_step device.arrives
+arrives_bare d from bytes = by_refusal (refusal_of d (event.Arrive from bytes))
+  where
+    by_husk : (p : Packet) (hs : List HuskEntry) → (device.at_husk d from p hs).outcome.image ≡ None
+    by_husk p [] = refl
+    by_husk p (h ∷ hs) = by (is_control p)
+      where
+        by : (b : Bool) → (if b then device.answers d (device.took_answer (took.Silent why.Unknown) []) else device.gives d (answer.Took took.Stopped 0 1) (record { to = from; number = None; bytes = wire_of (nak_stopped h p.psn) } ∷ [])).outcome.image ≡ None
+        by true = refl
+        by false = refl
+
+    by_found : (p : Packet) (fs : List device.Found) → (device.at_found d from p fs).outcome.image ≡ None
+    by_found p [] = by_husk p (device.husk_entries p.dest d.husks)
+    by_found p (f ∷ fs) = refl
+
+    by_packet : (o : Option Packet) → (device.arrives_packet d from o).outcome.image ≡ None
+    by_packet None = refl
+    by_packet (Some p) = by_found p (device.found_in p.dest d.contexts)
+
+    by_refusal : (r : Option Refusal) → (device.by_refusal d (event.Arrive from bytes) r).outcome.image ≡ None
+    by_refusal (Some r) = refl
+    by_refusal None = by_packet (packet_of bytes)
+
+pub restore_bare : (d : Device) (image : ContextImage) → (device_step d (event.Restore image)).outcome.image ≡ None
+unfolding device_step device.restores
+restore_bare d image = by_refusal (refusal_of d (event.Restore image))
+  where
+    by_refusal : (r : Option Refusal) → (device.by_refusal d (event.Restore image) r).outcome.image ≡ None
+    by_refusal (Some r) = refl
+    by_refusal None = refl

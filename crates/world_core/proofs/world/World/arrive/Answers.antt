@@ -1,0 +1,37 @@
+-- What the step did is done to the parts; it carries nothing off.
+use Rattle.std.proofs.Common.{◌≡◌, ◌<◌, ◌+◌, ◌∙◌, ap, sym, subst, slice_get, Some, None, refl, length, reverse}
+use Rattle.std.proofs.lemmas.Option.{slice_get_read}
+use Rattle.protocol.specs.DeviceStep as device
+use Rattle.protocol.specs.DeviceStep.{device_step}
+use Rattle.protocol.specs.Fabric.{kept_flight, sending}
+use Rattle.protocol.specs.State.{World}
+use Rattle.protocol.specs.WorldStep.{with_taken}
+use Rattle.protocol.specs.declared.events.Event.{Event}
+use Rattle.protocol.specs.declared.events.Event.TheVariants as event
+use Rattle.fabric.specs.Store.{forgetting}
+use Rattle.world_core.proofs.Stepping.{arrives_bare, bare_carried, bare_stopped, parts_stay, ran_all}
+use Rattle.world_core.proofs.Places.{read_set}
+use Rattle.world_core.proofs.world.World.arrive.Goals as goal
+
+pub invariant_of-self-2 : goal.invariant_of-self-2
+invariant_of-self-2 c =
+    let ds = c.self.inside.devices.items in
+    let lt : c.args.place < length ds = subst (λ (w : World). c.args.place < length w.devices) (sym c.self.view_is) c.requires.place in
+    let here : slice_get ds c.args.place ≡ Some c.index_mut.result.now = slice_get_read ds (length ds) c.args.place c.index_mut.result.now refl lt c.index_mut.ensures.value in
+    parts_stay ds c.self.inside.carried.items c.args.place c.index_mut.result.now c.reach.new.device c.self.invariant here c.reach.ensures.same.0
+
+pub returns-clause-ok : goal.returns-clause-ok
+returns-clause-ok c = λ f d kept h.
+    let ds = c.self.inside.devices.items in
+    let e : Event = event.Arrive f.from f.bytes in
+    let lt : c.args.place < length ds = subst (λ (w : World). c.args.place < length w.devices) (sym c.self.view_is) c.requires.place in
+    let here : slice_get ds c.args.place ≡ Some c.index_mut.result.now = slice_get_read ds (length ds) c.args.place c.index_mut.result.now refl lt c.index_mut.ensures.value in
+    let there : c.index.result.now ≡ c.reach.new.device = read_set ds c.args.place c.reach.new.device c.index.result.now lt c.index.ensures in
+    let step : device_step c.index_mut.result.now e ≡ record { device = c.reach.new.device; outcome = c.in_ok-outcome.outcome } = c.in_ok-outcome.ensures.ok f (ap (λ (w : World). kept_flight w.sent c.args.k) c.self.view_is ∙ kept) in
+    let bare : c.in_ok-outcome.outcome.image ≡ None = sym (ap (λ (s : device.Step). s.outcome.image) step) ∙ arrives_bare c.index_mut.result.now f.from f.bytes in
+    ran_all _ (with_taken c.args.self.now c.args.k) _ c.args.place d c.index_mut.result.now c.reach.new.device e c.in_ok-outcome.outcome c.number.result c.address-from.result c.next-next.result
+    (ap (λ (w : World). with_taken w c.args.k) c.self.view_is) c.self.invariant.ids here step c.reach.ensures.same.0
+    refl (c.address-from.ensures ∙ ap (λ x. x.address) there)
+    (c.send_all.ensures ∙ ap (λ s. forgetting (sending s c.address-from.result c.in_ok-outcome.outcome.sent)) c.took.ensures.taken)
+    (bare_carried c.self.inside.carried.items c.in_ok-outcome.outcome.image bare) (bare_stopped (reverse c.self.inside.stopped.items) c.in_ok-outcome.outcome.image bare)
+    (c.next-next.ensures.number ∙ ap (λ s. length s + 1) c.took.ensures.taken) c.number.ensures h

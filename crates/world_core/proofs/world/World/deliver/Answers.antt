@@ -1,0 +1,28 @@
+-- What becomes of the datagram.
+use Rattle.std.proofs.Common.{◌∙◌, ap, refl, inl, inr}
+use Rattle.rdma_types.specs.declared.answers.Answer.TheVariants as answer
+use Rattle.protocol.specs.Fabric.{IsGone, IsLost, took}
+use Rattle.protocol.specs.State.{World}
+use Rattle.world_core.proofs.Networks.{taken_aged, taken_by, taken_nowhere, untaken}
+use Rattle.world_core.proofs.world.World.deliver.Goals as goal
+
+pub returns-in-Gone-clause-ok : goal.returns-in-Gone-clause-ok
+returns-in-Gone-clause-ok c = untaken c.args.self.now c.args.k IsGone answer.Gone c.requires.ready.kept c.in-Gone.ensures (inl (refl, refl))
+
+pub returns-in-Lost-clause-ok : goal.returns-in-Lost-clause-ok
+returns-in-Lost-clause-ok c = untaken c.args.self.now c.args.k IsLost answer.Lost c.requires.ready.kept c.in-Lost.ensures (inr (refl, refl))
+
+pub returns-in-Aged-clause-ok : goal.returns-in-Aged-clause-ok
+returns-in-Aged-clause-ok c =
+    taken_aged c.args.self.now _ c.args.k c.took.new.self c.requires.ready.kept c.in-Aged.ensures
+    (ap (λ (w : World). record w { sent = c.took.new.self }) c.self.view_is)
+    (c.took.ensures.taken ∙ ap (λ (w : World). took w.sent c.args.k) c.self.view_is)
+
+pub returns-in-Nowhere-clause-ok : goal.returns-in-Nowhere-clause-ok
+returns-in-Nowhere-clause-ok c =
+    taken_nowhere c.args.self.now _ c.args.k c.took-in-Nowhere.new.self c.requires.ready.kept c.in-Nowhere.ensures
+    (ap (λ (w : World). record w { sent = c.took-in-Nowhere.new.self }) c.self.view_is)
+    (c.took-in-Nowhere.ensures.taken ∙ ap (λ (w : World). took w.sent c.args.k) c.self.view_is)
+
+pub returns-in-Comes-clause-ok : goal.returns-in-Comes-clause-ok
+returns-in-Comes-clause-ok c = taken_by c.arrive.result c.args.self.now c.arrive.new.self c.args.k c.in-Comes.place c.in-Comes.ensures c.arrive.ensures.ok

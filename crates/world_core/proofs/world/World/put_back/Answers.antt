@@ -1,0 +1,55 @@
+-- What the restore did is done to the parts, and the image is carried no more where it is done.
+use Rattle.std.proofs.Common.{◌≡◌, ◌<◌, ◌∙◌, ap, sym, subst, slice_get, Some, None, refl, length, reverse, inl, inr}
+use Rattle.std.proofs.lemmas.Option.{slice_get_read}
+use Rattle.std.proofs.Math.ListN.{set}
+use Rattle.protocol.specs.DeviceStep as device
+use Rattle.protocol.specs.DeviceStep.{device_step}
+use Rattle.protocol.specs.State.{World}
+use Rattle.protocol.specs.WorldStep.{is_done, runs}
+use Rattle.protocol.specs.declared.events.Event.TheVariants as event
+use Rattle.world_core.specs.Kept.{Makes}
+use Rattle.world_core.proofs.Restoring.{put_makes}
+use Rattle.world_core.proofs.Stepping.{bare_carried, bare_stopped, not_done, parts_less, parts_stay, ran_all, restore_bare}
+use Rattle.world_core.proofs.Places.{read_set, same_thing}
+use Rattle.world_core.proofs.world.World.put_back.Goals as goal
+use Rattle.world_core.proofs.world.World.put_back.Goals.{in-Done, in_default}
+
+pub invariant_of-self-in-Done : goal.invariant_of-self-in-Done
+invariant_of-self-in-Done c =
+    let ds = c.self.inside.devices.items in
+    let lt : c.args.place < length ds = subst (λ (w : World). c.args.place < length w.devices) (sym c.self.view_is) c.requires.place in
+    let here : slice_get ds c.args.place ≡ Some c.index_mut.result.now = slice_get_read ds (length ds) c.args.place c.index_mut.result.now refl lt c.index_mut.ensures.value in
+    parts_less _ c.self.inside.carried.items c.remove.new.self.items c.args.spot
+    (parts_stay ds c.self.inside.carried.items c.args.place c.index_mut.result.now c.restore.new.self c.self.invariant here c.restore.ensures.id) c.remove.ensures.items
+
+pub invariant_of-self-in_default : goal.invariant_of-self-in_default
+invariant_of-self-in_default c =
+    let ds = c.self.inside.devices.items in
+    let lt : c.args.place < length ds = subst (λ (w : World). c.args.place < length w.devices) (sym c.self.view_is) c.requires.place in
+    let here : slice_get ds c.args.place ≡ Some c.index_mut.result.now = slice_get_read ds (length ds) c.args.place c.index_mut.result.now refl lt c.index_mut.ensures.value in
+    parts_stay ds c.self.inside.carried.items c.args.place c.index_mut.result.now c.restore.new.self c.self.invariant here c.restore.ensures.id
+
+pub returns-clause-ok : goal.returns-clause-ok
+returns-clause-ok c = λ d x h k.
+    let ds = c.self.inside.devices.items in
+    let is = c.self.inside.carried.items in
+    let o = c.in_ok-outcome.outcome in
+    let lt : c.args.place < length ds = subst (λ (w : World). c.args.place < length w.devices) (sym c.self.view_is) c.requires.place in
+    let here : slice_get ds c.args.place ≡ Some c.index_mut.result.now = slice_get_read ds (length ds) c.args.place c.index_mut.result.now refl lt c.index_mut.ensures.value in
+    let there : c.index-2.result.now ≡ c.restore.new.self = read_set ds c.args.place c.restore.new.self c.index-2.result.now lt c.index-2.ensures in
+    let within : c.args.spot < length is = subst (λ (w : World). c.args.spot < length w.carried) (sym c.self.view_is) c.requires.spot in
+    let image : c.index.result.now ≡ x = same_thing c.index.result.now x (sym (slice_get_read is (length is) c.args.spot c.index.result.now refl within c.index.ensures) ∙ (ap (λ (w : World). slice_get w.carried c.args.spot) c.self.view_is ∙ k)) in
+    let step : device_step c.index_mut.result.now (event.Restore x) ≡ record { device = c.restore.new.self; outcome = o } = subst (λ y. device_step c.index_mut.result.now (event.Restore y) ≡ record { device = c.restore.new.self; outcome = o }) image c.in_ok-outcome.ensures.ok in
+    let bare : o.image ≡ None = sym (ap (λ (s : device.Step). s.outcome.image) step) ∙ restore_bare c.index_mut.result.now x in
+    let mid : World = record { devices = set ds c.args.place c.restore.new.self; sent = c.send_all.new.fabric; carried = is; stopped = reverse c.self.inside.stopped.items } in
+    let made : Makes (runs c.args.self.now d (event.Restore x)) c.number-answer.result mid =
+    ran_all _ c.args.self.now mid c.args.place d c.index_mut.result.now c.restore.new.self (event.Restore x) o c.number-answer.result c.address-from.result c.next-next.result
+    c.self.view_is c.self.invariant.ids here step c.restore.ensures.id
+    refl (c.address-from.ensures ∙ ap (λ y. y.address) there) c.send_all.ensures
+    (bare_carried is o.image bare) (bare_stopped (reverse c.self.inside.stopped.items) o.image bare)
+    c.next-next.ensures.number c.number-answer.ensures h in
+    put_makes mid c.match-answer.self c.args.spot (runs c.args.self.now d (event.Restore x)) c.number-answer.result made
+    (elim c.match-answer.branch [
+      | in-Done z ↦ inl (ap (λ a. is_done a) z.in-Done.is, z.self-is ∙ ap (λ xs. record mid { carried = xs }) z.remove.ensures.items)
+      | in_default z ↦ inr (not_done c.number-answer.result z.in_default.not-Done, z.self-is)
+    ])

@@ -1,0 +1,20 @@
+//! What holds of the whole world of which a world keeps the last datagrams.
+
+ghost use Rattle.rdma_types.specs.declared.answers.Answer.{Answer};
+ghost use Rattle.protocol.specs.declared.events.WorldEvent.{WorldEvent};
+ghost use Rattle.protocol.specs.State.{World};
+ghost use Rattle.protocol.specs.WorldStep.{world_step};
+ghost use Rattle.world_core.specs.Followed.{IsFollowed};
+ghost use Rattle.world_core.specs.Kept.{Makes};
+
+use alike_worlds::alike_worlds_are_answered_alike;
+use simulation_runs::events_follow;
+
+/// A call that makes the rules' step of a world makes it of each whole world of which this one keeps the last datagrams, and
+/// the packetless machine follows it.
+pub fn steps_are_followed()
+    ensures { (old new : World) (e : WorldEvent) (answer : Answer) → Makes (world_step old e) answer new → IsFollowed old e answer new }
+{
+    alike_worlds_are_answered_alike();
+    events_follow();
+}

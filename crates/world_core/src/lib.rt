@@ -1,0 +1,19 @@
+//! A world of devices, with the network between them and the images of stopped contexts that are carried from one to
+//! another. It does what the written protocol says of a world, step by step.
+#![tactic(auto)]
+
+mod finding;
+mod laws;
+mod making;
+mod moving;
+mod network;
+mod readers;
+mod running;
+mod settling;
+mod world;
+
+pub use device_core::{ContextImage, Device, Event};
+pub use laws::steps_are_followed;
+pub use protocol::WorldEvent;
+pub use settling::{Quiet, Settler};
+pub use world::World;

@@ -1,0 +1,97 @@
+//! A world, and its steps.
+
+ghost use Rattle.std.specs.Prelude.{◌≡◌, IfOk, OnErr};
+ghost use Rattle.protocol.specs.Events.{IsLawfulWorldEvent};
+ghost use Rattle.protocol.specs.State.{empty_world};
+ghost use Rattle.protocol.specs.WorldStep.{world_step};
+ghost use Rattle.alike_worlds.specs.Alike.{forgetful};
+ghost use Rattle.world_core.specs.Followed.{IsFollowed};
+ghost use Rattle.world_core.specs.Kept.{IsReady, Makes};
+
+use crate::laws::steps_are_followed;
+use device_core::{ContextImage, Device};
+use fabric::Fabric;
+use protocol::WorldEvent;
+use rdma_types::{Answer, Name};
+use std::alloc::{AllocError, Global};
+use std::marker::Model;
+
+/// As many datagrams may have been sent before a step; a step after more of them answers want of memory.
+const MOST_SENT: u64 = 1 << 62;
+
+/// Devices, the network between them, and the carried images of stopped contexts. Contracts see every datagram ever
+/// sent, where those that the network keeps no more are blank.
+#[derive(Drop)]
+pub struct World {
+    pub(crate) devices: Vec<Device>,
+    pub(crate) fabric: Fabric,
+    pub(crate) carried: Vec<ContextImage>,
+    pub(crate) stopped: Vec<Name>,
+}
+
+impl Model for World {
+    ghost use Rattle.std.specs.Prelude.{reverse};
+    ghost use Rattle.protocol.specs.State as state;
+    ghost use Rattle.world_core.specs.Places.{AreParts};
+
+    ghost Value = { state.World };
+
+    ghost view = { λ w. record { devices = w.devices.items; sent = w.fabric; carried = w.carried.items; stopped = reverse w.stopped.items } };
+
+    ghost invariant = { λ w. AreParts w.devices.items w.carried.items };
+}
+
+impl World {
+    /// No device, no datagram and no image.
+    pub fn make(alloc: Global) -> Result<World, AllocError>
+        ensures { IfOk result (λ w. w ≡ empty_world) }
+    {
+        Ok(World {
+            devices: Vec::new(alloc),
+            fabric: Fabric::make(alloc)?,
+            carried: Vec::new(alloc),
+            stopped: Vec::new(alloc),
+        })
+    }
+
+    /// What an event does: the first refusal in its order, or its answer. In an answer the first datagram sent has its
+    /// number in the network, counted from 1.
+    ///
+    /// # Errors
+    ///
+    /// Where no memory is left, and then nothing has changed.
+    pub fn step(&mut self, alloc: Global, event: &WorldEvent) -> Result<Answer, AllocError>
+        requires { IsLawfulWorldEvent event.now }
+        ensures ok { IfOk result (λ answer. Makes (world_step self.old event.now) answer self.new) }
+        ensures followed { IfOk result (λ answer. IsFollowed self.old event.now answer self.new) }
+        ensures kept { forgetful self.old ≡ self.old }
+        ensures err { OnErr result (self.new ≡ self.old) }
+    {
+        steps_are_followed();
+        if self.fabric.next() > MOST_SENT {
+            return Err(AllocError);
+        }
+        self.act(alloc, event)
+    }
+
+    /// What an event does, where the network has numbers for it.
+    fn act(&mut self, alloc: Global, event: &WorldEvent) -> Result<Answer, AllocError>
+        requires lawful { IsLawfulWorldEvent event.now }
+        requires ready { IsReady self.old }
+        ensures ok { IfOk result (λ answer. Makes (world_step self.old event.now) answer self.new) }
+        ensures err { OnErr result (self.new ≡ self.old) }
+    {
+        match event {
+            WorldEvent::AddDevice { id, address } => self.add_device(alloc, *id, *address),
+            WorldEvent::MakeContext { name, device } => self.make_context(alloc, *name, *device),
+            WorldEvent::At { event } => self.step_at(alloc, event),
+            WorldEvent::Connect { one, two, terms } => Ok(self.connect(alloc, one, two, terms)),
+            WorldEvent::Deliver { k } => self.deliver(alloc, *k),
+            WorldEvent::Lose { k } => Ok(self.lose(*k)),
+            WorldEvent::Wire { k } => self.wire(alloc, *k),
+            WorldEvent::Stop { context } => self.stop(alloc, *context),
+            WorldEvent::Restore { context, device } => self.restore(alloc, *context, *device),
+            WorldEvent::Release { context, device } => self.release(alloc, *context, *device),
+        }
+    }
+}
