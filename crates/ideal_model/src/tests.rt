@@ -2,8 +2,8 @@
 
 use crate::{Ideal, IdealFault, IdealStep};
 use rdma_types::{
-    Answer, Completion, Items, Kind, Name, ObjName, Receive, Refusal, Request, Rights, Shape,
-    Terms, Verb, WcKind, WcStatus, Why,
+    Answer, Completion, Items, Kind, Name, ObjName, Request, Rights, Shape, Terms, Verb, WcKind,
+    WcStatus,
 };
 use std::alloc::Global;
 use std::process::Abort;
@@ -45,13 +45,6 @@ fn verb(rt: &impl Abort, ideal: &mut Ideal, alloc: Global, verb: Verb) -> Result
 fn given(ideal: &mut Ideal, alloc: Global, verb: Verb, given: u32) -> Result<(), Fail> {
     let _ = ideal.step(alloc, &IdealStep::Verb { verb, given })?;
     Ok(())
-}
-
-fn refused(ideal: &mut Ideal, alloc: Global, verb: Verb) -> Result<Refusal, Fail> {
-    match ideal.step(alloc, &IdealStep::Verb { verb, given: 0 })? {
-        Answer::Refused(why) => Ok(why),
-        _ => Ok(Err("a refusal")?),
-    }
 }
 
 fn polled(ideal: &mut Ideal, alloc: Global, context: &[u8]) -> Result<Vec<Completion>, Fail> {
@@ -195,63 +188,5 @@ fn one_write_completed(rt: HostRuntime) -> Result<(), Fail> {
     assert_eq!(&rt; polled(&mut ideal, alloc, b"a")?.len(), 0);
     let bytes = loaded(&mut ideal, alloc, object(b"b", b"n")?, 8192)?;
     assert_eq!(&rt; bytes.as_slice(), [0xde, 0xad, 0xbe, 0xef].as_slice());
-    Ok(())
-}
-
-#[test]
-fn an_atomic_and_a_read(rt: HostRuntime) -> Result<(), Fail> {
-    let alloc = rt.alloc();
-    let mut ideal = opened(&rt, alloc)?;
-    let add = shape(Kind::FetchAdd, 8, 8192, REMOTE_B, 5);
-    post(&rt, &mut ideal, alloc, 1, add)?;
-    done(&rt, &mut ideal, alloc, IdealStep::Atom { q: q()? })?;
-    let again = ideal.step(alloc, &IdealStep::Atom { q: q()? });
-    assert!(&rt; matches!(&again, Err(IdealFault::NotEnabled)));
-    done(&rt, &mut ideal, alloc, IdealStep::Tell { q: q()? })?;
-    let read = shape(Kind::Read, 4, 8196, REMOTE_B, 0);
-    post(&rt, &mut ideal, alloc, 2, read)?;
-    done(&rt, &mut ideal, alloc, IdealStep::ReadTurn { q: q()? })?;
-    let offer = IdealStep::Offer {
-        q: q()?,
-        i: 1,
-        off: 0,
-        n: 4,
-    };
-    done(&rt, &mut ideal, alloc, offer)?;
-    done(&rt, &mut ideal, alloc, IdealStep::Land { q: q()?, o: 0 })?;
-    done(&rt, &mut ideal, alloc, IdealStep::Tell { q: q()? })?;
-    let bytes = loaded(&mut ideal, alloc, object(b"a", b"m")?, 4096)?;
-    assert_eq!(&rt; bytes.as_slice(), [0, 0, 0, 5].as_slice());
-    assert_eq!(&rt; polled(&mut ideal, alloc, b"a")?.len(), 2);
-    Ok(())
-}
-
-#[test]
-fn a_send_too_long_and_a_flush(rt: HostRuntime) -> Result<(), Fail> {
-    let alloc = rt.alloc();
-    let mut ideal = opened(&rt, alloc)?;
-    let receive = Receive {
-        id: 9,
-        lkey: LOCAL_B,
-        local: 8192,
-        length: 2,
-    };
-    let end = object(b"b", b"q")?;
-    verb(&rt, &mut ideal, alloc, Verb::PostRecv { end, receive })?;
-    let name = object(b"b", b"n")?;
-    let busy = refused(&mut ideal, alloc, Verb::DropRegion { name })?;
-    assert_eq!(&rt; busy, Refusal::InUse);
-    post(&rt, &mut ideal, alloc, 3, shape(Kind::Send, 4, 0, 0, 0))?;
-    post(&rt, &mut ideal, alloc, 4, shape(Kind::Send, 4, 0, 0, 0))?;
-    let why = Why::Length;
-    done(&rt, &mut ideal, alloc, IdealStep::Refuse { q: q()?, why })?;
-    done(&rt, &mut ideal, alloc, IdealStep::Bounce { q: q()? })?;
-    let there = polled(&mut ideal, alloc, b"b")?;
-    assert_eq!(&rt; there.len(), 1);
-    assert_eq!(&rt; there[0].status, WcStatus::LocalLength);
-    let here = polled(&mut ideal, alloc, b"a")?;
-    assert_eq!(&rt; here.len(), 2);
-    assert_eq!(&rt; here[0].status, WcStatus::RemoteInvalid);
-    assert_eq!(&rt; here[1].status, WcStatus::Flush);
     Ok(())
 }
