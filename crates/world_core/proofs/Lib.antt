@@ -6,3 +6,4 @@ mod Stepping
 mod Restoring
 mod Networks
 mod Connecting
+mod LiveEnds

@@ -5,3 +5,4 @@ pub mod Places
 pub mod Settled
 pub mod Sites
 pub mod Told
+pub mod Lives

@@ -4,6 +4,7 @@
 
 mod finding;
 mod laws;
+mod lives;
 mod making;
 mod moving;
 mod network;
@@ -12,7 +13,7 @@ mod running;
 mod settling;
 mod world;
 
-pub use device_core::{ContextImage, Device, Event};
+pub use device_core::{ContextImage, Device, Event, LinkView, LiveEnd};
 pub use laws::steps_are_followed;
 pub use protocol::WorldEvent;
 pub use settling::{Quiet, Settler};

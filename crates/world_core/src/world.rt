@@ -7,6 +7,7 @@ ghost use Rattle.protocol.specs.WorldStep.{world_step};
 ghost use Rattle.alike_worlds.specs.Alike.{forgetful};
 ghost use Rattle.world_core.specs.Followed.{IsFollowed};
 ghost use Rattle.world_core.specs.Kept.{IsReady, Makes};
+ghost use Rattle.world_core.specs.Places.{HaveOwnIds};
 
 use crate::laws::steps_are_followed;
 use device_core::{ContextImage, Device};
@@ -65,6 +66,7 @@ impl World {
         ensures ok { IfOk result (λ answer. Makes (world_step self.old event.now) answer self.new) }
         ensures followed { IfOk result (λ answer. IsFollowed self.old event.now answer self.new) }
         ensures kept { forgetful self.old ≡ self.old }
+        ensures ids { HaveOwnIds self.old.devices }
         ensures err { OnErr result (self.new ≡ self.old) }
     {
         steps_are_followed();
