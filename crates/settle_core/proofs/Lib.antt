@@ -1,0 +1,11 @@
+pub mod Worlds
+pub mod Listed
+pub mod Sweeps
+pub mod Turns
+pub mod Compared
+pub mod Noted
+pub mod Visits
+pub mod LeftEnds
+pub mod Ends
+pub mod EndTimers
+pub mod Goings

@@ -1,0 +1,110 @@
+-- Worlds that keep the last datagrams, and the states that they show.
+use Rattle.std.proofs.Common.{◌≡◌, List, [], ◌∷◌, ◌++◌, Bool, true, false, refl, sym, ap, ◌∙◌, subst, Some, None}
+use Rattle.std.specs.Prelude.{All, ◌||◌, not, option_map}
+use Rattle.indexmap.specs.IndexMap.{get}
+use Rattle.std.proofs.lemmas.List.Elements.{All-nil, All-append, All-cons}
+use Rattle.rdma_types.specs.declared.answers.Answer.{Answer}
+use Rattle.rdma_types.specs.Lists.{same_object}
+use Rattle.protocol.specs.declared.events.WorldEvent.{WorldEvent}
+use Rattle.protocol.specs.State.{World}
+use Rattle.protocol.specs.WorldStep.{world_after, world_step}
+use Rattle.protocol.specs.Settle.{Settling, begun, last_wait, live_ends, marks, same_marks, settle_step, stepped_to}
+use Rattle.fabric.proofs.Histories.{forgetting-forgetting}
+use Rattle.alike_worlds.specs.Alike.{AreAlike, StepAlike, forgetful}
+use Rattle.alike_worlds.proofs.Steps.{step_alike}
+use Rattle.settling_steps.specs.Settling.{IsSettling}
+use Rattle.world_core.specs.Settled.{IsLeft}
+use Rattle.world_core.specs.Kept.{Makes}
+use Rattle.settle_core.specs.Shown.{Comes, Shows, wait_of}
+use Rattle.settle_core.specs.declared.notes.Notes.{Notes}
+
+-- ---- worlds that keep the last datagrams
+
+pub forgetful_alike : (w : World) → AreAlike (forgetful w) w
+forgetful_alike w = record { devices = refl; sent = forgetting-forgetting w.sent; carried = refl; stopped = refl }
+
+pub alike_forgetful : (a b : World) → AreAlike a b → forgetful a ≡ forgetful b
+alike_forgetful a b h = λ i. record { devices = h.devices i; sent = h.sent i; carried = h.carried i; stopped = h.stopped i }
+
+pub kept_alike : (v w : World) → v ≡ forgetful w → AreAlike v w
+kept_alike v w h = subst (λ (x : World). AreAlike x w) (sym h) (forgetful_alike w)
+
+pub kept_twice : (v w : World) → v ≡ forgetful w → forgetful v ≡ v
+kept_twice v w h = alike_forgetful v w (kept_alike v w h) ∙ sym h
+
+-- the steps of both are alike
+pub steps_shown : (v w : World) (e : WorldEvent) → v ≡ forgetful w → StepAlike (world_step v e) (world_step w e)
+steps_shown v w e h = step_alike v w e (kept_alike v w h)
+
+-- ---- worlds that come of others
+
+after_alike : (es : List WorldEvent) (a b : World) → AreAlike a b → AreAlike (world_after a es) (world_after b es)
+unfolding world_after
+after_alike [] a b h = h
+after_alike (e ∷ es) a b h = after_alike es (world_step a e).world (world_step b e).world (step_alike a b e h).world
+
+after_append : (es fs : List WorldEvent) (w : World) → world_after w (es ++ fs) ≡ world_after (world_after w es) fs
+unfolding world_after
+after_append [] fs w = refl
+after_append (e ∷ es) fs w = after_append es fs (world_step w e).world
+
+pub comes_nothing : (w : World) → Comes w w
+unfolding world_after
+comes_nothing w kept = record { events = []; each = All-nil IsSettling; world = sym kept }
+
+pub comes_step : (old new : World) (e : WorldEvent) → IsSettling e → new ≡ forgetful (world_step old e).world → Comes old new
+unfolding world_after
+comes_step old new e is h kept = record { events = e ∷ []; each = All-cons IsSettling e [] is (All-nil IsSettling); world = h }
+
+pub comes_then : (a b c : World) → Comes a b → Comes b c → Comes a c
+comes_then a b c first second kept =
+    let one : IsLeft a b = first kept in
+    let two : IsLeft b c = second (kept_twice b (world_after a one.events) one.world) in
+    record {
+      events = one.events ++ two.events;
+      each = All-append IsSettling one.events two.events one.each two.each;
+      world =
+          two.world
+          ∙ (alike_forgetful (world_after b two.events) (world_after (world_after a one.events) two.events) (after_alike two.events b (world_after a one.events) (kept_alike b (world_after a one.events) one.world))
+          ∙ ap forgetful (sym (after_append one.events two.events a)));
+    }
+
+pub comes_same : (a b : World) → b ≡ a → Comes a b
+comes_same a b h = subst (λ (x : World). Comes a x) (sym h) (comes_nothing a)
+
+-- ---- states that are shown
+
+marks_shown : (v w : World) → v ≡ forgetful w → marks v ≡ marks w
+unfolding live_ends
+marks_shown v w h = ap marks h
+
+-- a step with a note of changes
+pub shown_step : (w w' : World) (n n' : Notes) (s : Settling) (e : WorldEvent) → Shows w n s → w' ≡ forgetful (world_step w e).world →
+    n'.changed ≡ (n.changed || not (same_marks (marks w) (marks w'))) → n'.stepped ≡ n.stepped → n'.waited ≡ n.waited → Shows w' n' (settle_step s e)
+unfolding settle_step stepped_to last_wait
+shown_step w w' n n' s e h left changed stepped waited =
+    let k : StepAlike (world_step w e) (world_step s.world e) = steps_shown w s.world e h.world in
+    let after : w' ≡ forgetful (world_step s.world e).world = left ∙ alike_forgetful (world_step w e).world (world_step s.world e).world k.world in
+    record {
+      world = after;
+      changed =
+          changed
+          ∙ (ap (λ x. x || not (same_marks (marks w) (marks w'))) h.changed
+          ∙ (ap (λ x. s.changed || not (same_marks x (marks w'))) (marks_shown w s.world h.world)
+          ∙ ap (λ x. s.changed || not (same_marks (marks s.world) x)) (marks_shown w' (world_step s.world e).world after)));
+      stepped = stepped ∙ h.stepped;
+      waited = λ o. subst (λ m. get same_object m o ≡ option_map wait_of (last_wait s o)) (sym waited) (h.waited o);
+    }
+
+-- the answer of a step is the one of the state's
+pub answer_shown : (w : World) (n : Notes) (s : Settling) (e : WorldEvent) (answer : Answer) (new : World) → Shows w n s → Makes (world_step w e) answer new → answer ≡ (world_step s.world e).answer
+answer_shown w n s e answer new h made = made.answered ∙ (steps_shown w s.world e h.world).answer
+
+pub shown_begun : (w : World) (n n' : Notes) (s : Settling) → Shows w n s → n'.changed ≡ false → n'.stepped ≡ false → n'.waited ≡ n.waited → Shows w n' (begun s)
+unfolding last_wait
+shown_begun w n n' s h changed stepped waited = record {
+  world = h.world;
+  changed = changed;
+  stepped = stepped;
+  waited = λ o. subst (λ m. get same_object m o ≡ option_map wait_of (last_wait s o)) (sym waited) (h.waited o);
+}

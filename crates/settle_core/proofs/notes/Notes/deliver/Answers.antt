@@ -1,0 +1,15 @@
+use Rattle.std.proofs.Common.{◌≡◌, ◌∙◌, sym, true, false, rules}
+use Rattle.world_core.specs.Lives.{is_pending}
+use Rattle.settle_core.proofs.Visits.{delivered_not, delivered_one}
+use Rattle.settle_core.proofs.Worlds.{comes_nothing}
+use Rattle.settle_core.proofs.notes.Notes.deliver.Goals as goal
+
+pub returns-then-not-is_pending-clause-ok : goal.returns-then-not-is_pending-clause-ok
+returns-then-not-is_pending-clause-ok c = delivered_not c.args.world.now c.args.self.now c.args.k (sym c.is_pending.ensures ∙ search (rules, c.if-not-is_pending.true))
+
+pub returns-then-not-is_pending-clause-comes : goal.returns-then-not-is_pending-clause-comes
+returns-then-not-is_pending-clause-comes c = comes_nothing c.args.world.now
+
+pub returns-clause-ok : goal.returns-clause-ok
+returns-clause-ok c =
+    delivered_one c.args.world.now c.step.new.world c.args.self.now c.step.new.self c.args.k (sym c.is_pending.ensures ∙ search (rules, c.if-not-is_pending.false)) c.in_ok-_answer.ensures.ok

@@ -1,0 +1,33 @@
+use Rattle.std.proofs.Common.{◌≡◌, ◌∙◌, sym, ap, true, false, rules}
+use Rattle.protocol.specs.Settle.{is_sent, settle_step, transmit}
+use Rattle.settle_core.proofs.Visits.{not_sent}
+use Rattle.settle_core.proofs.Worlds.{comes_then}
+use Rattle.settle_core.proofs.notes.Notes.send.Goals as goal
+
+pub returns-in_err-answer-clause-ok : goal.returns-in_err-answer-clause-ok
+returns-in_err-answer-clause-ok c = search rules
+
+pub returns-in_err-answer-clause-comes : goal.returns-in_err-answer-clause-comes
+returns-in_err-answer-clause-comes c = c.step.ensures.comes
+
+pub returns-then-not-is_sent-clause-ok : goal.returns-then-not-is_sent-clause-ok
+returns-then-not-is_sent-clause-ok c s h =
+    let none : is_sent c.in_ok-answer.answer ≡ false = sym c.is_sent.ensures ∙ search (rules, c.if-not-is_sent.true) in
+    not_sent c.args.world.now c.step.new.world c.args.self.now c.step.new.self s c.args.end.now c.in_ok-answer.answer h c.in_ok-answer.ensures.ids (c.in_ok-answer.ensures.ok s h) (c.in_ok-answer.ensures.answer s h) none
+
+pub returns-then-not-is_sent-clause-comes : goal.returns-then-not-is_sent-clause-comes
+returns-then-not-is_sent-clause-comes c = c.step.ensures.comes
+
+pub returns-in_err-drain-clause-ok : goal.returns-in_err-drain-clause-ok
+returns-in_err-drain-clause-ok c = search rules
+
+pub returns-in_err-drain-clause-comes : goal.returns-in_err-drain-clause-comes
+returns-in_err-drain-clause-comes c = comes_then c.args.world.now c.step.new.world c.drain.new.world c.step.ensures.comes c.drain.ensures.comes
+
+pub returns-clause-ok : goal.returns-clause-ok
+returns-clause-ok c s h =
+    let yes : is_sent c.in_ok-answer.answer ≡ true = sym c.is_sent.ensures ∙ search (rules, c.if-not-is_sent.false) in
+    (sym (ap is_sent (sym (c.in_ok-answer.ensures.answer s h)) ∙ yes), c.in_ok-drain.ensures.ok (settle_step s (transmit c.args.end.now)) (c.in_ok-answer.ensures.ok s h))
+
+pub returns-clause-comes : goal.returns-clause-comes
+returns-clause-comes c = comes_then c.args.world.now c.step.new.world c.drain.new.world c.step.ensures.comes c.drain.ensures.comes

@@ -1,0 +1,18 @@
+use Rattle.std.proofs.Common.{refl, true, false}
+use Rattle.settle_core.proofs.Goings.{on_err, settles_as}
+use Rattle.settle_core.proofs.Worlds.{comes_nothing}
+use Rattle.settle_core.proofs.rounds.RoundsSettler.settle.Goals as goal
+
+pub returns-in_err-most-clause-left : goal.returns-in_err-most-clause-left
+returns-in_err-most-clause-left c = on_err c.from_residual.result (comes_nothing c.args.world.now c.next-next.ensures.kept)
+
+pub returns-in_err-rounds-clause-left : goal.returns-in_err-rounds-clause-left
+returns-in_err-rounds-clause-left c = on_err c.from_residual-in_err-rounds.result (c.go_round.ensures.comes c.next-next.ensures.kept)
+
+pub returns-in_err-unfinished-clause-left : goal.returns-in_err-unfinished-clause-left
+returns-in_err-unfinished-clause-left c = on_err c.from_residual-in_err-unfinished.result (c.go_round.ensures.comes c.next-next.ensures.kept)
+
+pub returns-clause-settled : goal.returns-clause-settled
+returns-clause-settled c =
+    settles_as c.args.world.now c.go_round.new.world (record { changed = false; stepped = false; waited = c.new.result }) c.in_ok-most.most _ c.next-next.ensures.kept refl refl c.new.ensures.empty c.in_ok-most.ensures
+    c.in_ok-rounds.ensures.ok c.in_ok-unfinished.ensures

@@ -1,0 +1,6 @@
+pub mod Marks
+pub mod Shown
+pub mod Steps
+pub mod Waits
+pub mod Left
+pub mod Loads

@@ -1,0 +1,35 @@
+-- How the state of a settling stands in the code.
+use Rattle.std.specs.Prelude.{◌≡◌, ℕ, option_map}
+use Rattle.rdma_types.specs.declared.names.ObjName.{ObjName}
+use Rattle.rdma_types.specs.Lists.{same_object}
+use Rattle.protocol.specs.State.{World}
+use Rattle.protocol.specs.Settle.{Settled, Settling, Waited, last_wait}
+use Rattle.alike_worlds.specs.Alike.{forgetful}
+use Rattle.indexmap.specs.IndexMap.{get}
+use Rattle.world_core.specs.Settled.{IsLeft}
+use Rattle.settle_core.specs.declared.notes.Notes.{Notes}
+use Rattle.settle_core.specs.declared.notes.Wait.{Wait}
+
+-- what is noted of a timer's step
+abbrev pub wait_of : Waited → Wait
+wait_of x = record { una = x.una; partner_ended = x.partner_ended }
+
+-- the world keeps the last datagrams of the state's, and the notes are the state's
+pub record Shows (w : World) (n : Notes) (s : Settling) : Type 0 where
+  pub world : w ≡ forgetful s.world
+  pub changed : n.changed ≡ s.changed
+  pub stepped : n.stepped ≡ s.stepped
+  pub waited : (o : ObjName) → get same_object n.waited o ≡ option_map wait_of (last_wait s o)
+
+-- a call takes each state that it begins with to the one that f makes of it
+abbrev pub Settles : (Settling → Settling) → World → Notes → World → Notes → Type 0
+Settles f w n w' n' = (s : Settling) → Shows w n s → Shows w' n' (f s)
+
+-- a world that keeps the last datagrams comes of another such one by some of settling's events
+abbrev pub Comes : World → World → Type 0
+Comes old new = forgetful old ≡ old → IsLeft old new
+
+-- the world keeps the last datagrams of a settled one, and its rounds are counted
+pub record Ends (end : Settled) (w : World) (count : ℕ) : Type 0 where
+  pub world : w ≡ forgetful end.world
+  pub rounds : count ≡ end.rounds

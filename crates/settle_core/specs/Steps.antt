@@ -1,0 +1,30 @@
+-- Parts of a settling as the code takes them.
+use Rattle.std.specs.Prelude.{ℕ, zero, suc, ◌+◌, ◌&&◌, not, Bool, false, Option, Some, None, if◌then◌else◌}
+use Rattle.protocol.specs.declared.events.WorldEvent.TheVariants as world_event
+use Rattle.rdma_types.specs.declared.names.ObjName.{ObjName}
+use Rattle.protocol.specs.Settle.{Settling, drained, settle_step, transmit}
+use Rattle.world_core.specs.Lives.{is_pending}
+use Rattle.context_core.specs.declared.lives.LinkView.{LinkView}
+
+-- datagram k is delivered where it is pending
+unfoldable pub delivered_at : Settling → ℕ → Settling
+delivered_at s k = if is_pending s.world.sent k then settle_step s (world_event.Deliver k) else s
+
+-- .. and each of n datagrams from number k on
+unfoldable pub sweeping : Settling → ℕ → ℕ → Settling
+sweeping s k zero = s
+sweeping s k (suc n) = sweeping (delivered_at s k) (k + 1) n
+
+-- the end transmitted once, and what it sent is drained
+abbrev pub sent_once : Bool → Settling → ObjName → Settling
+sent_once sent s o = if sent then drained (settle_step s (transmit o)) else s
+
+-- a link in Rts and Running, as its view tells it
+abbrev pub view_runs : Option LinkView → Bool
+view_runs None = false
+view_runs (Some v) = not v.ended && (not v.paused && not v.resuming)
+
+-- .. and one in Rts and Resuming
+abbrev pub view_resumes : Option LinkView → Bool
+view_resumes None = false
+view_resumes (Some v) = not v.ended && v.resuming

@@ -1,0 +1,130 @@
+//! Rounds of settling.
+
+ghost use Rattle.std.specs.Prelude.{◌≡◌, ◌*◌, ◌+◌, ◌≤◌, ◌||◌, not, length, sum_by, IfOk, IfSome, OnErr, OnOk};
+ghost use Rattle.protocol.specs.Settle.{Settling, begun, load_of, round, rounds_of};
+ghost use Rattle.protocol.specs.State as state;
+ghost use Rattle.settle_core.specs.Loads.{view_numbers};
+ghost use Rattle.settle_core.specs.Shown.{Comes, Ends, Settles, Shows};
+ghost use Rattle.world_core.specs.Settled.{IsLeft, IsSettled};
+
+use crate::leaving::unfinished;
+use crate::notes::Notes;
+use indexmap::IndexMap;
+use std::alloc::{AllocError, Global};
+use world_core::{LiveEnd, Quiet, Settler, World};
+
+/// As many rounds for each unit of the load.
+const ROUNDS: u64 = 32;
+
+/// Settles a world by rounds of draining, sending and timers, until one in which nothing changes.
+///
+/// It takes at most 32 rounds for each unit of the load: the posted numbers that are not acknowledged, of the live ends in
+/// Rts, the number of the live ends, and one. As long as a round has no change, each step looks at all live ends.
+#[derive(Clone, Copy, Debug)]
+pub struct Rounds;
+
+/// The posted numbers of an end that are not acknowledged.
+fn unacknowledged(end: &LiveEnd) -> u64
+    ensures { result ≡ view_numbers end.now }
+{
+    match &end.link {
+        Some(link) if !link.ended => link.last.saturating_sub(link.una),
+        _ => 0,
+    }
+}
+
+/// The load of these ends, where it fits.
+fn load(ends: &[LiveEnd]) -> Option<u64>
+    ensures { IfSome result (λ load. load ≡ sum_by view_numbers ends.now + length ends.now + 1) }
+{
+    let mut load = 1_u64;
+    for end in ends {
+        let more = load.checked_add(unacknowledged(end))?;
+        load = more.checked_add(1)?;
+    }
+    Some(load)
+}
+
+/// The most rounds that a settling takes; an error where they do not fit.
+fn most_rounds(alloc: Global, world: &World) -> Result<u64, AllocError>
+    ensures { IfOk result (λ most. most ≡ 32 * load_of world.now) }
+{
+    let ends = world.live_ends(alloc)?;
+    let load = load(ends.as_slice()).ok_or(AllocError)?;
+    load.checked_mul(ROUNDS).ok_or(AllocError)
+}
+
+impl Notes {
+    /// One round: drain, send, and where nothing changed in this round the timers.
+    fn round(&mut self, alloc: Global, world: &mut World) -> Result<(), AllocError>
+        ensures ok { OnOk result (Settles round world.old self.old world.new self.new) }
+        ensures comes { Comes world.old world.new }
+    {
+        let live = world.live_ends(alloc)?;
+        let ends = live.as_slice();
+        self.drain(alloc, world)?;
+        self.send_each(alloc, world, ends)?;
+        if self.changed {
+            return Ok(());
+        }
+        self.step_or_expire(alloc, world, ends)
+    }
+
+    /// Whether nothing changed and no timer was stepped in this round.
+    fn is_quiet(&self) -> bool
+        ensures { result ≡ not (self.now.changed || self.now.stepped) }
+    {
+        !self.changed && !self.stepped
+    }
+
+    /// A new round.
+    fn begin(&mut self)
+        ensures { (w : state.World) (s : Settling) → Shows w self.old s → Shows w self.new (begun s) }
+    {
+        self.changed = false;
+        self.stepped = false;
+    }
+
+    /// Rounds until one in which nothing changed and nothing was stepped, and how many; at most `most`.
+    fn go_round(&mut self, alloc: Global, world: &mut World, most: u64) -> Result<u64, AllocError>
+        ensures ok { IfOk result (λ rounds. (s : Settling) → Shows world.old self.old s → Ends (rounds_of most 0 s) world.new rounds) }
+        ensures few { IfOk result (λ rounds. rounds ≤ most) }
+        ensures comes { Comes world.old world.new }
+    {
+        for rounds in 0..most {
+            self.round(alloc, world)?;
+            if self.is_quiet() {
+                return Ok(rounds + 1);
+            }
+            self.begin();
+        }
+        Ok(most)
+    }
+}
+
+impl Settler for Rounds {
+    /// Settles a world by rounds, of which it takes at most 32 for each unit of the load. Where the world stands for a
+    /// state of the packetless machine, nothing changes in the last of them and no timer is stepped
+    /// (`settling_bound::settling_ends`).
+    ///
+    /// # Errors
+    ///
+    /// Where no memory is left, or the most rounds do not fit in 64 bits. The world is then one that some steps of
+    /// settling lead to.
+    fn settle(&self, alloc: Global, world: &mut World) -> Result<Quiet, AllocError>
+        ensures settled { IfOk result (λ quiet. IsSettled world.old world.new quiet) }
+        ensures few { IfOk result (λ quiet. quiet.rounds ≤ 32 * load_of world.old) }
+        ensures left { OnErr result (IsLeft world.old world.new) }
+    {
+        let _next = world.next();
+        let most = most_rounds(alloc, world)?;
+        let mut notes = Notes {
+            changed: false,
+            stepped: false,
+            waited: IndexMap::new(alloc),
+        };
+        let rounds = notes.go_round(alloc, world, most)?;
+        let unfinished = unfinished(alloc, world)?;
+        Ok(Quiet { rounds, unfinished })
+    }
+}

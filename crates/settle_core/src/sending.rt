@@ -1,0 +1,131 @@
+//! Sending: each end transmits until it has nothing to send now.
+
+ghost use Rattle.std.specs.Prelude.{◌≡◌, map, IfOk, OnOk};
+ghost use Rattle.protocol.specs.Settle.{Settling, drained, is_sent, sends_all, sends_if_running, settle_step, transmit, visited, visiting};
+ghost use Rattle.protocol.specs.WorldStep.{world_step};
+ghost use Rattle.settle_core.specs.Shown.{Comes, Settles, Shows};
+ghost use Rattle.settle_core.specs.Steps.{sent_once, view_resumes, view_runs};
+
+use crate::notes::Notes;
+use rdma_types::{Answer, ObjName};
+use std::alloc::{AllocError, Global};
+use world_core::{Event, LinkView, LiveEnd, World, WorldEvent};
+
+/// Whether a link is in Rts and Running.
+fn is_running(link: &Option<LinkView>) -> bool
+    ensures { result ≡ view_runs link.now }
+{
+    match link {
+        Some(link) => !link.ended && !link.paused && !link.resuming,
+        None => false,
+    }
+}
+
+/// Whether a link is in Rts and Resuming.
+fn is_resuming(link: &Option<LinkView>) -> bool
+    ensures { result ≡ view_resumes link.now }
+{
+    match link {
+        Some(link) => !link.ended && link.resuming,
+        None => false,
+    }
+}
+
+/// Whether a datagram was sent.
+fn is_sent(answer: &Answer) -> bool
+    ensures { result ≡ is_sent answer.now }
+{
+    matches!(answer, Answer::Sent { .. })
+}
+
+impl Notes {
+    /// An end transmits once, and what it sent is drained; and whether it sent anything. Otherwise nothing is changed.
+    fn send(
+        &mut self,
+        alloc: Global,
+        world: &mut World,
+        end: &ObjName,
+    ) -> Result<bool, AllocError>
+        ensures ok { IfOk result (λ sent. (s : Settling) → Shows world.old self.old s → (sent ≡ is_sent (world_step s.world (transmit end.now)).answer) × Shows world.new self.new (sent_once sent s end.now)) }
+        ensures comes { Comes world.old world.new }
+    {
+        let event = Event::Transmit { end: *end };
+        let answer = self.step(alloc, world, &WorldEvent::At { event })?;
+        if !is_sent(&answer) {
+            return Ok(false);
+        }
+        self.drain(alloc, world)?;
+        Ok(true)
+    }
+
+    /// An end transmits until it answers otherwise, at most as often as it may in one round.
+    fn send_all(&mut self, alloc: Global, world: &mut World, end: &ObjName) -> Result<(), AllocError>
+        ensures ok { OnOk result (Settles (λ s. sends_all s end.now) world.old self.old world.new self.new) }
+        ensures comes { Comes world.old world.new }
+    {
+        let Some(link) = world.link_at(end) else {
+            return Ok(());
+        };
+        let most = 2 * link.last.saturating_sub(link.una) + 2;
+        for turn in 0..most {
+            if !self.send(alloc, world, end)? {
+                return Ok(());
+            }
+        }
+        Ok(())
+    }
+
+    /// Only a Running end goes on.
+    fn send_if_running(
+        &mut self,
+        alloc: Global,
+        world: &mut World,
+        end: &ObjName,
+    ) -> Result<(), AllocError>
+        ensures ok { OnOk result (Settles (λ s. sends_if_running s end.now) world.old self.old world.new self.new) }
+        ensures comes { Comes world.old world.new }
+    {
+        if is_running(&world.link_at(end)) {
+            return self.send_all(alloc, world, end);
+        }
+        Ok(())
+    }
+
+    /// A Resuming end transmits once, and goes on only if it then is Running.
+    fn announce(&mut self, alloc: Global, world: &mut World, end: &ObjName) -> Result<(), AllocError>
+        ensures ok { OnOk result (Settles (λ s. sends_if_running (drained (settle_step s (transmit end.now))) end.now) world.old self.old world.new self.new) }
+        ensures comes { Comes world.old world.new }
+    {
+        let event = Event::Transmit { end: *end };
+        let _answer = self.step(alloc, world, &WorldEvent::At { event })?;
+        self.drain(alloc, world)?;
+        self.send_if_running(alloc, world, end)
+    }
+
+    /// One end sends what it can.
+    fn visit(&mut self, alloc: Global, world: &mut World, end: &ObjName) -> Result<(), AllocError>
+        ensures ok { OnOk result (Settles (λ s. visited s end.now) world.old self.old world.new self.new) }
+        ensures comes { Comes world.old world.new }
+    {
+        if is_resuming(&world.link_at(end)) {
+            return self.announce(alloc, world, end);
+        }
+        self.send_if_running(alloc, world, end)
+    }
+
+    /// Each end in order sends what it can.
+    pub(crate) fn send_each(
+        &mut self,
+        alloc: Global,
+        world: &mut World,
+        ends: &[LiveEnd],
+    ) -> Result<(), AllocError>
+        ensures ok { OnOk result (Settles (λ s. visiting visited s (map (λ e. e.name) ends.now)) world.old self.old world.new self.new) }
+        ensures comes { Comes world.old world.new }
+    {
+        for end in ends {
+            self.visit(alloc, world, &end.name)?;
+        }
+        Ok(())
+    }
+}
