@@ -1,7 +1,7 @@
 -- Lists of marks that are compared place by place.
 use Rattle.std.proofs.Common.{arith, ◌≡◌, ◌≢◌, ◌<◌, ◌+◌, ℕ, zero, suc, List, [], ◌∷◌, length, map, drop, get_or, Bool, true, false, refl, sym, ap, ◌∙◌, drop-cons, add-one}
 use Rattle.std.specs.Prelude.{◌&&◌}
-use Rattle.protocol.specs.Settle.{Mark, same_marks}
+use Rattle.protocol.specs.Settle.{same_marks}
 use Rattle.context_core.specs.declared.lives.LiveEnd.{LiveEnd}
 use Rattle.settle_core.specs.Marks.{same_mark, view_mark}
 

@@ -1,6 +1,6 @@
 -- The timers of one end.
 use Rattle.std.proofs.Common.{arith, ◌≡◌, ℕ, List, ◌∷◌, Bool, true, false, refl, sym, ap, ◌∙◌, subst, bytes_eq}
-use Rattle.std.specs.Prelude.{Option, Some, None, option_map, if◌then◌else◌, ◌&&◌, ◌||◌, not, nat_lt}
+use Rattle.std.specs.Prelude.{Option, Some, None, option_map, if◌then◌else◌, ◌&&◌, not, nat_lt}
 use Rattle.std.proofs.lemmas.Slice.Eq.{bytes_eq-Decides}
 use Rattle.indexmap.specs.IndexMap.{get}
 use Rattle.rdma_types.specs.Lists.{first_that, same_object}

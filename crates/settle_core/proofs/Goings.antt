@@ -1,13 +1,12 @@
 -- Rounds one after another, and a whole settling.
-use Rattle.std.proofs.Common.{arith, ◌≡◌, ◌≤◌, ◌<◌, ◌+◌, ◌-◌, ◌*◌, ℕ, zero, suc, List, [], length, take, get_or, Bool, true, false, refl, sym, ap, ◌∙◌, subst, sum_by, Result, Ok, Err, ◌^◌}
-use Rattle.std.specs.Prelude.{◌||◌, ◌++◌, flat_map, option_map, Option, None, Some, IfOk, OnErr}
+use Rattle.std.proofs.Common.{arith, ◌≡◌, ◌≤◌, ◌<◌, ◌+◌, ◌-◌, ◌*◌, ℕ, suc, List, [], length, take, get_or, Bool, true, false, refl, sym, ap, ◌∙◌, subst, sum_by, Result, Ok, Err, ◌^◌}
+use Rattle.std.specs.Prelude.{◌||◌, option_map, Option, None, Some, IfOk, OnErr}
 use Rattle.std.specs.Option.{SomeIff, ok_or}
 use Rattle.std.specs.declared.alloc.AllocError.{AllocError}
 use Rattle.std.proofs.lemmas.List.{take_all}
 use Rattle.std.proofs.lemmas.List.Sums.{sum_by_more}
 use Rattle.indexmap.specs.IndexMap.{get}
 use Rattle.rdma_types.specs.Lists.{first_that, same_object}
-use Rattle.rdma_types.specs.declared.answers.LeftWhy.{LeftWhy}
 use Rattle.rdma_types.specs.declared.names.ObjName.{ObjName}
 use Rattle.protocol.specs.State.{World}
 use Rattle.protocol.specs.Settle.{Settled, Settling, begun, last_wait, load_of, round, rounds_of, settled, unfinished}

@@ -1,21 +1,19 @@
 -- What the list of live ends tells.
-use Rattle.std.proofs.Common.{◌≡◌, ℕ, ◌+◌, ◌-◌, List, [], ◌∷◌, ◌++◌, length, map, Bool, true, false, Option, Some, None, refl, sym, ap, ◌∙◌, if◌then◌else◌}
+use Rattle.std.proofs.Common.{◌≡◌, ℕ, ◌+◌, List, [], ◌∷◌, ◌++◌, length, map, Bool, true, false, Option, Some, None, refl, sym, ap, ◌∙◌, if◌then◌else◌}
 use Rattle.std.specs.Prelude.{flat_map, option_map, sum_by, fold, ◌==◌}
 use Rattle.std.proofs.lemmas.List.{map-append, length-map}
 use Rattle.std.proofs.lemmas.Grind.{flat_map-append}
 use Rattle.std.proofs.lemmas.List.Folds.{flat_map-map}
-use Rattle.rdma_types.specs.declared.answers.LeftWhy.{LeftWhy}
 use Rattle.rdma_types.specs.declared.answers.LeftWhy.TheVariants as why
 use Rattle.rdma_types.specs.declared.names.ObjName.{ObjName}
 use Rattle.protocol.specs.State.{Context, Device, End, Link, Paused, Phase, Resuming, Running, World}
 use Rattle.protocol.specs.EndWords.{is_paused, is_resuming}
-use Rattle.protocol.specs.Settle.{left_link, live_ends, live_names, load_of, mark_of, marks, unacknowledged, unfinished, phase_code, left_phase, left_image}
+use Rattle.protocol.specs.Settle.{left_link, live_ends, live_names, load_of, mark_of, marks, unacknowledged, unfinished, phase_code, left_phase}
 use Rattle.world_core.specs.Lives.{link_view, live_end, live_list}
 use Rattle.context_core.specs.declared.lives.LiveEnd.{LiveEnd}
-use Rattle.context_core.specs.declared.lives.LinkView.{LinkView}
 use Rattle.settle_core.specs.Marks.{link_mark, view_code, view_mark}
 use Rattle.settle_core.specs.Loads.{link_numbers, view_numbers}
-use Rattle.settle_core.specs.Left.{left_image_of, left_linked, left_view, view_why, with_why}
+use Rattle.settle_core.specs.Left.{left_image_of, left_linked, left_view, with_why}
 
 -- ---- lists of lists
 

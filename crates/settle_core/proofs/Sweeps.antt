@@ -1,12 +1,12 @@
 -- A pass over what is pending, number by number.
-use Rattle.std.proofs.Common.{arith, ◌≡◌, ◌≢◌, ◌≤◌, ◌<◌, ◌+◌, ◌-◌, ℕ, zero, suc, List, [], ◌∷◌, ◌++◌, length, drop, Bool, true, false, refl, sym, ap, ◌∙◌, subst, inl, inr, eq-eqb}
+use Rattle.std.proofs.Common.{arith, ◌≡◌, ◌≢◌, ◌≤◌, ◌<◌, ◌+◌, ◌-◌, ℕ, zero, suc, List, [], ◌∷◌, length, drop, Bool, true, false, refl, sym, ap, ◌∙◌, subst, inl, inr, eq-eqb}
 use Rattle.std.specs.Prelude.{Option, Some, None, slice_get, if◌then◌else◌, ◌&&◌, ◌||◌, ◌==◌, not}
 use Rattle.std.proofs.lemmas.List.{length-drop}
 use Rattle.protocol.specs.declared.events.WorldEvent.TheVariants as world_event
 use Rattle.protocol.specs.Fabric.{first_of, is_kept, kept_flight, look, look_at, pending, pending_from, pending_numbers, took, changed_at, marked_taken}
 use Rattle.protocol.specs.State.{Flight, World}
 use Rattle.protocol.specs.WorldStep.{delivers, delivers_by, now_of, world_step}
-use Rattle.protocol.specs.Settle.{Mark, Settling, delivering, live_ends, marks, pass, same_marks, settle_step, stepped_to}
+use Rattle.protocol.specs.Settle.{Mark, Settling, delivering, marks, pass, same_marks, settle_step, stepped_to}
 use Rattle.settling_drains.proofs.Pending.{changed_other, get_append_left, kept_is, kept_when}
 use Rattle.settling_drains.proofs.Arrivals.{IsDelivered, delivered, grows}
 use Rattle.world_core.specs.Lives.{is_open, is_pending}

@@ -1,5 +1,5 @@
 -- A transmission that sends nothing changes nothing.
-use Rattle.std.proofs.Common.{arith, ◌≡◌, ℕ, List, [], ◌∷◌, ◌++◌, map, Bool, true, false, refl, sym, ap, ◌∙◌, subst, eq-eqb}
+use Rattle.std.proofs.Common.{◌≡◌, ℕ, List, [], ◌∷◌, map, Bool, true, false, refl, sym, ap, ◌∙◌, subst, eq-eqb}
 use Rattle.std.specs.Prelude.{Option, Some, None, nat_eq, ◌==◌, ◌&&◌, ◌||◌, not, if◌then◌else◌}
 use Rattle.std.specs.List.{AllByRecursion, IsDistinct}
 use Rattle.std.proofs.lemmas.List.{append-nil}
@@ -14,9 +14,9 @@ use Rattle.protocol.specs.declared.events.Event.TheVariants as event
 use Rattle.protocol.specs.Fabric.{sending}
 use Rattle.protocol.specs.Refusals.{has_context, refusal_of}
 use Rattle.protocol.specs.Requester.{IsFenced, IsIdle, ReadsAreFull, Sends, SendsResume, Transmission, Waits, WindowIsFull, transmission}
-use Rattle.protocol.specs.State.{Context, Device, End, Link, World, context_at, end_at, no_device}
+use Rattle.protocol.specs.State.{Context, Device, End, Link, World, context_at, end_at}
 use Rattle.protocol.specs.DeviceStep as device
-use Rattle.protocol.specs.WorldStep.{Step, answers, by_refusal, context_causes, home, is_carried, is_live, numbered, or_none, ran, runs, steps_at, with_device, world_step}
+use Rattle.protocol.specs.WorldStep.{by_refusal, context_causes, home, is_carried, is_live, numbered, or_none, ran, runs, steps_at, with_device, world_step}
 use Rattle.protocol.specs.Settle.{Settling, is_sent, settle_step, transmit}
 use Rattle.world_core.specs.Places.{HaveOwnIds}
 use Rattle.settle_core.proofs.Sweeps.{still_to}

@@ -1,6 +1,6 @@
 -- What the code reads of a state, and the parts of a round.
-use Rattle.std.proofs.Common.{arith, ◌≡◌, ◌≤◌, ◌<◌, ◌+◌, ◌-◌, ◌*◌, ℕ, zero, suc, List, [], ◌∷◌, ◌++◌, Bool, true, false, refl, sym, ap, ◌∙◌, subst, Result, Ok, Err, map, take, get_or, length}
-use Rattle.std.specs.Prelude.{Option, Some, None, option_map, OnOk, if◌then◌else◌, ◌&&◌, ◌||◌, not}
+use Rattle.std.proofs.Common.{arith, ◌≡◌, ◌≤◌, ◌<◌, ◌+◌, ◌-◌, ◌*◌, ℕ, suc, List, [], ◌∷◌, ◌++◌, Bool, true, false, refl, sym, ap, ◌∙◌, subst, Result, Ok, Err, map, take, get_or, length}
+use Rattle.std.specs.Prelude.{Option, Some, None, option_map, OnOk, if◌then◌else◌}
 use Rattle.std.specs.declared.alloc.AllocError.{AllocError}
 use Rattle.std.proofs.lemmas.List.{take_more, map-append}
 use Rattle.rdma_types.specs.declared.answers.Answer.{Answer}

@@ -1,5 +1,5 @@
 -- What is left of an end, as its view tells it.
-use Rattle.std.specs.Prelude.{◌==◌, List, [], ◌∷◌, length, flat_map, Option, Some, None, if◌then◌else◌}
+use Rattle.std.specs.Prelude.{◌==◌, List, [], ◌∷◌, flat_map, Option, Some, None, if◌then◌else◌}
 use Rattle.rdma_types.specs.declared.answers.LeftWhy.{LeftWhy}
 use Rattle.rdma_types.specs.declared.answers.LeftWhy.TheVariants as left
 use Rattle.rdma_types.specs.declared.names.ObjName.{ObjName}

@@ -80,7 +80,10 @@ fn push_image(left: &mut Vec<(ObjName, LeftWhy)>, image: &ContextImage) -> Resul
 }
 
 /// The ends of carried contexts with untold requests, behind others.
-fn push_images(left: &mut Vec<(ObjName, LeftWhy)>, images: &[ContextImage]) -> Result<(), AllocError>
+fn push_images(
+    left: &mut Vec<(ObjName, LeftWhy)>,
+    images: &[ContextImage],
+) -> Result<(), AllocError>
     ensures { OnOk result (left.new.items ≡ left.old.items ++ flat_map left_image_of images.now) }
 {
     for image in images {
@@ -90,7 +93,10 @@ fn push_images(left: &mut Vec<(ObjName, LeftWhy)>, images: &[ContextImage]) -> R
 }
 
 /// Each end with untold requests and its reason: live ends first, then those of carried contexts.
-pub(crate) fn unfinished(alloc: Global, world: &World) -> Result<Items<(ObjName, LeftWhy)>, AllocError>
+pub(crate) fn unfinished(
+    alloc: Global,
+    world: &World,
+) -> Result<Items<(ObjName, LeftWhy)>, AllocError>
     ensures { IfOk result (λ left. left ≡ unfinished world.now) }
 {
     let ends = world.live_ends(alloc)?;

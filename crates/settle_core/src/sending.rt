@@ -40,12 +40,7 @@ fn is_sent(answer: &Answer) -> bool
 
 impl Notes {
     /// An end transmits once, and what it sent is drained; and whether it sent anything. Otherwise nothing is changed.
-    fn send(
-        &mut self,
-        alloc: Global,
-        world: &mut World,
-        end: &ObjName,
-    ) -> Result<bool, AllocError>
+    fn send(&mut self, alloc: Global, world: &mut World, end: &ObjName) -> Result<bool, AllocError>
         ensures ok { IfOk result (λ sent. (s : Settling) → Shows world.old self.old s → (sent ≡ is_sent (world_step s.world (transmit end.now)).answer) × Shows world.new self.new (sent_once sent s end.now)) }
         ensures comes { Comes world.old world.new }
     {
@@ -59,7 +54,12 @@ impl Notes {
     }
 
     /// An end transmits until it answers otherwise, at most as often as it may in one round.
-    fn send_all(&mut self, alloc: Global, world: &mut World, end: &ObjName) -> Result<(), AllocError>
+    fn send_all(
+        &mut self,
+        alloc: Global,
+        world: &mut World,
+        end: &ObjName,
+    ) -> Result<(), AllocError>
         ensures ok { OnOk result (Settles (λ s. sends_all s end.now) world.old self.old world.new self.new) }
         ensures comes { Comes world.old world.new }
     {
@@ -92,7 +92,12 @@ impl Notes {
     }
 
     /// A Resuming end transmits once, and goes on only if it then is Running.
-    fn announce(&mut self, alloc: Global, world: &mut World, end: &ObjName) -> Result<(), AllocError>
+    fn announce(
+        &mut self,
+        alloc: Global,
+        world: &mut World,
+        end: &ObjName,
+    ) -> Result<(), AllocError>
         ensures ok { OnOk result (Settles (λ s. sends_if_running (drained (settle_step s (transmit end.now))) end.now) world.old self.old world.new self.new) }
         ensures comes { Comes world.old world.new }
     {

@@ -51,7 +51,12 @@ impl Notes {
     }
 
     /// The RNR timer of one end.
-    fn step_timer(&mut self, alloc: Global, world: &mut World, end: &ObjName) -> Result<(), AllocError>
+    fn step_timer(
+        &mut self,
+        alloc: Global,
+        world: &mut World,
+        end: &ObjName,
+    ) -> Result<(), AllocError>
         ensures ok { OnOk result (Settles (λ s. rnr_visit s end.now) world.old self.old world.new self.new) }
         ensures comes { Comes world.old world.new }
     {

@@ -1,4 +1,4 @@
-use Rattle.std.proofs.Common.{arith, ◌≡◌, ◌+◌, map, drop, Bool, true, false, sym, ap, ◌∙◌, rules}
+use Rattle.std.proofs.Common.{arith, ◌≡◌, ◌+◌, map, drop, true, false, sym, ap, ◌∙◌, rules}
 use Rattle.std.specs.Prelude.{◌&&◌}
 use Rattle.protocol.specs.Settle.{same_marks}
 use Rattle.settle_core.specs.Marks.{same_mark, view_mark}

@@ -1,6 +1,5 @@
 use Rattle.std.proofs.Common.{refl}
 use Rattle.settle_core.proofs.Worlds.{shown_begun}
-use Rattle.settle_core.proofs.Visits.{visiting-none}
 use Rattle.settle_core.proofs.notes.Notes.begin.Goals as goal
 
 pub returns : goal.returns

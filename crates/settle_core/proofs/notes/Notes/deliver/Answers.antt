@@ -1,5 +1,4 @@
-use Rattle.std.proofs.Common.{◌≡◌, ◌∙◌, sym, true, false, rules}
-use Rattle.world_core.specs.Lives.{is_pending}
+use Rattle.std.proofs.Common.{◌∙◌, sym, rules}
 use Rattle.settle_core.proofs.Visits.{delivered_not, delivered_one}
 use Rattle.settle_core.proofs.Worlds.{comes_nothing}
 use Rattle.settle_core.proofs.notes.Notes.deliver.Goals as goal

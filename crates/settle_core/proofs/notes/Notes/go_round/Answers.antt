@@ -1,4 +1,4 @@
-use Rattle.std.proofs.Common.{arith, ◌≡◌, ◌<◌, ◌∙◌, sym, true, false, rules}
+use Rattle.std.proofs.Common.{arith, ◌≡◌, ◌<◌, true, false, rules}
 use Rattle.std.specs.Prelude.{◌||◌}
 use Rattle.settle_core.proofs.Goings.{going_begins, going_ends, going_goes, going_stops}
 use Rattle.settle_core.proofs.Worlds.{comes_nothing, comes_then}
@@ -22,9 +22,11 @@ returns-then-is_quiet-clause-comes c = comes_then c.args.world.now c.loop-rounds
 pub loop-rounds-preserved : goal.loop-rounds-preserved
 loop-rounds-preserved c =
     let below : c.loop-rounds.rounds < c.args.most = omega (arith, c.loop-rounds-test.true) in
-    let more : (c.round.new.self.changed || c.round.new.self.stepped) ≡ true = search (rules, c.is_quiet.ensures, c.if-is_quiet.false) in
-    (λ s h. going_goes c.loop-rounds.world c.round.new.world c.loop-rounds.self c.round.new.self c.begin.new.self s c.args.most c.loop-rounds.rounds below (c.loop-rounds.invariant.0 s h) c.in_ok-round.ensures.ok more c.begin.ensures,
-    comes_then c.args.world.now c.loop-rounds.world c.round.new.world c.loop-rounds.invariant.1 c.round.ensures.comes, omega arith)
+    let more : (c.round.new.self.changed || c.round.new.self.stepped) ≡ true = search (rules, c.is_quiet.ensures, c.if-is_quiet.false) in (
+      λ s h. going_goes c.loop-rounds.world c.round.new.world c.loop-rounds.self c.round.new.self c.begin.new.self s c.args.most c.loop-rounds.rounds below (c.loop-rounds.invariant.0 s h) c.in_ok-round.ensures.ok more c.begin.ensures,
+      comes_then c.args.world.now c.loop-rounds.world c.round.new.world c.loop-rounds.invariant.1 c.round.ensures.comes,
+      omega arith,
+    )
 
 pub returns-clause-ok : goal.returns-clause-ok
 returns-clause-ok c =

@@ -1,4 +1,4 @@
-use Rattle.std.proofs.Common.{◌≡◌, ◌∙◌, sym, Some, None, rules}
+use Rattle.std.proofs.Common.{◌≡◌, Some, None, rules}
 use Rattle.protocol.specs.Fabric.{pending}
 use Rattle.settle_core.proofs.Visits.{on_ok, pass_none, pass_swept}
 use Rattle.settle_core.proofs.Worlds.{comes_nothing}

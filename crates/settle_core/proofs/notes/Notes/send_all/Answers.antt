@@ -1,4 +1,4 @@
-use Rattle.std.proofs.Common.{◌≡◌, ◌<◌, ◌+◌, ◌-◌, ◌*◌, ◌∙◌, ℕ, arith, sym, ap, true, false, Some, None, rules}
+use Rattle.std.proofs.Common.{◌≡◌, ◌<◌, ◌+◌, ◌-◌, ◌*◌, ℕ, arith, ap, Some, None, rules}
 use Rattle.std.specs.Prelude.{option_map}
 use Rattle.protocol.specs.Settle.{link_at}
 use Rattle.world_core.specs.Lives.{link_view}
@@ -38,9 +38,10 @@ returns-then-not-branch-clause-comes c = comes_then c.args.world.now c.loop-turn
 pub loop-turn-preserved : goal.loop-turn-preserved
 loop-turn-preserved c =
     let most : ℕ = 2 * c.saturating_sub.result + 2 in
-    let below : c.loop-turn.turn < most = omega arith in
-    (λ s h. way_goes c.loop-turn.world c.send.new.world c.loop-turn.self c.send.new.self s c.args.end.now most c.loop-turn.turn c.in_ok-send.field-0 below (c.loop-turn.invariant.0 s h) (search (rules, c.if-not-branch.false)) c.in_ok-send.ensures.ok,
-    comes_then c.args.world.now c.loop-turn.world c.send.new.world c.loop-turn.invariant.1 c.send.ensures.comes)
+    let below : c.loop-turn.turn < most = omega arith in (
+      λ s h. way_goes c.loop-turn.world c.send.new.world c.loop-turn.self c.send.new.self s c.args.end.now most c.loop-turn.turn c.in_ok-send.field-0 below (c.loop-turn.invariant.0 s h) (search (rules, c.if-not-branch.false)) c.in_ok-send.ensures.ok,
+      comes_then c.args.world.now c.loop-turn.world c.send.new.world c.loop-turn.invariant.1 c.send.ensures.comes,
+    )
 
 pub returns-clause-ok : goal.returns-clause-ok
 returns-clause-ok c =

@@ -1,4 +1,4 @@
-use Rattle.std.proofs.Common.{◌≡◌, ◌∙◌, refl, sym, rules}
+use Rattle.std.proofs.Common.{refl, rules}
 use Rattle.settle_core.proofs.Noted.{answer_told, changed_step, changed_told, comes_result}
 use Rattle.settle_core.proofs.Worlds.{answer_shown, comes_nothing, comes_same, comes_step, shown_step}
 use Rattle.settle_core.proofs.notes.Notes.step.Goals as goal

@@ -1,4 +1,4 @@
-use Rattle.std.proofs.Common.{refl, true, false}
+use Rattle.std.proofs.Common.{refl, false}
 use Rattle.settle_core.proofs.Goings.{on_err, settles_as}
 use Rattle.settle_core.proofs.Worlds.{comes_nothing}
 use Rattle.settle_core.proofs.rounds.RoundsSettler.settle.Goals as goal
