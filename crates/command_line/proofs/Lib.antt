@@ -1,0 +1,6 @@
+pub mod Numbers
+pub mod Plain
+pub mod Leaves
+pub mod Splits
+pub mod Taken
+pub mod Lawful

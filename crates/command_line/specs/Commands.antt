@@ -1,0 +1,26 @@
+-- A command as the rules know it.
+use Rattle.std.specs.Prelude.{◌≤◌, Option, Some, None}
+use Rattle.workload_gen.specs.declared.plan.Mix.{Mix}
+use Rattle.script_rules.specs.Commands.{Play, Bulk, ShowDump}
+use Rattle.script_rules.specs.Commands as rules
+use Rattle.command_line.specs.declared.command.Command.{Command}
+use Rattle.command_line.specs.declared.command.Command.TheVariants as command
+
+abbrev pub known : Command → rules.Command
+known command.Play = Play
+known (command.Bulk seed mix) = Bulk seed mix
+known (command.ShowDump name) = ShowDump name
+
+-- .. if there is one
+abbrev pub known_if : Option Command → Option rules.Command
+known_if None = None
+known_if (Some c) = Some (known c)
+
+-- how much a generated script may have of each
+abbrev pub IsMix : Mix → Type 0
+IsMix m = (1 ≤ m.connections) × (m.connections ≤ 8) × (1 ≤ m.messages) × (m.messages ≤ 2000) × (m.moves ≤ 16)
+
+-- a command asks for no more
+abbrev pub IsInRange : Command → Type 0
+IsInRange (command.Bulk seed mix) = IsMix mix
+IsInRange other = Unit {0}

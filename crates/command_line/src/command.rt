@@ -1,0 +1,42 @@
+//! The commands.
+
+ghost use Rattle.std.specs.Prelude.{◌≡◌, map, None, Ok, IfOk, IfSome};
+ghost use Rattle.std.specs.String.{string_bytes};
+ghost use Rattle.script_rules.specs.Commands.{command_of};
+ghost use Rattle.command_line.specs.Commands.{IsInRange, known_if};
+
+use crate::rule::is_lawful;
+use crate::splitting::{command_in, split};
+use rdma_types::Name;
+use std::alloc::{AllocError, Global};
+use workload_gen::Mix;
+
+/// What the program is asked to do.
+#[derive(Debug, Drop)]
+pub enum Command {
+    /// The lines of the whole input are answered.
+    Play,
+    /// A generated script is played, and summed up.
+    Bulk { seed: u64, mix: Mix },
+    /// What a dump in the depot says is written.
+    ShowDump { name: Name },
+}
+
+impl Command {
+    /// The command of these words, without the program's name; `Ok(None)` exactly where they are of none.
+    ///
+    /// # Errors
+    ///
+    /// Want of memory, which comes at no words that are of no command.
+    pub fn of(alloc: Global, words: &[String]) -> Result<Option<Command>, AllocError>
+        ensures value { IfOk result (λ r. known_if r ≡ command_of (map string_bytes words.now)) }
+        ensures none { command_of (map string_bytes words.now) ≡ None → result ≡ Ok None }
+        ensures within { IfOk result (λ r. IfSome r IsInRange) }
+    {
+        if !is_lawful(words) {
+            return Ok(None);
+        }
+        let matches = split(alloc, words)?;
+        Ok(command_in(&matches))
+    }
+}

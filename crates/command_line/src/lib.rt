@@ -1,0 +1,14 @@
+//! Which command the words of the program spell.
+//!
+//! The words are held against the table of commands by a rule of this crate. Those that pass are split by `clap`, which
+//! can refuse them for want of memory alone.
+#![tactic(auto)]
+
+mod command;
+mod rule;
+mod splitting;
+
+pub use command::Command;
+
+#[cfg(test)]
+mod tests;
