@@ -1,0 +1,21 @@
+use Rattle.std.proofs.Common.{arith, subst, refl}
+use Rattle.script_runner.specs.Playing.{IfBadLine, IsPlayedTo, IsStoppedAt}
+use Rattle.script_runner.proofs.Fronts.{if_err_is, on_err}
+use Rattle.script_runner.proofs.Played.{next_number, whole}
+use Rattle.script_runner.proofs.playing.play.Goals as goal
+
+pub overflow_add-number : goal.overflow_add-number
+overflow_add-number g c = omega (arith, next_number (g.K.Sink.held c.args.output.now) (g.K.Sink.held c.loop-line.output) c.args.input.now c.loop-line.world c.loop-line.number c.loop-line.lines c.next_line.new.self c.in-Some.line.now c.in-Some.ensures.line c.loop-line.invariant.played)
+
+pub returns-in_err-play_line-clause-bad : goal.returns-in_err-play_line-clause-bad
+returns-in_err-play_line-clause-bad g c =
+    let here = subst (IsPlayedTo (g.K.Sink.held c.args.output.now) (g.K.Sink.held c.loop-line.output) c.args.input.now c.loop-line.world c.loop-line.number) c.in-Some.ensures.line c.loop-line.invariant.played in
+    if_err_is c.from_residual-in_err-play_line.result (IfBadLine (IsStoppedAt (g.K.Sink.held c.args.output.now) (g.K.Sink.held c.play_line.new.output) c.args.input.now)) c.in_err-play_line.field-0.0 c.from_residual-in_err-play_line.ensures.1 (c.in_err-play_line.ensures.bad (g.K.Sink.held c.args.output.now) c.args.input.now c.loop-line.number c.next_line.new.self refl here)
+
+pub returns-in_err-play_line-clause-part : goal.returns-in_err-play_line-clause-part
+returns-in_err-play_line-clause-part g c =
+    let here = subst (IsPlayedTo (g.K.Sink.held c.args.output.now) (g.K.Sink.held c.loop-line.output) c.args.input.now c.loop-line.world c.loop-line.number) c.in-Some.ensures.line c.loop-line.invariant.played in
+    on_err c.from_residual-in_err-play_line.result (c.in_err-play_line.ensures.part (g.K.Sink.held c.args.output.now) c.args.input.now c.loop-line.number c.next_line.new.self refl here)
+
+pub returns-clause-whole : goal.returns-clause-whole
+returns-clause-whole g c = (whole c.scripts_are_played_line_by_line.ensures.ends (g.K.Sink.held c.args.output.now) (g.K.Sink.held c.loop-line.output) c.args.input.now c.loop-line.world c.loop-line.number c.loop-line.lines c.in_default.ensures.end c.loop-line.invariant.played).1

@@ -1,0 +1,50 @@
+-- What the parts of playing a script do.
+use Rattle.std.specs.Prelude.{ℕ, ◌≡◌, ◌⊎◌, List, ◌++◌, Option, Some}
+use Rattle.rdma_types.specs.declared.answers.Answer.{Answer}
+use Rattle.protocol.specs.Script.{Happening, happens}
+use Rattle.protocol.specs.State.{World}
+use Rattle.alike_worlds.specs.Alike.{forgetful}
+use Rattle.mig_ports.specs.Streams.{Puts}
+use Rattle.script_rules.specs.Playing.{IsPlayed}
+use Rattle.script_rules.specs.Script.{BadLine, answers_text, bad_line}
+use Rattle.script_runner.specs.declared.fault.PlayFault.{PlayFault}
+use Rattle.script_runner.specs.declared.fault.PlayFault.TheVariants as fault
+
+-- a world is another one, or what is left of it where the network keeps the last datagrams
+abbrev pub IsLeft : World → World → Type 0
+IsLeft new whole = (new ≡ whole) ⊎ (new ≡ forgetful whole)
+
+-- the answer to what happens, and the world that it leaves
+pub record Answers (old : World) (h : Happening) (answer : Answer) (new : World) : Type 0 where
+  pub answered : answer ≡ (happens old h).answer
+  pub left : IsLeft new (happens old h).world
+
+-- a front of a text was put behind what was held
+pub record PutsFront (held held' : Option (List ℕ)) (text : List ℕ) : Type 0 where
+  pub front : List ℕ
+  pub rest : List ℕ
+  pub splits : text ≡ front ++ rest
+  pub put : Puts held held' front
+
+-- what holds of a bad line, if it is that fault
+abbrev pub IfBadLine : (BadLine → Type 0) → PlayFault → Type 0
+IfBadLine P (fault.BadLine line column why) = P (record { number = line; offence = record { column = column; why = why } })
+IfBadLine P fault.WriteFault = Unit {0}
+IfBadLine P fault.OutOfMemory = Unit {0}
+
+-- a fault of answering a line: of the sink, or want of memory
+abbrev pub IsOneLineFault : PlayFault → Type 0
+IsOneLineFault (fault.BadLine line column why) = ⊥
+IsOneLineFault fault.WriteFault = Unit {0}
+IsOneLineFault fault.OutOfMemory = Unit {0}
+
+-- how far a text is played, where `number` of its lines were read, `rest` are to come, and the world is `w`
+pub record IsPlayedTo (held held' : Option (List ℕ)) (text : List ℕ) (w : World) (number : ℕ) (rest : List (List ℕ)) : Type 0 where
+  pub done : List ℕ  -- what was written
+  pub written : Puts held held' done
+  pub played : IsPlayed text done w number rest
+
+-- the first bad line of a text, where the lines before it are answered
+pub record IsStoppedAt (held held' : Option (List ℕ)) (text : List ℕ) (bad : BadLine) : Type 0 where
+  pub first : bad_line text ≡ Some bad
+  pub written : Puts held held' (answers_text text)

@@ -1,0 +1,10 @@
+//! A script is played in a world: its lines are read one after the other, and each is answered before the next one is read.
+#![tactic(auto)]
+
+mod actions;
+mod answering;
+mod fault;
+mod playing;
+
+pub use fault::PlayFault;
+pub use playing::play;

@@ -1,0 +1,123 @@
+//! The answers to the lines of a script.
+
+ghost use Rattle.std.specs.Prelude.{◌≡◌, ◌∷◌, ℕ, ◌+◌, ◌<◌, ◌≤◌, ◌^◌, List, length, Option, None, Some, Err, OnOk, OnErr, IfErr};
+ghost use Rattle.mig_ports.specs.Streams.{Rose, Puts};
+ghost use Rattle.script_rules.specs.Does.{MayBeAskedOf, happening_of};
+ghost use Rattle.script_rules.specs.Headline.{IsFollowed};
+ghost use Rattle.script_rules.specs.Playing.{line_text, world_past};
+ghost use Rattle.script_rules.specs.Script.{answers_text, bad_line};
+ghost use Rattle.script_runner.specs.Playing.{IfBadLine, IsLeft, IsOneLineFault, IsPlayedTo, IsStoppedAt, PutsFront};
+
+use crate::PlayFault;
+use crate::actions::action_of;
+use crate::answering::act;
+use mig_ports::{Sink, WriteFault, write_all_of};
+use script_lang::{Line, LineFault, Lines, parse_line, print_answer};
+use script_rules::{lines_are_in_range, scripts_are_followed, scripts_are_played_line_by_line};
+use std::alloc::Global;
+use world_core::{Settler, World};
+
+/// Writes a text; after an error a front of it is written.
+fn write_text<K: Sink>(text: &[u8], output: &mut K) -> Result<(), WriteFault>
+    ensures whole { OnOk result (Puts (K.held output.old) (K.held output.new) text.now) }
+    ensures part { OnErr result (PutsFront (K.held output.old) (K.held output.new) text.now) }
+    ensures rose { OnErr result (Rose (K.faults output.old) (K.faults output.new)) }
+    ensures later { K.faults output.old ≤ K.faults output.new }
+{
+    write_all_of(output, text)
+}
+
+/// Answers one line, in one write; a blank one has no answer. `text` is room for the answer.
+fn answer<T: Settler, K: Sink>(
+    alloc: Global,
+    world: &mut World,
+    settler: &T,
+    line: Line,
+    text: &mut Vec<u8>,
+    output: &mut K,
+) -> Result<(), PlayFault>
+    requires { MayBeAskedOf (happening_of line) }
+    ensures world { OnOk result (IsLeft world.new (world_past world.old (happening_of line))) }
+    ensures whole { OnOk result (Puts (K.held output.old) (K.held output.new) (line_text world.old (happening_of line))) }
+    ensures part { OnErr result (PutsFront (K.held output.old) (K.held output.new) (line_text world.old (happening_of line))) }
+    ensures faults { IfErr result IsOneLineFault }
+    ensures rose { result ≡ Err PlayFault.WriteFault → Rose (K.faults output.old) (K.faults output.new) }
+    ensures later { K.faults output.old ≤ K.faults output.new }
+{
+    let Some(action) = action_of(line) else {
+        return Ok(());
+    };
+    let told = act(alloc, world, settler, &action)?;
+    text.clear();
+    print_answer(&told, text)?;
+    write_text(text.as_slice(), output)?;
+    Ok(())
+}
+
+/// Reads and answers the line of this number.
+fn play_line<T: Settler, K: Sink>(
+    alloc: Global,
+    world: &mut World,
+    settler: &T,
+    number: u64,
+    line: &[u8],
+    text: &mut Vec<u8>,
+    output: &mut K,
+) -> Result<(), PlayFault>
+    ensures played { (held : Option (List ℕ)) (script : List ℕ) (n : ℕ) (rest : List (List ℕ)) → n + 1 ≡ number
+        → IsPlayedTo held (K.held output.old) script world.old n (line.now ∷ rest)
+        → OnOk result (IsPlayedTo held (K.held output.new) script world.new number rest) }
+    ensures bad { (held : Option (List ℕ)) (script : List ℕ) (n : ℕ) (rest : List (List ℕ)) → n + 1 ≡ number
+        → IsPlayedTo held (K.held output.old) script world.old n (line.now ∷ rest)
+        → IfErr result (IfBadLine (IsStoppedAt held (K.held output.new) script)) }
+    ensures part { (held : Option (List ℕ)) (script : List ℕ) (n : ℕ) (rest : List (List ℕ)) → n + 1 ≡ number
+        → IsPlayedTo held (K.held output.old) script world.old n (line.now ∷ rest)
+        → OnErr result (PutsFront held (K.held output.new) (answers_text script)) }
+    ensures rose { result ≡ Err PlayFault.WriteFault → Rose (K.faults output.old) (K.faults output.new) }
+    ensures later { K.faults output.old ≤ K.faults output.new }
+{
+    lines_are_in_range();
+    scripts_are_played_line_by_line();
+    match parse_line(alloc, line) {
+        Ok(line) => answer(alloc, world, settler, line, text, output),
+        Err(LineFault::Bad { column, why }) => Err(PlayFault::BadLine {
+            line: number,
+            column,
+            why,
+        }),
+        Err(LineFault::OutOfMemory) => Err(PlayFault::OutOfMemory),
+    }
+}
+
+/// Plays a script: each line is answered before the next one is read, in one write.
+///
+/// # Errors
+///
+/// The first bad line, where the lines before it are answered; a fault of the sink, and want of memory, where a front of
+/// the answers is written.
+pub fn play<T: Settler, K: Sink>(
+    alloc: Global,
+    input: &[u8],
+    settler: &T,
+    output: &mut K,
+) -> Result<(), PlayFault>
+    ensures good { OnOk result (bad_line input.now ≡ None) }
+    ensures whole { OnOk result (Puts (K.held output.old) (K.held output.new) (answers_text input.now)) }
+    ensures bad { IfErr result (IfBadLine (IsStoppedAt (K.held output.old) (K.held output.new) input.now)) }
+    ensures part { OnErr result (PutsFront (K.held output.old) (K.held output.new) (answers_text input.now)) }
+    ensures followed { IsFollowed input.now }
+    ensures rose { result ≡ Err PlayFault.WriteFault → Rose (K.faults output.old) (K.faults output.new) }
+    ensures later { K.faults output.old ≤ K.faults output.new }
+{
+    scripts_are_followed();
+    scripts_are_played_line_by_line();
+    let mut world = World::make(alloc)?;
+    let mut text = Vec::new(alloc);
+    let mut lines = Lines::new(input);
+    let mut number = 0u64;
+    while let Some(line) = lines.next_line() {
+        number += 1;
+        play_line(alloc, &mut world, settler, number, line, &mut text, output)?;
+    }
+    Ok(())
+}
