@@ -8,3 +8,4 @@ pub mod Numbering
 pub mod Whole
 pub mod Back
 pub mod BackWhole
+pub mod Steady

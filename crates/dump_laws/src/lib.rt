@@ -3,4 +3,4 @@
 
 mod laws;
 
-pub use laws::{what_is_read_is_a_dump, what_is_written_reads_back};
+pub use laws::{a_fault_stays, what_is_read_is_a_dump, what_is_written_reads_back};

@@ -3,6 +3,7 @@ pub mod Read
 pub mod Split
 pub mod Reserved
 pub mod Ends
-pub mod Loop
 pub mod Whole
 pub mod Dumped
+pub mod Later
+pub mod Ways

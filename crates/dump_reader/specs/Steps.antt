@@ -1,7 +1,8 @@
 -- One step of reading.
-use Rattle.std.specs.Prelude.{◌≡◌, Result, Ok, Err, ⊤}
+use Rattle.std.specs.Prelude.{◌≡◌, ◌++◌, ℕ, List, Bool, false, Result, Ok, Err, ⊤}
 use Rattle.protocol.specs.declared.images.ContextImage.{ContextImage}
-use Rattle.protocol.specs.Dumps.{Reading, Bad}
+use Rattle.protocol.specs.Dumps.{Reading, Reader, Bad}
+use Rattle.dump_laws.specs.Later.{is_short}
 use Rattle.dump_reader.specs.declared.lists.Place.{Place}
 use Rattle.dump_reader.specs.declared.fault.DumpFault.{DumpFault}
 use Rattle.dump_reader.specs.declared.fault.DumpFault.TheVariants.{BadDump, OutOfMemory}
@@ -12,7 +13,16 @@ Moves before next (Ok place) = before ≡ next place
 Moves before next (Err (BadDump place why)) = before ≡ Bad place why
 Moves before next (Err OutOfMemory) = ⊤
 
+-- the same is read at two places, whatever bytes come later
+abbrev pub Alike : Reader ContextImage → ℕ → List ℕ → Reader ContextImage → ℕ → List ℕ → Type 0
+Alike before place bytes after place' bytes' = (later : List ℕ) → before place (bytes ++ later) ≡ after place' (bytes' ++ later)
+
 -- the bytes are bad there, or memory was wanted
 abbrev pub IsFault : {A : Type 0} → Reading A → DumpFault → Type 0
 IsFault reading (BadDump place why) = reading ≡ Bad place why
 IsFault reading OutOfMemory = ⊤
+
+-- the bytes ended too early
+abbrev pub is_wanting : DumpFault → Bool
+is_wanting (BadDump place why) = is_short why
+is_wanting OutOfMemory = false

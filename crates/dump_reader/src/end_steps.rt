@@ -1,12 +1,12 @@
 //! One group of fields of a queue pair, and the place after it.
 
-ghost use Rattle.std.specs.Prelude.{◌≡◌, ℕ, List, suc, ◌+◌, ◌-◌, ◌<◌, ◌≤◌, ◌^◌, ◌==◌, ◌++◌, ◌∷◌, length, [], map, Some, None, IfOk, not, ◌||◌, if◌then◌else◌};
+ghost use Rattle.std.specs.Prelude.{◌≡◌, ℕ, List, suc, ◌+◌, ◌-◌, ◌<◌, ◌≤◌, ◌^◌, ◌==◌, ◌++◌, ◌∷◌, length, [], map, drop, Some, None, IfOk, IfErr, true, false, not, ◌||◌, if◌then◌else◌};
 ghost use Rattle.protocol.specs.Dumps.{then_read, items, raw, shape_of_length, count_by, is_untold_count, is_ended};
 ghost use Rattle.protocol.specs.Images.{name_at};
 ghost use Rattle.dump_reader.specs.Groups.{came, link_of_head, end_of_head, regions_of, payload_length};
 ghost use Rattle.rdma_types.specs.Kinds.{lands};
 ghost use Rattle.dump_reader.specs.Ahead.{ahead, more_ends, more_kept, more_untold, more_receives, untold_list, unused_list, linked_list, after_head, queues_of, linked_of, first_of, passed, may_be_untold, may_be_unused, weight};
-ghost use Rattle.dump_reader.specs.Steps.{Moves};
+ghost use Rattle.dump_reader.specs.Steps.{Alike, Moves, is_wanting};
 
 use crate::cursor::{Cursor, Offence};
 use crate::fault::DumpFault;
@@ -29,7 +29,9 @@ pub fn enter_ends(
     c: &Cursor<'_>,
     count: u16,
 ) -> Result<Place, DumpFault>
-    ensures { Moves (more_ends opened.now lists.now.domains.items lists.now.regions.items (queues_of lists.now) count lists.now.ends.items c.now.place c.now.bytes.now) (λ next. ahead opened.now lists.now next c.now.place c.now.bytes.now) result }
+    ensures moves { Moves (more_ends opened.now lists.now.domains.items lists.now.regions.items (queues_of lists.now) count lists.now.ends.items c.now.place c.now.bytes.now) (λ next. ahead opened.now lists.now next c.now.place c.now.bytes.now) result }
+    ensures later { IfOk result (λ next. Alike (more_ends opened.now lists.now.domains.items lists.now.regions.items (queues_of lists.now) count lists.now.ends.items) c.now.place c.now.bytes.now (ahead opened.now lists.now next) c.now.place c.now.bytes.now) }
+    ensures never { IfErr result (λ e. is_wanting e ≡ false) }
 {
     if count > 0 {
         return Ok(Place::End(count - 1));
@@ -52,6 +54,9 @@ pub fn end_count_step(
 ) -> Result<Place, DumpFault>
     requires { c.old.place + length c.old.bytes.now < 2 ^ 64 }
     ensures moves { Moves (ahead opened.now lists.old Place.EndCount c.old.place c.old.bytes.now) (λ next. ahead opened.now lists.new next c.new.place c.new.bytes.now) result }
+    ensures later { IfOk result (λ next. Alike (ahead opened.now lists.old Place.EndCount) c.old.place c.old.bytes.now (ahead opened.now lists.new next) c.new.place c.new.bytes.now) }
+    ensures left { IfOk result (λ next. c.new.bytes.now ≡ drop (c.new.place - c.old.place) c.old.bytes.now) }
+    ensures same { IfErr result (λ e. is_wanting e ≡ true → lists.new ≡ lists.old) }
     ensures passed { IfOk result (λ next. c.old.place < c.new.place) }
     ensures fits { c.new.place + length c.new.bytes.now ≡ c.old.place + length c.old.bytes.now }
 {
@@ -81,6 +86,9 @@ pub fn end_step(
 ) -> Result<Place, DumpFault>
     requires { c.old.place + length c.old.bytes.now < 2 ^ 64 }
     ensures moves { Moves (ahead opened.now lists.old (Place.End more) c.old.place c.old.bytes.now) (λ next. ahead opened.now lists.new next c.new.place c.new.bytes.now) result }
+    ensures later { IfOk result (λ next. Alike (ahead opened.now lists.old (Place.End more)) c.old.place c.old.bytes.now (ahead opened.now lists.new next) c.new.place c.new.bytes.now) }
+    ensures left { IfOk result (λ next. c.new.bytes.now ≡ drop (c.new.place - c.old.place) c.old.bytes.now) }
+    ensures same { IfErr result (λ e. is_wanting e ≡ true → lists.new ≡ lists.old) }
     ensures passed { IfOk result (λ next. c.old.place < c.new.place) }
     ensures fits { c.new.place + length c.new.bytes.now ≡ c.old.place + length c.old.bytes.now }
 {
@@ -137,6 +145,9 @@ pub fn kept_step(
 ) -> Result<Place, DumpFault>
     requires { c.old.place + length c.old.bytes.now < 2 ^ 64 }
     ensures moves { Moves (ahead opened.now lists.old (Place.Kept head.now link.now more after) c.old.place c.old.bytes.now) (λ next. ahead opened.now lists.new next c.new.place c.new.bytes.now) result }
+    ensures later { IfOk result (λ next. Alike (ahead opened.now lists.old (Place.Kept head.now link.now more after)) c.old.place c.old.bytes.now (ahead opened.now lists.new next) c.new.place c.new.bytes.now) }
+    ensures left { IfOk result (λ next. c.new.bytes.now ≡ drop (c.new.place - c.old.place) c.old.bytes.now) }
+    ensures same { IfErr result (λ e. is_wanting e ≡ true → lists.new ≡ lists.old) }
     ensures passed { IfOk result (λ next. c.old.place < c.new.place) }
     ensures fits { c.new.place + length c.new.bytes.now ≡ c.old.place + length c.old.bytes.now }
 {
@@ -229,6 +240,9 @@ pub fn link_step(
 ) -> Result<Place, DumpFault>
     requires { c.old.place + length c.old.bytes.now < 2 ^ 64 }
     ensures moves { Moves (ahead opened.now lists.old (Place.Link head.now after) c.old.place c.old.bytes.now) (λ next. ahead opened.now lists.new next c.new.place c.new.bytes.now) result }
+    ensures later { IfOk result (λ next. Alike (ahead opened.now lists.old (Place.Link head.now after)) c.old.place c.old.bytes.now (ahead opened.now lists.new next) c.new.place c.new.bytes.now) }
+    ensures left { IfOk result (λ next. c.new.bytes.now ≡ drop (c.new.place - c.old.place) c.old.bytes.now) }
+    ensures same { IfErr result (λ e. is_wanting e ≡ true → lists.new ≡ lists.old) }
     ensures passed { IfOk result (λ next. c.old.place < c.new.place) }
     ensures fits { c.new.place + length c.new.bytes.now ≡ c.old.place + length c.old.bytes.now }
 {
@@ -249,6 +263,9 @@ pub fn untold_step(
 ) -> Result<Place, DumpFault>
     requires { c.old.place + length c.old.bytes.now < 2 ^ 64 }
     ensures moves { Moves (ahead opened.now lists.old (Place.Untold head.now link.now after) c.old.place c.old.bytes.now) (λ next. ahead opened.now lists.new next c.new.place c.new.bytes.now) result }
+    ensures later { IfOk result (λ next. Alike (ahead opened.now lists.old (Place.Untold head.now link.now after)) c.old.place c.old.bytes.now (ahead opened.now lists.new next) c.new.place c.new.bytes.now) }
+    ensures left { IfOk result (λ next. c.new.bytes.now ≡ drop (c.new.place - c.old.place) c.old.bytes.now) }
+    ensures same { IfErr result (λ e. is_wanting e ≡ true → lists.new ≡ lists.old) }
     ensures passed { IfOk result (λ next. c.old.place < c.new.place) }
     ensures fits { c.new.place + length c.new.bytes.now ≡ c.old.place + length c.old.bytes.now }
 {
@@ -307,6 +324,8 @@ pub fn take_request(
 ) -> Result<Place, DumpFault>
     ensures light { IfOk result (λ next. weight next ≡ 0) }
     ensures moves { Moves (more_untold opened.now lists.old.domains.items lists.old.regions.items (queues_of lists.old) lists.old.ends.items after head.now (link_of_head link.now lists.old.kept.items) before.now count (lists.old.untold.items ++ record { request = request; payload = lists.old.run } ∷ []) c.now.place c.now.bytes.now) (λ next. ahead opened.now lists.new next c.now.place c.now.bytes.now) result }
+    ensures later { IfOk result (λ next. Alike (more_untold opened.now lists.old.domains.items lists.old.regions.items (queues_of lists.old) lists.old.ends.items after head.now (link_of_head link.now lists.old.kept.items) before.now count (lists.old.untold.items ++ record { request = request; payload = lists.old.run } ∷ [])) c.now.place c.now.bytes.now (ahead opened.now lists.new next) c.now.place c.now.bytes.now) }
+    ensures never { IfErr result (λ e. is_wanting e ≡ false) }
 {
     let payload = mem::replace(&mut lists.run, ByteRun::make(lists.alloc));
     push(&mut lists.untold, PostedImage { request, payload })?;
@@ -326,7 +345,9 @@ pub fn enter_payload(
     after: u16,
     request: Request,
 ) -> Result<Place, DumpFault>
-    ensures { Moves (then_read (raw (payload_length request)) (λ payload. more_untold opened.now lists.old.domains.items lists.old.regions.items (queues_of lists.old) lists.old.ends.items after head.now (link_of_head link.now lists.old.kept.items) before.now count (lists.old.untold.items ++ record { request = request; payload = payload } ∷ [])) c.now.place c.now.bytes.now) (λ next. ahead opened.now lists.new next c.now.place c.now.bytes.now) result }
+    ensures moves { Moves (then_read (raw (payload_length request)) (λ payload. more_untold opened.now lists.old.domains.items lists.old.regions.items (queues_of lists.old) lists.old.ends.items after head.now (link_of_head link.now lists.old.kept.items) before.now count (lists.old.untold.items ++ record { request = request; payload = payload } ∷ [])) c.now.place c.now.bytes.now) (λ next. ahead opened.now lists.new next c.now.place c.now.bytes.now) result }
+    ensures later { IfOk result (λ next. Alike (then_read (raw (payload_length request)) (λ payload. more_untold opened.now lists.old.domains.items lists.old.regions.items (queues_of lists.old) lists.old.ends.items after head.now (link_of_head link.now lists.old.kept.items) before.now count (lists.old.untold.items ++ record { request = request; payload = payload } ∷ []))) c.now.place c.now.bytes.now (ahead opened.now lists.new next) c.now.place c.now.bytes.now) }
+    ensures never { IfErr result (λ e. is_wanting e ≡ false) }
 {
     lists.run = ByteRun::make(lists.alloc);
     let missing = payload_len(&request);
@@ -350,6 +371,9 @@ pub fn request_step(
 ) -> Result<Place, DumpFault>
     requires { c.old.place + length c.old.bytes.now < 2 ^ 64 }
     ensures moves { Moves (ahead opened.now lists.old (Place.Request head.now link.now before.now more after) c.old.place c.old.bytes.now) (λ next. ahead opened.now lists.new next c.new.place c.new.bytes.now) result }
+    ensures later { IfOk result (λ next. Alike (ahead opened.now lists.old (Place.Request head.now link.now before.now more after)) c.old.place c.old.bytes.now (ahead opened.now lists.new next) c.new.place c.new.bytes.now) }
+    ensures left { IfOk result (λ next. c.new.bytes.now ≡ drop (c.new.place - c.old.place) c.old.bytes.now) }
+    ensures same { IfErr result (λ e. is_wanting e ≡ true → lists.new ≡ lists.old) }
     ensures passed { IfOk result (λ next. c.old.place < c.new.place) }
     ensures fits { c.new.place + length c.new.bytes.now ≡ c.old.place + length c.old.bytes.now }
 {
@@ -375,6 +399,9 @@ pub fn payload_step(
 ) -> Result<Place, DumpFault>
     requires { c.old.place + length c.old.bytes.now < 2 ^ 64 }
     ensures moves { Moves (ahead opened.now lists.old (Place.Payload head.now link.now before.now count after request missing) c.old.place c.old.bytes.now) (λ next. ahead opened.now lists.new next c.new.place c.new.bytes.now) result }
+    ensures later { IfOk result (λ next. Alike (ahead opened.now lists.old (Place.Payload head.now link.now before.now count after request missing)) c.old.place c.old.bytes.now (ahead opened.now lists.new next) c.new.place c.new.bytes.now) }
+    ensures left { IfOk result (λ next. c.new.bytes.now ≡ drop (c.new.place - c.old.place) c.old.bytes.now) }
+    ensures same { IfErr result (λ e. is_wanting e ≡ true → lists.new ≡ lists.old) }
     ensures light { IfOk result (λ next. weight next ≡ 0) }
     ensures passed { IfOk result (λ next. c.old.place ≤ c.new.place) }
     ensures fits { c.new.place + length c.new.bytes.now ≡ c.old.place + length c.old.bytes.now }
@@ -457,7 +484,9 @@ pub fn enter_receives(
     count: u16,
     after: u16,
 ) -> Result<Place, DumpFault>
-    ensures { Moves (more_receives opened.now lists.old.domains.items lists.old.regions.items (queues_of lists.old) lists.old.ends.items after head.now (linked_of link.now lists.old.kept.items) lists.old.untold.items count lists.old.unused.items c.now.place c.now.bytes.now) (λ next. ahead opened.now lists.new next c.now.place c.now.bytes.now) result }
+    ensures moves { Moves (more_receives opened.now lists.old.domains.items lists.old.regions.items (queues_of lists.old) lists.old.ends.items after head.now (linked_of link.now lists.old.kept.items) lists.old.untold.items count lists.old.unused.items c.now.place c.now.bytes.now) (λ next. ahead opened.now lists.new next c.now.place c.now.bytes.now) result }
+    ensures later { IfOk result (λ next. Alike (more_receives opened.now lists.old.domains.items lists.old.regions.items (queues_of lists.old) lists.old.ends.items after head.now (linked_of link.now lists.old.kept.items) lists.old.untold.items count lists.old.unused.items) c.now.place c.now.bytes.now (ahead opened.now lists.new next) c.now.place c.now.bytes.now) }
+    ensures never { IfErr result (λ e. is_wanting e ≡ false) }
 {
     if count > 0 {
         return Ok(Place::Receive(*head, *link, count - 1, after));
@@ -479,6 +508,9 @@ pub fn unused_step(
 ) -> Result<Place, DumpFault>
     requires { c.old.place + length c.old.bytes.now < 2 ^ 64 }
     ensures moves { Moves (ahead opened.now lists.old (Place.Unused head.now link.now after) c.old.place c.old.bytes.now) (λ next. ahead opened.now lists.new next c.new.place c.new.bytes.now) result }
+    ensures later { IfOk result (λ next. Alike (ahead opened.now lists.old (Place.Unused head.now link.now after)) c.old.place c.old.bytes.now (ahead opened.now lists.new next) c.new.place c.new.bytes.now) }
+    ensures left { IfOk result (λ next. c.new.bytes.now ≡ drop (c.new.place - c.old.place) c.old.bytes.now) }
+    ensures same { IfErr result (λ e. is_wanting e ≡ true → lists.new ≡ lists.old) }
     ensures passed { IfOk result (λ next. c.old.place < c.new.place) }
     ensures fits { c.new.place + length c.new.bytes.now ≡ c.old.place + length c.old.bytes.now }
 {
@@ -500,6 +532,9 @@ pub fn receive_step(
 ) -> Result<Place, DumpFault>
     requires { c.old.place + length c.old.bytes.now < 2 ^ 64 }
     ensures moves { Moves (ahead opened.now lists.old (Place.Receive head.now link.now more after) c.old.place c.old.bytes.now) (λ next. ahead opened.now lists.new next c.new.place c.new.bytes.now) result }
+    ensures later { IfOk result (λ next. Alike (ahead opened.now lists.old (Place.Receive head.now link.now more after)) c.old.place c.old.bytes.now (ahead opened.now lists.new next) c.new.place c.new.bytes.now) }
+    ensures left { IfOk result (λ next. c.new.bytes.now ≡ drop (c.new.place - c.old.place) c.old.bytes.now) }
+    ensures same { IfErr result (λ e. is_wanting e ≡ true → lists.new ≡ lists.old) }
     ensures passed { IfOk result (λ next. c.old.place < c.new.place) }
     ensures fits { c.new.place + length c.new.bytes.now ≡ c.old.place + length c.old.bytes.now }
 {

@@ -13,6 +13,9 @@ mod overfull;
 mod places;
 mod requests;
 mod steps;
+mod way;
 
+pub use cursor::Offence;
 pub use decode::decode_dump;
 pub use fault::DumpFault;
+pub use way::Way;

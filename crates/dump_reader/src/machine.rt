@@ -1,11 +1,11 @@
 //! Dumps, group by group.
 
-ghost use Rattle.std.specs.Prelude.{◌≡◌, ℕ, suc, ◌||◌, ◌+◌, ◌*◌, ◌-◌, ◌<◌, ◌≤◌, ◌^◌, ◌==◌, ◌++◌, ◌∷◌, length, [], map, Some, None, IfOk, IfErr, true, false};
+ghost use Rattle.std.specs.Prelude.{◌≡◌, ℕ, suc, ◌||◌, ◌+◌, ◌*◌, ◌-◌, ◌<◌, ◌≤◌, ◌^◌, ◌==◌, ◌++◌, ◌∷◌, length, [], map, drop, Some, None, IfOk, IfErr, true, false};
 ghost use Rattle.protocol.specs.Dumps.{Good, Bad, read_dump};
 ghost use Rattle.dump_reader.specs.Fields.{IsMagic, IsNoMagic};
 ghost use Rattle.dump_reader.specs.Groups.{came};
 ghost use Rattle.dump_reader.specs.Ahead.{ahead, opening_field, more_domains, image_of, queues_of, weight, IsOpen};
-ghost use Rattle.dump_reader.specs.Steps.{Moves, IsFault};
+ghost use Rattle.dump_reader.specs.Steps.{Alike, Moves, IsFault, is_wanting};
 
 use crate::cursor::{Cursor, Offence};
 use crate::fault::DumpFault;
@@ -70,6 +70,9 @@ pub fn step(
     requires open { IsOpen place.now }
     requires place { c.old.place + length c.old.bytes.now < 2 ^ 64 }
     ensures moves { Moves (ahead opened.now lists.old place.now c.old.place c.old.bytes.now) (λ next. ahead opened.now lists.new next c.new.place c.new.bytes.now) result }
+    ensures later { IfOk result (λ next. Alike (ahead opened.now lists.old place.now) c.old.place c.old.bytes.now (ahead opened.now lists.new next) c.new.place c.new.bytes.now) }
+    ensures left { IfOk result (λ next. c.new.bytes.now ≡ drop (c.new.place - c.old.place) c.old.bytes.now) }
+    ensures same { IfErr result (λ e. is_wanting e ≡ true → lists.new ≡ lists.old) }
     ensures less { IfOk result (λ next. 2 * length c.new.bytes.now + weight next < 2 * length c.old.bytes.now + weight place.now) }
     ensures fits { c.new.place + length c.new.bytes.now ≡ c.old.place + length c.old.bytes.now }
 {
@@ -110,24 +113,9 @@ pub fn step(
     }
 }
 
-fn is_done(place: &Place) -> bool
+pub fn is_done(place: &Place) -> bool
     ensures done { result ≡ true → place.now ≡ Place.Done }
     ensures open { result ≡ false → IsOpen place.now }
 {
     matches!(place, Place::Done)
-}
-
-/// Every list.
-pub fn read_lists(opened: &Opened, lists: &mut Lists, c: &mut Cursor<'_>) -> Result<(), DumpFault>
-    requires place { c.old.place + length c.old.bytes.now < 2 ^ 64 }
-    requires empty { lists.old.domains.items ≡ [] }
-    ensures ok { IfOk result (λ u. more_domains opened.now opened.now.count [] c.old.place c.old.bytes.now ≡ ahead opened.now lists.new Place.Done c.new.place c.new.bytes.now) }
-    ensures fits { c.new.place + length c.new.bytes.now ≡ c.old.place + length c.old.bytes.now }
-    ensures bad { IfErr result (IsFault (more_domains opened.now opened.now.count [] c.old.place c.old.bytes.now)) }
-{
-    let mut place = steps::enter_domains(opened, lists, opened.count);
-    while !is_done(&place) {
-        place = step(opened, lists, c, &place)?;
-    }
-    Ok(())
 }

@@ -1,10 +1,10 @@
 //! One group of fields before the queue pairs, and the place after it.
 
-ghost use Rattle.std.specs.Prelude.{◌≡◌, ℕ, suc, ◌+◌, ◌-◌, ◌<◌, ◌≤◌, ◌^◌, ◌==◌, ◌++◌, ◌∷◌, length, [], map, Some, None, IfOk};
+ghost use Rattle.std.specs.Prelude.{◌≡◌, ℕ, suc, ◌+◌, ◌-◌, ◌<◌, ◌≤◌, ◌^◌, ◌==◌, ◌++◌, ◌∷◌, length, [], map, drop, Some, None, IfOk, IfErr, true, false};
 ghost use Rattle.protocol.specs.Dumps.{then_read, items, entry_field, raw, region_field};
 ghost use Rattle.dump_reader.specs.Groups.{region_of_head, queue_of_head};
 ghost use Rattle.dump_reader.specs.Ahead.{ahead, more_domains, more_regions, more_queues, more_entries, more_ends, queues_of, weight};
-ghost use Rattle.dump_reader.specs.Steps.{Moves};
+ghost use Rattle.dump_reader.specs.Steps.{Alike, Moves, is_wanting};
 
 use crate::cursor::Cursor;
 use crate::fault::DumpFault;
@@ -37,6 +37,9 @@ pub fn domain_step(
 ) -> Result<Place, DumpFault>
     requires { c.old.place + length c.old.bytes.now < 2 ^ 64 }
     ensures moves { Moves (ahead opened.now lists.old (Place.Domain more) c.old.place c.old.bytes.now) (λ next. ahead opened.now lists.new next c.new.place c.new.bytes.now) result }
+    ensures later { IfOk result (λ next. Alike (ahead opened.now lists.old (Place.Domain more)) c.old.place c.old.bytes.now (ahead opened.now lists.new next) c.new.place c.new.bytes.now) }
+    ensures left { IfOk result (λ next. c.new.bytes.now ≡ drop (c.new.place - c.old.place) c.old.bytes.now) }
+    ensures same { IfErr result (λ e. is_wanting e ≡ true → lists.new ≡ lists.old) }
     ensures passed { IfOk result (λ next. c.old.place < c.new.place) }
     ensures fits { c.new.place + length c.new.bytes.now ≡ c.old.place + length c.old.bytes.now }
 {
@@ -66,6 +69,9 @@ pub fn region_count_step(
 ) -> Result<Place, DumpFault>
     requires { c.old.place + length c.old.bytes.now < 2 ^ 64 }
     ensures moves { Moves (ahead opened.now lists.old Place.RegionCount c.old.place c.old.bytes.now) (λ next. ahead opened.now lists.new next c.new.place c.new.bytes.now) result }
+    ensures later { IfOk result (λ next. Alike (ahead opened.now lists.old Place.RegionCount) c.old.place c.old.bytes.now (ahead opened.now lists.new next) c.new.place c.new.bytes.now) }
+    ensures left { IfOk result (λ next. c.new.bytes.now ≡ drop (c.new.place - c.old.place) c.old.bytes.now) }
+    ensures same { IfErr result (λ e. is_wanting e ≡ true → lists.new ≡ lists.old) }
     ensures passed { IfOk result (λ next. c.old.place < c.new.place) }
     ensures fits { c.new.place + length c.new.bytes.now ≡ c.old.place + length c.old.bytes.now }
 {
@@ -100,6 +106,9 @@ pub fn bytes_step(
 ) -> Result<Place, DumpFault>
     requires { c.old.place + length c.old.bytes.now < 2 ^ 64 }
     ensures moves { Moves (ahead opened.now lists.old (Place.Bytes head.now missing after) c.old.place c.old.bytes.now) (λ next. ahead opened.now lists.new next c.new.place c.new.bytes.now) result }
+    ensures later { IfOk result (λ next. Alike (ahead opened.now lists.old (Place.Bytes head.now missing after)) c.old.place c.old.bytes.now (ahead opened.now lists.new next) c.new.place c.new.bytes.now) }
+    ensures left { IfOk result (λ next. c.new.bytes.now ≡ drop (c.new.place - c.old.place) c.old.bytes.now) }
+    ensures same { IfErr result (λ e. is_wanting e ≡ true → lists.new ≡ lists.old) }
     ensures light { IfOk result (λ next. weight next ≡ 0) }
     ensures passed { IfOk result (λ next. c.old.place ≤ c.new.place) }
     ensures fits { c.new.place + length c.new.bytes.now ≡ c.old.place + length c.old.bytes.now }
@@ -121,6 +130,9 @@ pub fn region_step(
 ) -> Result<Place, DumpFault>
     requires { c.old.place + length c.old.bytes.now < 2 ^ 64 }
     ensures moves { Moves (ahead opened.now lists.old (Place.Region more) c.old.place c.old.bytes.now) (λ next. ahead opened.now lists.new next c.new.place c.new.bytes.now) result }
+    ensures later { IfOk result (λ next. Alike (ahead opened.now lists.old (Place.Region more)) c.old.place c.old.bytes.now (ahead opened.now lists.new next) c.new.place c.new.bytes.now) }
+    ensures left { IfOk result (λ next. c.new.bytes.now ≡ drop (c.new.place - c.old.place) c.old.bytes.now) }
+    ensures same { IfErr result (λ e. is_wanting e ≡ true → lists.new ≡ lists.old) }
     ensures passed { IfOk result (λ next. c.old.place < c.new.place) }
     ensures fits { c.new.place + length c.new.bytes.now ≡ c.old.place + length c.old.bytes.now }
 {
@@ -150,6 +162,9 @@ pub fn queue_count_step(
 ) -> Result<Place, DumpFault>
     requires { c.old.place + length c.old.bytes.now < 2 ^ 64 }
     ensures moves { Moves (ahead opened.now lists.old Place.QueueCount c.old.place c.old.bytes.now) (λ next. ahead opened.now lists.new next c.new.place c.new.bytes.now) result }
+    ensures later { IfOk result (λ next. Alike (ahead opened.now lists.old Place.QueueCount) c.old.place c.old.bytes.now (ahead opened.now lists.new next) c.new.place c.new.bytes.now) }
+    ensures left { IfOk result (λ next. c.new.bytes.now ≡ drop (c.new.place - c.old.place) c.old.bytes.now) }
+    ensures same { IfErr result (λ e. is_wanting e ≡ true → lists.new ≡ lists.old) }
     ensures passed { IfOk result (λ next. c.old.place < c.new.place) }
     ensures fits { c.new.place + length c.new.bytes.now ≡ c.old.place + length c.old.bytes.now }
 {
@@ -168,7 +183,9 @@ pub fn enter_entries(
     count: u32,
     after: u16,
 ) -> Result<Place, DumpFault>
-    ensures { Moves (more_entries opened.now lists.old.domains.items lists.old.regions.items (queues_of lists.old) after head.now count lists.old.entries.items c.now.place c.now.bytes.now) (λ next. ahead opened.now lists.new next c.now.place c.now.bytes.now) result }
+    ensures moves { Moves (more_entries opened.now lists.old.domains.items lists.old.regions.items (queues_of lists.old) after head.now count lists.old.entries.items c.now.place c.now.bytes.now) (λ next. ahead opened.now lists.new next c.now.place c.now.bytes.now) result }
+    ensures later { IfOk result (λ next. Alike (more_entries opened.now lists.old.domains.items lists.old.regions.items (queues_of lists.old) after head.now count lists.old.entries.items) c.now.place c.now.bytes.now (ahead opened.now lists.new next) c.now.place c.now.bytes.now) }
+    ensures never { IfErr result (λ e. is_wanting e ≡ false) }
 {
     if count > 0 {
         return Ok(Place::Entry(*head, count - 1, after));
@@ -194,6 +211,9 @@ pub fn queue_step(
 ) -> Result<Place, DumpFault>
     requires { c.old.place + length c.old.bytes.now < 2 ^ 64 }
     ensures moves { Moves (ahead opened.now lists.old (Place.Queue more) c.old.place c.old.bytes.now) (λ next. ahead opened.now lists.new next c.new.place c.new.bytes.now) result }
+    ensures later { IfOk result (λ next. Alike (ahead opened.now lists.old (Place.Queue more)) c.old.place c.old.bytes.now (ahead opened.now lists.new next) c.new.place c.new.bytes.now) }
+    ensures left { IfOk result (λ next. c.new.bytes.now ≡ drop (c.new.place - c.old.place) c.old.bytes.now) }
+    ensures same { IfErr result (λ e. is_wanting e ≡ true → lists.new ≡ lists.old) }
     ensures passed { IfOk result (λ next. c.old.place < c.new.place) }
     ensures fits { c.new.place + length c.new.bytes.now ≡ c.old.place + length c.old.bytes.now }
 {
@@ -214,6 +234,9 @@ pub fn entry_step(
 ) -> Result<Place, DumpFault>
     requires { c.old.place + length c.old.bytes.now < 2 ^ 64 }
     ensures moves { Moves (ahead opened.now lists.old (Place.Entry head.now more after) c.old.place c.old.bytes.now) (λ next. ahead opened.now lists.new next c.new.place c.new.bytes.now) result }
+    ensures later { IfOk result (λ next. Alike (ahead opened.now lists.old (Place.Entry head.now more after)) c.old.place c.old.bytes.now (ahead opened.now lists.new next) c.new.place c.new.bytes.now) }
+    ensures left { IfOk result (λ next. c.new.bytes.now ≡ drop (c.new.place - c.old.place) c.old.bytes.now) }
+    ensures same { IfErr result (λ e. is_wanting e ≡ true → lists.new ≡ lists.old) }
     ensures passed { IfOk result (λ next. c.old.place < c.new.place) }
     ensures fits { c.new.place + length c.new.bytes.now ≡ c.old.place + length c.old.bytes.now }
 {
