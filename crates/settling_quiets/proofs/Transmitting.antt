@@ -1,0 +1,118 @@
+-- One transmission of an end that runs.
+use Rattle.std.proofs.Common.{◌≡◌, ◌-◌, ◌⊎◌, List, [], true, false, Bool, refl, sym, ap, ◌∙◌, inl, inr}
+use Rattle.std.specs.Prelude.{Option, Some, None, not, ◌&&◌, ◌||◌, if◌then◌else◌}
+use Rattle.rdma_types.specs.declared.answers.Refusal.TheVariants as refusals
+use Rattle.rdma_types.specs.declared.names.Name.{Name}
+use Rattle.rdma_types.specs.declared.names.ObjName.{ObjName}
+use Rattle.rdma_types.specs.Causes.{first_cause}
+use Rattle.rdma_types.specs.Lists.{has_name, named}
+use Rattle.rdma_types.specs.Spans.{Piece, piece_at}
+use Rattle.protocol.specs.declared.events.Event.{Event}
+use Rattle.protocol.specs.declared.events.Event.TheVariants as events
+use Rattle.protocol.specs.declared.events.WorldEvent.TheVariants as world_events
+use Rattle.protocol.specs.State.{World, Device, Context, End, Link, no_end, context_at, end_at}
+use Rattle.protocol.specs.EndWords.{is_paused, is_resuming}
+use Rattle.protocol.specs.Refusals as refusing
+use Rattle.protocol.specs.Requester.{Transmission, SendsResume, Waits, IsIdle, WindowIsFull, ReadsAreFull, IsFenced, Sends, transmission, next_transmission}
+use Rattle.protocol.specs.DeviceStep as device
+use Rattle.protocol.specs.WorldStep as step
+use Rattle.protocol.specs.WorldStep.{world_step, is_live, home, ran, runs, context_of_event, context_causes}
+use Rattle.protocol.specs.Settle.{is_sent, transmit}
+use Rattle.ideal_model.specs.Machine.{Machine}
+use Rattle.simulation.proofs.Linked.{no_cause, no_causes}
+use Rattle.simulation.proofs.Tables.{named-absent}
+use Rattle.simulation.proofs.Worlds.{home_holds}
+use Rattle.simulation_sending.proofs.GoLive.{LiveEnd}
+
+has_by : (b : Bool) (n : Name) (es : List End) (l : Link) → has_name (λ y. y.name) n es ≡ b → (named (λ e. e.name) no_end n es).link ≡ Some l → b ≡ true
+has_by true n es l h linked' = refl
+has_by false n es l h linked' = absurd (cc (ap (λ e. e.link) (named-absent (λ e. e.name) no_end n es h), linked'))
+
+connected_none : (w : World) (m : Machine) (o : ObjName) (l : Link) → LiveEnd w m o l → first_cause (refusing.within (home w o.context) o.context (λ c. refusing.connected_causes c o.name)) ≡ None
+connected_none w m o l h =
+    let holds : has_name (λ x. x.name) o.context (home w o.context).contexts ≡ true = home_holds w o.context h.live in
+    no_cause refusals.NoSuch _ _ (ap (λ b. not b && not (refusing.has_husk (home w o.context) o.context)) holds)
+    (no_cause refusals.Stopped _ _ (ap not holds)
+    (no_cause refusals.NoSuch _ _ (ap not (has_by _ o.name (context_at (home w o.context) o.context).ends l refl h.linked))
+    (no_cause refusals.BadState _ _ (ap refusing.is_init h.linked) no_causes)))
+
+causes_live : (w : World) (c : Name) → is_live w c ≡ true → first_cause (context_causes w c []) ≡ None
+causes_live w c h = no_cause refusals.NoSuch _ _ (ap (λ b. not b && not (step.is_carried w c)) h) (no_cause refusals.Stopped _ _ (ap not h) no_causes)
+
+stepped_done : (w : World) (e : Event) → is_live w (context_of_event e) ≡ true → refusing.refusal_of (home w (context_of_event e)) e ≡ None → world_step w (world_events.At e) ≡ ran w (device.done_by (home w (context_of_event e)) e)
+unfolding world_step step.steps_at device.device_step
+stepped_done w e live none =
+    ap (λ r. step.by_refusal w r (runs w (home w (context_of_event e)) e)) (causes_live w (context_of_event e) live)
+    ∙ ap (λ r. ran w (device.by_refusal (home w (context_of_event e)) e r)) none
+
+module _ (w : World) (m : Machine) (o : ObjName) (l : Link) (h : LiveEnd w m o l) where
+  abbrev d : Device
+  d = home w o.context
+
+  abbrev c : Context
+  c = context_at d o.context
+
+  abbrev e : End
+  e = end_at c o.name
+
+  -- the row of the table that is stepped
+  pub transmit_is : world_step w (transmit o) ≡ ran w (device.sends_by d c e l (transmission l))
+  unfolding refusing.refusal_of device.transmits
+  transmit_is =
+      stepped_done w (events.Transmit o) h.live (connected_none w m o l h)
+      ∙ ap (λ z. ran w (device.at_link d z (λ k. device.sends_by d c e k (transmission k)))) h.linked
+
+  by_row : (t : Transmission) → is_sent (ran w (device.sends_by d c e l t)).answer ≡ true → (t ≡ SendsResume) ⊎ ((x : Piece) × (t ≡ Sends x))
+  unfolding ran step.numbered device.sends_piece
+  by_row SendsResume k = inl refl
+  by_row Waits k = absurd (cc)
+  by_row IsIdle k = absurd (cc)
+  by_row WindowIsFull k = absurd (cc)
+  by_row ReadsAreFull k = absurd (cc)
+  by_row IsFenced k = absurd (cc)
+  by_row (Sends x) k = inr (x, refl)
+
+  pub sent_row : is_sent (world_step w (transmit o)).answer ≡ true → (transmission l ≡ SendsResume) ⊎ ((x : Piece) × (transmission l ≡ Sends x))
+  sent_row k = by_row (transmission l) (ap (λ z. is_sent z.answer) (sym transmit_is) ∙ k)
+
+next_never : (l : Link) (o : Option Piece) → next_transmission l.terms l.sender o ≡ SendsResume → ⊥
+unfolding next_transmission
+next_never l None h = cc
+next_never l (Some z) h = by_tests _ _ h
+  where
+    by_tests : (a b : Bool) → (if a then ReadsAreFull else if b then IsFenced else Sends z) ≡ SendsResume → ⊥
+    by_tests true b h = cc
+    by_tests false true h = cc
+    by_tests false false h = cc
+
+-- only an end that resumes sends a RESUME
+pub resumes_needs : (l : Link) → transmission l ≡ SendsResume → is_resuming l.moving.phase ≡ true
+unfolding transmission
+resumes_needs l h = by_tests (not l.ended) (is_resuming l.moving.phase) _ _ _ refl h
+  where
+    by_tests : (e a b c d : Bool) → is_resuming l.moving.phase ≡ a → (if e && a then SendsResume else if b then Waits else if c then IsIdle else if d then WindowIsFull else next_transmission l.terms l.sender (piece_at l.sender.untold l.terms.mtu (l.sender.next - l.sender.first))) ≡ SendsResume → is_resuming l.moving.phase ≡ true
+    by_tests e true b c d t g = t
+    by_tests true false true c d t g = absurd (cc)
+    by_tests true false false true d t g = absurd (cc)
+    by_tests true false false false true t g = absurd (cc)
+    by_tests true false false false false t g = absurd (next_never l _ g)
+    by_tests false false true c d t g = absurd (cc)
+    by_tests false false false true d t g = absurd (cc)
+    by_tests false false false false true t g = absurd (cc)
+    by_tests false false false false false t g = absurd (next_never l _ g)
+
+-- an end that sends a piece is not held
+pub sends_open : (l : Link) (x : Piece) → transmission l ≡ Sends x → (is_paused l.moving.phase ≡ false) × (l.ended ≡ false) × (l.sender.rnr_wait ≡ false)
+unfolding transmission
+sends_open l x h = by_tests (not l.ended && is_resuming l.moving.phase) _ _ _ refl h
+  where
+    parts_false : (a b c : Bool) → (a || (b || c)) ≡ false → (a ≡ false) × (b ≡ false) × (c ≡ false)
+    parts_false false false false t = (refl, refl, refl)
+    parts_false true b c t = absurd (cc)
+    parts_false false true c t = absurd (cc)
+    parts_false false false true t = absurd (cc)
+
+    by_tests : (a b c d : Bool) → (is_paused l.moving.phase || (l.ended || l.sender.rnr_wait)) ≡ b → (if a then SendsResume else if b then Waits else if c then IsIdle else if d then WindowIsFull else next_transmission l.terms l.sender (piece_at l.sender.untold l.terms.mtu (l.sender.next - l.sender.first))) ≡ Sends x → (is_paused l.moving.phase ≡ false) × (l.ended ≡ false) × (l.sender.rnr_wait ≡ false)
+    by_tests true b c d t g = absurd (cc)
+    by_tests false true c d t g = absurd (cc)
+    by_tests false false c d t g = parts_false (is_paused l.moving.phase) l.ended l.sender.rnr_wait t
