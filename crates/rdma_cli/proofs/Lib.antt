@@ -1,11 +1,3 @@
-pub mod Splitting
-pub mod Lines
-pub mod Digits
-pub mod InRange
-pub mod Writing
-pub mod Sending
-pub mod Fronts
-pub mod Played
 pub mod Ending
-pub mod ScriptRanges
-pub mod Answered
+pub mod Lines
+pub mod Stops

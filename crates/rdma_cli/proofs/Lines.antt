@@ -1,69 +1,70 @@
--- The lines of a text, taken one at a time.
-use Rattle.std.proofs.Common.{◌≡◌, ℕ, ◌+◌, ◌-◌, ◌<◌, ◌≤◌, ◌==◌, Bool, true, false, List, [], ◌∷◌, length, take, drop, refl, sym, ap, ◌∙◌, arith, length-drop, drop-drop}
-use Rattle.std.proofs.lemmas.List.{take_all, drop_all}
-use Rattle.std.specs.List.{slice_split, position_or_len, before_first, after_first}
-use Rattle.std.proofs.lemmas.Bool.Decides.{nat_tests}
-use Rattle.std.proofs.lemmas.List.Splits.{slice_split_first, length-slice_split}
-use Rattle.rdma_cli.specs.Script.{is_newline, without_return, lines_in, lines_of}
+-- A line is written word by word.
+use Rattle.std.proofs.Common.{◌≡◌, ◌<◌, ◌≤◌, ◌+◌, ℕ, Bor, List, [], ◌∷◌, ◌++◌, length, drop, get_or, map, Option, ap, subst, sym, ◌∙◌, append_assoc, add-one, drop-cons}
+use Rattle.std.proofs.lemmas.List.{drop_all}
+use Rattle.mig_ports.specs.Streams.{Puts}
+use Rattle.mig_ports.proofs.Chains.{Puts-then}
+use Rattle.script_lang.specs.Printed.{ended}
+use Rattle.script_runner.specs.Playing.{PutsFront}
+use Rattle.script_runner.proofs.Fronts.{front_behind, front_longer}
 
-no_lines : lines_of [] ≡ []
-unfolding lines_of lines_in
-no_lines = refl
+-- a front of a text is written, and that is to come
+pub record IsWritten (held h : Option (List ℕ)) (whole rest : List ℕ) : Type 0 where
+  pub done : List ℕ
+  pub written : Puts held h done
+  pub splits : whole ≡ done ++ rest
 
--- no bytes, no lines
-pub no_lines_in : (bs : List ℕ) → length bs ≡ 0 → lines_of bs ≡ []
-no_lines_in [] h = no_lines
-no_lines_in (b ∷ bs) h = absurd (omega arith)
+-- the next piece is written
+more_written : (held h h' : Option (List ℕ)) (whole xs rest : List ℕ) → IsWritten held h whole (xs ++ rest) → Puts h h' xs → IsWritten held h' whole rest
+more_written held h h' whole xs rest w p = record {
+  done = w.done ++ xs;
+  written = Puts-then held h h' w.done xs w.written p;
+  splits = w.splits ∙ sym (append_assoc w.done xs rest);
+}
 
-cut : (piece : List ℕ) (pieces : List (List ℕ)) → 0 < length pieces → lines_in (piece ∷ pieces) ≡ without_return piece ∷ lines_in pieces
-unfolding lines_in
-cut piece [] h = absurd (omega arith)
-cut piece (next ∷ more) h = refl
+-- a front of it
+cut_off : (held h h' : Option (List ℕ)) (whole xs rest : List ℕ) → IsWritten held h whole (xs ++ rest) → PutsFront h h' xs → PutsFront held h' whole
+cut_off held h h' whole xs rest w p =
+    subst (PutsFront held h') (sym w.splits) (front_behind held h h' w.done (xs ++ rest) w.written (front_longer h h' xs rest p))
 
--- the first line ends at the first newline
-line_at_newline : (bs : List ℕ) → position_or_len is_newline bs < length bs → lines_of bs ≡ without_return (take (position_or_len is_newline bs) bs) ∷ lines_of (drop (position_or_len is_newline bs + 1) bs)
-unfolding lines_of
-line_at_newline bs h =
-    let rest : List ℕ = after_first is_newline bs in
-    let some : 0 < length (slice_split is_newline rest) = omega (arith, length-slice_split is_newline rest) in
-    ap lines_in (slice_split_first is_newline bs 0 h) ∙ cut (before_first is_newline bs) (slice_split is_newline rest) some
+-- a front of the last piece
+last_cut_off : (held h h' : Option (List ℕ)) (whole xs : List ℕ) → IsWritten held h whole xs → PutsFront h h' xs → PutsFront held h' whole
+last_cut_off held h h' whole xs w p = subst (PutsFront held h') (sym w.splits) (front_behind held h h' w.done xs w.written p)
 
-uncut_or : (b : ℕ) (bs : List ℕ) (at_end : Bool) → is_newline b ≡ at_end → (position_or_len is_newline bs ≡ length bs → slice_split is_newline bs ≡ bs ∷ []) → position_or_len is_newline (b ∷ bs) ≡ length (b ∷ bs) → slice_split is_newline (b ∷ bs) ≡ (b ∷ bs) ∷ []
-uncut_or b bs true k rest h = let q = rw k at h in absurd (omega (arith, q))
-uncut_or b bs false k rest h =
-    let q = rw k at h in
-    let r : position_or_len is_newline bs ≡ length bs = omega (arith, q) in
-    rw k (rw (rest r) refl)
+-- ---- the words of a line
 
-uncut : (bs : List ℕ) → position_or_len is_newline bs ≡ length bs → slice_split is_newline bs ≡ bs ∷ []
-uncut [] h = refl
-uncut (b ∷ bs) h = uncut_or b bs (is_newline b) refl (uncut bs) h
+-- the bytes of words
+abbrev pub texts : List (Bor (List ℕ)) → List (List ℕ)
+texts ws = map (λ w. w.now) ws
 
-last_kept : (bs : List ℕ) → 0 < length bs → lines_in (bs ∷ []) ≡ bs ∷ lines_of []
-unfolding lines_in lines_of
-last_kept bs h =
-    let e : (length bs == 0) ≡ false = grind (arith, nat_tests) in
-    rw e refl
+-- a space, the next word and what follows it
+ended_at : (ws : List (Bor (List ℕ))) (i : ℕ) (d : Bor (List ℕ)) → i < length ws → ended (texts (drop i ws)) ≡ (32 ∷ []) ++ ((get_or ws i d).now ++ ended (texts (drop (i + 1) ws)))
+ended_at ws i d l = rw add-one (ap (λ (k : List (Bor (List ℕ))). ended (texts k)) (drop-cons ws i d l))
 
-whole_line : (bs : List ℕ) → 0 < length bs → position_or_len is_newline bs ≡ length bs → lines_of bs ≡ bs ∷ lines_of []
-unfolding lines_of
-whole_line bs l h = ap lines_in (uncut bs h) ∙ last_kept bs l
+-- nothing but the newline
+end_left : (ws : List (Bor (List ℕ))) (i : ℕ) → length ws ≤ i → ended (texts (drop i ws)) ≡ 10 ∷ []
+end_left ws i l = ap (λ (k : List (Bor (List ℕ))). ended (texts k)) (drop_all i ws l)
 
--- the first line ends before n bytes, where the newline stands
-pub line_before : (bs : List ℕ) (n : ℕ) → n ≡ position_or_len (λ b. b == 10) bs → 0 < length (drop n bs) → lines_of bs ≡ without_return (take n bs) ∷ lines_of (drop 1 (drop n bs))
-line_before bs n e h =
-    let len : length (drop n bs) ≡ length bs - n = length-drop n bs in
-    let at : n ≡ position_or_len is_newline bs = e in
-    let below : position_or_len is_newline bs < length bs = omega (arith, len, at) in
-    line_at_newline bs below ∙ rw (← at) (rw drop-drop refl)
+module _ (held h h1 : Option (List ℕ)) (whole : List ℕ) (ws : List (Bor (List ℕ))) (i : ℕ) (w : IsWritten held h whole (ended (texts (drop i ws)))) where
+  -- the newline is cut off
+  pub end_cut_off : length ws ≤ i → PutsFront h h1 (10 ∷ []) → PutsFront held h1 whole
+  end_cut_off l p = last_cut_off held h h1 whole (10 ∷ []) (subst (IsWritten held h whole) (end_left ws i l) w) p
 
--- the last line may lack its newline
-pub last_line : (bs : List ℕ) (n : ℕ) → n ≡ position_or_len (λ b. b == 10) bs → n ≤ length bs → 0 < length bs → length (drop n bs) ≡ 0 → lines_of bs ≡ take n bs ∷ lines_of (drop n bs)
-last_line bs n e w l h =
-    let len : length (drop n bs) ≡ length bs - n = length-drop n bs in
-    let at : n ≡ position_or_len is_newline bs = e in
-    let all : n ≡ length bs = omega (arith, len) in
-    let to_end : position_or_len is_newline bs ≡ length bs = sym at ∙ all in
-    let front : take n bs ≡ bs = take_all n bs (omega arith) in
-    let none : drop n bs ≡ [] = drop_all n bs (omega arith) in
-    whole_line bs l to_end ∙ rw (front, none) refl
+  module _ (d : Bor (List ℕ)) (l : i < length ws) where
+    next : IsWritten held h whole ((32 ∷ []) ++ ((get_or ws i d).now ++ ended (texts (drop (i + 1) ws))))
+    next = subst (IsWritten held h whole) (ended_at ws i d l) w
+
+    -- the space is cut off
+    pub space_cut_off : PutsFront h h1 (32 ∷ []) → PutsFront held h1 whole
+    space_cut_off p = cut_off held h h1 whole (32 ∷ []) ((get_or ws i d).now ++ ended (texts (drop (i + 1) ws))) next p
+
+    module _ (h2 : Option (List ℕ)) (p : Puts h h1 (32 ∷ [])) where
+      spaced : IsWritten held h1 whole ((get_or ws i d).now ++ ended (texts (drop (i + 1) ws)))
+      spaced = more_written held h h1 whole (32 ∷ []) ((get_or ws i d).now ++ ended (texts (drop (i + 1) ws))) next p
+
+      -- the word is cut off
+      pub word_cut_off : PutsFront h1 h2 (get_or ws i d).now → PutsFront held h2 whole
+      word_cut_off q = cut_off held h1 h2 whole (get_or ws i d).now (ended (texts (drop (i + 1) ws))) spaced q
+
+      -- it is written
+      pub word_written : Puts h1 h2 (get_or ws i d).now → IsWritten held h2 whole (ended (texts (drop (i + 1) ws)))
+      word_written q = more_written held h1 h2 whole (get_or ws i d).now (ended (texts (drop (i + 1) ws))) spaced q

@@ -1,5 +1,2 @@
-pub mod Script
-pub mod Printed
-pub mod Headline
-pub mod Playing
 pub mod Stopping
+pub mod Writing

@@ -1,37 +1,51 @@
 //! Jichurpa: a software RDMA device whose reliable connections are moved live to another device.
 #![tactic(auto)]
 
-mod adapters;
-mod play;
-mod printing;
-mod reading;
+mod commands;
+mod folder_depot;
 mod serial;
-#[cfg(test)]
-mod tests;
-mod texts;
-mod words;
-mod world;
+mod stop;
+mod streams;
+mod text_sink;
+mod writing;
 
-use adapters::{StdSink, StdSource};
-use mig_ports::write_all_of;
+use folder_depot::FolderDepot;
+use mig_ports::{Failed, write_all_of};
 use serial::run_serial;
+use std::io::{BufReader, BufWriter};
 use std::process::ExitCode;
 use std::{env, io};
+use streams::{StdSink, StdSource};
 
 const HELP: &str = "\
 jichurpa COMMAND
 
-  play       reads a script from standard input and writes the answers to its lines
-  --help     writes this text
-  --version  writes the version
+  play                                    answers the lines of a script from standard input
+  bulk SEED CONNECTIONS MESSAGES MOVES    plays a generated script, and sums it up in one line
+  show-dump NAME                          tells what the dump in the file depot/NAME holds
+  --help, -h                              writes this text
+  --version                               writes the version
+
+A bulk run has a seed below 2^64, 1 to 8 connections, 1 to 2000 messages and at most 16 moves.
+
+The status is 0 where all is done, 2 for other words, 3 for a bad line or dump, 4, 5 and 7 where
+the input, the output and the depot fail, 8 for want of memory, 9 for an input of more than
+1048576 bytes, and 12 for a name of which the depot holds no dump.
 ";
 
 const VERSION: &str = "jichurpa 0.1.0\n";
 
-/// The words of the command, without the program's name.
-fn command(rt: &HostRuntime) -> io::Result<Vec<String>> {
-    let words = env::args(rt)?.skip(1).collect(rt.alloc())?;
-    Ok(words)
+/// The words of the command, without the program's name. Words that are no text are of no command.
+///
+/// # Errors
+///
+/// Want of memory.
+fn words_of(rt: &HostRuntime) -> io::Result<Vec<String>> {
+    match env::args(rt) {
+        Ok(words) => Ok(words.skip(1).collect(rt.alloc())?),
+        Err(error) if error.kind() == io::ErrorKind::OutOfMemory => Err(error),
+        Err(_) => Ok(Vec::new(rt.alloc())),
+    }
 }
 
 /// What a single word asks to be told of the program.
@@ -46,21 +60,33 @@ fn about(words: &[String]) -> Option<&'static str> {
     }
 }
 
-fn main(rt: HostRuntime) -> ExitCode {
-    let mut output = StdSink::new(io::writer(&rt));
-    let words = match command(&rt) {
-        Ok(words) => words,
-        Err(error) if error.kind() == io::ErrorKind::OutOfMemory => return ExitCode::from(8),
-        // A word that is no text is of no command.
-        Err(_) => Vec::new(rt.alloc()),
-    };
+/// Does what the words ask for, and gives the status.
+fn run(rt: &HostRuntime) -> io::Result<u8> {
+    let words = words_of(rt)?;
+    let mut input = StdSource::new(BufReader::new(rt.alloc(), rt.reader())?);
+    let mut output = StdSink::new(BufWriter::new(rt.alloc(), io::writer(rt))?);
     let status = match about(&words) {
         Some(text) if write_all_of(&mut output, text.as_bytes()).is_ok() => 0,
         Some(_) => 5,
         None => {
-            let mut input = StdSource::new(rt.reader());
-            run_serial(rt.alloc(), &words, &mut input, &mut output)
+            let mut depot = FolderDepot::new(rt);
+            run_serial(rt.alloc(), &words, &mut input, &mut output, &mut depot)
         }
     };
-    ExitCode::from(status)
+    match output.flush() {
+        Ok(()) => Ok(status),
+        Err(Failed) => Ok(5),
+    }
+}
+
+fn main(rt: HostRuntime) -> ExitCode {
+    match run(&rt) {
+        Ok(status) => ExitCode::from(status),
+        Err(_) => {
+            // Only memory was wanting; the last line is written where that can be done.
+            let mut output = StdSink::new(io::writer(&rt));
+            let _ = write_all_of(&mut output, b"out of memory\n");
+            ExitCode::from(8)
+        }
+    }
 }

@@ -1,15 +1,82 @@
-use Rattle.std.proofs.Common.{ap, ◌∙◌, inl}
-use Rattle.rdma_cli.specs.Headline.{is_play}
-use Rattle.rdma_cli.specs.Stopping.{last_line}
-use Rattle.rdma_cli.proofs.Fronts.{whole_front}
-use Rattle.rdma_cli.proofs.Ending.{long_only, stopped_cut_off}
+use Rattle.std.proofs.Common.{sym, ap, subst, ◌∙◌, inl, inr, refl, Err}
+use Rattle.mig_ports.proofs.Chains.{Rose-after, Rose-before}
+use Rattle.dump_writer.specs.Text.{text_of}
+use Rattle.script_rules.specs.Headline.{IsStatus}
+use Rattle.rdma_cli.specs.Stopping.{run_of}
+use Rattle.rdma_cli.specs.declared.stop.Stop.TheVariants as stop
+use Rattle.rdma_cli.proofs.Ending.{at_2, at_3, at_4, at_5, at_7, at_8, at_9, at_12, has_status, keeps_unused, later, same_status, stop_4, stop_5, stop_7, stopped, stopped_cut_off, words_stop}
 use Rattle.rdma_cli.proofs.serial.run_serial.Goals as goal
 
-pub returns-in-Ok-write_last_line-clause-cut_off : goal.returns-in-Ok-write_last_line-clause-cut_off
-returns-in-Ok-write_last_line-clause-cut_off g c e = stopped_cut_off (record { plays = is_play c.args.words.now; left = g.S.Source.left c.args.input.now; left_after = g.S.Source.left c.perform.new.input; held = g.K.Sink.held c.args.output.now; held_after = g.K.Sink.held c.perform.new.output; source = g.S.Source.faults c.args.input.now; source_after = g.S.Source.faults c.perform.new.input; sink = g.K.Sink.faults c.args.output.now; sink_after = g.K.Sink.faults c.perform.new.output }) (g.K.Sink.held c.write_last_line.new.output) c.in-Err.stop c.in-Err.ensures.stops (whole_front (g.K.Sink.held c.perform.new.output) (g.K.Sink.held c.write_last_line.new.output) (last_line c.in-Err.stop) c.in-Ok-write_last_line.ensures.whole)
+pub returns-in-Ok-write_last_line-clause-status : goal.returns-in-Ok-write_last_line-clause-status
+returns-in-Ok-write_last_line-clause-status g c =
+    subst IsStatus (sym c.status.ensures) (has_status c.in-Err.stop)
+
+pub returns-in-Ok-write_last_line-clause-unused : goal.returns-in-Ok-write_last_line-clause-unused
+returns-in-Ok-write_last_line-clause-unused g c =
+    keeps_unused (run_of c.args.words.now (g.S.Source.left c.args.input.now) (g.S.Source.left c.perform.new.input) (g.K.Sink.held c.args.output.now) (g.K.Sink.held c.perform.new.output) (g.D.Depot.held c.args.depot.now) (g.D.Depot.held c.perform.new.depot)) (g.K.Sink.held c.write_last_line.new.output) c.in-Err.ensures.unused
+
+pub returns-in-Ok-write_last_line-clause-usage : goal.returns-in-Ok-write_last_line-clause-usage
+returns-in-Ok-write_last_line-clause-usage g c e =
+    at_2 text_of (later (run_of c.args.words.now (g.S.Source.left c.args.input.now) (g.S.Source.left c.perform.new.input) (g.K.Sink.held c.args.output.now) (g.K.Sink.held c.perform.new.output) (g.D.Depot.held c.args.depot.now) (g.D.Depot.held c.perform.new.depot)) (g.K.Sink.held c.write_last_line.new.output)) c.in-Err.stop (sym c.status.ensures ∙ e) (stopped text_of (run_of c.args.words.now (g.S.Source.left c.args.input.now) (g.S.Source.left c.perform.new.input) (g.K.Sink.held c.args.output.now) (g.K.Sink.held c.perform.new.output) (g.D.Depot.held c.args.depot.now) (g.D.Depot.held c.perform.new.depot)) (g.K.Sink.held c.write_last_line.new.output) c.in-Err.stop c.in-Err.ensures.stops c.in-Ok-write_last_line.ensures.whole)
+
+pub returns-in-Ok-write_last_line-clause-usage_only : goal.returns-in-Ok-write_last_line-clause-usage_only
+returns-in-Ok-write_last_line-clause-usage_only g c e =
+    inl (c.status.ensures ∙ words_stop text_of (run_of c.args.words.now (g.S.Source.left c.args.input.now) (g.S.Source.left c.perform.new.input) (g.K.Sink.held c.args.output.now) (g.K.Sink.held c.perform.new.output) (g.D.Depot.held c.args.depot.now) (g.D.Depot.held c.perform.new.depot)) c.in-Err.stop e c.in-Err.ensures.stops)
+
+pub returns-in-Ok-write_last_line-clause-bad : goal.returns-in-Ok-write_last_line-clause-bad
+returns-in-Ok-write_last_line-clause-bad g c e =
+    at_3 text_of (later (run_of c.args.words.now (g.S.Source.left c.args.input.now) (g.S.Source.left c.perform.new.input) (g.K.Sink.held c.args.output.now) (g.K.Sink.held c.perform.new.output) (g.D.Depot.held c.args.depot.now) (g.D.Depot.held c.perform.new.depot)) (g.K.Sink.held c.write_last_line.new.output)) c.in-Err.stop (sym c.status.ensures ∙ e) (stopped text_of (run_of c.args.words.now (g.S.Source.left c.args.input.now) (g.S.Source.left c.perform.new.input) (g.K.Sink.held c.args.output.now) (g.K.Sink.held c.perform.new.output) (g.D.Depot.held c.args.depot.now) (g.D.Depot.held c.perform.new.depot)) (g.K.Sink.held c.write_last_line.new.output) c.in-Err.stop c.in-Err.ensures.stops c.in-Ok-write_last_line.ensures.whole)
+
+pub returns-in-Ok-write_last_line-clause-unread : goal.returns-in-Ok-write_last_line-clause-unread
+returns-in-Ok-write_last_line-clause-unread g c e =
+    (c.in-Err.ensures.unread (ap Err (stop_4 c.in-Err.stop (sym c.status.ensures ∙ e))), at_4 text_of (later (run_of c.args.words.now (g.S.Source.left c.args.input.now) (g.S.Source.left c.perform.new.input) (g.K.Sink.held c.args.output.now) (g.K.Sink.held c.perform.new.output) (g.D.Depot.held c.args.depot.now) (g.D.Depot.held c.perform.new.depot)) (g.K.Sink.held c.write_last_line.new.output)) c.in-Err.stop (sym c.status.ensures ∙ e) (stopped text_of (run_of c.args.words.now (g.S.Source.left c.args.input.now) (g.S.Source.left c.perform.new.input) (g.K.Sink.held c.args.output.now) (g.K.Sink.held c.perform.new.output) (g.D.Depot.held c.args.depot.now) (g.D.Depot.held c.perform.new.depot)) (g.K.Sink.held c.write_last_line.new.output) c.in-Err.stop c.in-Err.ensures.stops c.in-Ok-write_last_line.ensures.whole))
+
+pub returns-in-Ok-write_last_line-clause-sure : goal.returns-in-Ok-write_last_line-clause-sure
+returns-in-Ok-write_last_line-clause-sure g c s e =
+    c.in-Err.ensures.sure s (ap Err (stop_4 c.in-Err.stop (sym c.status.ensures ∙ e)))
+
+pub returns-in-Ok-write_last_line-clause-unwritten : goal.returns-in-Ok-write_last_line-clause-unwritten
+returns-in-Ok-write_last_line-clause-unwritten g c e =
+    (Rose-after _ _ _ (c.in-Err.ensures.unwritten (ap Err (stop_5 c.in-Err.stop (sym c.status.ensures ∙ e)))) c.write_last_line.ensures.later, at_5 text_of (later (run_of c.args.words.now (g.S.Source.left c.args.input.now) (g.S.Source.left c.perform.new.input) (g.K.Sink.held c.args.output.now) (g.K.Sink.held c.perform.new.output) (g.D.Depot.held c.args.depot.now) (g.D.Depot.held c.perform.new.depot)) (g.K.Sink.held c.write_last_line.new.output)) c.in-Err.stop (sym c.status.ensures ∙ e) (stopped text_of (run_of c.args.words.now (g.S.Source.left c.args.input.now) (g.S.Source.left c.perform.new.input) (g.K.Sink.held c.args.output.now) (g.K.Sink.held c.perform.new.output) (g.D.Depot.held c.args.depot.now) (g.D.Depot.held c.perform.new.depot)) (g.K.Sink.held c.write_last_line.new.output) c.in-Err.stop c.in-Err.ensures.stops c.in-Ok-write_last_line.ensures.whole))
+
+pub returns-in-Ok-write_last_line-clause-no_depot : goal.returns-in-Ok-write_last_line-clause-no_depot
+returns-in-Ok-write_last_line-clause-no_depot g c e =
+    (c.in-Err.ensures.failed (ap Err (stop_7 c.in-Err.stop (sym c.status.ensures ∙ e))), at_7 text_of (later (run_of c.args.words.now (g.S.Source.left c.args.input.now) (g.S.Source.left c.perform.new.input) (g.K.Sink.held c.args.output.now) (g.K.Sink.held c.perform.new.output) (g.D.Depot.held c.args.depot.now) (g.D.Depot.held c.perform.new.depot)) (g.K.Sink.held c.write_last_line.new.output)) c.in-Err.stop (sym c.status.ensures ∙ e) (stopped text_of (run_of c.args.words.now (g.S.Source.left c.args.input.now) (g.S.Source.left c.perform.new.input) (g.K.Sink.held c.args.output.now) (g.K.Sink.held c.perform.new.output) (g.D.Depot.held c.args.depot.now) (g.D.Depot.held c.perform.new.depot)) (g.K.Sink.held c.write_last_line.new.output) c.in-Err.stop c.in-Err.ensures.stops c.in-Ok-write_last_line.ensures.whole))
+
+pub returns-in-Ok-write_last_line-clause-sure_depot : goal.returns-in-Ok-write_last_line-clause-sure_depot
+returns-in-Ok-write_last_line-clause-sure_depot g c s e =
+    c.in-Err.ensures.sure_depot s (ap Err (stop_7 c.in-Err.stop (sym c.status.ensures ∙ e)))
+
+pub returns-in-Ok-write_last_line-clause-memory : goal.returns-in-Ok-write_last_line-clause-memory
+returns-in-Ok-write_last_line-clause-memory g c e =
+    at_8 text_of (later (run_of c.args.words.now (g.S.Source.left c.args.input.now) (g.S.Source.left c.perform.new.input) (g.K.Sink.held c.args.output.now) (g.K.Sink.held c.perform.new.output) (g.D.Depot.held c.args.depot.now) (g.D.Depot.held c.perform.new.depot)) (g.K.Sink.held c.write_last_line.new.output)) c.in-Err.stop (sym c.status.ensures ∙ e) (stopped text_of (run_of c.args.words.now (g.S.Source.left c.args.input.now) (g.S.Source.left c.perform.new.input) (g.K.Sink.held c.args.output.now) (g.K.Sink.held c.perform.new.output) (g.D.Depot.held c.args.depot.now) (g.D.Depot.held c.perform.new.depot)) (g.K.Sink.held c.write_last_line.new.output) c.in-Err.stop c.in-Err.ensures.stops c.in-Ok-write_last_line.ensures.whole)
+
+pub returns-in-Ok-write_last_line-clause-long : goal.returns-in-Ok-write_last_line-clause-long
+returns-in-Ok-write_last_line-clause-long g c e =
+    at_9 text_of (later (run_of c.args.words.now (g.S.Source.left c.args.input.now) (g.S.Source.left c.perform.new.input) (g.K.Sink.held c.args.output.now) (g.K.Sink.held c.perform.new.output) (g.D.Depot.held c.args.depot.now) (g.D.Depot.held c.perform.new.depot)) (g.K.Sink.held c.write_last_line.new.output)) c.in-Err.stop (sym c.status.ensures ∙ e) (stopped text_of (run_of c.args.words.now (g.S.Source.left c.args.input.now) (g.S.Source.left c.perform.new.input) (g.K.Sink.held c.args.output.now) (g.K.Sink.held c.perform.new.output) (g.D.Depot.held c.args.depot.now) (g.D.Depot.held c.perform.new.depot)) (g.K.Sink.held c.write_last_line.new.output) c.in-Err.stop c.in-Err.ensures.stops c.in-Ok-write_last_line.ensures.whole)
 
 pub returns-in-Ok-write_last_line-clause-long_only : goal.returns-in-Ok-write_last_line-clause-long_only
-returns-in-Ok-write_last_line-clause-long_only g c some takes = inl (c.status.ensures ∙ long_only (is_play c.args.words.now) (g.S.Source.left c.args.input.now) (g.S.Source.left c.perform.new.input) c.in-Err.stop (λ p. cc (c.in-Err.ensures.long p some takes)) (λ p. ap (λ i. g.S.Source.left i) (c.in-Err.ensures.untouched p).1) takes some)
+returns-in-Ok-write_last_line-clause-long_only g c e some takes =
+    inl (c.status.ensures ∙ same_status c.in-Err.stop stop.TooLong (Err c.in-Err.stop) refl (c.in-Err.ensures.long e some takes))
 
-pub returns-in-Err-write_last_line-clause-cut_off : goal.returns-in-Err-write_last_line-clause-cut_off
-returns-in-Err-write_last_line-clause-cut_off g c e = stopped_cut_off (record { plays = is_play c.args.words.now; left = g.S.Source.left c.args.input.now; left_after = g.S.Source.left c.perform.new.input; held = g.K.Sink.held c.args.output.now; held_after = g.K.Sink.held c.perform.new.output; source = g.S.Source.faults c.args.input.now; source_after = g.S.Source.faults c.perform.new.input; sink = g.K.Sink.faults c.args.output.now; sink_after = g.K.Sink.faults c.perform.new.output }) (g.K.Sink.held c.write_last_line.new.output) c.in-Err.stop c.in-Err.ensures.stops c.in-Err-write_last_line.ensures.part
+pub returns-in-Ok-write_last_line-clause-missing : goal.returns-in-Ok-write_last_line-clause-missing
+returns-in-Ok-write_last_line-clause-missing g c e =
+    at_12 text_of (later (run_of c.args.words.now (g.S.Source.left c.args.input.now) (g.S.Source.left c.perform.new.input) (g.K.Sink.held c.args.output.now) (g.K.Sink.held c.perform.new.output) (g.D.Depot.held c.args.depot.now) (g.D.Depot.held c.perform.new.depot)) (g.K.Sink.held c.write_last_line.new.output)) c.in-Err.stop (sym c.status.ensures ∙ e) (stopped text_of (run_of c.args.words.now (g.S.Source.left c.args.input.now) (g.S.Source.left c.perform.new.input) (g.K.Sink.held c.args.output.now) (g.K.Sink.held c.perform.new.output) (g.D.Depot.held c.args.depot.now) (g.D.Depot.held c.perform.new.depot)) (g.K.Sink.held c.write_last_line.new.output) c.in-Err.stop c.in-Err.ensures.stops c.in-Ok-write_last_line.ensures.whole)
+
+pub returns-in-Ok-write_last_line-clause-missing_only : goal.returns-in-Ok-write_last_line-clause-missing_only
+returns-in-Ok-write_last_line-clause-missing_only g c name e some none =
+    elim (c.in-Err.ensures.missing name e some none) [
+      | inl m ↦ inl (c.status.ensures ∙ same_status c.in-Err.stop (stop.Missing name) (Err c.in-Err.stop) refl m)
+      | inr d ↦ elim d [
+        | inl f ↦ inr (inl (c.status.ensures ∙ same_status c.in-Err.stop stop.DepotFault (Err c.in-Err.stop) refl f))
+        | inr m ↦ inr (inr (inl (c.status.ensures ∙ same_status c.in-Err.stop stop.OutOfMemory (Err c.in-Err.stop) refl m)))
+      ]
+    ]
+
+pub returns-in-Err-write_last_line-clause-unused : goal.returns-in-Err-write_last_line-clause-unused
+returns-in-Err-write_last_line-clause-unused g c =
+    keeps_unused (run_of c.args.words.now (g.S.Source.left c.args.input.now) (g.S.Source.left c.perform.new.input) (g.K.Sink.held c.args.output.now) (g.K.Sink.held c.perform.new.output) (g.D.Depot.held c.args.depot.now) (g.D.Depot.held c.perform.new.depot)) (g.K.Sink.held c.write_last_line.new.output) c.in-Err.ensures.unused
+
+pub returns-in-Err-write_last_line-clause-unwritten : goal.returns-in-Err-write_last_line-clause-unwritten
+returns-in-Err-write_last_line-clause-unwritten g c e =
+    (Rose-before _ _ _ c.in-Err.ensures.later c.in-Err-write_last_line.ensures.rose, stopped_cut_off text_of (run_of c.args.words.now (g.S.Source.left c.args.input.now) (g.S.Source.left c.perform.new.input) (g.K.Sink.held c.args.output.now) (g.K.Sink.held c.perform.new.output) (g.D.Depot.held c.args.depot.now) (g.D.Depot.held c.perform.new.depot)) (g.K.Sink.held c.write_last_line.new.output) c.in-Err.stop c.in-Err.ensures.stops c.in-Err-write_last_line.ensures.part)

@@ -1,6 +1,0 @@
-pub mod State
-pub mod Rules
-pub mod Setups
-pub mod Ends
-pub mod Posting
-pub mod Outcomes

@@ -1,6 +1,0 @@
-use Rattle.std.proofs.Common.{◌≡◌, ◌++◌, take}
-use Rattle.rdma_cli.specs.Printed.{left_lines}
-use Rattle.rdma_cli.proofs.printing.put_left_lines.Given as goal
-
-abbrev pub invariant-loop-end : goal.invariant-loop-end
-invariant-loop-end l = l.out.items ≡ l.initial.out.items ++ left_lines (take l.end-index l.ends)
