@@ -1,6 +1,6 @@
 //! The commands that wait for nobody.
 
-ghost use Rattle.std.specs.Prelude.{◌≡◌, ◌≤◌, ◌+◌, ◌⊎◌, List, None, Some, Err, String, IsSome, OnOk, OnErr, IfErr, IfOk, map};
+ghost use Rattle.std.specs.Prelude.{◌≡◌, ◌≤◌, ◌+◌, ◌⊎◌, ℕ, List, length, None, Some, Err, String, IsSome, OnOk, OnErr, IfErr, IfOk, map};
 ghost use Rattle.std.specs.String.{string_bytes};
 ghost use Rattle.rdma_types.specs.declared.names.Name.{Name};
 ghost use Rattle.mig_ports.specs.Depots.{Has};
@@ -8,6 +8,8 @@ ghost use Rattle.mig_ports.specs.Streams.{Rose, TakesCount};
 ghost use Rattle.dump_writer.specs.Text.{text_of};
 ghost use Rattle.script_rules.specs.Commands as rules;
 ghost use Rattle.script_rules.specs.Commands.{command_of};
+ghost use Rattle.workload_gen.specs.declared.plan.Mix.{Mix};
+ghost use Rattle.script_rules.specs.Script.{bad_line};
 ghost use Rattle.script_rules.specs.Headline.{IsCutOff, IsDone, IsMissing, IsOfNoCommand, IsShortOfMemory, IsStatus, IsStopped, IsTooLong, IsUnread, IsWithoutDepot, KeepsUnused, input_limit};
 ghost use Rattle.std.specs.declared.alloc.Global.{Global};
 ghost use Rattle.command_line.specs.Commands.{IsInRange, known};
@@ -19,6 +21,7 @@ mod tests;
 use crate::commands::{play_input, show_dump, sum_up};
 use crate::stop::Stop;
 use command_line::Command;
+use generated_scripts::no_generated_line_is_bad;
 use mig_ports::{Depot, Sink, Source, WriteFault};
 use std::alloc::{AllocError, Global};
 
@@ -141,7 +144,12 @@ pub(crate) fn run_serial<S: Source, K: Sink, D: Depot>(
     // Status 12 comes exactly where the depot holds nothing under the name, unless it fails or memory is wanting.
     ensures missing { result ≡ 12 → IsMissing (run_of words.now (S.left input.old) (S.left input.new) (K.held output.old) (K.held output.new) (D.held depot.old) (D.held depot.new)) }
     ensures missing_only { (name : Name) → command_of (map string_bytes words.now) ≡ Some (rules.ShowDump name) → IsSome (D.held depot.old) → Has (D.held depot.old) name None → (result ≡ 12) ⊎ (result ≡ 7) ⊎ (result ≡ 8) ⊎ (result ≡ 5) }
+
+    // Where nothing fails, a script of good lines is answered whole, and a generated one is summed up, unless memory is wanting.
+    ensures play_is_done { (text : List ℕ) → command_of (map string_bytes words.now) ≡ Some rules.Play → S.left input.old ≡ Some text → length text ≤ input_limit → bad_line text ≡ None → (Rose (S.faults input.old) (S.faults input.new) → ⊥) → (Rose (K.faults output.old) (K.faults output.new) → ⊥) → (result ≡ 0) ⊎ (result ≡ 8) }
+    ensures bulk_is_done { (seed : ℕ) (mix : Mix) → command_of (map string_bytes words.now) ≡ Some (rules.Bulk seed mix) → (Rose (K.faults output.old) (K.faults output.new) → ⊥) → (result ≡ 0) ⊎ (result ≡ 8) }
 {
+    no_generated_line_is_bad();
     match perform(alloc, words, input, output, depot) {
         Ok(()) => 0,
         Err(stop) => match stop.write_last_line(output) {
