@@ -1,7 +1,10 @@
 pub mod Counts
 pub mod Places
+pub mod Padded
 pub mod Pages
 pub mod Steps
 pub mod Ledgers
 pub mod Writes
 pub mod Stock
+pub mod Drawn
+pub mod Kept

@@ -217,13 +217,13 @@ sum-forked hs hs' n q shared there idle e =
 
 module _ {A : Type 0} where
   -- the page at a place of a list
-  pub read-place : (frames : Store) (lists : List (Option (Vec ℕ A))) (now : Pool) (k at x : ℕ) (v : Vec ℕ A) → IsLedger frames lists → pool_of frames lists ≡ now → slot lists k ≡ Some v → at < length (bytes_in now k) → x ≡ get_or v.items (at / 4096) x → (x < length frames.holders) × (length (cut (4096 * x) 4096 frames.bytes) ≡ 4096)
+  pub read-place : (frames : Store) (lists : List (Option (Vec ℕ A))) (now : Pool) (k at x : ℕ) (v : Vec ℕ A) → IsLedger frames lists → pool_of frames lists ≡ now → slot lists k ≡ Some v → at < length (bytes_in now k) → x ≡ get_or v.items (at / 4096) x → (0 < get_or frames.holders x 0) × (length (cut (4096 * x) 4096 frames.bytes) ≡ 4096)
   unfolding page_at
   read-place frames lists now k at x v g e s l r =
       let size = (size-is frames lists now k v g e s).0 in
       let place : at / 4096 < length v.items = omega (arith, size) in
       let read = own-read frames lists k (at / 4096) x v g s (omega (arith, ap (λ t. length (numbers t)) s)) r in
-      (read.1, length-page frames.bytes (length frames.holders) x g.sound.whole read.1)
+      (read.2, length-page frames.bytes (length frames.holders) x g.sound.whole read.1)
 
   -- the bytes from a place of a list to the end of its page
   pub read-bytes : (frames : Store) (lists : List (Option (Vec ℕ A))) (now : Pool) (k at x : ℕ) (v : Vec ℕ A) (page rest : List ℕ) → IsLedger frames lists → pool_of frames lists ≡ now → slot lists k ≡ Some v → at < length (bytes_in now k) → x ≡ get_or v.items (at / 4096) x → page ≡ cut (4096 * x) 4096 frames.bytes → rest ≡ drop (at % 4096) page → (rest ≡ cut at (4096 - at % 4096) (bytes_in now k)) × (length rest ≡ 4096 - at % 4096)

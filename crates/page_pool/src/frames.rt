@@ -9,24 +9,26 @@ use crate::parts::{clear_page, copy_page, draw, put_at};
 use std::alloc::{AllocError, Global};
 use std::marker::Model;
 
-/// The pages of a pool. Those that nobody holds wait in a stack.
+/// The pages of a pool. A page is made as it is first taken, in memory that was asked for before: until then contracts see
+/// its zeros, and no memory holds them. Pages that were held, and that nobody holds, wait in a stack.
 #[derive(Drop)]
 pub struct Frames {
     bytes: Vec<u8>,
     holders: Vec<u32>,
     stock: Vec<u32>,
     spare: u32,
+    pages: u32,
 }
 
 impl Model for Frames {
-    ghost use Rattle.std.specs.Prelude.{vec_capacity};
-    ghost use Rattle.page_pool.specs.Store.{Store, IsStock};
+    ghost use Rattle.std.specs.Prelude.{◌*◌, vec_capacity};
+    ghost use Rattle.page_pool.specs.Store.{Store, IsMade, IsStock, padded, waiting};
 
     ghost Value = { Store };
 
-    ghost view = { λ f. record { bytes = f.bytes.items; holders = f.holders.items } };
+    ghost view = { λ f. record { bytes = padded (4096 * f.pages) f.bytes.items; holders = padded f.pages f.holders.items } };
 
-    ghost invariant = { λ f. IsStock f.bytes.items f.holders.items f.stock.items f.spare (vec_capacity f.stock) };
+    ghost invariant = { λ f. IsMade f.bytes.items f.holders.items f.pages (vec_capacity f.bytes) (vec_capacity f.holders) × IsStock (padded (4096 * f.pages) f.bytes.items) (padded f.pages f.holders.items) (waiting f.holders.items f.pages f.stock.items) f.spare (vec_capacity f.stock) };
 }
 
 impl Frames {
@@ -35,17 +37,12 @@ impl Frames {
         ensures { IfOk result (λ f. f ≡ record { bytes = replicate (4096 * pages) 0; holders = replicate pages 0 }) }
     {
         let count = pages as usize;
-        let bytes = vec![in alloc; 0; PAGE * count]?;
-        let holders = vec![in alloc; 0; count]?;
-        let mut stock = Vec::with_capacity(alloc, count)?;
-        for page in 0..pages {
-            stock.push(page)?;
-        }
         Ok(Frames {
-            bytes,
-            holders,
-            stock,
+            bytes: Vec::with_capacity(alloc, PAGE * count)?,
+            holders: Vec::with_capacity(alloc, count)?,
+            stock: Vec::with_capacity(alloc, count)?,
             spare: pages,
+            pages,
         })
     }
 
@@ -59,7 +56,7 @@ impl Frames {
 
     /// Whether more than one list holds a page.
     pub fn is_shared(&self, page: u32) -> bool
-        requires { page < length self.now.holders }
+        requires { 0 < slice_index self.now.holders page }
         ensures { result ≡ nat_lt 1 (slice_index self.now.holders page) }
     {
         self.holders[page as usize] > 1
@@ -67,7 +64,7 @@ impl Frames {
 
     /// The bytes of a page.
     pub fn page(&self, page: u32) -> &[u8]
-        requires { page < length self.now.holders }
+        requires { 0 < slice_index self.now.holders page }
         ensures { result.now ≡ cut (4096 * page) 4096 self.now.bytes }
     {
         let from = page as usize * PAGE;
@@ -76,7 +73,7 @@ impl Frames {
 
     /// Writes bytes into a page.
     pub fn put(&mut self, page: u32, at: usize, bytes: &[u8])
-        requires page { page < length self.old.holders }
+        requires held { 0 < slice_index self.old.holders page }
         requires room { at + length bytes.now ≤ 4096 }
         ensures new { self.new ≡ record self.old { bytes = put self.old.bytes (4096 * page + at) bytes.now } }
         ensures sound { IsSound self.new }
@@ -86,7 +83,6 @@ impl Frames {
 
     /// One more holder of a page.
     pub fn hold(&mut self, page: u32)
-        requires page { page < length self.old.holders }
         requires held { 0 < slice_index self.old.holders page }
         requires room { sum self.old.holders < length self.old.holders }
         ensures new { self.new ≡ record self.old { holders = slice_set self.old.holders page (slice_index self.old.holders page + 1) } }
@@ -98,7 +94,6 @@ impl Frames {
 
     /// One holder of a page less.
     pub fn release(&mut self, page: u32)
-        requires page { page < length self.old.holders }
         requires held { 0 < slice_index self.old.holders page }
         ensures new { self.new ≡ record self.old { holders = slice_set self.old.holders page (slice_index self.old.holders page - 1) } }
         ensures sound { IsSound self.new }
@@ -122,7 +117,7 @@ impl Frames {
         } }
         ensures sound { IsSound self.new }
     {
-        let page = draw(&mut self.stock);
+        let page = draw(&mut self.bytes, &mut self.holders, &mut self.stock);
         clear_page(&mut self.bytes, page as usize * PAGE);
         self.holders[page as usize] = 1;
         self.spare -= 1;
@@ -131,7 +126,6 @@ impl Frames {
 
     /// A copy of a page with one holder, who holds the page no longer.
     pub fn fork(&mut self, page: u32) -> u32
-        requires page { page < length self.old.holders }
         requires shared { 1 < slice_index self.old.holders page }
         ensures page { result < length self.old.holders }
         ensures idle { slice_index self.old.holders result ≡ 0 }
@@ -142,7 +136,7 @@ impl Frames {
         ensures sound { IsSound self.new }
     {
         self.holders[page as usize] -= 1;
-        let copy = draw(&mut self.stock);
+        let copy = draw(&mut self.bytes, &mut self.holders, &mut self.stock);
         self.holders[copy as usize] = 1;
         copy_page(&mut self.bytes, page as usize * PAGE, copy as usize * PAGE);
         copy

@@ -7,11 +7,8 @@ use Rattle.page_pool.proofs.claims.give_pages.Goals as goal
 pub loop-number-init : goal.loop-number-init
 loop-number-init c = (c.requires.sound, refl, λ p. omega (arith, times-none p), omega arith, refl)
 
-pub release-requires-clause-held : goal.release-requires-clause-held
-release-requires-clause-held c = held-next c.args.frames.now.holders c.loop-number.frames.holders c.args.numbers.now c.loop-number.number-index c.loop-number-test.true c.loop-number.invariant.2 c.requires.held
-
-pub release-requires-clause-page : goal.release-requires-clause-page
-release-requires-clause-page c = inside c.loop-number.frames.holders _ (held-next c.args.frames.now.holders c.loop-number.frames.holders c.args.numbers.now c.loop-number.number-index c.loop-number-test.true c.loop-number.invariant.2 c.requires.held)
+pub release-requires : goal.release-requires
+release-requires c = record { held = held-next c.args.frames.now.holders c.loop-number.frames.holders c.args.numbers.now c.loop-number.number-index c.loop-number-test.true c.loop-number.invariant.2 c.requires.held }
 
 pub loop-number-preserved : goal.loop-number-preserved
 loop-number-preserved c =

@@ -9,7 +9,7 @@ use Rattle.page_pool.proofs.Writes.{own-read, puts-same, ledger-forked, puts-for
 use Rattle.page_pool.proofs.pool.own_page.Goals as goal
 
 pub is_shared-requires : goal.is_shared-requires
-is_shared-requires c = (own-read c.args.frames.now c.args.lists.now.slots c.args.list c.args.place c.index-number.result.now c.index.result.now c.requires.ledger c.index.ensures c.requires.inside c.index-number.ensures).1
+is_shared-requires c = (own-read c.args.frames.now c.args.lists.now.slots c.args.list c.args.place c.index-number.result.now c.index.result.now c.requires.ledger c.index.ensures c.requires.inside c.index-number.ensures).2
 
 pub returns-then-not-is_shared-clause-number : goal.returns-then-not-is_shared-clause-number
 returns-then-not-is_shared-clause-number c = (own-read c.args.frames.now c.args.lists.now.slots c.args.list c.args.place c.index-number.result.now c.index.result.now c.requires.ledger c.index.ensures c.requires.inside c.index-number.ensures).0

@@ -1,47 +1,75 @@
-use Rattle.std.proofs.Common.{◌≡◌, ◌+◌, ◌*◌, ◌≤◌, ◌<◌, ◌∙◌, ap, length, arith}
+use Rattle.std.proofs.Common.{◌≡◌, ◌+◌, ◌-◌, ◌*◌, ◌≤◌, ◌<◌, ◌∙◌, ap, sym, refl, length, sum, get_or, arith}
+use Rattle.std.specs.Prelude.{vec_capacity}
 use Rattle.page_pool.specs.Store.{Store, blank}
 use Rattle.page_pool.proofs.Places.{length-blank}
 use Rattle.byte_run.proofs.Cuts.{length-put}
-use Rattle.page_pool.proofs.Stock.{stocked-now, drawn_fresh, freshened, page_inside, sound}
+use Rattle.page_pool.proofs.Stock.{sound}
+use Rattle.page_pool.proofs.Drawn.{Drawn, drawn, room_for, held_anew, made_anew}
+use Rattle.page_pool.proofs.Padded.{length-padded}
+use Rattle.page_pool.proofs.Kept.{seen_drawn}
 use Rattle.page_pool.proofs.frames.Frames.fresh.Goals as goal
 
 pub draw-page-requires : goal.draw-page-requires
-draw-page-requires c = stocked-now c.self.inside.bytes.items c.self.inside.holders.items c.args.self.now.holders c.self.inside.stock.items c.self.inside.spare _ c.self.invariant (ap (λ (s : Store). s.holders) c.self.view_is) c.requires
-
-pub returns-clause-page : goal.returns-clause-page
-returns-clause-page c = (drawn_fresh c.self.inside.bytes.items c.self.inside.holders.items c.args.self.now.holders c.self.inside.stock.items c.draw-page.new.stack.items c.self.inside.spare _ c.draw-page.result c.self.invariant (ap (λ (s : Store). s.holders) c.self.view_is) c.draw-page.ensures.items).0
-
-pub returns-clause-idle : goal.returns-clause-idle
-returns-clause-idle c = (drawn_fresh c.self.inside.bytes.items c.self.inside.holders.items c.args.self.now.holders c.self.inside.stock.items c.draw-page.new.stack.items c.self.inside.spare _ c.draw-page.result c.self.invariant (ap (λ (s : Store). s.holders) c.self.view_is) c.draw-page.ensures.items).1
+draw-page-requires c =
+    let e = ap (λ (s : Store). s.holders) c.self.view_is in
+    record { room = room_for c.self.inside.bytes.items c.self.inside.holders.items c.self.inside.stock.items c.self.inside.pages c.self.inside.spare _ _ _ c.self.invariant.0 c.self.invariant.1 (omega (arith, c.requires, c.self.invariant.1.spared, ap sum e, ap length e)) }
 
 pub clear_page-requires : goal.clear_page-requires
 clear_page-requires c =
     let e = ap (λ (s : Store). s.holders) c.self.view_is in
-    let there = drawn_fresh c.self.inside.bytes.items c.self.inside.holders.items c.args.self.now.holders c.self.inside.stock.items c.draw-page.new.stack.items c.self.inside.spare _ c.draw-page.result c.self.invariant e c.draw-page.ensures.items in
-    page_inside c.self.inside.bytes.items c.self.inside.holders.items c.args.self.now.holders c.self.inside.stock.items c.self.inside.spare _ c.draw-page.result c.self.invariant e there.0
+    let some : 0 < c.self.inside.spare = omega (arith, c.requires, c.self.invariant.1.spared, ap sum e, ap length e) in
+    let d = drawn c.self.inside.bytes.items c.self.inside.holders.items c.self.inside.stock.items c.draw-page.new.bytes.items c.draw-page.new.holders.items c.draw-page.new.stock.items c.self.inside.pages c.self.inside.spare _ _ _ c.draw-page.result c.self.invariant.0 c.self.invariant.1 some c.draw-page.ensures.drawn in
+    omega (arith, d.whole, d.made)
 
 pub index_mut-requires : goal.index_mut-requires
 index_mut-requires c =
     let e = ap (λ (s : Store). s.holders) c.self.view_is in
-    let there = drawn_fresh c.self.inside.bytes.items c.self.inside.holders.items c.args.self.now.holders c.self.inside.stock.items c.draw-page.new.stack.items c.self.inside.spare _ c.draw-page.result c.self.invariant e c.draw-page.ensures.items in
-    omega (arith, there.0, ap length e, c.self.inside.holders.ok.0)
+    let some : 0 < c.self.inside.spare = omega (arith, c.requires, c.self.invariant.1.spared, ap sum e, ap length e) in
+    let d = drawn c.self.inside.bytes.items c.self.inside.holders.items c.self.inside.stock.items c.draw-page.new.bytes.items c.draw-page.new.holders.items c.draw-page.new.stock.items c.self.inside.pages c.self.inside.spare _ _ _ c.draw-page.result c.self.invariant.0 c.self.invariant.1 some c.draw-page.ensures.drawn in
+    omega (arith, d.made, c.draw-page.new.holders.ok.0)
+
+pub returns-clause-page : goal.returns-clause-page
+returns-clause-page c =
+    let e = ap (λ (s : Store). s.holders) c.self.view_is in
+    let some : 0 < c.self.inside.spare = omega (arith, c.requires, c.self.invariant.1.spared, ap sum e, ap length e) in
+    let d = drawn c.self.inside.bytes.items c.self.inside.holders.items c.self.inside.stock.items c.draw-page.new.bytes.items c.draw-page.new.holders.items c.draw-page.new.stock.items c.self.inside.pages c.self.inside.spare _ _ _ c.draw-page.result c.self.invariant.0 c.self.invariant.1 some c.draw-page.ensures.drawn in
+    omega (arith, d.made, d.within, length-padded c.self.inside.pages c.self.inside.holders.items c.self.invariant.0.within, ap length e)
+
+pub returns-clause-idle : goal.returns-clause-idle
+returns-clause-idle c =
+    let e = ap (λ (s : Store). s.holders) c.self.view_is in
+    let some : 0 < c.self.inside.spare = omega (arith, c.requires, c.self.invariant.1.spared, ap sum e, ap length e) in
+    let d = drawn c.self.inside.bytes.items c.self.inside.holders.items c.self.inside.stock.items c.draw-page.new.bytes.items c.draw-page.new.holders.items c.draw-page.new.stock.items c.self.inside.pages c.self.inside.spare _ _ _ c.draw-page.result c.self.invariant.0 c.self.invariant.1 some c.draw-page.ensures.drawn in
+    ap (λ ys. get_or ys c.draw-page.result 0) (sym e) ∙ d.free
 
 pub invariant_of-self : goal.invariant_of-self
 invariant_of-self c =
     let e = ap (λ (s : Store). s.holders) c.self.view_is in
-    let there = drawn_fresh c.self.inside.bytes.items c.self.inside.holders.items c.args.self.now.holders c.self.inside.stock.items c.draw-page.new.stack.items c.self.inside.spare _ c.draw-page.result c.self.invariant e c.draw-page.ensures.items in
-    let inside : c.draw-page.result * 4096 + 4096 ≤ length c.self.inside.bytes.items = page_inside c.self.inside.bytes.items c.self.inside.holders.items c.args.self.now.holders c.self.inside.stock.items c.self.inside.spare _ c.draw-page.result c.self.invariant e there.0 in
-    let size : length (blank 4096) ≡ 4096 = length-blank 4096 in
-    rw c.draw-page.ensures.capacity
-    (freshened c.self.inside.bytes.items c.clear_page.new.bytes.items c.self.inside.holders.items c.args.self.now.holders c.self.inside.stock.items c.draw-page.new.stack.items c.self.inside.spare _ c.draw-page.result c.self.invariant e c.requires c.draw-page.ensures.items
-    (ap length c.clear_page.ensures ∙ length-put c.self.inside.bytes.items (c.draw-page.result * 4096) (blank 4096) (omega arith)))
+    let some : 0 < c.self.inside.spare = omega (arith, c.requires, c.self.invariant.1.spared, ap sum e, ap length e) in
+    let d = drawn c.self.inside.bytes.items c.self.inside.holders.items c.self.inside.stock.items c.draw-page.new.bytes.items c.draw-page.new.holders.items c.draw-page.new.stock.items c.self.inside.pages c.self.inside.spare _ _ _ c.draw-page.result c.self.invariant.0 c.self.invariant.1 some c.draw-page.ensures.drawn in
+    let blank_size : length (blank 4096) ≡ 4096 = length-blank 4096 in
+    let inside : c.draw-page.result * 4096 + 4096 ≤ length c.draw-page.new.bytes.items = omega (arith, d.whole, d.made) in
+    let size = ap length c.clear_page.ensures.items ∙ length-put c.draw-page.new.bytes.items (c.draw-page.result * 4096) (blank 4096) (omega arith) in (
+      made_anew c.self.inside.bytes.items c.self.inside.holders.items c.self.inside.stock.items c.draw-page.new.bytes.items c.clear_page.new.bytes.items c.draw-page.new.holders.items c.draw-page.new.stock.items c.self.inside.pages c.draw-page.result _ _ _ _ c.self.invariant.0 d size (omega (arith, c.draw-page.ensures.bytes_room, c.clear_page.ensures.room)) c.draw-page.ensures.holders_room,
+      held_anew c.self.inside.bytes.items c.self.inside.holders.items c.self.inside.stock.items c.draw-page.new.bytes.items c.clear_page.new.bytes.items c.draw-page.new.holders.items c.draw-page.new.stock.items c.self.inside.pages c.self.inside.spare (c.self.inside.spare - 1) _ _ c.draw-page.result c.self.invariant.1 d size some refl (omega (arith, c.draw-page.ensures.stock_room)),
+    )
+
+pub returns-clause-new : goal.returns-clause-new
+returns-clause-new c =
+    let e = ap (λ (s : Store). s.holders) c.self.view_is in
+    let some : 0 < c.self.inside.spare = omega (arith, c.requires, c.self.invariant.1.spared, ap sum e, ap length e) in
+    let d = drawn c.self.inside.bytes.items c.self.inside.holders.items c.self.inside.stock.items c.draw-page.new.bytes.items c.draw-page.new.holders.items c.draw-page.new.stock.items c.self.inside.pages c.self.inside.spare _ _ _ c.draw-page.result c.self.invariant.0 c.self.invariant.1 some c.draw-page.ensures.drawn in
+    let blank_size : length (blank 4096) ≡ 4096 = length-blank 4096 in
+    let inside : c.draw-page.result * 4096 + 4096 ≤ length c.draw-page.new.bytes.items = omega (arith, d.whole, d.made) in
+    let size = ap length c.clear_page.ensures.items ∙ length-put c.draw-page.new.bytes.items (c.draw-page.result * 4096) (blank 4096) (omega arith) in
+    seen_drawn c.self.inside.bytes.items c.self.inside.holders.items c.self.inside.stock.items c.draw-page.new.bytes.items c.clear_page.new.bytes.items c.draw-page.new.holders.items c.draw-page.new.stock.items (blank 4096) (blank 4096) c.args.self.now c.self.inside.pages c.draw-page.result (c.draw-page.result * 4096) c.self.view_is d c.clear_page.ensures.items (omega arith) (omega arith) refl
 
 pub returns-clause-sound : goal.returns-clause-sound
 returns-clause-sound c =
     let e = ap (λ (s : Store). s.holders) c.self.view_is in
-    let there = drawn_fresh c.self.inside.bytes.items c.self.inside.holders.items c.args.self.now.holders c.self.inside.stock.items c.draw-page.new.stack.items c.self.inside.spare _ c.draw-page.result c.self.invariant e c.draw-page.ensures.items in
-    let inside : c.draw-page.result * 4096 + 4096 ≤ length c.self.inside.bytes.items = page_inside c.self.inside.bytes.items c.self.inside.holders.items c.args.self.now.holders c.self.inside.stock.items c.self.inside.spare _ c.draw-page.result c.self.invariant e there.0 in
-    let size : length (blank 4096) ≡ 4096 = length-blank 4096 in
-    sound _ _ _ _ _
-    (freshened c.self.inside.bytes.items c.clear_page.new.bytes.items c.self.inside.holders.items c.args.self.now.holders c.self.inside.stock.items c.draw-page.new.stack.items c.self.inside.spare _ c.draw-page.result c.self.invariant e c.requires c.draw-page.ensures.items
-    (ap length c.clear_page.ensures ∙ length-put c.self.inside.bytes.items (c.draw-page.result * 4096) (blank 4096) (omega arith)))
+    let some : 0 < c.self.inside.spare = omega (arith, c.requires, c.self.invariant.1.spared, ap sum e, ap length e) in
+    let d = drawn c.self.inside.bytes.items c.self.inside.holders.items c.self.inside.stock.items c.draw-page.new.bytes.items c.draw-page.new.holders.items c.draw-page.new.stock.items c.self.inside.pages c.self.inside.spare _ _ _ c.draw-page.result c.self.invariant.0 c.self.invariant.1 some c.draw-page.ensures.drawn in
+    let blank_size : length (blank 4096) ≡ 4096 = length-blank 4096 in
+    let inside : c.draw-page.result * 4096 + 4096 ≤ length c.draw-page.new.bytes.items = omega (arith, d.whole, d.made) in
+    let size = ap length c.clear_page.ensures.items ∙ length-put c.draw-page.new.bytes.items (c.draw-page.result * 4096) (blank 4096) (omega arith) in
+    sound _ _ _ _ _ (held_anew c.self.inside.bytes.items c.self.inside.holders.items c.self.inside.stock.items c.draw-page.new.bytes.items c.clear_page.new.bytes.items c.draw-page.new.holders.items c.draw-page.new.stock.items c.self.inside.pages c.self.inside.spare (c.self.inside.spare - 1) _ (vec_capacity c.self.inside.stock) c.draw-page.result c.self.invariant.1 d size some refl (omega arith))

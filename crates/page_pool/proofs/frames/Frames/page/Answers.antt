@@ -1,8 +1,15 @@
-use Rattle.std.proofs.Common.{◌≡◌, ◌+◌, ◌-◌, ◌*◌, ◌∙◌, ap, sym, refl, arith}
+use Rattle.std.proofs.Common.{◌≡◌, ◌+◌, ◌-◌, ◌*◌, ◌≤◌, ◌∙◌, ap, sym, refl, length, arith}
 use Rattle.page_pool.proofs.Places.{part-cut}
 use Rattle.page_pool.specs.Store.{Store}
 use Rattle.rdma_types.specs.Memory.{cut}
+use Rattle.page_pool.proofs.Kept.{front_inside, seen_cut}
 use Rattle.page_pool.proofs.frames.Frames.page.Goals as goal
 
 pub returns : goal.returns
-returns c = part-cut c.deref.result.now c.args.self.now.bytes (c.args.page * 4096) (4096 * c.args.page) _ 4096 (omega arith) (omega arith) (c.deref.ensures.value ∙ ap (λ (s : Store). s.bytes) c.self.view_is)
+returns c =
+    let inside : c.args.page * 4096 + 4096 ≤ length c.self.inside.bytes.items = front_inside c.self.inside.bytes.items c.self.inside.holders.items c.args.self.now.holders c.self.inside.pages c.args.page _ _ c.self.invariant.0 (ap (λ (s : Store). s.holders) c.self.view_is) c.requires in
+    part-cut c.deref.result.now c.self.inside.bytes.items (c.args.page * 4096) (c.args.page * 4096) _ 4096 refl (omega arith) c.deref.ensures.value
+    ∙ seen_cut c.self.inside.bytes.items c.args.self.now _ _ c.args.page (c.args.page * 4096) c.self.view_is inside (omega arith)
+
+pub slice_bounds-result-end : goal.slice_bounds-result-end
+slice_bounds-result-end c = omega (arith, ap length c.deref.ensures.value, front_inside c.self.inside.bytes.items c.self.inside.holders.items c.args.self.now.holders c.self.inside.pages c.args.page _ _ c.self.invariant.0 (ap (λ (s : Store). s.holders) c.self.view_is) c.requires)
