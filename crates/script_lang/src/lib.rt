@@ -13,8 +13,6 @@ mod node;
 mod print;
 mod reading;
 mod script;
-#[cfg(test)]
-mod tests;
 mod texts;
 mod verbs;
 mod words;

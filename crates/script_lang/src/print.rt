@@ -442,6 +442,3 @@ pub fn print_answer(answer: &Answer, out: &mut Vec<u8>) -> Result<(), AllocError
     }
     printed
 }
-
-#[cfg(test)]
-mod tests;

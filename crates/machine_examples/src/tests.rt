@@ -1,6 +1,6 @@
 //! Runs of the machine, with the answers of worked examples.
 
-use crate::{Ideal, IdealFault, IdealStep};
+use ideal_model::{Ideal, IdealFault, IdealStep};
 use rdma_types::{
     Answer, Completion, Items, Kind, Name, ObjName, Request, Rights, Shape, Terms, Verb, WcKind,
     WcStatus,
