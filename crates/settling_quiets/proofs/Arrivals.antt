@@ -74,6 +74,8 @@ pub record Lands (w : World) (m : Machine) (k : ℕ) (w' : World) : Type 0 where
   pub after_name : after_end.name ≡ end.name
   pub called : (takes context end link packet).context.name ≡ (name_of m packet.dest).context
   pub reach : place_of w (name_of m packet.dest).context ≡ Some flight.to
+  pub from : Address
+  pub sent : w'.sent ≡ took w.sent k ++ map (flight_of from) (takes context end link packet).sent
   pub fresh : (j : ℕ) (f : Flight) → length w.sent ≤ j → slice_get w'.sent j ≡ Some f → IsOneOf (takes context end link packet).sent f.bytes
 
 -- .. where that is f, and its packet is p
@@ -265,6 +267,8 @@ module _ (lightens : TakingLightens) (w : World) (m : Machine) (k : ℕ) (s : St
               after_name = goes.name;
               called = named_is;
               reach = place_is;
+              from = (device.with_context d t.context).address;
+              sent = ran_sent v (ended_step d t);
               fresh = λ j g past there'. new_are (IsOneOf t.sent) (took w.sent k) (device.with_context d t.context).address t.sent (All-weaker (Contains t.sent) (λ z. IsOneOf t.sent z.bytes) (λ z c. (z, c, refl)) t.sent (All-contains_itself t.sent)) j g (omega (arith, past, took_length w.sent k)) (subst (λ fs. slice_get fs j ≡ Some g) (ran_sent v (ended_step d t)) there');
             }
 

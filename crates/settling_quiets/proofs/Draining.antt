@@ -95,7 +95,7 @@ sorted_reply : (number : ℕ) (Back : Type 0) (bs : List ℕ) → IsSorted numbe
 sorted_reply number Back bs (inl h) = stop_reply bs h
 sorted_reply number Back bs (inr h) = answer_reply number Back bs h
 
-get_within : {A : Type 0} (xs : List A) (j : ℕ) → j < length xs → (x : A) × (slice_get xs j ≡ Some x)
+pub get_within : {A : Type 0} (xs : List A) (j : ℕ) → j < length xs → (x : A) × (slice_get xs j ≡ Some x)
 get_within [] j h = absurd (omega (arith, h))
 get_within (x ∷ xs) zero h = (x, refl)
 get_within (x ∷ xs) (suc j) h = get_within xs j (omega (arith, h))

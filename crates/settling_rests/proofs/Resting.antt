@@ -53,7 +53,7 @@ module _ (drains : DrainingDrains) where
   unfolding sends_if_running sends_all
   running_calm s o h = if_calm (is_running (link_at s.world o)) (sending_all (sending_fuel (link_at s.world o)) s o) s (sending_calm (sending_fuel (link_at s.world o)) s o h) h
 
-  visited_calm : (s : Settling) (o : ObjName) → Calm s → Calm (visited s o)
+  pub visited_calm : (s : Settling) (o : ObjName) → Calm s → Calm (visited s o)
   unfolding visited
   visited_calm s o h = if_calm (is_resuming_link (link_at s.world o)) (sends_if_running (drained (settle_step s (transmit o))) o) (sends_if_running s o) (running_calm (drained (settle_step s (transmit o))) o (drains _)) (running_calm s o h)
 
@@ -185,7 +185,7 @@ module _ (t : Settling) (os : List ObjName) where
       or_right true c g = absurd (cc)
       or_right false c g = g
 
-last_round : (s : Settling) → is_moving (round s) ≡ false → IsLast s
+pub last_round : (s : Settling) → is_moving (round s) ≡ false → IsLast s
 unfolding round
 last_round s h = let l = by_changed (visits s) (live_names s.world) (visits s).changed refl h in record { same = l.same; no_wait = l.no_wait; no_flight = l.no_flight }
 
@@ -232,7 +232,7 @@ has_by : {A : Type 0} (b : Bool) (name : A → Name) (none : A) (f : A → Optio
 has_by true name none f n xs l h empty linked' = refl
 has_by false name none f n xs l h empty linked' = absurd (cc (ap f (named-absent name none n xs h), empty, linked'))
 
-live_named : (w : World) (o : ObjName) (l : Link) → (at_end w o).link ≡ Some l → Contains (live_names w) o
+pub live_named : (w : World) (o : ObjName) (l : Link) → (at_end w o).link ≡ Some l → Contains (live_names w) o
 unfolding named
 live_named w o l linked' =
     let c : Context = context_in (lives w) o.context in
