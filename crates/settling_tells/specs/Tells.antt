@@ -1,4 +1,4 @@
--- What settling leaves untold: nothing, but at an end that waits for a receive, moves, or is in Error.
+-- What settling leaves untold: nothing at an end that is Running and does not wait for its RNR timer.
 use Rattle.std.specs.Prelude.{◌≡◌, true, false, [], Some}
 use Rattle.rdma_types.specs.declared.names.ObjName.{ObjName}
 use Rattle.protocol.specs.EndWords.{is_running}
