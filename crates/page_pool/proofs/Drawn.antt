@@ -1,9 +1,9 @@
 -- A page that is drawn: from the stock, or made.
-use Rattle.std.proofs.Common.{◌≡◌, ℕ, ◌+◌, ◌-◌, ◌*◌, ◌<◌, ◌≤◌, ◌^◌, List, [], ◌∷◌, ◌++◌, length, get_or, set, sum, arith, refl, ap, sym, ◌∙◌, inl, inr, subst}
-use Rattle.std.specs.Prelude.{◌⊎◌, replicate}
+use Rattle.std.proofs.Common.{◌≡◌, ℕ, ◌+◌, ◌-◌, ◌*◌, ◌<◌, ◌≤◌, List, [], ◌∷◌, ◌++◌, length, get_or, set, sum, arith, refl, ap, sym, ◌∙◌, inl, inr}
+use Rattle.std.specs.Prelude.{◌⊎◌}
 use Rattle.std.proofs.lemmas.Bool.{cases_lt}
 use Rattle.std.proofs.lemmas.List.{length-append, length-set, length_push}
-use Rattle.page_pool.specs.Store.{IsStock, IsMade, HasRoom, Draws, DrawsLast, DrawsNext, padded, later_pages, waiting, times, idle, idle_pages, blank}
+use Rattle.page_pool.specs.Store.{IsStock, IsMade, HasRoom, Draws, padded, later_pages, waiting, times, idle, idle_pages, blank}
 use Rattle.page_pool.proofs.Counts.{one_if, one_if-same, times-push, idle-is}
 use Rattle.page_pool.proofs.Places.{length-blank}
 use Rattle.page_pool.proofs.Padded.{length-padded, padded-set, padded-more, later-in, waiting-push, waiting-same, waiting-next, length-waiting, times-waiting}
@@ -87,10 +87,10 @@ drawn bs hs st bs' hs' st' pages spare cap bytes_room holders_room page m k some
     let count : length hs' ≡ length hs + 1 = ap length d.holders ∙ length_push hs 0 in
     let bytes_count : length bs' ≡ length bs + 4096 = ap length d.bytes ∙ (length-append bs (blank 4096) ∙ ap (λ n. length bs + n) (length-blank 4096)) in
     let waits : waiting hs pages st ≡ waiting hs' pages st' ++ page ∷ [] =
-        ap (waiting hs pages) d.empty
-        ∙ (waiting-next hs hs' pages left count
-        ∙ (ap (λ ys. waiting hs' pages ys ++ length hs ∷ []) (sym d.stock)
-        ∙ ap (λ p. waiting hs' pages st' ++ p ∷ []) (sym d.number))) in
+    ap (waiting hs pages) d.empty
+    ∙ (waiting-next hs hs' pages left count
+    ∙ (ap (λ ys. waiting hs' pages ys ++ length hs ∷ []) (sym d.stock)
+    ∙ ap (λ p. waiting hs' pages st' ++ p ∷ []) (sym d.number))) in
     let there = in_stock (padded (4096 * pages) bs) (padded pages hs) (waiting hs pages st) (waiting hs' pages st') spare cap page k waits in
     record {
       whole = omega (arith, m.whole);

@@ -125,16 +125,17 @@ none_made bs hs st pages bytes_room holders_room cap b h s small br hr c =
     let size : length (padded pages hs) ≡ pages = ap length holders_is ∙ length-replicate pages 0 in
     let size' : length (padded (4096 * pages) bs) ≡ 4096 * pages = ap length bytes_is ∙ length-replicate (4096 * pages) 0 in
     let none : sum (padded pages hs) ≡ 0 = ap sum holders_is ∙ sum-none pages in
-    let count : length (waiting hs pages st) ≡ pages - length hs + length st = length-waiting hs pages st in
-    (record { whole = omega (arith, ap length b, ap length h); within = omega (arith, ap length h); bytes_fit = br; holders_fit = hr },
-    record {
-      whole = omega arith;
-      few = omega arith;
-      spared = omega arith;
-      once = λ q. ap (times q) waits ∙ (none_waiting pages q ∙ ap (idle q) (sym holders_is));
-      counted = omega (arith, ap length h, ap length s, ap idle_pages holders_is, idle_pages-all pages);
-      room = omega arith;
-    })
+    let count : length (waiting hs pages st) ≡ pages - length hs + length st = length-waiting hs pages st in (
+      record { whole = omega (arith, ap length b, ap length h); within = omega (arith, ap length h); bytes_fit = br; holders_fit = hr },
+      record {
+        whole = omega arith;
+        few = omega arith;
+        spared = omega arith;
+        once = λ q. ap (times q) waits ∙ (none_waiting pages q ∙ ap (idle q) (sym holders_is));
+        counted = omega (arith, ap length h, ap length s, ap idle_pages holders_is, idle_pages-all pages);
+        room = omega arith;
+      },
+    )
 
 pub none_seen : (bs hs : List ℕ) (pages : ℕ) → bs ≡ [] → hs ≡ [] → store (padded (4096 * pages) bs) (padded pages hs) ≡ store (replicate (4096 * pages) 0) (replicate pages 0)
 none_seen bs hs pages b h = store_is _ _ _ _ (ap (padded (4096 * pages)) b ∙ padded-none (4096 * pages)) (ap (padded pages) h ∙ padded-none pages)

@@ -1,11 +1,10 @@
 -- Parts of a vector of bytes, written in place.
-use Rattle.std.proofs.Common.{◌≡◌, ℕ, ◌+◌, ◌-◌, ◌≤◌, List, ◌++◌, length, take, drop, arith, rules, refl, ap, sym, ◌∙◌}
-use Rattle.std.specs.List.{copy_within}
-use Rattle.std.proofs.lemmas.List.{take_at, append_assoc, length-replicate, length-take, length-drop}
+use Rattle.std.proofs.Common.{◌≡◌, ℕ, ◌+◌, ◌≤◌, List, ◌++◌, length, take, drop, arith, refl, ap, ◌∙◌}
+use Rattle.std.proofs.lemmas.List.{take_at, length-replicate, length-take, length-drop}
 use borrow.Rule.Slice.PartMut.{put_mid}
 use Rattle.rdma_types.specs.Memory.{cut, put}
 use Rattle.page_pool.specs.Store.{blank}
-use Rattle.byte_run.proofs.Cuts.{length-put, length-cut}
+use Rattle.byte_run.proofs.Cuts.{length-put}
 use Rattle.byte_run.proofs.Runs.{put_mid-put}
 
 -- a vector whose part was written
@@ -18,14 +17,6 @@ vector-put items part new ws len a k is size e k_is room =
 
 pub length-part : (xs : List ℕ) (a k n : ℕ) → k ≡ n → a + n ≤ length xs → length (take k (drop a xs)) ≡ n
 length-part xs a k n e h = simp (length-take, length-drop) (omega arith)
-
--- a page copied within a vector
-pub copied : (items : List ℕ) (from to n : ℕ) → from + n ≤ length items → copy_within items from (from + n) to ≡ put items to (cut from n items)
-unfolding put cut
-copied items from to n h =
-    let size : length (take n (drop from items)) ≡ n = length-part items from n n refl h in
-    let same : from + n - from ≡ n = omega arith in
-    rw (same, size) (append_assoc (take to items) (take n (drop from items)) (drop (to + n) items))
 
 pub length-blank : (n : ℕ) → length (blank n) ≡ n
 unfolding blank

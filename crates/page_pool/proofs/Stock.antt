@@ -1,14 +1,13 @@
 -- The stock of pages that nobody holds.
-use Rattle.std.proofs.Common.{◌≡◌, ℕ, zero, suc, ◌+◌, ◌-◌, ◌*◌, ◌<◌, ◌≤◌, ◌≢◌, Bool, true, false, List, [], ◌∷◌, ◌++◌, length, take, get_or, set, sum, arith, rules, refl, ap, sym, ◌∙◌}
+use Rattle.std.proofs.Common.{◌≡◌, ℕ, ◌+◌, ◌-◌, ◌<◌, ◌≤◌, ◌≢◌, List, [], ◌∷◌, ◌++◌, length, get_or, set, sum, arith, refl, ap, sym, ◌∙◌}
 use Rattle.std.specs.Prelude.{◌⊎◌, ◌==◌, Result, Ok, Err, OnErr, IsOk, is_ok, if◌then◌else◌}
-use Rattle.std.proofs.Common.{subst}
 use Rattle.std.proofs.lemmas.List.Sums.{count_by-le-length}
-use Rattle.std.proofs.Common.{inl, inr, ⊎_elim}
+use Rattle.std.proofs.Common.{inl, inr}
 use Rattle.std.proofs.lemmas.Bool.{cases_lt, cases_eq}
-use Rattle.std.proofs.lemmas.List.{length-set, length-append, get_or_default, get_or_past, get_or_read}
+use Rattle.std.proofs.lemmas.List.{length-set, length-append, get_or_read}
 use Rattle.std.proofs.lemmas.Bool.Decides.{nat_tests}
 use Rattle.page_pool.specs.Store.{IsStock, IsSound, times, idle, idle_pages}
-use Rattle.page_pool.proofs.Counts.{one_if, one_if-same, one_if-other, times-push, idle-set_same, idle-set_other, idle-is, idle-past, idle_pages-set, sum-set, get_or-le-sum, idle_pages-enough}
+use Rattle.page_pool.proofs.Counts.{one_if, one_if-same, one_if-other, times-push, idle-set_same, idle-set_other, idle-is, idle-past, idle_pages-set, sum-set, idle_pages-enough}
 
 -- fewer holders than pages: the stock has a page
 pub stocked : (bytes hs stock : List ℕ) (spare cap : ℕ) → IsStock bytes hs stock spare cap → sum hs < length hs → 0 < length stock
@@ -169,51 +168,6 @@ held_last bytes hs now stock stock' spare cap cap' page x k e l one r s c =
 -- the same store with other bytes, as many
 pub rewritten : (bytes bytes' hs stock : List ℕ) (spare cap : ℕ) → IsStock bytes hs stock spare cap → length bytes' ≡ length bytes → IsStock bytes' hs stock spare cap
 rewritten bytes bytes' hs stock spare cap k e = record { whole = e ∙ k.whole; few = k.few; spared = k.spared; once = k.once; counted = k.counted; room = k.room }
-
--- room for one more holder: the stock has a page
-pub stocked-now : (bytes hs now stock : List ℕ) (spare cap : ℕ) → IsStock bytes hs stock spare cap → hs ≡ now → sum now < length now → 0 < length stock
-stocked-now bytes hs now stock spare cap k e room = stocked bytes hs stock spare cap k (omega (arith, ap sum e, ap length e))
-
--- a shared page leaves a page in the stock
-pub stocked-shared : (bytes hs now stock : List ℕ) (spare cap page x : ℕ) → IsStock bytes hs stock spare cap → hs ≡ now → page < length now → 1 < get_or now page 0 → x ≡ get_or hs page x → 0 < length stock
-stocked-shared bytes hs now stock spare cap page x k e l more r =
-    let l' : page < length hs = omega (arith, ap length e) in
-    let x_is : get_or hs page 0 ≡ x = read_is hs page x l' r in
-    let n_is : get_or hs page 0 ≡ get_or now page 0 = ap (λ ys. get_or ys page 0) e in
-    let less = held_less bytes hs now stock spare cap page x k e l (omega arith) r in
-    stocked bytes (set hs page (x - 1)) stock (spare + 1) cap less (omega (arith, less.spared))
-
--- the page drawn to copy a shared one
-pub drawn_copy : (bytes hs now stock rest : List ℕ) (spare cap page x copy : ℕ) → IsStock bytes hs stock spare cap → hs ≡ now → page < length now → 1 < get_or now page 0 → x ≡ get_or hs page x → stock ≡ rest ++ copy ∷ [] → (copy < length now) × (get_or now copy 0 ≡ 0)
-drawn_copy bytes hs now stock rest spare cap page x copy k e l more r s =
-    let there = in_stock bytes hs stock rest spare cap copy k s in
-    let l' : copy < length hs = there.0 in
-    (omega (arith, ap length e), sym (ap (λ ys. get_or ys copy 0) e) ∙ there.1)
-
-pub forked : (bytes bytes' hs now stock rest : List ℕ) (spare cap page x copy : ℕ) → IsStock bytes hs stock spare cap → hs ≡ now → page < length now → 1 < get_or now page 0 → x ≡ get_or hs page x → stock ≡ rest ++ copy ∷ [] → length bytes' ≡ length bytes → IsStock bytes' (set (set hs page (x - 1)) copy 1) rest spare cap
-forked bytes bytes' hs now stock rest spare cap page x copy k e l more r s b =
-    let l' : page < length hs = omega (arith, ap length e) in
-    let x_is : get_or hs page 0 ≡ x = read_is hs page x l' r in
-    let n_is : get_or hs page 0 ≡ get_or now page 0 = ap (λ ys. get_or ys page 0) e in
-    let less = held_less bytes hs now stock spare cap page x k e l (omega arith) r in
-    let back : spare + 1 - 1 ≡ spare = omega arith in
-    subst (λ n. IsStock bytes' (set (set hs page (x - 1)) copy 1) rest n cap) back
-    (taken bytes bytes' (set hs page (x - 1)) stock rest (spare + 1) cap copy less s b (omega arith))
-
--- the page drawn as a new one
-pub drawn_fresh : (bytes hs now stock rest : List ℕ) (spare cap page : ℕ) → IsStock bytes hs stock spare cap → hs ≡ now → stock ≡ rest ++ page ∷ [] → (page < length now) × (get_or now page 0 ≡ 0)
-drawn_fresh bytes hs now stock rest spare cap page k e s =
-    let there = in_stock bytes hs stock rest spare cap page k s in
-    let l' : page < length hs = there.0 in
-    (omega (arith, ap length e), sym (ap (λ ys. get_or ys page 0) e) ∙ there.1)
-
-pub freshened : (bytes bytes' hs now stock rest : List ℕ) (spare cap page : ℕ) → IsStock bytes hs stock spare cap → hs ≡ now → sum now < length now → stock ≡ rest ++ page ∷ [] → length bytes' ≡ length bytes → IsStock bytes' (set hs page 1) rest (spare - 1) cap
-freshened bytes bytes' hs now stock rest spare cap page k e room s b =
-    taken bytes bytes' hs stock rest spare cap page k s b (omega (arith, k.spared, ap sum e, ap length e))
-
--- a page stands within the bytes
-pub page_inside : (bytes hs now stock : List ℕ) (spare cap page : ℕ) → IsStock bytes hs stock spare cap → hs ≡ now → page < length now → page * 4096 + 4096 ≤ length bytes
-page_inside bytes hs now stock spare cap page k e l = omega (arith, k.whole, ap length e)
 
 -- the stock has room for a page that is held
 pub stock_room : (bytes hs now stock : List ℕ) (spare cap page x : ℕ) → IsStock bytes hs stock spare cap → hs ≡ now → page < length now → 0 < get_or now page 0 → length stock < cap

@@ -21,14 +21,7 @@ pub fn clear_page(bytes: &mut Vec<u8>, at: usize)
     ensures items { bytes.new.items ≡ put bytes.old.items at (blank 4096) }
     ensures room { vec_capacity bytes.new ≡ vec_capacity bytes.old }
 {
-    clear(&mut bytes[at..at + PAGE]);
-}
-
-/// Writes zeros.
-fn clear(part: &mut [u8])
-    ensures { part.new ≡ blank (length part.old) }
-{
-    part.fill(0);
+    put_at(bytes, at, &[0; PAGE]);
 }
 
 /// Copies a page from one place to another.
@@ -38,7 +31,9 @@ pub fn copy_page(bytes: &mut Vec<u8>, from: usize, to: usize)
     ensures items { bytes.new.items ≡ put bytes.old.items to (cut from 4096 bytes.old.items) }
     ensures room { vec_capacity bytes.new ≡ vec_capacity bytes.old }
 {
-    bytes.copy_within(from..from + PAGE, to);
+    let mut page = [0; PAGE];
+    page.copy_from_slice(&bytes[from..from + PAGE]);
+    put_at(bytes, to, &page);
 }
 
 /// Draws a page that nobody holds: the last of the stock, or the next page, which is made.

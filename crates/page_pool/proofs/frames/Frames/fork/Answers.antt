@@ -1,13 +1,13 @@
-use Rattle.std.proofs.Common.{◌≡◌, ◌+◌, ◌-◌, ◌*◌, ◌≤◌, ◌<◌, ◌∙◌, ap, sym, refl, length, sum, get_or, set, arith}
+use Rattle.std.proofs.Common.{◌≡◌, ◌+◌, ◌-◌, ◌*◌, ◌≤◌, ◌<◌, ◌∙◌, ap, refl, length, get_or, set, arith}
 use Rattle.std.specs.Prelude.{vec_capacity}
 use Rattle.std.proofs.lemmas.List.{length-set, get_or-set_same}
 use Rattle.page_pool.specs.Store.{Store}
 use Rattle.rdma_types.specs.Memory.{cut}
 use Rattle.byte_run.proofs.Cuts.{length-put, length-cut}
-use Rattle.page_pool.proofs.Stock.{sound, drawn_copy}
-use Rattle.page_pool.proofs.Drawn.{Drawn, drawn, room_for, held_anew, made_anew}
+use Rattle.page_pool.proofs.Stock.{sound}
+use Rattle.page_pool.proofs.Drawn.{drawn, room_for, held_anew, made_anew}
 use Rattle.page_pool.proofs.Padded.{length-padded}
-use Rattle.page_pool.proofs.Kept.{front, read_now, made_set, made_still, holds_less, seen_held, seen_drawn, seen_cut, seen_copy, idle_copy}
+use Rattle.page_pool.proofs.Kept.{front, read_now, made_set, made_still, holds_less, seen_copy, idle_copy}
 use Rattle.page_pool.proofs.frames.Frames.fork.Goals as goal
 
 pub index_mut-requires : goal.index_mut-requires

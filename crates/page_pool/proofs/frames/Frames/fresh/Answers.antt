@@ -4,7 +4,7 @@ use Rattle.page_pool.specs.Store.{Store, blank}
 use Rattle.page_pool.proofs.Places.{length-blank}
 use Rattle.byte_run.proofs.Cuts.{length-put}
 use Rattle.page_pool.proofs.Stock.{sound}
-use Rattle.page_pool.proofs.Drawn.{Drawn, drawn, room_for, held_anew, made_anew}
+use Rattle.page_pool.proofs.Drawn.{drawn, room_for, held_anew, made_anew}
 use Rattle.page_pool.proofs.Padded.{length-padded}
 use Rattle.page_pool.proofs.Kept.{seen_drawn}
 use Rattle.page_pool.proofs.frames.Frames.fresh.Goals as goal

@@ -1,4 +1,4 @@
-use Rattle.std.proofs.Common.{◌≡◌, ◌<◌, ◌+◌, ◌∙◌, ap, sym, refl, length, arith}
+use Rattle.std.proofs.Common.{◌<◌, ◌+◌, ap, sym, refl, length, arith}
 use Rattle.page_pool.specs.Store.{Store}
 use Rattle.page_pool.proofs.Counts.{get_or-le-sum}
 use Rattle.page_pool.proofs.Steps.{inside}

@@ -1,4 +1,4 @@
-use Rattle.std.proofs.Common.{◌≡◌, ◌<◌, ◌∙◌, ap, sym, length, arith}
+use Rattle.std.proofs.Common.{◌<◌, ap, sym, length, arith}
 use Rattle.std.specs.Prelude.{nat_lt}
 use Rattle.page_pool.specs.Store.{Store}
 use Rattle.page_pool.proofs.Kept.{front, read_now}

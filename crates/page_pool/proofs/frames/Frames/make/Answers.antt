@@ -1,4 +1,4 @@
-use Rattle.std.proofs.Common.{◌≡◌, ◌*◌, ◌≤◌, ◌∙◌, ap, arith}
+use Rattle.std.proofs.Common.{arith}
 use Rattle.page_pool.proofs.Kept.{none_made, none_seen}
 use Rattle.page_pool.proofs.frames.Frames.make.Goals as goal
 

@@ -1,7 +1,6 @@
-use Rattle.std.proofs.Common.{◌≡◌, ◌+◌, ◌-◌, ◌*◌, ◌≤◌, ◌∙◌, ap, sym, refl, length, arith}
+use Rattle.std.proofs.Common.{◌+◌, ◌*◌, ◌≤◌, ◌∙◌, ap, refl, length, arith}
 use Rattle.page_pool.proofs.Places.{part-cut}
 use Rattle.page_pool.specs.Store.{Store}
-use Rattle.rdma_types.specs.Memory.{cut}
 use Rattle.page_pool.proofs.Kept.{front_inside, seen_cut}
 use Rattle.page_pool.proofs.frames.Frames.page.Goals as goal
 

@@ -1,4 +1,4 @@
-use Rattle.std.proofs.Common.{◌≡◌, ◌+◌, ◌-◌, ◌*◌, ◌≤◌, ◌<◌, ◌∙◌, ap, sym, refl, length, get_or, arith}
+use Rattle.std.proofs.Common.{◌-◌, ◌<◌, ap, sym, refl, length, arith}
 use Rattle.page_pool.specs.Store.{Store}
 use Rattle.page_pool.proofs.Stock.{done_unless, pushed_items, sound}
 use Rattle.page_pool.proofs.Kept.{front, read_now, made_set, holds_less, holds_none, room_left, seen_held}
