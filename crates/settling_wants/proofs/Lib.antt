@@ -1,0 +1,15 @@
+pub mod Tests
+pub mod Kept
+pub mod Moved
+pub mod Dried
+pub mod Answered
+pub mod Passing
+pub mod Wanted
+pub mod Stepping
+pub mod Noted
+pub mod Pieces
+pub mod Exchanged
+pub mod Partners
+pub mod Resumed
+pub mod Walking
+pub mod Wanting
