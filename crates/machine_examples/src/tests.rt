@@ -2,8 +2,8 @@
 
 use ideal_model::{Ideal, IdealFault, IdealStep};
 use rdma_types::{
-    Answer, Completion, Items, Kind, Name, ObjName, Request, Rights, Shape, Terms, Verb, WcKind,
-    WcStatus,
+    Answer, Completion, Items, Kind, Name, ObjName, Receive, Refusal, Request, Rights, Shape,
+    Terms, Verb, WcKind, WcStatus, Why,
 };
 use std::alloc::Global;
 use std::process::Abort;
@@ -15,130 +15,122 @@ const LOCAL_B: u32 = 0x02000002;
 
 const REMOTE_B: u32 = 0x02000003;
 
-fn name(text: &[u8]) -> Result<Name, Fail> {
-    Ok(Name::read(text).ok_or("a name")?)
+const NUMBER_A: u32 = 0x010001;
+
+const NUMBER_B: u32 = 0x020001;
+
+/// The names of the two contexts and of the things in them.
+#[derive(Clone, Copy)]
+struct Names {
+    a: Name,
+    b: Name,
+    domain: Name,
+    region: Name,
+    queue: Name,
+    end: Name,
 }
 
-fn object(context: &[u8], text: &[u8]) -> Result<ObjName, Fail> {
-    let context = name(context)?;
-    let name = name(text)?;
-    Ok(ObjName { context, name })
+fn read_names() -> Option<Names> {
+    Some(Names {
+        a: Name::read(b"a")?,
+        b: Name::read(b"b")?,
+        domain: Name::read(b"p")?,
+        region: Name::read(b"m")?,
+        queue: Name::read(b"c")?,
+        end: Name::read(b"q")?,
+    })
 }
 
-/// The end of the owner.
-fn q() -> Result<ObjName, Fail> {
-    object(b"a", b"q")
+fn at(context: Name, name: Name) -> ObjName {
+    ObjName { context, name }
 }
 
-/// Makes a step that answers `Done`.
-fn done(rt: &impl Abort, ideal: &mut Ideal, alloc: Global, step: IdealStep) -> Result<(), Fail> {
-    let answer = ideal.step(alloc, &step)?;
-    assert!(rt; matches!(&answer, Answer::Done));
-    Ok(())
-}
-
-fn verb(rt: &impl Abort, ideal: &mut Ideal, alloc: Global, verb: Verb) -> Result<(), Fail> {
-    done(rt, ideal, alloc, IdealStep::Verb { verb, given: 0 })
-}
-
-/// Makes something with a key or a number.
-fn given(ideal: &mut Ideal, alloc: Global, verb: Verb, given: u32) -> Result<(), Fail> {
-    let _ = ideal.step(alloc, &IdealStep::Verb { verb, given })?;
-    Ok(())
-}
-
-fn polled(ideal: &mut Ideal, alloc: Global, context: &[u8]) -> Result<Vec<Completion>, Fail> {
-    let cq = object(context, b"c")?;
-    let verb = Verb::Poll { cq, max: 4 };
-    match ideal.step(alloc, &IdealStep::Verb { verb, given: 0 })? {
-        Answer::Polled(entries) => Ok(entries.into_vec()),
-        _ => Ok(Err("entries")?),
-    }
-}
-
-fn loaded(ideal: &mut Ideal, alloc: Global, region: ObjName, at: u64) -> Result<Vec<u8>, Fail> {
-    let verb = Verb::Load {
-        region,
-        at,
-        length: 4,
-    };
-    match ideal.step(alloc, &IdealStep::Verb { verb, given: 0 })? {
-        Answer::Bytes(bytes) => Ok(bytes.into_vec()),
-        _ => Ok(Err("bytes")?),
-    }
+fn asks(verb: Verb, given: u32) -> IdealStep {
+    IdealStep::Verb { verb, given }
 }
 
 /// A context with a domain, a region, a queue and an end.
-fn side(
-    rt: &impl Abort,
-    ideal: &mut Ideal,
-    alloc: Global,
-    context: &[u8],
-    region: (&[u8], u64, u32),
-    number: u32,
-) -> Result<(), Fail> {
+fn side(n: &Names, context: Name, base: u64, key: u32, number: u32) -> [IdealStep; 5] {
     let made = Verb::Context {
-        name: name(context)?,
+        name: context,
         made: true,
     };
-    verb(rt, ideal, alloc, made)?;
     let domain = Verb::MakeDomain {
-        name: object(context, b"p")?,
+        name: at(context, n.domain),
     };
-    verb(rt, ideal, alloc, domain)?;
-    let memory = Verb::MakeRegion {
-        name: object(context, region.0)?,
-        domain: Some(name(b"p")?),
-        base: region.1,
+    let region = Verb::MakeRegion {
+        name: at(context, n.region),
+        domain: Some(n.domain),
+        base,
         length: 64,
         rights: Rights(15),
     };
-    given(ideal, alloc, memory, region.2)?;
     let queue = Verb::MakeCq {
-        name: object(context, b"c")?,
+        name: at(context, n.queue),
         capacity: 16,
     };
-    verb(rt, ideal, alloc, queue)?;
     let end = Verb::MakeQp {
-        name: object(context, b"q")?,
-        domain: Some(name(b"p")?),
-        send_cq: Some(name(b"c")?),
-        recv_cq: Some(name(b"c")?),
+        name: at(context, n.end),
+        domain: Some(n.domain),
+        send_cq: Some(n.queue),
+        recv_cq: Some(n.queue),
         send_depth: 8,
         recv_depth: 8,
     };
-    given(ideal, alloc, end, number)
+    [
+        asks(made, 0),
+        asks(domain, 0),
+        asks(region, key),
+        asks(queue, 0),
+        asks(end, number),
+    ]
 }
 
-/// The usual opening.
-fn opened(rt: &impl Abort, alloc: Global) -> Result<Ideal, Fail> {
-    let mut ideal = Ideal::make(alloc);
-    side(rt, &mut ideal, alloc, b"a", (b"m", 4096, LOCAL_A), 0x010001)?;
-    side(rt, &mut ideal, alloc, b"b", (b"n", 8192, LOCAL_B), 0x020001)?;
-    let terms = Terms {
-        mtu: 256,
-        own_start: 100,
-        peer_start: 200,
-        retry: 7,
-        rnr: 7,
-        reads: 4,
-    };
-    let connect = Verb::Connect {
-        one: object(b"a", b"q")?,
-        two: object(b"b", b"q")?,
-        terms,
-    };
-    verb(rt, &mut ideal, alloc, connect)?;
-    Ok(ideal)
+/// Makes the steps.
+fn make_all(ideal: &mut Ideal, alloc: Global, steps: &[IdealStep]) -> Result<(), IdealFault> {
+    for step in steps {
+        let _ = ideal.step(alloc, step)?;
+    }
+    Ok(())
 }
 
-fn post(
+/// Makes steps of which each answers `Done`.
+fn all_done(
     rt: &impl Abort,
     ideal: &mut Ideal,
     alloc: Global,
-    id: u64,
-    shape: Shape,
-) -> Result<(), Fail> {
+    steps: &[IdealStep],
+) -> Result<(), IdealFault> {
+    for step in steps {
+        let answer = ideal.step(alloc, step)?;
+        assert!(rt; matches!(&answer, Answer::Done));
+    }
+    Ok(())
+}
+
+/// Two contexts whose ends are connected.
+fn opened(alloc: Global, n: &Names) -> Result<Ideal, IdealFault> {
+    let mut ideal = Ideal::make(alloc);
+    make_all(&mut ideal, alloc, &side(n, n.a, 4096, LOCAL_A, NUMBER_A))?;
+    make_all(&mut ideal, alloc, &side(n, n.b, 8192, LOCAL_B, NUMBER_B))?;
+    let connect = Verb::Connect {
+        one: at(n.a, n.end),
+        two: at(n.b, n.end),
+        terms: Terms {
+            mtu: 256,
+            own_start: 100,
+            peer_start: 200,
+            retry: 7,
+            rnr: 7,
+            reads: 4,
+        },
+    };
+    make_all(&mut ideal, alloc, &[asks(connect, 0)])?;
+    Ok(ideal)
+}
+
+/// Posts a request of this shape at the end of the first context.
+fn post(end: ObjName, id: u64, shape: Shape) -> IdealStep {
     let request = Request {
         id,
         shape,
@@ -147,8 +139,7 @@ fn post(
         signaled: true,
         fence: false,
     };
-    let posted = Verb::PostSend { end: q()?, request };
-    verb(rt, ideal, alloc, posted)
+    asks(Verb::PostSend { end, request }, 0)
 }
 
 fn shape(kind: Kind, length: u32, remote: u64, rkey: u32, swap_add: u64) -> Shape {
@@ -163,30 +154,146 @@ fn shape(kind: Kind, length: u32, remote: u64, rkey: u32, swap_add: u64) -> Shap
     }
 }
 
+fn completion(qp: u32, id: u64, kind: WcKind, status: WcStatus, length: u32) -> Completion {
+    Completion {
+        qp,
+        id,
+        kind,
+        status,
+        length,
+        imm: None,
+    }
+}
+
+/// A poll of a queue answers these completions.
+fn polls(
+    ideal: &mut Ideal,
+    alloc: Global,
+    cq: ObjName,
+    wanted: &[Completion],
+) -> Result<bool, IdealFault> {
+    match &ideal.step(alloc, &asks(Verb::Poll { cq, max: 4 }, 0))? {
+        Answer::Polled(entries) => Ok(entries.as_slice() == wanted),
+        _ => Ok(false),
+    }
+}
+
+/// A load of four bytes answers these.
+fn loads(
+    ideal: &mut Ideal,
+    alloc: Global,
+    region: ObjName,
+    at: u64,
+    wanted: &[u8],
+) -> Result<bool, IdealFault> {
+    let verb = Verb::Load {
+        region,
+        at,
+        length: 4,
+    };
+    match &ideal.step(alloc, &asks(verb, 0))? {
+        Answer::Bytes(bytes) => Ok(bytes.as_slice() == wanted),
+        _ => Ok(false),
+    }
+}
+
+/// The step is not enabled.
+fn is_off(ideal: &mut Ideal, alloc: Global, step: &IdealStep) -> bool {
+    matches!(&ideal.step(alloc, step), Err(IdealFault::NotEnabled))
+}
+
 #[test]
 fn one_write_completed(rt: HostRuntime) -> Result<(), Fail> {
     let alloc = rt.alloc();
-    let mut ideal = opened(&rt, alloc)?;
+    let n = read_names().ok_or("names")?;
+    let q = at(n.a, n.end);
+    let mut ideal = opened(alloc, &n)?;
     let store = Verb::Store {
-        region: object(b"a", b"m")?,
+        region: at(n.a, n.region),
         at: 4096,
         bytes: Items::new([0xde, 0xad, 0xbe, 0xef].to_vec(alloc)?),
     };
-    verb(&rt, &mut ideal, alloc, store)?;
-    let write = shape(Kind::Write, 4, 8192, REMOTE_B, 0);
-    post(&rt, &mut ideal, alloc, 1, write)?;
-    let early = ideal.step(alloc, &IdealStep::Tell { q: q()? });
-    assert!(&rt; matches!(&early, Err(IdealFault::NotEnabled)));
-    done(&rt, &mut ideal, alloc, IdealStep::Run { q: q()?, n: 4 })?;
-    done(&rt, &mut ideal, alloc, IdealStep::Tell { q: q()? })?;
-    let first = polled(&mut ideal, alloc, b"a")?;
-    assert_eq!(&rt; first.len(), 1);
-    assert_eq!(&rt; first[0].qp, 0x010001);
-    assert_eq!(&rt; first[0].kind, WcKind::Write);
-    assert_eq!(&rt; first[0].status, WcStatus::Success);
-    assert_eq!(&rt; first[0].length, 4);
-    assert_eq!(&rt; polled(&mut ideal, alloc, b"a")?.len(), 0);
-    let bytes = loaded(&mut ideal, alloc, object(b"b", b"n")?, 8192)?;
-    assert_eq!(&rt; bytes.as_slice(), [0xde, 0xad, 0xbe, 0xef].as_slice());
+    let write = post(q, 1, shape(Kind::Write, 4, 8192, REMOTE_B, 0));
+    all_done(&rt, &mut ideal, alloc, &[asks(store, 0), write])?;
+    assert!(&rt; is_off(&mut ideal, alloc, &IdealStep::Tell { q }));
+    let steps = [IdealStep::Run { q, n: 4 }, IdealStep::Tell { q }];
+    all_done(&rt, &mut ideal, alloc, &steps)?;
+    let told = [completion(NUMBER_A, 1, WcKind::Write, WcStatus::Success, 4)];
+    assert!(&rt; polls(&mut ideal, alloc, at(n.a, n.queue), &told)?);
+    assert!(&rt; polls(&mut ideal, alloc, at(n.a, n.queue), &[])?);
+    let there = at(n.b, n.region);
+    assert!(&rt; loads(&mut ideal, alloc, there, 8192, &[0xde, 0xad, 0xbe, 0xef])?);
+    Ok(())
+}
+
+#[test]
+fn an_atomic_and_a_read(rt: HostRuntime) -> Result<(), Fail> {
+    let alloc = rt.alloc();
+    let n = read_names().ok_or("names")?;
+    let q = at(n.a, n.end);
+    let mut ideal = opened(alloc, &n)?;
+    let add = post(q, 1, shape(Kind::FetchAdd, 8, 8192, REMOTE_B, 5));
+    all_done(&rt, &mut ideal, alloc, &[add, IdealStep::Atom { q }])?;
+    assert!(&rt; is_off(&mut ideal, alloc, &IdealStep::Atom { q }));
+    let steps = [
+        IdealStep::Tell { q },
+        post(q, 2, shape(Kind::Read, 4, 8196, REMOTE_B, 0)),
+        IdealStep::ReadTurn { q },
+        IdealStep::Offer {
+            q,
+            i: 1,
+            off: 0,
+            n: 4,
+        },
+        IdealStep::Land { q, o: 0 },
+        IdealStep::Tell { q },
+    ];
+    all_done(&rt, &mut ideal, alloc, &steps)?;
+    let here = at(n.a, n.region);
+    assert!(&rt; loads(&mut ideal, alloc, here, 4096, &[0, 0, 0, 5])?);
+    let told = [
+        completion(NUMBER_A, 1, WcKind::FetchAdd, WcStatus::Success, 8),
+        completion(NUMBER_A, 2, WcKind::Read, WcStatus::Success, 4),
+    ];
+    assert!(&rt; polls(&mut ideal, alloc, at(n.a, n.queue), &told)?);
+    Ok(())
+}
+
+#[test]
+fn a_send_too_long_and_a_flush(rt: HostRuntime) -> Result<(), Fail> {
+    let alloc = rt.alloc();
+    let n = read_names().ok_or("names")?;
+    let q = at(n.a, n.end);
+    let mut ideal = opened(alloc, &n)?;
+    let receive = Verb::PostRecv {
+        end: at(n.b, n.end),
+        receive: Receive {
+            id: 9,
+            lkey: LOCAL_B,
+            local: 8192,
+            length: 2,
+        },
+    };
+    all_done(&rt, &mut ideal, alloc, &[asks(receive, 0)])?;
+    let name = at(n.b, n.region);
+    let busy = ideal.step(alloc, &asks(Verb::DropRegion { name }, 0))?;
+    assert!(&rt; matches!(&busy, Answer::Refused(Refusal::InUse)));
+    let steps = [
+        post(q, 3, shape(Kind::Send, 4, 0, 0, 0)),
+        post(q, 4, shape(Kind::Send, 4, 0, 0, 0)),
+        IdealStep::Refuse {
+            q,
+            why: Why::Length,
+        },
+        IdealStep::Bounce { q },
+    ];
+    all_done(&rt, &mut ideal, alloc, &steps)?;
+    let there = [completion(NUMBER_B, 9, WcKind::Recv, WcStatus::LocalLength, 0)];
+    assert!(&rt; polls(&mut ideal, alloc, at(n.b, n.queue), &there)?);
+    let here = [
+        completion(NUMBER_A, 3, WcKind::Send, WcStatus::RemoteInvalid, 0),
+        completion(NUMBER_A, 4, WcKind::Send, WcStatus::Flush, 0),
+    ];
+    assert!(&rt; polls(&mut ideal, alloc, at(n.a, n.queue), &here)?);
     Ok(())
 }
