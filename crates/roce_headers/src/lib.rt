@@ -9,8 +9,6 @@ mod datagram;
 mod laws;
 mod opcodes;
 mod reading;
-#[cfg(test)]
-mod tests;
 mod writing;
 
 pub use datagram::Datagram;

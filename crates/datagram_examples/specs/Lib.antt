@@ -1,0 +1,4 @@
+pub mod Said
+pub mod Datagrams
+pub mod Bits
+pub mod Forged
