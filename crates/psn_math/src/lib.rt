@@ -62,36 +62,3 @@ pub fn place(n: u64, expected: u64) -> Place
 pub fn near_numbers_are_one()
     ensures { (start psn near m n : ℕ) → IsNear start psn near m → IsNear start psn near n → m ≡ n }
 {}
-
-#[cfg(test)]
-mod tests {
-    use super::*;
-
-    #[test]
-    fn starts_at_the_last_wire_number(rt: HostRuntime) {
-        for (n, psn) in [(0, 0xff_ffff), (1, 0), (2, 1)] {
-            assert_eq!(rt; wire_of(n, 16_777_215), psn, "the wire number of {n}");
-            assert_eq!(rt;
-                unwrap_near(psn, 16_777_215, 0),
-                Some(n),
-                "the number of {psn}"
-            );
-        }
-    }
-
-    #[test]
-    fn ends_at_the_edges_of_the_half_range(rt: HostRuntime) {
-        assert_eq!(rt; unwrap_near(0, 0, 8_388_608), Some(0));
-        assert_eq!(rt; unwrap_near(0, 0, 8_388_609), Some(16_777_216));
-        assert_eq!(rt; unwrap_near(8_388_607, 0, 0), Some(8_388_607));
-        assert_eq!(rt; unwrap_near(8_388_608, 0, 0), None);
-        assert_eq!(rt; unwrap_near(16_777_215, 0, 0), None);
-    }
-
-    #[test]
-    fn places_numbers(rt: HostRuntime) {
-        assert_eq!(rt; place(6, 7), Place::Before);
-        assert_eq!(rt; place(7, 7), Place::Expected);
-        assert_eq!(rt; place(8, 7), Place::Ahead);
-    }
-}
