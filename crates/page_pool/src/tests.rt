@@ -38,6 +38,23 @@ fn a_shared_page_is_copied(rt: HostRuntime) -> Result<(), Fail> {
 }
 
 #[test]
+fn pages_given_back_are_taken_again(rt: HostRuntime) -> Result<(), Fail> {
+    let mut pool = PagePool::make(rt.alloc(), 2)?;
+    let mut old = pool.take(rt.alloc(), 2)?;
+    assert_eq!(rt; pool.size(&old), 8192);
+    pool.write(&mut old, 4096, &[1, 2]);
+    pool.give(old);
+    let mut a = pool.take(rt.alloc(), 1)?;
+    assert_eq!(rt; pool.size(&a), 4096);
+    let b = pool.share(rt.alloc(), &a, 0, 1)?;
+    assert_eq!(rt; pool.size(&a), 4096);
+    pool.write(&mut a, 0, &[3, 4]);
+    assert_eq!(rt; two_at(&pool, &b, 0), Some([0, 0]));
+    assert_eq!(rt; two_at(&pool, &a, 0), Some([3, 4]));
+    Ok(())
+}
+
+#[test]
 fn bytes_are_lowered_and_lifted(rt: HostRuntime) -> Result<(), Fail> {
     let mut pool = PagePool::make(rt.alloc(), 2)?;
     let mut bytes = ByteRun::make(rt.alloc());
