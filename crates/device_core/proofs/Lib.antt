@@ -3,6 +3,7 @@ pub mod Pairs
 pub mod Contexts
 pub mod Indexes
 pub mod Dones
+pub mod Lookups
 pub mod Helds
 pub mod HuskNames
 pub mod Stepping

@@ -213,10 +213,9 @@ impl Device {
         let Some(spot) = self.spot_of(d.dest) else {
             return Ok(silent(alloc, SilentWhy::Unknown));
         };
-        if !self.contexts.contains_key(&spot.context) {
+        let Some(state) = self.contexts.get_mut(&spot.context) else {
             return told_memory(self.answer_stopped(alloc, from, &d, &spot));
-        }
-        let state = self.contexts.get_mut(&spot.context).unwrap();
+        };
         let taken = state.take(alloc, &mut self.pool, spot.place, &d);
         told_taken(alloc, taken)
     }

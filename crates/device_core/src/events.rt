@@ -24,11 +24,10 @@ impl Device {
     ) -> Result<Outcome, ContextFault>
         ensures { IsDone self.old (Event.MakeDomain o.now) self.new result }
     {
-        if !self.contexts.contains_key(&o.context) {
-            return Err(ContextFault::Refused(self.missing(o.context)));
-        }
         let _spelled = o.name.as_bytes();
-        let state = self.contexts.get_mut(&o.context).unwrap();
+        let Some(state) = self.contexts.get_mut(&o.context) else {
+            return Err(ContextFault::Refused(self.missing(o.context)));
+        };
         let made = state.make_domain(o.name);
         told(alloc, made, Answer::Done)
     }
@@ -74,11 +73,10 @@ impl Device {
         requires { IsLawfulEvent (Event.MakeCq o.now capacity) }
         ensures { IsDone self.old (Event.MakeCq o.now capacity) self.new result }
     {
-        if !self.contexts.contains_key(&o.context) {
-            return Err(ContextFault::Refused(self.missing(o.context)));
-        }
         let _spelled = o.name.as_bytes();
-        let state = self.contexts.get_mut(&o.context).unwrap();
+        let Some(state) = self.contexts.get_mut(&o.context) else {
+            return Err(ContextFault::Refused(self.missing(o.context)));
+        };
         let made = state.make_cq(alloc, o.name, capacity);
         told(alloc, made, Answer::Done)
     }
@@ -96,10 +94,9 @@ impl Device {
         ensures done { IsDone self.old (Event.Connect o.now peer partner terms.now) self.new result }
         ensures sure { IsSure result }
     {
-        if !self.contexts.contains_key(&o.context) {
+        let Some(state) = self.contexts.get_mut(&o.context) else {
             return Err(ContextFault::Refused(self.missing(o.context)));
-        }
-        let state = self.contexts.get_mut(&o.context).unwrap();
+        };
         let made = state.connect(o.name, peer, partner, terms);
         told_done(alloc, made)
     }
@@ -112,10 +109,9 @@ impl Device {
     ) -> Result<Outcome, ContextFault>
         ensures { IsDone self.old (Event.DropRegion o.now) self.new result }
     {
-        if !self.contexts.contains_key(&o.context) {
+        let Some(state) = self.contexts.get_mut(&o.context) else {
             return Err(ContextFault::Refused(self.missing(o.context)));
-        }
-        let state = self.contexts.get_mut(&o.context).unwrap();
+        };
         let made = state.drop_region(&mut self.pool, o.name);
         told_done(alloc, made)
     }
@@ -130,10 +126,9 @@ impl Device {
     ) -> Result<Outcome, ContextFault>
         ensures { IsDone self.old (Event.Store o.now at bytes.now) self.new result }
     {
-        if !self.contexts.contains_key(&o.context) {
+        let Some(state) = self.contexts.get_mut(&o.context) else {
             return Err(ContextFault::Refused(self.missing(o.context)));
-        }
-        let state = self.contexts.get_mut(&o.context).unwrap();
+        };
         let made = state.store(&mut self.pool, o.name, at, bytes);
         told_done(alloc, made)
     }
@@ -148,10 +143,9 @@ impl Device {
     ) -> Result<Outcome, ContextFault>
         ensures { IsDone self.now (Event.Load o.now at length) self.now result }
     {
-        if !self.contexts.contains_key(&o.context) {
+        let Some(state) = self.contexts.get(&o.context) else {
             return Err(ContextFault::Refused(self.missing(o.context)));
-        }
-        let state = self.contexts.get(&o.context).unwrap();
+        };
         let made = state.load(alloc, &self.pool, o.name, at, length);
         told_bytes(alloc, made)
     }
@@ -166,10 +160,9 @@ impl Device {
         requires { IsLawfulEvent (Event.PostSend o.now request.now) }
         ensures { IsDone self.old (Event.PostSend o.now request.now) self.new result }
     {
-        if !self.contexts.contains_key(&o.context) {
+        let Some(state) = self.contexts.get_mut(&o.context) else {
             return Err(ContextFault::Refused(self.missing(o.context)));
-        }
-        let state = self.contexts.get_mut(&o.context).unwrap();
+        };
         let made = state.post_send(alloc, &mut self.pool, o.name, request);
         told(alloc, made, Answer::Done)
     }
@@ -183,10 +176,9 @@ impl Device {
     ) -> Result<Outcome, ContextFault>
         ensures { IsDone self.old (Event.PostRecv o.now receive.now) self.new result }
     {
-        if !self.contexts.contains_key(&o.context) {
+        let Some(state) = self.contexts.get_mut(&o.context) else {
             return Err(ContextFault::Refused(self.missing(o.context)));
-        }
-        let state = self.contexts.get_mut(&o.context).unwrap();
+        };
         let made = state.post_recv(&mut self.pool, o.name, receive);
         told_done(alloc, made)
     }
@@ -200,10 +192,9 @@ impl Device {
     ) -> Result<Outcome, ContextFault>
         ensures { IsDone self.old (Event.Poll o.now most) self.new result }
     {
-        if !self.contexts.contains_key(&o.context) {
+        let Some(state) = self.contexts.get_mut(&o.context) else {
             return Err(ContextFault::Refused(self.missing(o.context)));
-        }
-        let state = self.contexts.get_mut(&o.context).unwrap();
+        };
         let made = state.poll(alloc, o.name, most);
         told_polled(alloc, made)
     }
@@ -212,10 +203,9 @@ impl Device {
     pub(crate) fn transmit(&mut self, alloc: Global, o: &ObjName) -> Result<Outcome, ContextFault>
         ensures { IsDone self.old (Event.Transmit o.now) self.new result }
     {
-        if !self.contexts.contains_key(&o.context) {
+        let Some(state) = self.contexts.get_mut(&o.context) else {
             return Err(ContextFault::Refused(self.missing(o.context)));
-        }
-        let state = self.contexts.get_mut(&o.context).unwrap();
+        };
         let made = state.transmit(alloc, &self.pool, o.name, self.address);
         told_sent(made)
     }
@@ -224,10 +214,9 @@ impl Device {
     pub(crate) fn expire(&mut self, alloc: Global, o: &ObjName) -> Result<Outcome, ContextFault>
         ensures { IsDone self.old (Event.Expire o.now) self.new result }
     {
-        if !self.contexts.contains_key(&o.context) {
+        let Some(state) = self.contexts.get_mut(&o.context) else {
             return Err(ContextFault::Refused(self.missing(o.context)));
-        }
-        let state = self.contexts.get_mut(&o.context).unwrap();
+        };
         let made = state.expire(&mut self.pool, o.name);
         told_answer(alloc, made)
     }
@@ -236,10 +225,9 @@ impl Device {
     pub(crate) fn rnr_over(&mut self, alloc: Global, o: &ObjName) -> Result<Outcome, ContextFault>
         ensures { IsDone self.old (Event.RnrOver o.now) self.new result }
     {
-        if !self.contexts.contains_key(&o.context) {
+        let Some(state) = self.contexts.get_mut(&o.context) else {
             return Err(ContextFault::Refused(self.missing(o.context)));
-        }
-        let state = self.contexts.get_mut(&o.context).unwrap();
+        };
         let made = state.rnr_over(o.name);
         told_answer(alloc, made)
     }

@@ -158,10 +158,9 @@ impl Device {
     fn stop_refusal(&self, name: Name, alone: bool) -> Option<Refusal>
         ensures { result ≡ first_cause (causes_of self.now (Event.Stop name alone)) }
     {
-        if !self.contexts.contains_key(&name) {
+        let Some(state) = self.contexts.get(&name) else {
             return Some(self.missing(name));
-        }
-        let state = self.contexts.get(&name).unwrap();
+        };
         stop_cause(pauses(state, alone), self.leaves_none(state))
     }
 

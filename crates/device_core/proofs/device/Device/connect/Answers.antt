@@ -1,4 +1,4 @@
-use Rattle.std.proofs.Common.{arith, ◌≡◌, ◌∙◌, sym, ap, refl, Some}
+use Rattle.std.proofs.Common.{arith, ◌≡◌, refl, Some}
 use Rattle.std.specs.Str.{bytes_eq}
 use Rattle.std.specs.Map.{lookup}
 use Rattle.protocol.specs.declared.events.Event.TheVariants as event
@@ -7,22 +7,23 @@ use Rattle.context_core.specs.Causes.{connect_causes}
 use Rattle.protocol.specs.State.{end_at}
 use Rattle.device_core.specs.Done.{plain}
 use Rattle.device_core.specs.Parts.{device_of}
-use Rattle.protocol.specs.Refusals.{has_context}
-use Rattle.device_core.proofs.Contexts.{found-there}
-use Rattle.device_core.proofs.Dones.{missing-done}
 use Rattle.device_core.proofs.Helds.{is-context, moves-plainly}
+use Rattle.device_core.proofs.Lookups.{gone-kept, held-kept, missing-kept, none-mut, same-kept}
 use Rattle.device_core.proofs.Stepping.{Turn, done-at, err-same, found-mut, stepped-plainly, unchanged-err}
 use Rattle.device_core.proofs.device.Device.connect.Goals as goal
 
 pub invariant_of-self : goal.invariant_of-self
-invariant_of-self c =
+invariant_of-self c = held-kept c.self.inside.id c.self.inside.address c.self.inside.qp_count c.self.inside.key_count c.self.inside.pool c.self.inside.contexts.entries c.get_mut.follows.lender-at-none.entries c.self.inside.husks.entries _ (λ i. (c.get_mut.follows.holds-at-none i).entries) c.self.invariant
+
+pub invariant_of-self-2 : goal.invariant_of-self-2
+invariant_of-self-2 c =
     let x = c.self.inside in
     let n = c.args.o.now.context in
-    let s = c.unwrap-state.result.now in
+    let s = c.in-Some.state.now in
     let s' = c.connect-made.new.self in
     let e = c.connect-made.ensures in
     let d = device_of x.id x.address x.qp_count x.key_count x.pool x.contexts.entries x.husks.entries in
-    let found : lookup (bytes_eq n) x.contexts.entries ≡ Some s = found-mut c.get_mut.result c.unwrap-state.result (lookup (bytes_eq n) x.contexts.entries) c.unwrap-state.ensures c.get_mut.ensures.value in
+    let found : lookup (bytes_eq n) x.contexts.entries ≡ Some s = found-mut c.get_mut.result c.in-Some.state (lookup (bytes_eq n) x.contexts.entries) c.in-Some.is c.get_mut.ensures.value in
     let is = is-context x.id x.address x.qp_count x.key_count x.pool x.contexts.entries x.husks.entries _ c.self.invariant n s found in
     let turn : Turn x.pool x.pool n s s' = record { moves = moves-plainly x.pool s s' e.lists (λ m. e.pages x.pool m is); is = e.is x.pool is; numbers = e.numbers x.pool n } in
     (stepped-plainly x.id x.address x.qp_count x.key_count x.pool x.contexts.entries x.husks.entries _ c.self.invariant n s found x.pool s' turn (c.get_mut.follows.lender s').entries (c.get_mut.follows.holds s').0 x.qp_count x.key_count (omega arith)
@@ -33,11 +34,11 @@ pub returns-clause-done : goal.returns-clause-done
 returns-clause-done c =
     let x = c.self.inside in
     let n = c.args.o.now.context in
-    let s = c.unwrap-state.result.now in
+    let s = c.in-Some.state.now in
     let s' = c.connect-made.new.self in
     let e = c.connect-made.ensures in
     let d = device_of x.id x.address x.qp_count x.key_count x.pool x.contexts.entries x.husks.entries in
-    let found : lookup (bytes_eq n) x.contexts.entries ≡ Some s = found-mut c.get_mut.result c.unwrap-state.result (lookup (bytes_eq n) x.contexts.entries) c.unwrap-state.ensures c.get_mut.ensures.value in
+    let found : lookup (bytes_eq n) x.contexts.entries ≡ Some s = found-mut c.get_mut.result c.in-Some.state (lookup (bytes_eq n) x.contexts.entries) c.in-Some.is c.get_mut.ensures.value in
     let is = is-context x.id x.address x.qp_count x.key_count x.pool x.contexts.entries x.husks.entries _ c.self.invariant n s found in
     let turn : Turn x.pool x.pool n s s' = record { moves = moves-plainly x.pool s s' e.lists (λ m. e.pages x.pool m is); is = e.is x.pool is; numbers = e.numbers x.pool n } in
     done-at c.self.view_is (stepped-plainly x.id x.address x.qp_count x.key_count x.pool x.contexts.entries x.husks.entries _ c.self.invariant n s found x.pool s' turn (c.get_mut.follows.lender s').entries (c.get_mut.follows.holds s').0 x.qp_count x.key_count (omega arith)
@@ -45,10 +46,10 @@ returns-clause-done c =
     c.connect-made.result c.told_done.ensures.told (e.refused x.pool n) (e.connected x.pool n d is) (unchanged-err _ x.pool x.pool s s' _ _ e.err (err-same _ x.pool)))
 
 pub missing-requires : goal.missing-requires
-missing-requires c = ap (λ k. has_context k c.args.o.now.context) (sym c.self.view_is) ∙ (sym (found-there c.self.inside.pool c.args.o.now.context c.self.inside.contexts.entries) ∙ (sym c.contains_key.ensures ∙ c.if-not-contains_key.true))
+missing-requires c = gone-kept c.self.inside.id c.self.inside.address c.self.inside.qp_count c.self.inside.key_count c.self.inside.pool c.self.inside.contexts.entries c.get_mut.follows.lender-at-none.entries c.self.inside.husks.entries c.args.o.now.context (λ i. (c.get_mut.follows.holds-at-none i).entries) (none-mut c.get_mut.result (lookup (bytes_eq c.args.o.now.context) c.self.inside.contexts.entries) c.in_default.is c.get_mut.ensures.value)
 
-pub returns-then-not-contains_key-clause-done : goal.returns-then-not-contains_key-clause-done
-returns-then-not-contains_key-clause-done c = missing-done c.args.self.now (event.Connect c.args.o.now c.args.peer c.args.partner c.args.terms.now) c.args.o.now.context (λ k. connect_causes k c.args.o.now.name) c.missing.result refl (c.missing.ensures (λ k. connect_causes k c.args.o.now.name))
+pub returns-in_default-clause-done : goal.returns-in_default-clause-done
+returns-in_default-clause-done c = missing-kept c.args.self.now _ (event.Connect c.args.o.now c.args.peer c.args.partner c.args.terms.now) c.args.o.now.context (λ k. connect_causes k c.args.o.now.name) c.missing.result refl (same-kept c.self.inside.id c.self.inside.address c.self.inside.qp_count c.self.inside.key_count c.self.inside.pool c.self.inside.contexts.entries c.get_mut.follows.lender-at-none.entries c.self.inside.husks.entries (λ i. (c.get_mut.follows.holds-at-none i).entries) _ c.self.view_is) (c.missing.ensures (λ k. connect_causes k c.args.o.now.name))
 
 pub connect-made-requires-clause-is : goal.connect-made-requires-clause-is
-connect-made-requires-clause-is c = (c.self.inside.pool, is-context c.self.inside.id c.self.inside.address c.self.inside.qp_count c.self.inside.key_count c.self.inside.pool c.self.inside.contexts.entries c.self.inside.husks.entries _ c.self.invariant c.args.o.now.context c.unwrap-state.result.now (found-mut c.get_mut.result c.unwrap-state.result (lookup (bytes_eq c.args.o.now.context) c.self.inside.contexts.entries) c.unwrap-state.ensures c.get_mut.ensures.value))
+connect-made-requires-clause-is c = (c.self.inside.pool, is-context c.self.inside.id c.self.inside.address c.self.inside.qp_count c.self.inside.key_count c.self.inside.pool c.self.inside.contexts.entries c.self.inside.husks.entries _ c.self.invariant c.args.o.now.context c.in-Some.state.now (found-mut c.get_mut.result c.in-Some.state (lookup (bytes_eq c.args.o.now.context) c.self.inside.contexts.entries) c.in-Some.is c.get_mut.ensures.value))

@@ -1,15 +1,18 @@
-use Rattle.std.proofs.Common.{◌≡◌, ◌∙◌, sym, ap, subst, Some, true, false}
-use Rattle.std.specs.Prelude.{◌⊎◌}
+use Rattle.std.proofs.Common.{◌≡◌, ◌∙◌, refl, sym, ap, subst, Some, true, false}
+use Rattle.std.specs.Prelude.{◌⊎◌, is_some}
 use Rattle.std.specs.Str.{bytes_eq}
 use Rattle.std.specs.Map.{lookup}
+use Rattle.protocol.specs.declared.events.Event.TheVariants as event
 use Rattle.protocol.specs.Refusals.{has_context}
 use Rattle.protocol.specs.State.{Device}
 use Rattle.roce_headers.specs.Packets.{packet}
+use Rattle.device_core.specs.Done.{IsDone}
 use Rattle.device_core.specs.Index.{IsEndAt, IsEntryAt}
 use Rattle.device_core.specs.Parts.{device_of}
 use Rattle.device_core.proofs.Arrivals.{arrived, arrives-nothing, arrives-packet, found-nowhere, husk-arrived-at, lives-there, stays-there}
 use Rattle.device_core.proofs.Contexts.{found-there}
 use Rattle.device_core.proofs.Helds.{is-context}
+use Rattle.device_core.proofs.Lookups.{gone-kept, held-kept, none-mut, same-kept}
 use Rattle.device_core.proofs.Stepping.{Turn, done-at, found-mut}
 use Rattle.device_core.proofs.device.Device.take_bytes.Goals as goal
 
@@ -22,34 +25,47 @@ returns-in_default-spot_of-clause-done c =
     arrives-packet c.args.self.now c.args.from c.args.bytes.now (packet c.in-Ok.d) c.in-Ok.ensures.exact _ (found-nowhere c.args.self.now c.args.from (packet c.in-Ok.d) away.0 away.1)
     ∙ ap (λ o. record { device = c.args.self.now; outcome = o }) (sym c.silent-in_default-spot_of.ensures)
 
+pub invariant_of-self : goal.invariant_of-self
+invariant_of-self c = held-kept c.self.inside.id c.self.inside.address c.self.inside.qp_count c.self.inside.key_count c.self.inside.pool c.self.inside.contexts.entries c.get_mut.follows.lender-at-none.entries c.self.inside.husks.entries _ (λ i. (c.get_mut.follows.holds-at-none i).entries) c.self.invariant
+
 pub answer_stopped-requires-clause-entry : goal.answer_stopped-requires-clause-entry
 answer_stopped-requires-clause-entry c =
-    let n = c.in-Some.spot.context in
-    let gone : has_context c.args.self.now n ≡ false = ap (λ k. has_context k n) (sym c.self.view_is) ∙ (sym (found-there c.self.inside.pool n c.self.inside.contexts.entries) ∙ (sym c.contains_key.ensures ∙ c.if-not-contains_key.true)) in
-    stays-there c.args.self.now n c.in-Some.spot.place c.in-Ok.d.dest gone c.in-Some.ensures.there
-
-pub returns-then-not-contains_key-clause-done : goal.returns-then-not-contains_key-clause-done
-returns-then-not-contains_key-clause-done c =
-    let n = c.in-Some.spot.context in
-    let h = c.self.invariant in
-    let gone : has_context c.args.self.now n ≡ false = ap (λ k. has_context k n) (sym c.self.view_is) ∙ (sym (found-there c.self.inside.pool n c.self.inside.contexts.entries) ∙ (sym c.contains_key.ensures ∙ c.if-not-contains_key.true)) in
-    husk-arrived-at _ _ _ c.self.view_is h.indexed h.names h.husk_names n c.in-Some.spot.place c.args.from c.args.bytes.now (packet c.in-Ok.d) c.in-Ok.ensures.exact
-    (stays-there c.args.self.now n c.in-Some.spot.place c.in-Ok.d.dest gone c.in-Some.ensures.there) gone c.answer_stopped.result c.told_memory.result c.told_memory.ensures.told c.answer_stopped.ensures.done
-
-pub take-taken-requires-clause-is : goal.take-taken-requires-clause-is
-take-taken-requires-clause-is c = is-context c.self.inside.id c.self.inside.address c.self.inside.qp_count c.self.inside.key_count c.self.inside.pool c.self.inside.contexts.entries c.self.inside.husks.entries _ c.self.invariant c.in-Some.spot.context c.unwrap-state.result.now (found-mut c.get_mut.result c.unwrap-state.result (lookup (bytes_eq c.in-Some.spot.context) c.self.inside.contexts.entries) c.unwrap-state.ensures c.get_mut.ensures.value)
-
-pub invariant_of-self : goal.invariant_of-self
-invariant_of-self c =
     let x = c.self.inside in
     let n = c.in-Some.spot.context in
-    let s = c.unwrap-state.result.now in
+    let kept : c.get_mut.follows.lender-at-none.entries ≡ x.contexts.entries = λ i. (c.get_mut.follows.holds-at-none i).entries in
+    let d = device_of x.id x.address x.qp_count x.key_count x.pool c.get_mut.follows.lender-at-none.entries x.husks.entries in
+    let same : d ≡ c.args.self.now = same-kept x.id x.address x.qp_count x.key_count x.pool x.contexts.entries c.get_mut.follows.lender-at-none.entries x.husks.entries kept _ c.self.view_is in
+    let gone : has_context d n ≡ false = gone-kept x.id x.address x.qp_count x.key_count x.pool x.contexts.entries c.get_mut.follows.lender-at-none.entries x.husks.entries n kept (none-mut c.get_mut.result (lookup (bytes_eq n) x.contexts.entries) c.in_default-get_mut.is c.get_mut.ensures.value) in
+    let entry : IsEntryAt d n c.in-Some.spot.place c.in-Ok.d.dest = stays-there d n c.in-Some.spot.place c.in-Ok.d.dest gone (subst (λ (k : Device). IsEndAt k n c.in-Some.spot.place c.in-Ok.d.dest ⊎ IsEntryAt k n c.in-Some.spot.place c.in-Ok.d.dest) (sym same) c.in-Some.ensures.there) in
+    entry
+
+pub returns-in_default-get_mut-clause-done : goal.returns-in_default-get_mut-clause-done
+returns-in_default-get_mut-clause-done c =
+    let x = c.self.inside in
+    let n = c.in-Some.spot.context in
+    let kept : c.get_mut.follows.lender-at-none.entries ≡ x.contexts.entries = λ i. (c.get_mut.follows.holds-at-none i).entries in
+    let d = device_of x.id x.address x.qp_count x.key_count x.pool c.get_mut.follows.lender-at-none.entries x.husks.entries in
+    let same : d ≡ c.args.self.now = same-kept x.id x.address x.qp_count x.key_count x.pool x.contexts.entries c.get_mut.follows.lender-at-none.entries x.husks.entries kept _ c.self.view_is in
+    let gone : has_context d n ≡ false = gone-kept x.id x.address x.qp_count x.key_count x.pool x.contexts.entries c.get_mut.follows.lender-at-none.entries x.husks.entries n kept (none-mut c.get_mut.result (lookup (bytes_eq n) x.contexts.entries) c.in_default-get_mut.is c.get_mut.ensures.value) in
+    let entry : IsEntryAt d n c.in-Some.spot.place c.in-Ok.d.dest = stays-there d n c.in-Some.spot.place c.in-Ok.d.dest gone (subst (λ (k : Device). IsEndAt k n c.in-Some.spot.place c.in-Ok.d.dest ⊎ IsEntryAt k n c.in-Some.spot.place c.in-Ok.d.dest) (sym same) c.in-Some.ensures.there) in
+    let h = held-kept x.id x.address x.qp_count x.key_count x.pool x.contexts.entries c.get_mut.follows.lender-at-none.entries x.husks.entries _ kept c.self.invariant in
+    subst (λ k. IsDone k (event.Arrive c.args.from c.args.bytes.now) d c.told_memory.result) same
+    (husk-arrived-at _ d d refl h.indexed h.names h.husk_names n c.in-Some.spot.place c.args.from c.args.bytes.now (packet c.in-Ok.d) c.in-Ok.ensures.exact entry gone c.answer_stopped.result c.told_memory.result c.told_memory.ensures.told c.answer_stopped.ensures.done)
+
+pub take-taken-requires-clause-is : goal.take-taken-requires-clause-is
+take-taken-requires-clause-is c = is-context c.self.inside.id c.self.inside.address c.self.inside.qp_count c.self.inside.key_count c.self.inside.pool c.self.inside.contexts.entries c.self.inside.husks.entries _ c.self.invariant c.in-Some.spot.context c.in-Some-get_mut.state.now (found-mut c.get_mut.result c.in-Some-get_mut.state (lookup (bytes_eq c.in-Some.spot.context) c.self.inside.contexts.entries) c.in-Some-get_mut.is c.get_mut.ensures.value)
+
+pub invariant_of-self-2 : goal.invariant_of-self-2
+invariant_of-self-2 c =
+    let x = c.self.inside in
+    let n = c.in-Some.spot.context in
+    let s = c.in-Some-get_mut.state.now in
     let s' = c.take-taken.new.self in
     let pool' = c.take-taken.new.pool in
     let e = c.take-taken.ensures in
-    let found : lookup (bytes_eq n) x.contexts.entries ≡ Some s = found-mut c.get_mut.result c.unwrap-state.result (lookup (bytes_eq n) x.contexts.entries) c.unwrap-state.ensures c.get_mut.ensures.value in
+    let found : lookup (bytes_eq n) x.contexts.entries ≡ Some s = found-mut c.get_mut.result c.in-Some-get_mut.state (lookup (bytes_eq n) x.contexts.entries) c.in-Some-get_mut.is c.get_mut.ensures.value in
     let turn : Turn x.pool pool' n s s' = record { moves = e.moves; is = e.is; numbers = e.numbers n } in
-    let lives : has_context c.args.self.now n ≡ true = ap (λ k. has_context k n) (sym c.self.view_is) ∙ (sym (found-there x.pool n x.contexts.entries) ∙ (sym c.contains_key.ensures ∙ c.if-not-contains_key.false)) in
+    let lives : has_context c.args.self.now n ≡ true = ap (λ k. has_context k n) (sym c.self.view_is) ∙ (sym (found-there x.pool n x.contexts.entries) ∙ ap is_some found) in
     let d = device_of x.id x.address x.qp_count x.key_count x.pool x.contexts.entries x.husks.entries in
     let end : IsEndAt d n c.in-Some.spot.place c.in-Ok.d.dest = lives-there d n c.in-Some.spot.place c.in-Ok.d.dest (ap (λ k. has_context k n) c.self.view_is ∙ lives) (c.self.invariant.either n)
     (subst (λ (k : Device). IsEndAt k n c.in-Some.spot.place c.in-Ok.d.dest ⊎ IsEntryAt k n c.in-Some.spot.place c.in-Ok.d.dest) (sym c.self.view_is) c.in-Some.ensures.there) in
@@ -61,13 +77,13 @@ pub returns-clause-done : goal.returns-clause-done
 returns-clause-done c =
     let x = c.self.inside in
     let n = c.in-Some.spot.context in
-    let s = c.unwrap-state.result.now in
+    let s = c.in-Some-get_mut.state.now in
     let s' = c.take-taken.new.self in
     let pool' = c.take-taken.new.pool in
     let e = c.take-taken.ensures in
-    let found : lookup (bytes_eq n) x.contexts.entries ≡ Some s = found-mut c.get_mut.result c.unwrap-state.result (lookup (bytes_eq n) x.contexts.entries) c.unwrap-state.ensures c.get_mut.ensures.value in
+    let found : lookup (bytes_eq n) x.contexts.entries ≡ Some s = found-mut c.get_mut.result c.in-Some-get_mut.state (lookup (bytes_eq n) x.contexts.entries) c.in-Some-get_mut.is c.get_mut.ensures.value in
     let turn : Turn x.pool pool' n s s' = record { moves = e.moves; is = e.is; numbers = e.numbers n } in
-    let lives : has_context c.args.self.now n ≡ true = ap (λ k. has_context k n) (sym c.self.view_is) ∙ (sym (found-there x.pool n x.contexts.entries) ∙ (sym c.contains_key.ensures ∙ c.if-not-contains_key.false)) in
+    let lives : has_context c.args.self.now n ≡ true = ap (λ k. has_context k n) (sym c.self.view_is) ∙ (sym (found-there x.pool n x.contexts.entries) ∙ ap is_some found) in
     let d = device_of x.id x.address x.qp_count x.key_count x.pool x.contexts.entries x.husks.entries in
     let end : IsEndAt d n c.in-Some.spot.place c.in-Ok.d.dest = lives-there d n c.in-Some.spot.place c.in-Ok.d.dest (ap (λ k. has_context k n) c.self.view_is ∙ lives) (c.self.invariant.either n)
     (subst (λ (k : Device). IsEndAt k n c.in-Some.spot.place c.in-Ok.d.dest ⊎ IsEntryAt k n c.in-Some.spot.place c.in-Ok.d.dest) (sym c.self.view_is) c.in-Some.ensures.there) in
