@@ -1,0 +1,4 @@
+mod Carried
+mod Listed
+mod Reasons
+mod Leaving
