@@ -86,6 +86,3 @@ impl From<PoolFault> for MemFault {
         }
     }
 }
-
-#[cfg(test)]
-mod tests;

@@ -1,6 +1,6 @@
 use Rattle.std.proofs.Common.{rules, ◌≡◌, [], ap, arith, length}
 use Rattle.std.specs.Prelude.{unwrap_or}
-use Rattle.memory_keys.proofs.tests.a_snapshot_stays.Goals as goal
+use Rattle.memory_examples.proofs.tests.a_snapshot_stays.Goals as goal
 
 pub read-requires-2-clause-inside : goal.read-requires-2-clause-inside
 read-requires-2-clause-inside g c =

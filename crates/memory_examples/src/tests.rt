@@ -1,0 +1,83 @@
+//! A region of 64 bytes, and its bytes, where memory is ample.
+
+ghost use Rattle.std.specs.Prelude.{◌≡◌, ◌<◌, ◌+◌, IfOk, IfSome, None};
+ghost use Rattle.memory_keys.specs.Regions.{AreHeld, held_at};
+
+use memory_keys::{RegionHead, Regions, regions_stay_whatever_their_bytes};
+use page_pool::{ByteRun, PagePool};
+use rdma_types::{Keys, Name, Rights};
+use std::alloc::Global;
+use std::test::Fail;
+
+/// The head of a region of the domain `p` from address 8192 on, with all four rights and the keys from `local` on.
+fn head(name: &[u8], local: u32, length: u32) -> Option<RegionHead>
+    requires { local < 1000 }
+    ensures keys { IfSome result (λ h. h.keys ≡ record { local = local; remote = local + 1 }) }
+    ensures length { IfSome result (λ h. h.length ≡ length) }
+{
+    Some(RegionHead {
+        name: Name::read(name)?,
+        domain: Name::read(b"p")?,
+        base: 8192,
+        length,
+        rights: Rights(15),
+        keys: Keys {
+            local,
+            remote: local + 1,
+        },
+    })
+}
+
+/// A pool, and in it the region `n` of 64 bytes, with the keys 2 and 3.
+fn memory(alloc: Global, pages: u32) -> Result<(PagePool, Regions), Fail>
+    ensures held { IfOk result (λ m. AreHeld m.0 m.1) }
+    ensures other { IfOk result (λ m. held_at 4 m.1 ≡ None) }
+{
+    let mut pool = PagePool::make(alloc, pages)?;
+    let mut regions = Regions::make(alloc);
+    let first = head(b"n", 2, 64).ok_or("a name")?;
+    regions.register(&mut pool, alloc, first)?;
+    regions_stay_whatever_their_bytes();
+    Ok((pool, regions))
+}
+
+#[test]
+fn a_snapshot_stays(rt: HostRuntime) -> Result<(), Fail> {
+    let (mut pool, mut regions) = memory(rt.alloc(), 2)?;
+    let p = Name::read(b"p").ok_or("a name")?;
+    let place = regions.check_local(p, 2, 8192, 4, true);
+    let spot = place.ok_or("granted")?;
+    regions.store(&mut pool, spot, &[0xde, 0xad, 0xbe, 0xef]);
+    let payload = regions.snapshot(&mut pool, rt.alloc(), spot)?;
+    regions.store(&mut pool, spot, &[0; 4]);
+    let mut bytes = [1; 4];
+    pool.read(&payload.list, u64::from(payload.first), &mut bytes);
+    assert_eq!(rt; bytes, [0xde, 0xad, 0xbe, 0xef]);
+    Ok(())
+}
+
+/// Two bytes are restored as the region `m`, with the keys 4 and 5, and read again.
+fn are_restored(alloc: Global, pool: &mut PagePool, regions: &mut Regions) -> Result<bool, Fail>
+    requires held { AreHeld pool.old regions.old }
+    requires other { held_at 4 regions.old ≡ None }
+    ensures held { AreHeld pool.new regions.new }
+{
+    let mut bytes = ByteRun::make(alloc);
+    bytes.append(alloc, &[7, 8])?;
+    let m = head(b"m", 4, 2).ok_or("a name")?;
+    regions.restore(pool, alloc, m, &bytes)?;
+    if regions.len() != 2 || !regions.has_key(5) {
+        return Ok(false);
+    }
+    let copy = regions.bytes_at(alloc, pool, 1)?;
+    Ok(copy.len() == 2 && copy.piece(0) == [7, 8].as_slice())
+}
+
+#[test]
+fn bytes_come_back(rt: HostRuntime) -> Result<(), Fail> {
+    let (mut pool, mut regions) = memory(rt.alloc(), 2)?;
+    let same = are_restored(rt.alloc(), &mut pool, &mut regions)?;
+    regions.release(&mut pool);
+    assert!(rt; same && pool.free() == 2);
+    Ok(())
+}
