@@ -1,10 +1,14 @@
 //! Says of each line of standard input, the bytes of a dump in hex, that they are a dump, or else what is wrong with them
-//! first and where.
+//! first and where. Each is read in one piece, and in pieces of 1, 2, 7 and 4,096 bytes; a dump is written again, in one
+//! piece and in pieces. Where two ways differ, the line says which.
 #![tactic(auto)]
 
-use dump_reader::{DumpFault, decode_dump};
+ghost use Rattle.std.specs.Prelude.{◌<◌, IfOk};
+ghost use Rattle.protocol.specs.Lawful.{IsLawful};
+
+use context_dump::{DumpFault, DumpReader, DumpWriter, decode_dump, encode_dump};
 use hex::FromHexError;
-use protocol::DumpWhy;
+use protocol::{ContextImage, DumpWhy};
 use std::alloc::{AllocError, Global};
 use std::io;
 
@@ -21,17 +25,85 @@ fn word(why: DumpWhy) -> &'static str {
     }
 }
 
-fn say(alloc: Global, bytes: &[u8]) -> Result<String, AllocError> {
-    match decode_dump(alloc, bytes) {
-        Ok(_) => String::from_str(alloc, "ok"),
+/// Whether bytes are those of a dump, but for its version, which is written as 2.
+fn are_alike(dump: &[u8], written: &[u8]) -> bool {
+    dump.len() == written.len()
+        && dump.len() >= 10
+        && dump[..9] == written[..9]
+        && written[9] == 2
+        && dump[10..] == written[10..]
+}
+
+/// The bytes of an image, seven at a time, up to a little more than so many.
+fn write_in_sevens(alloc: Global, image: &ContextImage, most: usize) -> Result<Vec<u8>, AllocError>
+    requires { IsLawful image.now }
+{
+    let mut bytes = Vec::new(alloc);
+    let mut writer = DumpWriter::make(image);
+    let mut piece = [0; 7];
+    for _ in 0..=most / 7 {
+        let count = writer.fill(&mut piece);
+        bytes.extend_from_slice(&piece[..count])?;
+    }
+    Ok(bytes)
+}
+
+/// What is said of an image that bytes are a dump of.
+fn say_image(alloc: Global, bytes: &[u8], image: &ContextImage) -> Result<String, AllocError>
+    requires { IsLawful image.now }
+{
+    let written = encode_dump(alloc, image)?;
+    let said = if !are_alike(bytes, &written) {
+        "ok, but written otherwise"
+    } else if write_in_sevens(alloc, image, written.len())? != written {
+        "ok, but written otherwise in pieces"
+    } else {
+        "ok"
+    };
+    String::from_str(alloc, said)
+}
+
+fn say(
+    alloc: Global,
+    bytes: &[u8],
+    read: Result<ContextImage, DumpFault>,
+) -> Result<String, AllocError>
+    requires { IfOk read IsLawful }
+{
+    match read {
+        Ok(image) => say_image(alloc, bytes, &image),
         Err(DumpFault::BadDump { place, why }) => format!(in alloc; "bad {place} {}", word(why)),
         Err(DumpFault::OutOfMemory) => Err(AllocError),
     }
 }
 
+/// What the bytes are a dump of, where they come in pieces of a size.
+fn decode_in_pieces(alloc: Global, bytes: &[u8], size: usize) -> Result<ContextImage, DumpFault>
+    requires { 0 < size }
+    ensures { IfOk result IsLawful }
+{
+    let mut reader = DumpReader::make(alloc);
+    for piece in bytes.chunks(size) {
+        reader.feed(piece)?;
+    }
+    reader.finish()
+}
+
+/// What is said of bytes, and of the same bytes in pieces where that differs.
+fn say_bytes(alloc: Global, bytes: &[u8]) -> Result<String, AllocError> {
+    let said = say(alloc, bytes, decode_dump(alloc, bytes))?;
+    for size in [1, 2, 7, 4096] {
+        let again = say(alloc, bytes, decode_in_pieces(alloc, bytes, size))?;
+        if again != said {
+            return format!(in alloc; "{said}, but in pieces of {size} {again}");
+        }
+    }
+    Ok(said)
+}
+
 fn say_line(alloc: Global, line: &str) -> Result<String, AllocError> {
     match hex::decode(alloc, line) {
-        Ok(bytes) => say(alloc, &bytes),
+        Ok(bytes) => say_bytes(alloc, &bytes),
         Err(FromHexError::OutOfMemory) => Err(AllocError),
         Err(_) => String::from_str(alloc, "no hex"),
     }
