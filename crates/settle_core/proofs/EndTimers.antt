@@ -1,6 +1,6 @@
 -- The timers of one end.
-use Rattle.std.proofs.Common.{arith, ◌≡◌, ℕ, List, ◌∷◌, Bool, true, false, refl, sym, ap, ◌∙◌, subst, bytes_eq}
-use Rattle.std.specs.Prelude.{Option, Some, None, option_map, if◌then◌else◌, ◌&&◌, not, nat_lt}
+use Rattle.std.proofs.Common.{arith, ◌≡◌, ℕ, List, ◌∷◌, map, Bool, true, false, refl, sym, ap, ◌∙◌, subst, bytes_eq}
+use Rattle.std.specs.Prelude.{Option, Some, None, option_map, if◌then◌else◌, ◌&&◌, not, nat_lt, IfSome}
 use Rattle.std.proofs.lemmas.Slice.Eq.{bytes_eq-Decides}
 use Rattle.indexmap.specs.IndexMap.{get}
 use Rattle.rdma_types.specs.Lists.{first_that, same_object}
@@ -10,10 +10,11 @@ use Rattle.protocol.specs.declared.events.WorldEvent.{WorldEvent}
 use Rattle.protocol.specs.declared.events.WorldEvent.TheVariants as world_event
 use Rattle.protocol.specs.EndWords.{is_running}
 use Rattle.protocol.specs.State.{Link, World}
-use Rattle.protocol.specs.Settle.{Settling, Waited, expire_by, expire_visit, has_stepped, last_wait, link_at, live_ends, may_step, partner_ended, rnr_by, rnr_visit, settle_step, stepped_to}
+use Rattle.protocol.specs.Settle.{Settling, Waited, expire_by, expire_visit, has_stepped, last_wait, link_at, live_ends, marks, may_step, partner_ended, rnr_by, rnr_visit, settle_step, stepped_to}
 use Rattle.world_core.specs.Lives.{has_ended, link_view}
 use Rattle.context_core.specs.declared.lives.LinkView.{LinkView}
-use Rattle.settle_core.specs.Shown.{Settles, Shows, wait_of}
+use Rattle.settle_core.specs.Marks.{view_mark}
+use Rattle.settle_core.specs.Shown.{HasSeen, Settles, Shows, wait_of}
 use Rattle.settle_core.specs.Waits.{may_wait, view_expires}
 use Rattle.settle_core.specs.declared.notes.Notes.{Notes}
 use Rattle.settle_core.specs.declared.notes.Wait.{Wait}
@@ -52,13 +53,17 @@ expire_nothing : (s : Settling) (o : ObjName) (l : Option Link) → None ≡ opt
 expire_nothing s o None h = refl
 expire_nothing s o (Some l) h = absurd (cc)
 
-shown_stepped : (w : World) (n n' : Notes) (s : Settling) → Shows w n s → n'.changed ≡ n.changed → n'.stepped ≡ true → n'.waited ≡ n.waited → Shows w n' (has_stepped s)
+seen_same : (w : World) (n n' : Notes) → n'.changed ≡ n.changed → n'.seen ≡ n.seen → HasSeen w n → HasSeen w n'
+seen_same w n n' changed seen h still = subst (λ o. IfSome o (λ ends. map view_mark ends ≡ marks w)) (sym seen) (h (sym changed ∙ still))
+
+shown_stepped : (w : World) (n n' : Notes) (s : Settling) → Shows w n s → n'.changed ≡ n.changed → n'.stepped ≡ true → n'.waited ≡ n.waited → n'.seen ≡ n.seen → Shows w n' (has_stepped s)
 unfolding last_wait
-shown_stepped w n n' s h changed stepped waited = record {
+shown_stepped w n n' s h changed stepped waited seen = record {
   world = h.world;
   changed = changed ∙ h.changed;
   stepped = stepped;
   waited = λ o. subst (λ m. get same_object m o ≡ option_map wait_of (last_wait s o)) (sym waited) (h.waited o);
+  seen = seen_same w n n' changed seen h.seen;
 }
 
 pub expire_none : (w : World) (n : Notes) (o : ObjName) → None ≡ option_map link_view (link_at w o) → Settles (λ s. expire_visit s o) w n w n
@@ -70,11 +75,11 @@ unfolding expire_visit
 expire_off w n o v h e s shows = shows_as w n s (expire_visit s o) (sym (ap (expire_by s o) (sym (link_shown w n s o shows)) ∙ expire_false s o (link_at w o) v h e)) shows
 
 pub expire_on : (w w' : World) (n n1 n2 : Notes) (o : ObjName) (v : LinkView) → Some v ≡ option_map link_view (link_at w o) → view_expires v ≡ true → Settles (λ s. settle_step s (expiry o)) w n w' n1 →
-    n2.changed ≡ n1.changed → n2.stepped ≡ true → n2.waited ≡ n1.waited → Settles (λ s. expire_visit s o) w n w' n2
+    n2.changed ≡ n1.changed → n2.stepped ≡ true → n2.waited ≡ n1.waited → n2.seen ≡ n1.seen → Settles (λ s. expire_visit s o) w n w' n2
 unfolding expire_visit
-expire_on w w' n n1 n2 o v h e goes changed stepped waited s shows =
+expire_on w w' n n1 n2 o v h e goes changed stepped waited seen s shows =
     shows_as w' n2 (has_stepped (settle_step s (expiry o))) (expire_visit s o) (sym (ap (expire_by s o) (sym (link_shown w n s o shows)) ∙ expire_true s o (link_at w o) v h e))
-    (shown_stepped w' n1 n2 (settle_step s (expiry o)) (goes s shows) changed stepped waited)
+    (shown_stepped w' n1 n2 (settle_step s (expiry o)) (goes s shows) changed stepped waited seen)
 
 -- ---- RNR timers
 
@@ -158,14 +163,15 @@ step_waited : (s : Settling) (e : WorldEvent) (o : ObjName) → last_wait (settl
 unfolding settle_step stepped_to last_wait
 step_waited s e o = refl
 
-shown_noted : (w : World) (n1 n2 : Notes) (s : Settling) (e : WorldEvent) (o : ObjName) (x : Wait) → Shows w n1 (settle_step s e) → n2.changed ≡ n1.changed → n2.stepped ≡ true →
+shown_noted : (w : World) (n1 n2 : Notes) (s : Settling) (e : WorldEvent) (o : ObjName) (x : Wait) → Shows w n1 (settle_step s e) → n2.changed ≡ n1.changed → n2.stepped ≡ true → n2.seen ≡ n1.seen →
     ((q : ObjName) → get same_object n2.waited q ≡ (if same_object o q then Some x else get same_object n1.waited q)) → Shows w n2 (noted s o x.una x.partner_ended (settle_step s e))
 unfolding last_wait first_that
-shown_noted w n1 n2 s e o x h changed stepped updates = record {
+shown_noted w n1 n2 s e o x h changed stepped seen updates = record {
   world = h.world;
   changed = changed ∙ h.changed;
   stepped = stepped;
   waited = λ q. updates q ∙ (by q (same_object o q) ∙ ap (λ b. option_map wait_of (if b then Some note else last_wait s q)) (object_turned o q));
+  seen = seen_same w n1 n2 changed seen h.seen;
 }
   where
     note : Waited
@@ -177,9 +183,9 @@ shown_noted w n1 n2 s e o x h changed stepped updates = record {
 
 pub rnr_on : (w w' : World) (n n1 n2 : Notes) (o : ObjName) (v : LinkView) (x : Wait) → Some v ≡ option_map link_view (link_at w o) → x.una ≡ v.una → x.partner_ended ≡ has_ended w v.peer →
     v.rnr_wait ≡ true → may_wait v x.partner_ended (get same_object n.waited o) ≡ true → Settles (λ s. settle_step s (rnr_over o)) w n w' n1 →
-    n2.changed ≡ n1.changed → ((q : ObjName) → get same_object n2.waited q ≡ (if same_object o q then Some x else get same_object n1.waited q)) → n2.stepped ≡ true → Settles (λ s. rnr_visit s o) w n w' n2
+    n2.changed ≡ n1.changed → n2.seen ≡ n1.seen → ((q : ObjName) → get same_object n2.waited q ≡ (if same_object o q then Some x else get same_object n1.waited q)) → n2.stepped ≡ true → Settles (λ s. rnr_visit s o) w n w' n2
 unfolding rnr_visit
-rnr_on w w' n n1 n2 o v x h place is waits may goes changed updates stepped s shows =
+rnr_on w w' n n1 n2 o v x h place is waits may goes changed seen updates stepped s shows =
     shows_as w' n2 (noted s o x.una x.partner_ended (settle_step s (rnr_over o))) (rnr_visit s o)
     (sym (ap (rnr_by s o) (sym (link_shown w n s o shows)) ∙ rnr_true w n s o (link_at w o) v x.una x.partner_ended shows h place is waits may))
-    (shown_noted w' n1 n2 s (rnr_over o) o x (goes s shows) changed stepped updates)
+    (shown_noted w' n1 n2 s (rnr_over o) o x (goes s shows) changed stepped seen updates)

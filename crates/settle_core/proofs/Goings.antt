@@ -1,6 +1,6 @@
 -- Rounds one after another, and a whole settling.
-use Rattle.std.proofs.Common.{arith, ◌≡◌, ◌≤◌, ◌<◌, ◌+◌, ◌-◌, ◌*◌, ℕ, suc, List, [], length, take, get_or, Bool, true, false, refl, sym, ap, ◌∙◌, subst, sum_by, Result, Ok, Err, ◌^◌}
-use Rattle.std.specs.Prelude.{◌||◌, option_map, Option, None, Some, IfOk, OnErr}
+use Rattle.std.proofs.Common.{arith, ◌≡◌, ◌≤◌, ◌<◌, ◌+◌, ◌-◌, ◌*◌, ℕ, suc, List, [], length, take, get_or, Bool, true, false, refl, sym, ap, ◌∙◌, subst, sum_by, map, Result, Ok, Err, ◌^◌}
+use Rattle.std.specs.Prelude.{◌||◌, option_map, Option, None, Some, IfOk, IfSome, OnErr}
 use Rattle.std.specs.Option.{SomeIff, ok_or}
 use Rattle.std.specs.declared.alloc.AllocError.{AllocError}
 use Rattle.std.proofs.lemmas.List.{take_all}
@@ -9,12 +9,13 @@ use Rattle.indexmap.specs.IndexMap.{get}
 use Rattle.rdma_types.specs.Lists.{first_that, same_object}
 use Rattle.rdma_types.specs.declared.names.ObjName.{ObjName}
 use Rattle.protocol.specs.State.{World}
-use Rattle.protocol.specs.Settle.{Settled, Settling, begun, last_wait, load_of, round, rounds_of, settled, unfinished}
+use Rattle.protocol.specs.Settle.{Settled, Settling, begun, last_wait, load_of, marks, round, rounds_of, settled, unfinished}
 use Rattle.alike_worlds.specs.Alike.{forgetful}
 use Rattle.world_core.specs.Settled.{IsSettled}
 use Rattle.context_core.specs.declared.lives.LiveEnd.{LiveEnd}
 use Rattle.world_core.specs.declared.settling.Quiet.{Quiet}
 use Rattle.settle_core.specs.Loads.{view_numbers}
+use Rattle.settle_core.specs.Marks.{view_mark}
 use Rattle.settle_core.specs.Shown.{Ends, Settles, Shows, wait_of}
 use Rattle.settle_core.specs.declared.notes.Notes.{Notes}
 
@@ -114,17 +115,17 @@ none_waited : (w : World) (n : Notes) (o : ObjName) → n.waited.entries ≡ [] 
 unfolding last_wait first_that
 none_waited w n o h = rw h refl
 
-shown_first : (w : World) (n : Notes) → forgetful w ≡ w → n.changed ≡ false → n.stepped ≡ false → n.waited.entries ≡ [] → Shows w n (first w)
-shown_first w n kept changed stepped none = record { world = sym kept; changed = changed; stepped = stepped; waited = λ o. none_waited w n o none }
+shown_first : (w : World) (n : Notes) → forgetful w ≡ w → n.changed ≡ false → n.stepped ≡ false → n.waited.entries ≡ [] → n.seen ≡ None → Shows w n (first w)
+shown_first w n kept changed stepped none unseen = record { world = sym kept; changed = changed; stepped = stepped; waited = λ o. none_waited w n o none; seen = λ still. subst (λ o. IfSome o (λ ends. map view_mark ends ≡ marks w)) (sym unseen) tt }
 
 unfinished_shown : (w v : World) → w ≡ forgetful v → unfinished w ≡ unfinished v
 unfolding unfinished
 unfinished_shown w v h = ap (λ (x : World). unfinished x) h
 
-pub settles_as : (w w' : World) (n : Notes) (most : ℕ) (q : Quiet) → forgetful w ≡ w → n.changed ≡ false → n.stepped ≡ false → n.waited.entries ≡ [] → most ≡ 32 * load_of w →
+pub settles_as : (w w' : World) (n : Notes) (most : ℕ) (q : Quiet) → forgetful w ≡ w → n.changed ≡ false → n.stepped ≡ false → n.waited.entries ≡ [] → n.seen ≡ None → most ≡ 32 * load_of w →
     ((s : Settling) → Shows w n s → Ends (rounds_of most 0 s) w' q.rounds) → q.unfinished ≡ unfinished w' → IsSettled w w' q
 unfolding settled
-settles_as w w' n most q kept changed stepped none is goes left =
+settles_as w w' n most q kept changed stepped none unseen is goes left =
     let all : rounds_of most 0 (first w) ≡ settled w = ap (λ f. rounds_of f 0 (first w)) is in
-    let end = ends_as w' q.rounds (rounds_of most 0 (first w)) (settled w) all (goes (first w) (shown_first w n kept changed stepped none)) in
+    let end = ends_as w' q.rounds (rounds_of most 0 (first w)) (settled w) all (goes (first w) (shown_first w n kept changed stepped none unseen)) in
     record { world = end.world; rounds = end.rounds; unfinished = left ∙ unfinished_shown w' (settled w).world end.world }

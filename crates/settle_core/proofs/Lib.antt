@@ -2,6 +2,7 @@ pub mod Worlds
 pub mod Listed
 pub mod Sweeps
 pub mod Turns
+pub mod Transmitting
 pub mod Compared
 pub mod Noted
 pub mod Visits

@@ -21,7 +21,7 @@ map_map : {A B C : Type 0} (f : B → C) (g : A → B) (xs : List A) → map f (
 map_map f g [] = refl
 map_map f g (x ∷ xs) = ap (λ ys. f (g x) ∷ ys) (map_map f g xs)
 
-map_flat : {A B C : Type 0} (f : B → C) (g : A → List B) (h : A → List C) (xs : List A) → ((x : A) → map f (g x) ≡ h x) → map f (flat_map g xs) ≡ flat_map h xs
+pub map_flat : {A B C : Type 0} (f : B → C) (g : A → List B) (h : A → List C) (xs : List A) → ((x : A) → map f (g x) ≡ h x) → map f (flat_map g xs) ≡ flat_map h xs
 map_flat f g h [] each = refl
 map_flat f g h (x ∷ xs) each = map-append f (g x) (flat_map g xs) ∙ (ap (λ ys. ys ++ map f (flat_map g xs)) (each x) ∙ ap (λ ys. h x ++ ys) (map_flat f g h xs each))
 

@@ -23,7 +23,7 @@ use Rattle.settle_core.proofs.Sweeps.{still_to}
 
 -- ---- the device that is stored in its own place
 
-first_apart : (p : Device → Bool) (n : ℕ) (ds : List Device) (d : Device) → AllByRecursion (λ m. nat_eq n m ≡ false) (map (λ (x : Device). x.id) ds) → first_that p ds ≡ Some d → nat_eq n d.id ≡ false
+pub first_apart : (p : Device → Bool) (n : ℕ) (ds : List Device) (d : Device) → AllByRecursion (λ m. nat_eq n m ≡ false) (map (λ (x : Device). x.id) ds) → first_that p ds ≡ Some d → nat_eq n d.id ≡ false
 unfolding first_that
 first_apart p n [] d all h = absurd (cc)
 first_apart p n (x ∷ xs) d all h = by (p x) h (first_apart p n xs d all.1)
@@ -49,7 +49,7 @@ stored_same p (x ∷ xs) d own h = by (p x) refl h (λ g. stored_same p xs d own
     by true t g later = let same : x ≡ d = cc in chosen (x.id == d.id) refl (eq-eqb x.id d.id (ap (λ (z : Device). z.id) same)) same
     by false t g later = passed (x.id == d.id) (first_apart p x.id xs d own.0 g) (later g)
 
-none_passes : (p : Device → Bool) (ds : List Device) → first_that p ds ≡ None → some p ds ≡ false
+pub none_passes : (p : Device → Bool) (ds : List Device) → first_that p ds ≡ None → some p ds ≡ false
 unfolding first_that some
 none_passes p [] h = refl
 none_passes p (x ∷ xs) h = by (p x) h (none_passes p xs)
@@ -96,7 +96,7 @@ device_still w d o same h = by (refusal_of d (event.Transmit o)) h
         ran_still w d _ same (unsent w d (context_at d o.context) (end_at (context_at d o.context) o.name) (end_at (context_at d o.context) o.name).link g)
 
 -- where no device has the context, the step is refused
-refused : (w : World) (o : ObjName) → is_live w o.context ≡ false → (r : Refusal) × (first_cause (context_causes w o.context []) ≡ Some r)
+pub refused : (w : World) (o : ObjName) → is_live w o.context ≡ false → (r : Refusal) × (first_cause (context_causes w o.context []) ≡ Some r)
 unfolding first_cause
 refused w o h = by (is_live w o.context) (is_carried w o.context) h
   where

@@ -19,7 +19,7 @@ use Rattle.world_core.specs.Places.{HaveOwnIds}
 use Rattle.context_core.specs.declared.lives.LinkView.{LinkView}
 use Rattle.context_core.specs.declared.lives.LiveEnd.{LiveEnd}
 use Rattle.settle_core.specs.Shown.{Settles, Shows}
-use Rattle.settle_core.specs.Steps.{delivered_at, sent_once, sweeping, view_resumes, view_runs}
+use Rattle.settle_core.specs.Steps.{IsLinkAt, delivered_at, sent_once, sweeping, view_resumes, view_runs}
 use Rattle.settle_core.specs.declared.notes.Notes.{Notes}
 use Rattle.settle_core.proofs.Sweeps.{pass_stays, pass_sweeps, sweeping-more}
 use Rattle.settle_core.proofs.Turns.{unsent_stays}
@@ -140,52 +140,63 @@ pub way_ends : (w : World) (n : Notes) (s : Settling) (o : ObjName) (most left :
 unfolding sending_all
 way_ends w n s o most left none h = shows_as w n h.at (sending_all most s o) (ap (λ f. sending_all f h.at o) (sym none) ∙ h.way) h.shows
 
-fuel_none : (l : Option Link) → None ≡ option_map link_view l → sending_fuel l ≡ 0
-fuel_none None h = refl
-fuel_none (Some l) h = absurd (cc)
-
 fuel_some : (l : Option Link) (v : LinkView) → Some v ≡ option_map link_view l → sending_fuel l ≡ 2 * (v.last - v.una) + 2
 fuel_some None v h = absurd (cc)
 fuel_some (Some l) v h = let same : v ≡ link_view l = cc in sym (ap (λ (x : LinkView). 2 * (x.last - x.una) + 2) same)
 
-pub sends_none : (w : World) (n : Notes) (o : ObjName) → None ≡ option_map link_view (link_at w o) → Settles (λ s. sends_all s o) w n w n
-unfolding sends_all sending_all
-sends_none w n o h s shows = shows_as w n s (sends_all s o) (sym (ap (λ f. sending_all f s o) (ap sending_fuel (sym (link_shown w n s o shows)) ∙ fuel_none (link_at w o) h))) shows
-
-pub sends_most : (w w' : World) (n n' : Notes) (o : ObjName) (v : LinkView) (most : ℕ) → Some v ≡ option_map link_view (link_at w o) → most ≡ 2 * (v.last - v.una) + 2 → ((s : Settling) → Shows w n s → Shows w' n' (sending_all most s o)) → Settles (λ s. sends_all s o) w n w' n'
+pub sends_most : (w w' : World) (n n' : Notes) (o : ObjName) (v : LinkView) (most : ℕ) → IsLinkAt w o v → most ≡ 2 * (v.last - v.una) + 2 → ((s : Settling) → Shows w n s → Shows w' n' (sending_all most s o)) → Settles (λ s. sends_all s o) w n w' n'
 unfolding sends_all
 sends_most w w' n n' o v most h is goes s shows =
     shows_as w' n' (sending_all most s o) (sends_all s o) (ap (λ f. sending_all f s o) (is ∙ (sym (fuel_some (link_at w o) v h) ∙ ap sending_fuel (link_shown w n s o shows)))) (goes s shows)
 
-runs_is : (l : Option Link) → view_runs (option_map link_view l) ≡ is_running l
-runs_is None = refl
-runs_is (Some l) = refl
+runs_is : (l : Option Link) (v : LinkView) → Some v ≡ option_map link_view l → is_running l ≡ view_runs v
+runs_is None v h = absurd (cc)
+runs_is (Some l) v h = let same : v ≡ link_view l = cc in sym (ap view_runs same)
 
-resumes_is : (l : Option Link) → view_resumes (option_map link_view l) ≡ is_resuming_link l
-resumes_is None = refl
-resumes_is (Some l) = refl
+resumes_is : (l : Option Link) (v : LinkView) → Some v ≡ option_map link_view l → is_resuming_link l ≡ view_resumes v
+resumes_is None v h = absurd (cc)
+resumes_is (Some l) v h = let same : v ≡ link_view l = cc in sym (ap view_resumes same)
 
-runs_shown : (w : World) (n : Notes) (s : Settling) (o : ObjName) (b : Bool) → Shows w n s → view_runs (option_map link_view (link_at w o)) ≡ b → is_running (link_at s.world o) ≡ b
-runs_shown w n s o b shows h = ap is_running (sym (link_shown w n s o shows)) ∙ (sym (runs_is (link_at w o)) ∙ h)
+runs_shown : (w : World) (n : Notes) (s : Settling) (o : ObjName) (v : LinkView) (b : Bool) → Shows w n s → IsLinkAt w o v → view_runs v ≡ b → is_running (link_at s.world o) ≡ b
+runs_shown w n s o v b shows at h = ap is_running (sym (link_shown w n s o shows)) ∙ (runs_is (link_at w o) v at ∙ h)
 
-resumes_shown : (w : World) (n : Notes) (s : Settling) (o : ObjName) (b : Bool) → Shows w n s → view_resumes (option_map link_view (link_at w o)) ≡ b → is_resuming_link (link_at s.world o) ≡ b
-resumes_shown w n s o b shows h = ap is_resuming_link (sym (link_shown w n s o shows)) ∙ (sym (resumes_is (link_at w o)) ∙ h)
+resumes_shown : (w : World) (n : Notes) (s : Settling) (o : ObjName) (v : LinkView) (b : Bool) → Shows w n s → IsLinkAt w o v → view_resumes v ≡ b → is_resuming_link (link_at s.world o) ≡ b
+resumes_shown w n s o v b shows at h = ap is_resuming_link (sym (link_shown w n s o shows)) ∙ (resumes_is (link_at w o) v at ∙ h)
 
-pub runs_on : (w w' : World) (n n' : Notes) (o : ObjName) → view_runs (option_map link_view (link_at w o)) ≡ true → Settles (λ s. sends_all s o) w n w' n' → Settles (λ s. sends_if_running s o) w n w' n'
+pub runs_on : (w w' : World) (n n' : Notes) (o : ObjName) (v : LinkView) → IsLinkAt w o v → view_runs v ≡ true → Settles (λ s. sends_all s o) w n w' n' → Settles (λ s. sends_if_running s o) w n w' n'
 unfolding sends_if_running
-runs_on w w' n n' o h goes s shows = shows_as w' n' (sends_all s o) (sends_if_running s o) (sym (by_true (is_running (link_at s.world o)) _ _ (runs_shown w n s o true shows h))) (goes s shows)
+runs_on w w' n n' o v at h goes s shows = shows_as w' n' (sends_all s o) (sends_if_running s o) (sym (by_true (is_running (link_at s.world o)) _ _ (runs_shown w n s o v true shows at h))) (goes s shows)
 
-pub runs_not : (w : World) (n : Notes) (o : ObjName) → view_runs (option_map link_view (link_at w o)) ≡ false → Settles (λ s. sends_if_running s o) w n w n
+pub runs_not : (w : World) (n : Notes) (o : ObjName) (v : LinkView) → IsLinkAt w o v → view_runs v ≡ false → Settles (λ s. sends_if_running s o) w n w n
 unfolding sends_if_running
-runs_not w n o h s shows = shows_as w n s (sends_if_running s o) (sym (by_false (is_running (link_at s.world o)) _ _ (runs_shown w n s o false shows h))) shows
+runs_not w n o v at h s shows = shows_as w n s (sends_if_running s o) (sym (by_false (is_running (link_at s.world o)) _ _ (runs_shown w n s o v false shows at h))) shows
 
-pub visits_resuming : (w w' : World) (n n' : Notes) (o : ObjName) → view_resumes (option_map link_view (link_at w o)) ≡ true → Settles (λ s. sends_if_running (drained (settle_step s (transmit o))) o) w n w' n' → Settles (λ s. visited s o) w n w' n'
+pub visits_resuming : (w w' : World) (n n' : Notes) (o : ObjName) (v : LinkView) → IsLinkAt w o v → view_resumes v ≡ true → Settles (λ s. sends_if_running (drained (settle_step s (transmit o))) o) w n w' n' → Settles (λ s. visited s o) w n w' n'
 unfolding visited
-visits_resuming w w' n n' o h goes s shows = shows_as w' n' (sends_if_running (drained (settle_step s (transmit o))) o) (visited s o) (sym (by_true (is_resuming_link (link_at s.world o)) _ _ (resumes_shown w n s o true shows h))) (goes s shows)
+visits_resuming w w' n n' o v at h goes s shows = shows_as w' n' (sends_if_running (drained (settle_step s (transmit o))) o) (visited s o) (sym (by_true (is_resuming_link (link_at s.world o)) _ _ (resumes_shown w n s o v true shows at h))) (goes s shows)
 
-pub visits_other : (w w' : World) (n n' : Notes) (o : ObjName) → view_resumes (option_map link_view (link_at w o)) ≡ false → Settles (λ s. sends_if_running s o) w n w' n' → Settles (λ s. visited s o) w n w' n'
+pub visits_other : (w w' : World) (n n' : Notes) (o : ObjName) (v : LinkView) → IsLinkAt w o v → view_resumes v ≡ false → Settles (λ s. sends_if_running s o) w n w' n' → Settles (λ s. visited s o) w n w' n'
 unfolding visited
-visits_other w w' n n' o h goes s shows = shows_as w' n' (sends_if_running s o) (visited s o) (sym (by_false (is_resuming_link (link_at s.world o)) _ _ (resumes_shown w n s o false shows h))) (goes s shows)
+visits_other w w' n n' o v at h goes s shows = shows_as w' n' (sends_if_running s o) (visited s o) (sym (by_false (is_resuming_link (link_at s.world o)) _ _ (resumes_shown w n s o v false shows at h))) (goes s shows)
+
+-- an end that is not connected sends nothing
+running_none : (l : Option Link) → None ≡ option_map link_view l → is_running l ≡ false
+running_none None h = refl
+running_none (Some l) h = absurd (cc)
+
+resuming_none : (l : Option Link) → None ≡ option_map link_view l → is_resuming_link l ≡ false
+resuming_none None h = refl
+resuming_none (Some l) h = absurd (cc)
+
+pub runs_none : (w : World) (n : Notes) (o : ObjName) → None ≡ option_map link_view (link_at w o) → Settles (λ s. sends_if_running s o) w n w n
+unfolding sends_if_running
+runs_none w n o h s shows =
+    shows_as w n s (sends_if_running s o) (sym (by_false (is_running (link_at s.world o)) _ _ (ap is_running (sym (link_shown w n s o shows)) ∙ running_none (link_at w o) h))) shows
+
+pub visits_none : (w : World) (n : Notes) (o : ObjName) → None ≡ option_map link_view (link_at w o) → Settles (λ s. visited s o) w n w n
+unfolding visited
+visits_none w n o h s shows =
+    shows_as w n (sends_if_running s o) (visited s o) (sym (by_false (is_resuming_link (link_at s.world o)) _ _ (ap is_resuming_link (sym (link_shown w n s o shows)) ∙ resuming_none (link_at w o) h))) (runs_none w n o h s shows)
 
 -- ---- each end in order
 

@@ -15,7 +15,7 @@ use Rattle.alike_worlds.proofs.Steps.{step_alike}
 use Rattle.settling_steps.specs.Settling.{IsSettling}
 use Rattle.world_core.specs.Settled.{IsLeft}
 use Rattle.world_core.specs.Kept.{Makes}
-use Rattle.settle_core.specs.Shown.{Comes, Shows, wait_of}
+use Rattle.settle_core.specs.Shown.{Comes, HasSeen, Shows, wait_of}
 use Rattle.settle_core.specs.declared.notes.Notes.{Notes}
 
 -- ---- worlds that keep the last datagrams
@@ -74,15 +74,15 @@ comes_same a b h = subst (λ (x : World). Comes a x) (sym h) (comes_nothing a)
 
 -- ---- states that are shown
 
-marks_shown : (v w : World) → v ≡ forgetful w → marks v ≡ marks w
+pub marks_shown : (v w : World) → v ≡ forgetful w → marks v ≡ marks w
 unfolding live_ends
 marks_shown v w h = ap marks h
 
 -- a step with a note of changes
 pub shown_step : (w w' : World) (n n' : Notes) (s : Settling) (e : WorldEvent) → Shows w n s → w' ≡ forgetful (world_step w e).world →
-    n'.changed ≡ (n.changed || not (same_marks (marks w) (marks w'))) → n'.stepped ≡ n.stepped → n'.waited ≡ n.waited → Shows w' n' (settle_step s e)
+    n'.changed ≡ (n.changed || not (same_marks (marks w) (marks w'))) → n'.stepped ≡ n.stepped → n'.waited ≡ n.waited → HasSeen w' n' → Shows w' n' (settle_step s e)
 unfolding settle_step stepped_to last_wait
-shown_step w w' n n' s e h left changed stepped waited =
+shown_step w w' n n' s e h left changed stepped waited seen =
     let k : StepAlike (world_step w e) (world_step s.world e) = steps_shown w s.world e h.world in
     let after : w' ≡ forgetful (world_step s.world e).world = left ∙ alike_forgetful (world_step w e).world (world_step s.world e).world k.world in
     record {
@@ -94,17 +94,19 @@ shown_step w w' n n' s e h left changed stepped waited =
           ∙ ap (λ x. s.changed || not (same_marks (marks s.world) x)) (marks_shown w' (world_step s.world e).world after)));
       stepped = stepped ∙ h.stepped;
       waited = λ o. subst (λ m. get same_object m o ≡ option_map wait_of (last_wait s o)) (sym waited) (h.waited o);
+      seen = seen;
     }
 
 -- the answer of a step is the one of the state's
 pub answer_shown : (w : World) (n : Notes) (s : Settling) (e : WorldEvent) (answer : Answer) (new : World) → Shows w n s → Makes (world_step w e) answer new → answer ≡ (world_step s.world e).answer
 answer_shown w n s e answer new h made = made.answered ∙ (steps_shown w s.world e h.world).answer
 
-pub shown_begun : (w : World) (n n' : Notes) (s : Settling) → Shows w n s → n'.changed ≡ false → n'.stepped ≡ false → n'.waited ≡ n.waited → Shows w n' (begun s)
+pub shown_begun : (w : World) (n n' : Notes) (s : Settling) → Shows w n s → n'.changed ≡ false → n'.stepped ≡ false → n'.waited ≡ n.waited → HasSeen w n' → Shows w n' (begun s)
 unfolding last_wait
-shown_begun w n n' s h changed stepped waited = record {
+shown_begun w n n' s h changed stepped waited seen = record {
   world = h.world;
   changed = changed;
   stepped = stepped;
   waited = λ o. subst (λ m. get same_object m o ≡ option_map wait_of (last_wait s o)) (sym waited) (h.waited o);
+  seen = seen;
 }

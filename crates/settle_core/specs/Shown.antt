@@ -1,12 +1,13 @@
 -- How the state of a settling stands in the code.
-use Rattle.std.specs.Prelude.{◌≡◌, ℕ, option_map}
+use Rattle.std.specs.Prelude.{◌≡◌, ℕ, false, map, option_map, IfSome}
 use Rattle.rdma_types.specs.declared.names.ObjName.{ObjName}
 use Rattle.rdma_types.specs.Lists.{same_object}
 use Rattle.protocol.specs.State.{World}
-use Rattle.protocol.specs.Settle.{Settled, Settling, Waited, last_wait}
+use Rattle.protocol.specs.Settle.{Settled, Settling, Waited, last_wait, marks}
 use Rattle.alike_worlds.specs.Alike.{forgetful}
 use Rattle.indexmap.specs.IndexMap.{get}
 use Rattle.world_core.specs.Settled.{IsLeft}
+use Rattle.settle_core.specs.Marks.{view_mark}
 use Rattle.settle_core.specs.declared.notes.Notes.{Notes}
 use Rattle.settle_core.specs.declared.notes.Wait.{Wait}
 
@@ -14,12 +15,17 @@ use Rattle.settle_core.specs.declared.notes.Wait.{Wait}
 abbrev pub wait_of : Waited → Wait
 wait_of x = record { una = x.una; partner_ended = x.partner_ended }
 
+-- as long as the round has no change, what was seen has the world's marks
+abbrev pub HasSeen : World → Notes → Type 0
+HasSeen w n = n.changed ≡ false → IfSome n.seen (λ ends. map view_mark ends ≡ marks w)
+
 -- the world keeps the last datagrams of the state's, and the notes are the state's
 pub record Shows (w : World) (n : Notes) (s : Settling) : Type 0 where
   pub world : w ≡ forgetful s.world
   pub changed : n.changed ≡ s.changed
   pub stepped : n.stepped ≡ s.stepped
   pub waited : (o : ObjName) → get same_object n.waited o ≡ option_map wait_of (last_wait s o)
+  pub seen : HasSeen w n
 
 -- a call takes each state that it begins with to the one that f makes of it
 abbrev pub Settles : (Settling → Settling) → World → Notes → World → Notes → Type 0

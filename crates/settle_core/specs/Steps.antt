@@ -1,9 +1,10 @@
 -- Parts of a settling as the code takes them.
-use Rattle.std.specs.Prelude.{ℕ, zero, suc, ◌+◌, ◌&&◌, not, Bool, false, Option, Some, None, if◌then◌else◌}
+use Rattle.std.specs.Prelude.{◌≡◌, ℕ, zero, suc, ◌+◌, ◌&&◌, not, Bool, Some, option_map, if◌then◌else◌}
 use Rattle.protocol.specs.declared.events.WorldEvent.TheVariants as world_event
 use Rattle.rdma_types.specs.declared.names.ObjName.{ObjName}
-use Rattle.protocol.specs.Settle.{Settling, drained, settle_step, transmit}
-use Rattle.world_core.specs.Lives.{is_pending}
+use Rattle.protocol.specs.State.{World}
+use Rattle.protocol.specs.Settle.{Settling, drained, link_at, settle_step, transmit}
+use Rattle.world_core.specs.Lives.{is_pending, link_view}
 use Rattle.context_core.specs.declared.lives.LinkView.{LinkView}
 
 -- datagram k is delivered where it is pending
@@ -19,12 +20,14 @@ sweeping s k (suc n) = sweeping (delivered_at s k) (k + 1) n
 abbrev pub sent_once : Bool → Settling → ObjName → Settling
 sent_once sent s o = if sent then drained (settle_step s (transmit o)) else s
 
+-- the view of an end's link, where it is connected
+abbrev pub IsLinkAt : World → ObjName → LinkView → Type 0
+IsLinkAt w o v = Some v ≡ option_map link_view (link_at w o)
+
 -- a link in Rts and Running, as its view tells it
-abbrev pub view_runs : Option LinkView → Bool
-view_runs None = false
-view_runs (Some v) = not v.ended && (not v.paused && not v.resuming)
+abbrev pub view_runs : LinkView → Bool
+view_runs v = not v.ended && (not v.paused && not v.resuming)
 
 -- .. and one in Rts and Resuming
-abbrev pub view_resumes : Option LinkView → Bool
-view_resumes None = false
-view_resumes (Some v) = not v.ended && v.resuming
+abbrev pub view_resumes : LinkView → Bool
+view_resumes v = not v.ended && v.resuming

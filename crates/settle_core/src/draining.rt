@@ -18,8 +18,7 @@ impl Notes {
         if !world.is_pending(k) {
             return Ok(());
         }
-        let _answer = self.step(alloc, world, &WorldEvent::Deliver { k })?;
-        Ok(())
+        self.step(alloc, world, &WorldEvent::Deliver { k })
     }
 
     /// Delivers each datagram from number `first` to before `end` that is pending as its turn comes.

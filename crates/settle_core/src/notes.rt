@@ -1,8 +1,8 @@
 //! What a settling remembers besides the world, and one step of it.
 
-ghost use Rattle.std.specs.Prelude.{◌≡◌, map, IfOk, OnOk};
+ghost use Rattle.std.specs.Prelude.{◌≡◌, map, IfOk, IfSome, OnOk};
 ghost use Rattle.protocol.specs.Events.{IsLawfulWorldEvent};
-ghost use Rattle.protocol.specs.Settle.{Settling, same_marks, settle_step};
+ghost use Rattle.protocol.specs.Settle.{Settling, marks, same_marks, settle_step, transmit};
 ghost use Rattle.protocol.specs.WorldStep.{world_step};
 ghost use Rattle.settling_steps.specs.Settling.{IsSettling};
 ghost use Rattle.settle_core.specs.Shown.{Comes, Settles, Shows};
@@ -10,9 +10,9 @@ ghost use Rattle.settle_core.specs.Marks.{same_mark, view_code, view_mark};
 ghost use Rattle.world_core.specs.Places.{HaveOwnIds};
 
 use indexmap::IndexMap;
-use rdma_types::{Answer, ObjName};
+use rdma_types::{Answer, Items, ObjName};
 use std::alloc::{AllocError, Global};
-use world_core::{LinkView, LiveEnd, World, WorldEvent};
+use world_core::{Event, LinkView, LiveEnd, World, WorldEvent};
 
 /// The last step of an end's RNR timer in a settling: where its oldest unacknowledged number was, and whether its partner
 /// was in Error.
@@ -31,32 +31,64 @@ pub(crate) struct Notes {
     pub(crate) stepped: bool,
     /// The last step of each end's RNR timer.
     pub(crate) waited: IndexMap<ObjName, Wait>,
+    /// The live ends after the last compared step of this round, where there was one. As long as the round has no change,
+    /// their marks are those of the world's live ends.
+    pub(crate) seen: Option<Items<LiveEnd>>,
 }
 
 impl Notes {
     /// One step of the world, with a note of changes. As long as the round has no change, the marks of all live ends
-    /// are compared.
+    /// are compared with those that the last such step left.
     pub(crate) fn step(
         &mut self,
         alloc: Global,
         world: &mut World,
         event: &WorldEvent,
-    ) -> Result<Answer, AllocError>
+    ) -> Result<(), AllocError>
         requires lawful { IsLawfulWorldEvent event.now }
         requires settling { IsSettling event.now }
         ensures ok { OnOk result (Settles (λ s. settle_step s event.now) world.old self.old world.new self.new) }
-        ensures answer { IfOk result (λ answer. (s : Settling) → Shows world.old self.old s → answer ≡ (world_step s.world event.now).answer) }
-        ensures ids { OnOk result (HaveOwnIds world.old.devices) }
         ensures comes { Comes world.old world.new }
     {
         if self.changed {
-            return world.step(alloc, event);
+            let _answer = world.step(alloc, event)?;
+            return Ok(());
         }
-        let before = world.live_ends(alloc)?;
-        let answer = world.step(alloc, event)?;
+        let before = ends_before(alloc, world, self.seen.take())?;
+        let _answer = world.step(alloc, event)?;
         let after = world.live_ends(alloc)?;
         self.changed = !are_same(before.as_slice(), after.as_slice());
-        Ok(answer)
+        self.seen = Some(after);
+        Ok(())
+    }
+}
+
+/// One transmission. It changes no mark, so nothing is noted or compared.
+pub(crate) fn transmit(
+    alloc: Global,
+    world: &mut World,
+    end: &ObjName,
+) -> Result<Answer, AllocError>
+    ensures ok { OnOk result ((n : Notes) → Settles (λ s. settle_step s (transmit end.now)) world.old n world.new n) }
+    ensures answer { IfOk result (λ answer. (n : Notes) (s : Settling) → Shows world.old n s → answer ≡ (world_step s.world (transmit end.now)).answer) }
+    ensures ids { HaveOwnIds world.old.devices }
+    ensures comes { Comes world.old world.new }
+{
+    let event = Event::Transmit { end: *end };
+    world.step(alloc, &WorldEvent::At { event })
+}
+
+/// Live ends with the marks of the world's: those that were seen, where they have them, or else the world's.
+fn ends_before(
+    alloc: Global,
+    world: &World,
+    seen: Option<Items<LiveEnd>>,
+) -> Result<Items<LiveEnd>, AllocError>
+    ensures { IfOk result (λ ends. IfSome seen (λ s. map view_mark s ≡ marks world.now) → map view_mark ends ≡ marks world.now) }
+{
+    match seen {
+        Some(ends) => Ok(ends),
+        None => world.live_ends(alloc),
     }
 }
 

@@ -19,7 +19,8 @@ const ROUNDS: u64 = 32;
 /// Settles a world by rounds of draining, sending and timers, until one in which nothing changes.
 ///
 /// It takes at most 32 rounds for each unit of the load: the posted numbers that are not acknowledged, of the live ends in
-/// Rts, the number of the live ends, and one. As long as a round has no change, each step looks at all live ends.
+/// Rts, the number of the live ends, and one. As long as a round has no change, each delivery, expiry and end of an RNR timer
+/// looks at all live ends.
 #[derive(Clone, Copy, Debug)]
 pub struct Rounds;
 
@@ -83,6 +84,7 @@ impl Notes {
     {
         self.changed = false;
         self.stepped = false;
+        self.seen = None;
     }
 
     /// Rounds until one in which nothing changed and nothing was stepped, and how many; at most `most`.
@@ -122,6 +124,7 @@ impl Settler for Rounds {
             changed: false,
             stepped: false,
             waited: IndexMap::new(alloc),
+            seen: None,
         };
         let rounds = notes.go_round(alloc, world, most)?;
         let unfinished = unfinished(alloc, world)?;

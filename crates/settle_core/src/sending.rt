@@ -1,34 +1,28 @@
 //! Sending: each end transmits until it has nothing to send now.
 
-ghost use Rattle.std.specs.Prelude.{◌≡◌, map, IfOk, OnOk};
+ghost use Rattle.std.specs.Prelude.{◌≡◌, ◌<◌, ◌^◌, map, IfOk, OnOk};
 ghost use Rattle.protocol.specs.Settle.{Settling, drained, is_sent, sends_all, sends_if_running, settle_step, transmit, visited, visiting};
 ghost use Rattle.protocol.specs.WorldStep.{world_step};
 ghost use Rattle.settle_core.specs.Shown.{Comes, Settles, Shows};
-ghost use Rattle.settle_core.specs.Steps.{sent_once, view_resumes, view_runs};
+ghost use Rattle.settle_core.specs.Steps.{IsLinkAt, sent_once, view_resumes, view_runs};
 
-use crate::notes::Notes;
+use crate::notes::{Notes, transmit};
 use rdma_types::{Answer, ObjName};
 use std::alloc::{AllocError, Global};
-use world_core::{Event, LinkView, LiveEnd, World, WorldEvent};
+use world_core::{LinkView, LiveEnd, World};
 
 /// Whether a link is in Rts and Running.
-fn is_running(link: &Option<LinkView>) -> bool
+fn is_running(link: &LinkView) -> bool
     ensures { result ≡ view_runs link.now }
 {
-    match link {
-        Some(link) => !link.ended && !link.paused && !link.resuming,
-        None => false,
-    }
+    !link.ended && !link.paused && !link.resuming
 }
 
 /// Whether a link is in Rts and Resuming.
-fn is_resuming(link: &Option<LinkView>) -> bool
+fn is_resuming(link: &LinkView) -> bool
     ensures { result ≡ view_resumes link.now }
 {
-    match link {
-        Some(link) => !link.ended && link.resuming,
-        None => false,
-    }
+    !link.ended && link.resuming
 }
 
 /// Whether a datagram was sent.
@@ -44,8 +38,7 @@ impl Notes {
         ensures ok { IfOk result (λ sent. (s : Settling) → Shows world.old self.old s → (sent ≡ is_sent (world_step s.world (transmit end.now)).answer) × Shows world.new self.new (sent_once sent s end.now)) }
         ensures comes { Comes world.old world.new }
     {
-        let event = Event::Transmit { end: *end };
-        let answer = self.step(alloc, world, &WorldEvent::At { event })?;
+        let answer = transmit(alloc, world, end)?;
         if !is_sent(&answer) {
             return Ok(false);
         }
@@ -53,19 +46,19 @@ impl Notes {
         Ok(true)
     }
 
-    /// An end transmits until it answers otherwise, at most as often as it may in one round.
+    /// An end with this link transmits until it answers otherwise, at most as often as it may in one round.
     fn send_all(
         &mut self,
         alloc: Global,
         world: &mut World,
         end: &ObjName,
+        link: &LinkView,
     ) -> Result<(), AllocError>
+        requires link { IsLinkAt world.old end.now link.now }
+        requires few { link.now.last < 2 ^ 62 }
         ensures ok { OnOk result (Settles (λ s. sends_all s end.now) world.old self.old world.new self.new) }
         ensures comes { Comes world.old world.new }
     {
-        let Some(link) = world.link_at(end) else {
-            return Ok(());
-        };
         let most = 2 * link.last.saturating_sub(link.una) + 2;
         for turn in 0..most {
             if !self.send(alloc, world, end)? {
@@ -81,12 +74,15 @@ impl Notes {
         alloc: Global,
         world: &mut World,
         end: &ObjName,
+        link: &LinkView,
     ) -> Result<(), AllocError>
+        requires link { IsLinkAt world.old end.now link.now }
+        requires few { link.now.last < 2 ^ 62 }
         ensures ok { OnOk result (Settles (λ s. sends_if_running s end.now) world.old self.old world.new self.new) }
         ensures comes { Comes world.old world.new }
     {
-        if is_running(&world.link_at(end)) {
-            return self.send_all(alloc, world, end);
+        if is_running(link) {
+            return self.send_all(alloc, world, end, link);
         }
         Ok(())
     }
@@ -101,10 +97,12 @@ impl Notes {
         ensures ok { OnOk result (Settles (λ s. sends_if_running (drained (settle_step s (transmit end.now))) end.now) world.old self.old world.new self.new) }
         ensures comes { Comes world.old world.new }
     {
-        let event = Event::Transmit { end: *end };
-        let _answer = self.step(alloc, world, &WorldEvent::At { event })?;
+        let _answer = transmit(alloc, world, end)?;
         self.drain(alloc, world)?;
-        self.send_if_running(alloc, world, end)
+        let Some(link) = world.link_at(end) else {
+            return Ok(());
+        };
+        self.send_if_running(alloc, world, end, &link)
     }
 
     /// One end sends what it can.
@@ -112,10 +110,13 @@ impl Notes {
         ensures ok { OnOk result (Settles (λ s. visited s end.now) world.old self.old world.new self.new) }
         ensures comes { Comes world.old world.new }
     {
-        if is_resuming(&world.link_at(end)) {
+        let Some(link) = world.link_at(end) else {
+            return Ok(());
+        };
+        if is_resuming(&link) {
             return self.announce(alloc, world, end);
         }
-        self.send_if_running(alloc, world, end)
+        self.send_if_running(alloc, world, end, &link)
     }
 
     /// Each end in order sends what it can.

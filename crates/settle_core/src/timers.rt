@@ -43,6 +43,7 @@ impl Notes {
     fn note(&mut self, end: &ObjName, wait: Wait) -> Result<(), AllocError>
         ensures waited { OnOk result ((o : ObjName) → get same_object self.new.waited o ≡ (if same_object end.now o then Some wait else get same_object self.old.waited o)) }
         ensures changed { self.new.changed ≡ self.old.changed }
+        ensures seen { self.new.seen ≡ self.old.seen }
         ensures stepped { OnOk result (self.new.stepped ≡ true) }
     {
         self.waited.insert(*end, wait)?;
@@ -71,7 +72,7 @@ impl Notes {
             return Ok(());
         }
         let event = Event::RnrOver { end: *end };
-        let _answer = self.step(alloc, world, &WorldEvent::At { event })?;
+        self.step(alloc, world, &WorldEvent::At { event })?;
         let una = link.una;
         self.note(end, Wait { una, partner_ended })
     }
@@ -88,7 +89,7 @@ impl Notes {
             return Ok(());
         }
         let event = Event::Expire { end: *end };
-        let _answer = self.step(alloc, world, &WorldEvent::At { event })?;
+        self.step(alloc, world, &WorldEvent::At { event })?;
         self.stepped = true;
         Ok(())
     }

@@ -1,5 +1,5 @@
 use Rattle.std.proofs.Common.{◌∙◌, sym, rules}
-use Rattle.settle_core.proofs.Visits.{delivered_not, delivered_one}
+use Rattle.settle_core.proofs.Visits.{delivered_not, delivered_one, on_ok}
 use Rattle.settle_core.proofs.Worlds.{comes_nothing}
 use Rattle.settle_core.proofs.notes.Notes.deliver.Goals as goal
 
@@ -11,4 +11,4 @@ returns-then-not-is_pending-clause-comes c = comes_nothing c.args.world.now
 
 pub returns-clause-ok : goal.returns-clause-ok
 returns-clause-ok c =
-    delivered_one c.args.world.now c.step.new.world c.args.self.now c.step.new.self c.args.k (sym c.is_pending.ensures ∙ search (rules, c.if-not-is_pending.false)) c.in_ok-_answer.ensures.ok
+    on_ok c.step.result (delivered_one c.args.world.now c.step.new.world c.args.self.now c.step.new.self c.args.k (sym c.is_pending.ensures ∙ search (rules, c.if-not-is_pending.false))) c.step.ensures.ok

@@ -22,13 +22,13 @@ returns-then-not-may_expire-clause-ok c =
 pub returns-then-not-may_expire-clause-comes : goal.returns-then-not-may_expire-clause-comes
 returns-then-not-may_expire-clause-comes c = comes_nothing c.args.world.now
 
-pub returns-in_err-_answer-clause-comes : goal.returns-in_err-_answer-clause-comes
-returns-in_err-_answer-clause-comes c = c.step.ensures.comes
+pub returns-in_err-step-clause-comes : goal.returns-in_err-step-clause-comes
+returns-in_err-step-clause-comes c = c.step.ensures.comes
 
 pub returns-clause-ok : goal.returns-clause-ok
 returns-clause-ok c s h =
     let there : Some c.in-Some.link ≡ option_map link_view (link_at c.args.world.now c.args.end.now) = search (rules, c.in-Some.ensures) in
-    expire_on c.args.world.now c.step.new.world c.args.self.now c.step.new.self _ c.args.end.now c.in-Some.link there (sym c.may_expire.ensures ∙ search (rules, c.if-not-may_expire.false)) c.in_ok-_answer.ensures.ok refl refl refl s h
+    expire_on c.args.world.now c.step.new.world c.args.self.now c.step.new.self _ c.args.end.now c.in-Some.link there (sym c.may_expire.ensures ∙ search (rules, c.if-not-may_expire.false)) c.in_ok-step.ensures.ok refl refl refl refl s h
 
 pub returns-clause-comes : goal.returns-clause-comes
 returns-clause-comes c = c.step.ensures.comes

@@ -1,18 +1,7 @@
-use Rattle.std.proofs.Common.{◌≡◌, ◌<◌, ◌+◌, ◌-◌, ◌*◌, ℕ, arith, ap, Some, None, rules}
-use Rattle.std.specs.Prelude.{option_map}
-use Rattle.protocol.specs.Settle.{link_at}
-use Rattle.world_core.specs.Lives.{link_view}
-use Rattle.settle_core.proofs.Visits.{sends_most, sends_none, way_begins, way_ends, way_goes, way_stops}
+use Rattle.std.proofs.Common.{◌≡◌, ◌<◌, ◌+◌, ◌-◌, ◌*◌, ℕ, arith, ap, rules}
+use Rattle.settle_core.proofs.Visits.{sends_most, way_begins, way_ends, way_goes, way_stops}
 use Rattle.settle_core.proofs.Worlds.{comes_nothing, comes_then}
 use Rattle.settle_core.proofs.notes.Notes.send_all.Goals as goal
-
-pub returns-in_default-clause-ok : goal.returns-in_default-clause-ok
-returns-in_default-clause-ok c =
-    let none : None ≡ option_map link_view (link_at c.args.world.now c.args.end.now) = search (rules, c.in_default.ensures) in
-    sends_none c.args.world.now c.args.self.now c.args.end.now none
-
-pub returns-in_default-clause-comes : goal.returns-in_default-clause-comes
-returns-in_default-clause-comes c = comes_nothing c.args.world.now
 
 pub loop-turn-init : goal.loop-turn-init
 loop-turn-init c = (λ s h. way_begins c.args.world.now c.args.self.now s c.args.end.now (2 * c.saturating_sub.result + 2) h, comes_nothing c.args.world.now)
@@ -26,10 +15,9 @@ returns-in_err-send-clause-comes c = comes_then c.args.world.now c.loop-turn.wor
 pub returns-then-not-branch-clause-ok : goal.returns-then-not-branch-clause-ok
 returns-then-not-branch-clause-ok c =
     let most : ℕ = 2 * c.saturating_sub.result + 2 in
-    let there : Some c.in-Some.link ≡ option_map link_view (link_at c.args.world.now c.args.end.now) = search (rules, c.in-Some.ensures) in
-    let is : most ≡ 2 * (c.in-Some.link.last - c.in-Some.link.una) + 2 = ap (λ x. 2 * x + 2) c.saturating_sub.ensures in
+    let is : most ≡ 2 * (c.args.link.now.last - c.args.link.now.una) + 2 = ap (λ x. 2 * x + 2) c.saturating_sub.ensures in
     let below : c.loop-turn.turn < most = omega arith in
-    sends_most c.args.world.now c.send.new.world c.args.self.now c.send.new.self c.args.end.now c.in-Some.link most there is
+    sends_most c.args.world.now c.send.new.world c.args.self.now c.send.new.self c.args.end.now c.args.link.now most c.requires.link is
     (λ s h. way_stops c.loop-turn.world c.send.new.world c.loop-turn.self c.send.new.self s c.args.end.now most c.loop-turn.turn c.in_ok-send.field-0 below (c.loop-turn.invariant.0 s h) (search (rules, c.if-not-branch.true)) c.in_ok-send.ensures.ok)
 
 pub returns-then-not-branch-clause-comes : goal.returns-then-not-branch-clause-comes
@@ -46,10 +34,9 @@ loop-turn-preserved c =
 pub returns-clause-ok : goal.returns-clause-ok
 returns-clause-ok c =
     let most : ℕ = 2 * c.saturating_sub.result + 2 in
-    let there : Some c.in-Some.link ≡ option_map link_view (link_at c.args.world.now c.args.end.now) = search (rules, c.in-Some.ensures) in
-    let is : most ≡ 2 * (c.in-Some.link.last - c.in-Some.link.una) + 2 = ap (λ x. 2 * x + 2) c.saturating_sub.ensures in
+    let is : most ≡ 2 * (c.args.link.now.last - c.args.link.now.una) + 2 = ap (λ x. 2 * x + 2) c.saturating_sub.ensures in
     let none : most - c.loop-turn.turn ≡ 0 = omega arith in
-    sends_most c.args.world.now c.loop-turn.world c.args.self.now c.loop-turn.self c.args.end.now c.in-Some.link most there is
+    sends_most c.args.world.now c.loop-turn.world c.args.self.now c.loop-turn.self c.args.end.now c.args.link.now most c.requires.link is
     (λ s h. way_ends c.loop-turn.world c.loop-turn.self s c.args.end.now most (most - c.loop-turn.turn) none (c.loop-turn.invariant.0 s h))
 
 pub returns-clause-comes : goal.returns-clause-comes

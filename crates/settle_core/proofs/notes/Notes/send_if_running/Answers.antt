@@ -1,7 +1,4 @@
-use Rattle.std.proofs.Common.{◌≡◌, ◌∙◌, sym, ap, true, false, rules}
-use Rattle.std.specs.Prelude.{option_map}
-use Rattle.protocol.specs.Settle.{link_at}
-use Rattle.world_core.specs.Lives.{link_view}
+use Rattle.std.proofs.Common.{◌≡◌, ◌∙◌, sym, true, false, rules}
 use Rattle.settle_core.specs.Steps.{view_runs}
 use Rattle.settle_core.proofs.Visits.{on_ok, runs_not, runs_on}
 use Rattle.settle_core.proofs.Worlds.{comes_nothing}
@@ -9,16 +6,16 @@ use Rattle.settle_core.proofs.notes.Notes.send_if_running.Goals as goal
 
 pub returns-then-is_running-clause-ok : goal.returns-then-is_running-clause-ok
 returns-then-is_running-clause-ok c =
-    let yes : view_runs (option_map link_view (link_at c.args.world.now c.args.end.now)) ≡ true = ap view_runs (sym c.link_at.ensures.link) ∙ (sym c.is_running.ensures ∙ search (rules, c.if-is_running.true)) in
-    on_ok c.send_all.result (runs_on c.args.world.now c.send_all.new.world c.args.self.now c.send_all.new.self c.args.end.now yes) c.send_all.ensures.ok
+    let yes : view_runs c.args.link.now ≡ true = sym c.is_running.ensures ∙ search (rules, c.if-is_running.true) in
+    on_ok c.send_all.result (runs_on c.args.world.now c.send_all.new.world c.args.self.now c.send_all.new.self c.args.end.now c.args.link.now c.requires.link yes) c.send_all.ensures.ok
 
 pub returns-then-is_running-clause-comes : goal.returns-then-is_running-clause-comes
 returns-then-is_running-clause-comes c = c.send_all.ensures.comes
 
 pub returns-clause-ok : goal.returns-clause-ok
 returns-clause-ok c =
-    let not : view_runs (option_map link_view (link_at c.args.world.now c.args.end.now)) ≡ false = ap view_runs (sym c.link_at.ensures.link) ∙ (sym c.is_running.ensures ∙ search (rules, c.if-is_running.false)) in
-    runs_not c.args.world.now c.args.self.now c.args.end.now not
+    let not : view_runs c.args.link.now ≡ false = sym c.is_running.ensures ∙ search (rules, c.if-is_running.false) in
+    runs_not c.args.world.now c.args.self.now c.args.end.now c.args.link.now c.requires.link not
 
 pub returns-clause-comes : goal.returns-clause-comes
 returns-clause-comes c = comes_nothing c.args.world.now

@@ -34,15 +34,15 @@ returns-then-not-may_step-clause-ok c =
 pub returns-then-not-may_step-clause-comes : goal.returns-then-not-may_step-clause-comes
 returns-then-not-may_step-clause-comes c = comes_nothing c.args.world.now
 
-pub returns-in_err-_answer-clause-comes : goal.returns-in_err-_answer-clause-comes
-returns-in_err-_answer-clause-comes c = c.step.ensures.comes
+pub returns-in_err-step-clause-comes : goal.returns-in_err-step-clause-comes
+returns-in_err-step-clause-comes c = c.step.ensures.comes
 
 pub returns-clause-ok : goal.returns-clause-ok
 returns-clause-ok c =
     let there : Some c.in-Some.link ≡ option_map link_view (link_at c.args.world.now c.args.end.now) = search (rules, c.in-Some.ensures) in
     let yes : may_wait c.in-Some.link c.has_ended-partner_ended.result (get same_object c.args.self.now.waited c.args.end.now) ≡ true = sym c.may_step.ensures ∙ search (rules, c.if-not-may_step.false) in
     both_ok c.note.result
-    (rnr_on c.args.world.now c.step.new.world c.args.self.now c.step.new.self c.note.new.self c.args.end.now c.in-Some.link (record { una = c.in-Some.link.una; partner_ended = c.has_ended-partner_ended.result }) there refl c.has_ended-partner_ended.ensures (search (rules, c.if-not-link.false)) yes c.in_ok-_answer.ensures.ok c.note.ensures.changed)
+    (rnr_on c.args.world.now c.step.new.world c.args.self.now c.step.new.self c.note.new.self c.args.end.now c.in-Some.link (record { una = c.in-Some.link.una; partner_ended = c.has_ended-partner_ended.result }) there refl c.has_ended-partner_ended.ensures (search (rules, c.if-not-link.false)) yes c.in_ok-step.ensures.ok c.note.ensures.changed c.note.ensures.seen)
     c.note.ensures.waited c.note.ensures.stepped
 
 pub returns-clause-comes : goal.returns-clause-comes

@@ -1,4 +1,4 @@
-use Rattle.std.proofs.Common.{refl, false}
+use Rattle.std.proofs.Common.{refl, false, None}
 use Rattle.settle_core.proofs.Goings.{on_err, settles_as}
 use Rattle.settle_core.proofs.Worlds.{comes_nothing}
 use Rattle.settle_core.proofs.rounds.RoundsSettler.settle.Goals as goal
@@ -14,5 +14,5 @@ returns-in_err-unfinished-clause-left c = on_err c.from_residual-in_err-unfinish
 
 pub returns-clause-settled : goal.returns-clause-settled
 returns-clause-settled c =
-    settles_as c.args.world.now c.go_round.new.world (record { changed = false; stepped = false; waited = c.new.result }) c.in_ok-most.most _ c.next-next.ensures.kept refl refl c.new.ensures.empty c.in_ok-most.ensures
+    settles_as c.args.world.now c.go_round.new.world (record { changed = false; stepped = false; waited = c.new.result; seen = None }) c.in_ok-most.most _ c.next-next.ensures.kept refl refl c.new.ensures.empty refl c.in_ok-most.ensures
     c.in_ok-rounds.ensures.ok c.in_ok-unfinished.ensures
