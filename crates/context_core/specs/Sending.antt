@@ -1,5 +1,5 @@
 -- What is sent for an end, and the memory that it takes.
-use Rattle.std.specs.Prelude.{ℕ, ◌≡◌, ◌<◌, ◌^◌, ◌%◌, List, [], ◌∷◌, length, vec_capacity, Some, None, IfSome}
+use Rattle.std.specs.Prelude.{ℕ, ◌≡◌, ◌<◌, ◌≤◌, ◌^◌, ◌%◌, List, [], ◌∷◌, length, vec_capacity, Some, None, IfSome}
 use Rattle.rdma_types.specs.declared.answers.Answer.{Answer}
 use Rattle.rdma_types.specs.declared.answers.Answer.TheVariants as answer
 use Rattle.rdma_types.specs.declared.answers.Sent.{Sent}
@@ -19,11 +19,12 @@ use Rattle.context_core.specs.declared.datagrams.Room.{Room}
 abbrev pub addressed : Packet → Packet
 addressed p = record p { dest = p.dest % 16777216 }
 
--- memory for one datagram of so many bytes
+-- memory for one datagram of at most so many bytes
 pub record IsRoom (r : Room) (most : ℕ) : Type 0 where
   pub none : r.sent.items ≡ []
   pub one : 0 < vec_capacity r.sent
-  pub bytes : length r.bytes.items ≡ most
+  pub empty : r.bytes.items ≡ []
+  pub bytes : most ≤ vec_capacity r.bytes
 
 -- the fields of a request are in their ranges
 pub record IsInRange (s : Shape) : Type 0 where

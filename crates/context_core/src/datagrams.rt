@@ -1,6 +1,6 @@
 //! Datagrams that are sent, each in memory that is taken before.
 
-ghost use Rattle.std.specs.Prelude.{◌≡◌, ◌⊎◌, ◌<◌, ◌≤◌, ◌^◌, ◌%◌, ◌==◌, ◌||◌, ◌∷◌, [], IfOk, IsTrue, None, Some, length};
+ghost use Rattle.std.specs.Prelude.{◌≡◌, ◌⊎◌, ◌<◌, ◌≤◌, ◌^◌, ◌%◌, ◌==◌, ◌||◌, ◌∷◌, [], IfOk, IsTrue, None, Some, length, vec_capacity};
 ghost use Rattle.rdma_types.specs.Objects as objects;
 ghost use Rattle.protocol.specs.Bytes.{bytes_at};
 ghost use Rattle.protocol.specs.Numbers.{wire_number};
@@ -32,7 +32,7 @@ impl Room {
         ensures { IfOk result (λ r. IsRoom r most) }
     {
         let sent = Vec::with_capacity(alloc, 1)?;
-        let bytes = vec![in alloc; 0; most]?;
+        let bytes = Vec::with_capacity(alloc, most)?;
         Ok(Room { sent, bytes })
     }
 
@@ -49,11 +49,8 @@ impl Room {
         requires short { length (wire_of (packet d.now)) ≤ most }
         ensures { result ≡ record { to = to; number = number; bytes = wire_of (packet d.now) } ∷ [] }
     {
-        let Room {
-            mut sent,
-            mut bytes,
-        } = self;
-        bytes.truncate(encoded_len(d));
+        let Room { mut sent, bytes } = self;
+        let mut bytes = zeros_in(bytes, encoded_len(d));
         bytes.shrink_to_fit();
         encode(d, &mut bytes);
         let bytes = Items::new(bytes);
@@ -62,6 +59,16 @@ impl Room {
         }
         Items::new(sent)
     }
+}
+
+/// So many zeros, in memory that is taken before. It takes no other.
+pub fn zeros_in(mut memory: Vec<u8>, count: usize) -> Vec<u8>
+    requires empty { memory.items ≡ [] }
+    requires room { count ≤ vec_capacity memory }
+    ensures { length result.items ≡ count }
+{
+    memory.resize(count, 0).unwrap();
+    memory
 }
 
 /// The bytes of a datagram, in memory of their own.

@@ -1,6 +1,6 @@
 //! What an end sends by itself.
 
-ghost use Rattle.std.specs.Prelude.{ℕ, ◌≡◌, ◌+◌, ◌<◌, ◌≤◌, ◌^◌, IfOk, IfSome, IsSome, OnErr, Some, length, map, slice_get};
+ghost use Rattle.std.specs.Prelude.{ℕ, ◌≡◌, ◌+◌, ◌<◌, ◌≤◌, ◌^◌, [], IfOk, IfSome, IsSome, OnErr, Some, length, map, slice_get, vec_capacity};
 ghost use Rattle.std.specs.Result.{result_err};
 ghost use Rattle.rdma_types.specs.Causes.{first_cause};
 ghost use Rattle.rdma_types.specs.declared.names.Name.{Name};
@@ -21,7 +21,7 @@ ghost use Rattle.context_core.specs.Faults.{refusal_of};
 ghost use Rattle.context_core.specs.Sending.{IsInRange, IsRoom, row_answer, row_sent};
 ghost use Rattle.context_core.specs.Transmitting.{IsSending, IsWay};
 
-use crate::datagrams::{Room, moving, request};
+use crate::datagrams::{Room, moving, request, zeros_in};
 use crate::{ContextFault, ContextState, EndSlot, ends};
 use endpoint_core::{EndSend, Endpoint};
 use indexmap::IndexMap;
@@ -85,10 +85,11 @@ struct Store {
 /// Memory for a packet with at most so many bytes.
 fn store_for(alloc: Global, most: usize) -> Result<Store, AllocError>
     requires { most ≤ 4096 }
-    ensures payload { IfOk result (λ s. length s.payload.items ≡ most) }
+    ensures empty { IfOk result (λ s. s.payload.items ≡ []) }
+    ensures payload { IfOk result (λ s. most ≤ vec_capacity s.payload) }
     ensures room { IfOk result (λ s. IsRoom s.room (most + 92)) }
 {
-    let payload = vec![in alloc; 0; most]?;
+    let payload = Vec::with_capacity(alloc, most)?;
     let room = Room::make(alloc, most + MOST_HEADERS)?;
     Ok(Store { payload, room })
 }
@@ -127,15 +128,16 @@ fn posted_at(endpoint: &Endpoint, index: usize) -> &Posted
 }
 
 /// The bytes of a packet, as many as the request has there, in this memory.
-fn payload_in(pool: &PagePool, payload: &Payload, head: &PacketHead, mut out: Vec<u8>) -> Vec<u8>
+fn payload_in(pool: &PagePool, payload: &Payload, head: &PacketHead, memory: Vec<u8>) -> Vec<u8>
     requires held { HoldsPayload pool.now payload.now }
-    requires room { length (bytes_at head.now.off head.now.length (payload_bytes pool.now payload.now)) ≤ length out.items }
+    requires empty { memory.items ≡ [] }
+    requires room { length (bytes_at head.now.off head.now.length (payload_bytes pool.now payload.now)) ≤ vec_capacity memory }
     ensures { result.items ≡ bytes_at head.now.off head.now.length (payload_bytes pool.now payload.now) }
 {
     let (first, length) = (payload.first, payload.length);
     let off = head.off.min(length);
     let count = head.length.min(length - off);
-    out.truncate(count as usize);
+    let mut out = zeros_in(memory, count as usize);
     pool.read(&payload.list, u64::from(first) + u64::from(off), &mut out);
     out
 }
@@ -151,7 +153,8 @@ fn request_sent(
     head: &PacketHead,
 ) -> Items<Sent>
     requires sending { (l : EndLink) × IsSending pool.now endpoint.now way.now (send.Transmit (transmission.Sent number index head.now)) l }
-    requires payload { length store.payload.items ≡ way.now.mtu }
+    requires empty { store.payload.items ≡ [] }
+    requires payload { way.now.mtu ≤ vec_capacity store.payload }
     requires room { IsRoom store.room (way.now.mtu + 92) }
     ensures { (l : EndLink) (own : Address) → IsSending pool.now endpoint.now way.now (send.Transmit (transmission.Sent number index head.now)) l
         → result ≡ row_sent (link_in pool.now l) own (row_in pool.now (Some l) (send.Transmit (transmission.Sent number index head.now))) }
@@ -176,7 +179,8 @@ fn sent_for(
     send: EndSend,
 ) -> Items<Sent>
     requires sending { (l : EndLink) × IsSending pool.now endpoint.now way.now send l }
-    requires payload { length store.payload.items ≡ way.now.mtu }
+    requires empty { store.payload.items ≡ [] }
+    requires payload { way.now.mtu ≤ vec_capacity store.payload }
     requires room { IsRoom store.room (way.now.mtu + 92) }
     ensures { (l : EndLink) → IsSending pool.now endpoint.now way.now send l
         → result ≡ row_sent (link_in pool.now l) own (row_in pool.now (Some l) send) }
