@@ -10,3 +10,4 @@ pub mod LeftEnds
 pub mod Ends
 pub mod EndTimers
 pub mod Goings
+pub mod Quieting

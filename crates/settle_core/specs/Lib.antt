@@ -4,3 +4,4 @@ pub mod Steps
 pub mod Waits
 pub mod Left
 pub mod Loads
+pub mod Quieted

@@ -4,10 +4,12 @@
 #![tactic(auto)]
 
 mod draining;
+mod laws;
 mod leaving;
 mod notes;
 mod rounds;
 mod sending;
 mod timers;
 
+pub use laws::settled_worlds_are_quiet;
 pub use rounds::Rounds;

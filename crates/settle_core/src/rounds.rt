@@ -1,12 +1,15 @@
 //! Rounds of settling.
 
-ghost use Rattle.std.specs.Prelude.{◌≡◌, ◌*◌, ◌+◌, ◌≤◌, ◌||◌, not, length, sum_by, IfOk, IfSome, OnErr, OnOk};
+ghost use Rattle.std.specs.Prelude.{◌≡◌, ◌*◌, ◌+◌, ◌≤◌, ◌||◌, not, length, All, sum_by, IfOk, IfSome, OnErr, OnOk};
+ghost use Rattle.protocol.specs.Lawful.{IsLawful};
 ghost use Rattle.protocol.specs.Settle.{Settling, begun, load_of, round, rounds_of};
 ghost use Rattle.protocol.specs.State as state;
 ghost use Rattle.settle_core.specs.Loads.{view_numbers};
+ghost use Rattle.settle_core.specs.Quieted.{IsQuieted};
 ghost use Rattle.settle_core.specs.Shown.{Comes, Ends, Settles, Shows};
 ghost use Rattle.world_core.specs.Settled.{IsLeft, IsSettled};
 
+use crate::laws::settled_worlds_are_quiet;
 use crate::leaving::unfinished;
 use crate::notes::Notes;
 use indexmap::IndexMap;
@@ -107,7 +110,9 @@ impl Notes {
 impl Settler for Rounds {
     /// Settles a world by rounds, of which it takes at most 32 for each unit of the load. Where the world stands for a
     /// state of the packetless machine, nothing changes in the last of them and no timer is stepped
-    /// (`settling_bound::settling_ends`).
+    /// (`settling_bound::settling_ends`). The packetless machine follows it, and the world is then quiet: nothing is pending,
+    /// and each end with untold requests is listed with the first reason that holds. That is so of every settler
+    /// ([`settled_worlds_are_quiet`]).
     ///
     /// # Errors
     ///
@@ -116,8 +121,10 @@ impl Settler for Rounds {
     fn settle(&self, alloc: Global, world: &mut World) -> Result<Quiet, AllocError>
         ensures settled { IfOk result (λ quiet. IsSettled world.old world.new quiet) }
         ensures few { IfOk result (λ quiet. quiet.rounds ≤ 32 * load_of world.old) }
+        ensures quiet { IfOk result (λ quiet. All IsLawful world.old.carried → IsQuieted world.old world.new quiet.unfinished) }
         ensures left { OnErr result (IsLeft world.old world.new) }
     {
+        settled_worlds_are_quiet();
         let _next = world.next();
         let most = most_rounds(alloc, world)?;
         let mut notes = Notes {

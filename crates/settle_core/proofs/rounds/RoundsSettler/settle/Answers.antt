@@ -16,3 +16,6 @@ pub returns-clause-settled : goal.returns-clause-settled
 returns-clause-settled c =
     settles_as c.args.world.now c.go_round.new.world (record { changed = false; stepped = false; waited = c.new.result; seen = None }) c.in_ok-most.most _ c.next-next.ensures.kept refl refl c.new.ensures.empty refl c.in_ok-most.ensures
     c.in_ok-rounds.ensures.ok c.in_ok-unfinished.ensures
+
+pub returns-clause-quiet : goal.returns-clause-quiet
+returns-clause-quiet c = λ lawful. c.settled_worlds_are_quiet.ensures c.args.world.now c.go_round.new.world _ lawful (returns-clause-settled c)
