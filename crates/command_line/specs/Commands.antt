@@ -1,8 +1,8 @@
 -- A command as the rules know it.
-use Rattle.std.specs.Prelude.{◌≤◌, Option, Some, None}
-use Rattle.workload_gen.specs.declared.plan.Mix.{Mix}
+use Rattle.std.specs.Prelude.{Option, Some, None}
 use Rattle.script_rules.specs.Commands.{Play, Bulk, ShowDump}
 use Rattle.script_rules.specs.Commands as rules
+use Rattle.script_rules.specs.Mixes.{IsMix}
 use Rattle.command_line.specs.declared.command.Command.{Command}
 use Rattle.command_line.specs.declared.command.Command.TheVariants as command
 
@@ -15,10 +15,6 @@ known (command.ShowDump name) = ShowDump name
 abbrev pub known_if : Option Command → Option rules.Command
 known_if None = None
 known_if (Some c) = Some (known c)
-
--- how much a generated script may have of each
-abbrev pub IsMix : Mix → Type 0
-IsMix m = (1 ≤ m.connections) × (m.connections ≤ 8) × (1 ≤ m.messages) × (m.messages ≤ 2000) × (m.moves ≤ 16)
 
 -- a command asks for no more
 abbrev pub IsInRange : Command → Type 0

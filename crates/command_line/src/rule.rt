@@ -6,7 +6,8 @@ ghost use Rattle.std.specs.String.{string_bytes};
 ghost use Rattle.script_lang.specs.Texts.{is_decimal, is_digit, number_in};
 ghost use Rattle.script_rules.specs.Commands as rules;
 ghost use Rattle.script_rules.specs.Commands.{command_of};
-ghost use Rattle.command_line.specs.Commands.{IsInRange, IsMix, known_if};
+ghost use Rattle.script_rules.specs.Mixes.{IsMix};
+ghost use Rattle.command_line.specs.Commands.{IsInRange, known_if};
 
 use crate::command::Command;
 use rdma_types::Name;

@@ -10,7 +10,7 @@ use Rattle.script_rules.specs.Commands.{Bulk}
 use Rattle.script_rules.specs.Headline.{IsStopped, IsStoppedBy, IsStoppedInBulk, Run, command}
 use Rattle.script_rules.specs.Script.{BadLine, Script, bad_line, begins_with, script_from}
 use Rattle.generated_scripts.proofs.Cutting.{AreGood, IsGood}
-use Rattle.generated_scripts.specs.Mixes.{IsMix}
+use Rattle.script_rules.specs.Mixes.{IsMix}
 use Rattle.generated_scripts.proofs.Commanded.{command_in_range}
 use Rattle.generated_scripts.proofs.Spelled.{AreReadBack}
 use Rattle.generated_scripts.proofs.Whole.{lines_good}

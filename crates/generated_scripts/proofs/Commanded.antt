@@ -6,7 +6,7 @@ use Rattle.rdma_types.specs.declared.names.Name.{Name}
 use Rattle.script_lang.specs.Texts.{digits_after, greatest_u64, is_decimal, name_of, number_in}
 use Rattle.workload_gen.specs.declared.plan.Mix.{Mix}
 use Rattle.script_rules.specs.Commands.{Bulk, Play, ShowDump, alone, bulk_of, command_of, mix_of, show_dump_of}
-use Rattle.generated_scripts.specs.Mixes.{IsMix}
+use Rattle.script_rules.specs.Mixes.{IsMix}
 
 in_range : (low high n m : ℕ) → (if nat_le low n && nat_le n high then Some n else None) ≡ Some m → (low ≤ m) × (m ≤ high)
 in_range low high n m h = grind (arith, nat_tests)

@@ -1,9 +1,9 @@
 //! What holds of the lines of each generated script.
 
 ghost use Rattle.std.specs.Prelude.{◌≡◌, ℕ, Some, None};
-ghost use Rattle.generated_scripts.specs.Mixes.{IsMix};
 ghost use Rattle.script_rules.specs.Commands.{Bulk};
 ghost use Rattle.script_rules.specs.Headline.{IsStopped, IsStoppedInBulk, Run, command};
+ghost use Rattle.script_rules.specs.Mixes.{IsMix};
 ghost use Rattle.script_rules.specs.Script.{bad_line};
 ghost use Rattle.workload_gen.specs.Plan.{plan};
 ghost use Rattle.workload_gen.specs.declared.plan.Mix.{Mix};

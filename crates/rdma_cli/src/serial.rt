@@ -3,8 +3,10 @@
 ghost use Rattle.std.specs.Prelude.{◌≡◌, ◌≤◌, ◌+◌, ◌⊎◌, ℕ, List, length, None, Some, Err, String, IsSome, OnOk, OnErr, IfErr, IfOk, map};
 ghost use Rattle.std.specs.String.{string_bytes};
 ghost use Rattle.rdma_types.specs.declared.names.Name.{Name};
+ghost use Rattle.protocol.specs.Dumps.{Good, read_dump};
+ghost use Rattle.protocol.specs.declared.images.ContextImage.{ContextImage};
 ghost use Rattle.mig_ports.specs.Depots.{Has};
-ghost use Rattle.mig_ports.specs.Streams.{Rose, TakesCount};
+ghost use Rattle.mig_ports.specs.Streams.{Puts, Rose, TakesCount};
 ghost use Rattle.dump_writer.specs.Text.{text_of};
 ghost use Rattle.script_rules.specs.Commands as rules;
 ghost use Rattle.script_rules.specs.Commands.{command_of};
@@ -145,9 +147,11 @@ pub(crate) fn run_serial<S: Source, K: Sink, D: Depot>(
     ensures missing { result ≡ 12 → IsMissing (run_of words.now (S.left input.old) (S.left input.new) (K.held output.old) (K.held output.new) (D.held depot.old) (D.held depot.new)) }
     ensures missing_only { (name : Name) → command_of (map string_bytes words.now) ≡ Some (rules.ShowDump name) → IsSome (D.held depot.old) → Has (D.held depot.old) name None → (result ≡ 12) ⊎ (result ≡ 7) ⊎ (result ≡ 8) ⊎ (result ≡ 5) }
 
-    // Where nothing fails, a script of good lines is answered whole, and a generated one is summed up, unless memory is wanting.
+    // Where nothing fails, a script of good lines is answered whole, a generated one is summed up, and what a dump says that is
+    // held under the name is written, unless memory is wanting.
     ensures play_is_done { (text : List ℕ) → command_of (map string_bytes words.now) ≡ Some rules.Play → S.left input.old ≡ Some text → length text ≤ input_limit → bad_line text ≡ None → (Rose (S.faults input.old) (S.faults input.new) → ⊥) → (Rose (K.faults output.old) (K.faults output.new) → ⊥) → (result ≡ 0) ⊎ (result ≡ 8) }
     ensures bulk_is_done { (seed : ℕ) (mix : Mix) → command_of (map string_bytes words.now) ≡ Some (rules.Bulk seed mix) → (Rose (K.faults output.old) (K.faults output.new) → ⊥) → (result ≡ 0) ⊎ (result ≡ 8) }
+    ensures show_dump_is_done { (name : Name) (bytes : List ℕ) (image : ContextImage) (place : ℕ) (rest : List ℕ) → command_of (map string_bytes words.now) ≡ Some (rules.ShowDump name) → IsSome (D.held depot.old) → Has (D.held depot.old) name (Some bytes) → read_dump bytes ≡ Good image place rest → (Rose (D.faults depot.old) (D.faults depot.new) → ⊥) → (Rose (K.faults output.old) (K.faults output.new) → ⊥) → ((result ≡ 0) × Puts (K.held output.old) (K.held output.new) (text_of image)) ⊎ (result ≡ 8) }
 {
     no_generated_line_is_bad();
     match perform(alloc, words, input, output, depot) {

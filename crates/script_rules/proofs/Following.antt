@@ -24,7 +24,8 @@ use Rattle.simulation.specs.Stands.{Stands}
 use Rattle.settling_steps.specs.Settling.{ComesOf, IsSettling, IsTurn, SettlingFollows, SettlingIsEvents}
 use Rattle.script_rules.specs.Does.{IsLineInRange, IsWithin, IsWithinOf, before, happening_of, happenings_of}
 use Rattle.script_rules.specs.Follows.{FollowsAll, FollowsBy}
-use Rattle.script_rules.specs.Script.{heard_from}
+use Rattle.script_rules.specs.Left.{ReachesAll}
+use Rattle.script_rules.specs.Script.{heard_from, world_left}
 
 -- ---- what settling makes
 
@@ -117,7 +118,11 @@ all_within (l ∷ ls) all = by (happening_of l) (All-head IsLineInRange l ls all
     by None first rest = rest
     by (Some h) first rest = All-cons IsWithin h (happenings_of ls) first rest
 
--- ---- what is heard
+-- ---- where they lead, and what is heard
+
+after_on : (m : Machine) (ss ts : List IdealStep) → after m (ss ++ ts) ≡ after (after m ss) ts
+after_on m [] ts = refl
+after_on m (s ∷ ss) ts = after_on (effect m s) ss ts
 
 runs_on : (m : Machine) (ss ts : List IdealStep) → IsRun m ss → IsRun (after m ss) ts → IsRun m (ss ++ ts)
 runs_on m [] ts first second = second
@@ -127,15 +132,19 @@ seen_on : (m : Machine) (ss ts : List IdealStep) → seen m (ss ++ ts) ≡ seen 
 seen_on m [] ts = refl
 seen_on m (s ∷ ss) ts = ap (λ x. seen_of m s ++ x) (seen_on (effect m s) ss ts) ∙ sym (append_assoc (seen_of m s) (seen (effect m s) ss) (seen (after (effect m s) ss) ts))
 
-pub all_legal : (w : World) (m : Machine) (hs : List Happening) → FollowsAll w m hs → IsLegalFrom m (heard_from w hs)
-all_legal w m [] f = record { run = []; is_run = tt; heard_all = refl }
-all_legal w m (h ∷ hs) f =
-    let rest = all_legal (happens w h).world (after m f.0) hs f.2 in
+pub all_reached : (w : World) (m : Machine) (hs : List Happening) → FollowsAll w m hs → ReachesAll w m hs
+all_reached w m [] f = record { steps = []; is_run = tt; heard_all = refl; stands = f }
+all_reached w m (h ∷ hs) f =
+    let rest = all_reached (happens w h).world (after m f.0) hs f.2 in
     record {
-      run = f.0 ++ rest.run;
-      is_run = runs_on m f.0 rest.run f.1.is_run rest.is_run;
-      heard_all = seen_on m f.0 rest.run ∙ rw (f.1.heard, rest.heard_all) refl;
+      steps = f.0 ++ rest.steps;
+      is_run = runs_on m f.0 rest.steps f.1.is_run rest.is_run;
+      heard_all = seen_on m f.0 rest.steps ∙ rw (f.1.heard, rest.heard_all) refl;
+      stands = rw (after_on m f.0 rest.steps) rest.stands;
     }
+
+pub all_legal : (w : World) (m : Machine) (hs : List Happening) → FollowsAll w m hs → IsLegalFrom m (heard_from w hs)
+all_legal w m hs f = let r = all_reached w m hs f in record { run = r.steps; is_run = r.is_run; heard_all = r.heard_all }
 
 -- ---- fronts
 

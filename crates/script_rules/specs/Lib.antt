@@ -1,8 +1,10 @@
 pub mod Does
 pub mod Script
 pub mod Follows
+pub mod Left
 pub mod Playing
 pub mod Evaluate
 pub mod Commands
+pub mod Mixes
 pub mod Texts
 pub mod Headline

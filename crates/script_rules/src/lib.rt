@@ -18,6 +18,7 @@ ghost use Rattle.script_lang.specs.Ranges.{IsLawfulLine};
 ghost use Rattle.script_rules.specs.Does.{IsLineInRange, IsWithin, MayBeAskedOf, happening_of, happenings_of};
 ghost use Rattle.script_rules.specs.Follows.{FollowsAll};
 ghost use Rattle.script_rules.specs.Headline.{IsFollowed};
+ghost use Rattle.script_rules.specs.Left.{ReachesAll};
 ghost use Rattle.script_rules.specs.Script.{happenings, heard_from};
 
 mod playing;
@@ -50,11 +51,12 @@ pub fn lines_are_followed()
 }
 
 /// The machine follows the lines of each text before its first bad one, and what applications hear of them is legal. So it is for
-/// each front of them, as where a run stops early.
+/// each front of them, as where a run stops early. The world that they leave stands for the state that the machine comes to.
 pub fn scripts_are_followed()
     ensures whole { (text : List ℕ) → IsFollowed text }
     ensures follows_front { (text : List ℕ) (front rest : List Happening) → happenings text ≡ front ++ rest → FollowsAll empty_world empty front }
     ensures legal_front { (text : List ℕ) (front rest : List Happening) → happenings text ≡ front ++ rest → IsLegal (heard_from empty_world front) }
+    ensures reached { (text : List ℕ) → ReachesAll empty_world empty (happenings text) }
 {
     lines_are_in_range();
     lines_are_followed();

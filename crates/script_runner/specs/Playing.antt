@@ -1,23 +1,29 @@
 -- What the parts of playing a script do.
-use Rattle.std.specs.Prelude.{ℕ, ◌≡◌, ◌⊎◌, List, ◌++◌, Option, Some}
+use Rattle.std.specs.Prelude.{ℕ, ◌≡◌, ◌+◌, List, ◌++◌, Option, None, Some}
 use Rattle.rdma_types.specs.declared.answers.Answer.{Answer}
-use Rattle.protocol.specs.Script.{Happening, happens}
+use Rattle.protocol.specs.Script.{Happening, Event, Dump, Settles, happens}
 use Rattle.protocol.specs.State.{World}
 use Rattle.alike_worlds.specs.Alike.{forgetful}
 use Rattle.mig_ports.specs.Streams.{Puts}
+use Rattle.script_rules.specs.Does.{happenings_of}
+use Rattle.script_rules.specs.Left.{world_of}
 use Rattle.script_rules.specs.Playing.{IsPlayed}
-use Rattle.script_rules.specs.Script.{BadLine, answers_text, bad_line}
+use Rattle.script_rules.specs.Script.{BadLine, answers_text, bad_line, script_from, world_left}
 use Rattle.script_runner.specs.declared.fault.PlayFault.{PlayFault}
 use Rattle.script_runner.specs.declared.fault.PlayFault.TheVariants as fault
 
--- a world is another one, or what is left of it where the network keeps the last datagrams
-abbrev pub IsLeft : World → World → Type 0
-IsLeft new whole = (new ≡ whole) ⊎ (new ≡ forgetful whole)
+-- a blank line and a dump leave the world as it is; an event and settling leave that of the rules, in which those datagrams are
+-- blank that the network keeps no more
+abbrev pub Leaves : World → Option Happening → World → Type 0
+Leaves old None new = new ≡ old
+Leaves old (Some (Event e)) new = new ≡ forgetful (happens old (Event e)).world
+Leaves old (Some (Dump name)) new = new ≡ old
+Leaves old (Some Settles) new = new ≡ forgetful (happens old Settles).world
 
 -- the answer to what happens, and the world that it leaves
 pub record Answers (old : World) (h : Happening) (answer : Answer) (new : World) : Type 0 where
   pub answered : answer ≡ (happens old h).answer
-  pub left : IsLeft new (happens old h).world
+  pub left : Leaves old (Some h) new
 
 -- a front of a text was put behind what was held
 pub record PutsFront (held held' : Option (List ℕ)) (text : List ℕ) : Type 0 where
@@ -38,11 +44,19 @@ IsOneLineFault (fault.BadLine line column why) = ⊥
 IsOneLineFault fault.WriteFault = Unit {0}
 IsOneLineFault fault.OutOfMemory = Unit {0}
 
+-- where `number` lines of a text were read and `rest` are to come: in `w` those datagrams of the rules' world are blank that the
+-- network keeps no more, and the lines to come lead from the rules' world to the one that the text leaves
+pub record IsOnTheWay (text : List ℕ) (w : World) (number : ℕ) (rest : List (List ℕ)) : Type 0 where
+  pub whole : World  -- the rules' world
+  pub left : w ≡ forgetful whole
+  pub leads : world_of text ≡ world_left whole (happenings_of (script_from (number + 1) rest).lines)
+
 -- how far a text is played, where `number` of its lines were read, `rest` are to come, and the world is `w`
 pub record IsPlayedTo (held held' : Option (List ℕ)) (text : List ℕ) (w : World) (number : ℕ) (rest : List (List ℕ)) : Type 0 where
   pub done : List ℕ  -- what was written
   pub written : Puts held held' done
   pub played : IsPlayed text done w number rest
+  pub way : IsOnTheWay text w number rest
 
 -- the first bad line of a text, where the lines before it are answered
 pub record IsStoppedAt (held held' : Option (List ℕ)) (text : List ℕ) (bad : BadLine) : Type 0 where

@@ -7,4 +7,4 @@ mod fault;
 mod playing;
 
 pub use fault::PlayFault;
-pub use playing::play;
+pub use playing::{play, play_world};

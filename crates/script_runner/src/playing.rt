@@ -1,16 +1,18 @@
 //! The answers to the lines of a script.
 
-ghost use Rattle.std.specs.Prelude.{◌≡◌, ◌∷◌, ℕ, ◌+◌, ◌<◌, ◌≤◌, ◌^◌, List, length, Option, None, Some, Err, OnOk, OnErr, IfErr};
+ghost use Rattle.std.specs.Prelude.{◌≡◌, ◌∷◌, ℕ, ◌+◌, ◌<◌, ◌≤◌, ◌^◌, List, length, Option, None, Some, Err, OnOk, OnErr, IfOk, IfErr};
 ghost use Rattle.mig_ports.specs.Streams.{Rose, Puts};
 ghost use Rattle.script_rules.specs.Does.{MayBeAskedOf, happening_of};
 ghost use Rattle.script_rules.specs.Headline.{IsFollowed};
-ghost use Rattle.script_rules.specs.Playing.{line_text, world_past};
+ghost use Rattle.script_rules.specs.Left.{IsWorldAfter};
+ghost use Rattle.script_rules.specs.Playing.{line_text};
 ghost use Rattle.script_rules.specs.Script.{answers_text, bad_line};
-ghost use Rattle.script_runner.specs.Playing.{IfBadLine, IsLeft, IsOneLineFault, IsPlayedTo, IsStoppedAt, PutsFront};
+ghost use Rattle.script_runner.specs.Playing.{IfBadLine, IsOneLineFault, IsPlayedTo, IsStoppedAt, Leaves, PutsFront};
 
 use crate::PlayFault;
 use crate::actions::action_of;
 use crate::answering::act;
+use alike_worlds::alike_worlds_are_answered_alike;
 use mig_ports::{Sink, WriteFault, write_all_of};
 use script_lang::{Line, LineFault, Lines, parse_line, print_answer};
 use script_rules::{lines_are_in_range, scripts_are_followed, scripts_are_played_line_by_line};
@@ -37,7 +39,7 @@ fn answer<T: Settler, K: Sink>(
     output: &mut K,
 ) -> Result<(), PlayFault>
     requires { MayBeAskedOf (happening_of line) }
-    ensures world { OnOk result (IsLeft world.new (world_past world.old (happening_of line))) }
+    ensures world { OnOk result (Leaves world.old (happening_of line) world.new) }
     ensures whole { OnOk result (Puts (K.held output.old) (K.held output.new) (line_text world.old (happening_of line))) }
     ensures part { OnErr result (PutsFront (K.held output.old) (K.held output.new) (line_text world.old (happening_of line))) }
     ensures faults { IfErr result IsOneLineFault }
@@ -76,6 +78,7 @@ fn play_line<T: Settler, K: Sink>(
     ensures rose { result ≡ Err PlayFault.WriteFault → Rose (K.faults output.old) (K.faults output.new) }
     ensures later { K.faults output.old ≤ K.faults output.new }
 {
+    alike_worlds_are_answered_alike();
     lines_are_in_range();
     scripts_are_played_line_by_line();
     match parse_line(alloc, line) {
@@ -89,18 +92,19 @@ fn play_line<T: Settler, K: Sink>(
     }
 }
 
-/// Plays a script: each line is answered before the next one is read, in one write.
+/// Plays a script, and hands out the world after its last line: each line is answered before the next one is read, in one write.
 ///
 /// # Errors
 ///
 /// The first bad line, where the lines before it are answered; a fault of the sink, and want of memory, where a front of
 /// the answers is written.
-pub fn play<T: Settler, K: Sink>(
+pub fn play_world<T: Settler, K: Sink>(
     alloc: Global,
     input: &[u8],
     settler: &T,
     output: &mut K,
-) -> Result<(), PlayFault>
+) -> Result<World, PlayFault>
+    ensures left { IfOk result (λ world. IsWorldAfter input.now world) }
     ensures good { OnOk result (bad_line input.now ≡ None) }
     ensures whole { OnOk result (Puts (K.held output.old) (K.held output.new) (answers_text input.now)) }
     ensures bad { IfErr result (IfBadLine (IsStoppedAt (K.held output.old) (K.held output.new) input.now)) }
@@ -119,5 +123,28 @@ pub fn play<T: Settler, K: Sink>(
         number += 1;
         play_line(alloc, &mut world, settler, number, line, &mut text, output)?;
     }
+    Ok(world)
+}
+
+/// Plays a script: each line is answered before the next one is read, in one write.
+///
+/// # Errors
+///
+/// Those of `play_world`.
+pub fn play<T: Settler, K: Sink>(
+    alloc: Global,
+    input: &[u8],
+    settler: &T,
+    output: &mut K,
+) -> Result<(), PlayFault>
+    ensures good { OnOk result (bad_line input.now ≡ None) }
+    ensures whole { OnOk result (Puts (K.held output.old) (K.held output.new) (answers_text input.now)) }
+    ensures bad { IfErr result (IfBadLine (IsStoppedAt (K.held output.old) (K.held output.new) input.now)) }
+    ensures part { OnErr result (PutsFront (K.held output.old) (K.held output.new) (answers_text input.now)) }
+    ensures followed { IsFollowed input.now }
+    ensures rose { result ≡ Err PlayFault.WriteFault → Rose (K.faults output.old) (K.faults output.new) }
+    ensures later { K.faults output.old ≤ K.faults output.new }
+{
+    play_world(alloc, input, settler, output)?;
     Ok(())
 }

@@ -6,8 +6,8 @@ use Rattle.protocol.specs.Script.{Happening}
 use Rattle.ideal_model.specs.Machine.{empty}
 use Rattle.script_lang.specs.Scripts.{lines_of}
 use Rattle.script_rules.specs.Follows.{FollowsAll}
-use Rattle.script_rules.specs.Script.{script_of}
-use Rattle.script_rules.proofs.Following.{all_legal, front_followed}
+use Rattle.script_rules.specs.Script.{happenings, script_of}
+use Rattle.script_rules.proofs.Following.{all_legal, all_reached, front_followed}
 use Rattle.script_rules.proofs.Reading.{lines_in_range}
 use Rattle.script_rules.proofs.scripts_are_followed.Goals as goal
 
@@ -26,3 +26,7 @@ pub returns-clause-legal_front : goal.returns-clause-legal_front
 returns-clause-legal_front c text front rest e =
     all_legal empty_world empty front (front_followed empty_world empty front rest (c.lines_are_followed.ensures.follows [] (All-nil IsLineInRange))
     (subst (λ (hs : List Happening). FollowsAll empty_world empty hs) e (c.lines_are_followed.ensures.follows (script_of text).lines (lines_in_range 1 (lines_of text)))))
+
+pub returns-clause-reached : goal.returns-clause-reached
+returns-clause-reached c text =
+    all_reached empty_world empty (happenings text) (c.lines_are_followed.ensures.follows (script_of text).lines (lines_in_range 1 (lines_of text)))

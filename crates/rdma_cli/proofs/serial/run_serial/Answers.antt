@@ -6,7 +6,7 @@ use Rattle.rdma_cli.specs.Stopping.{run_of}
 use Rattle.rdma_cli.specs.declared.stop.Stop.TheVariants as stop
 use Rattle.rdma_cli.proofs.Ending.{at_2, at_3, at_4, at_5, at_7, at_8, at_9, at_12, has_status, keeps_unused, later, same_status, stop_4, stop_5, stop_7, stopped, stopped_cut_off, words_stop}
 use Rattle.rdma_cli.specs.Writing.{status}
-use Rattle.rdma_cli.proofs.Complete.{bulk_is_done, play_is_done}
+use Rattle.rdma_cli.proofs.Complete.{bulk_is_done, play_is_done, show_dump_is_done, what_it_says_is_written}
 use Rattle.rdma_cli.proofs.serial.run_serial.Goals as goal
 
 pub returns-in-Ok-write_last_line-clause-status : goal.returns-in-Ok-write_last_line-clause-status
@@ -99,4 +99,17 @@ returns-in-Err-write_last_line-clause-play_is_done g c text e left short good re
 
 pub returns-in-Err-write_last_line-clause-bulk_is_done : goal.returns-in-Err-write_last_line-clause-bulk_is_done
 returns-in-Err-write_last_line-clause-bulk_is_done g c seed mix e written =
+    absurd (written (Rose-before _ _ _ c.in-Err.ensures.later c.in-Err-write_last_line.ensures.rose))
+
+pub returns-in-Ok-clause-show_dump_is_done : goal.returns-in-Ok-clause-show_dump_is_done
+returns-in-Ok-clause-show_dump_is_done g c name bytes image place rest e told has reads kept written =
+    inl (refl, what_it_says_is_written text_of (run_of c.args.words.now (g.S.Source.left c.args.input.now) (g.S.Source.left c.perform.new.input) (g.K.Sink.held c.args.output.now) (g.K.Sink.held c.perform.new.output) (g.D.Depot.held c.args.depot.now) (g.D.Depot.held c.perform.new.depot)) name bytes image place rest told has reads e c.in-Ok.ensures.done)
+
+pub returns-in-Ok-write_last_line-clause-show_dump_is_done : goal.returns-in-Ok-write_last_line-clause-show_dump_is_done
+returns-in-Ok-write_last_line-clause-show_dump_is_done g c name bytes image place rest e told has reads kept written =
+    let wanted = show_dump_is_done text_of (later (run_of c.args.words.now (g.S.Source.left c.args.input.now) (g.S.Source.left c.perform.new.input) (g.K.Sink.held c.args.output.now) (g.K.Sink.held c.perform.new.output) (g.D.Depot.held c.args.depot.now) (g.D.Depot.held c.perform.new.depot)) (g.K.Sink.held c.write_last_line.new.output)) name bytes image place rest told has reads e c.in-Err.stop (stopped text_of (run_of c.args.words.now (g.S.Source.left c.args.input.now) (g.S.Source.left c.perform.new.input) (g.K.Sink.held c.args.output.now) (g.K.Sink.held c.perform.new.output) (g.D.Depot.held c.args.depot.now) (g.D.Depot.held c.perform.new.depot)) (g.K.Sink.held c.write_last_line.new.output) c.in-Err.stop c.in-Err.ensures.stops c.in-Ok-write_last_line.ensures.whole) (λ h. kept (c.in-Err.ensures.failed (ap Err h))) (λ h. written (Rose-after _ _ _ (c.in-Err.ensures.unwritten (ap Err h)) c.write_last_line.ensures.later)) in
+    inr (c.status.ensures ∙ ap status wanted)
+
+pub returns-in-Err-write_last_line-clause-show_dump_is_done : goal.returns-in-Err-write_last_line-clause-show_dump_is_done
+returns-in-Err-write_last_line-clause-show_dump_is_done g c name bytes image place rest e told has reads kept written =
     absurd (written (Rose-before _ _ _ c.in-Err.ensures.later c.in-Err-write_last_line.ensures.rose))

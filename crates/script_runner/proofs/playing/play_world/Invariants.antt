@@ -1,6 +1,6 @@
 use Rattle.std.proofs.Common.{◌≤◌, length}
 use Rattle.script_runner.specs.Playing.{IsPlayedTo}
-use Rattle.script_runner.proofs.playing.play.Given as goal
+use Rattle.script_runner.proofs.playing.play_world.Given as goal
 
 abbrev pub invariant-loop-line : goal.invariant-loop-line
 invariant-loop-line g l = record {

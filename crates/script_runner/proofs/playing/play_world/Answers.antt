@@ -1,8 +1,9 @@
-use Rattle.std.proofs.Common.{arith, subst, refl}
+use Rattle.std.proofs.Common.{arith, subst, sym, refl}
+use Rattle.protocol.specs.State.{World, empty_world}
 use Rattle.script_runner.specs.Playing.{IfBadLine, IsPlayedTo, IsStoppedAt}
 use Rattle.script_runner.proofs.Fronts.{if_err_is, on_err}
-use Rattle.script_runner.proofs.Played.{next_number, whole}
-use Rattle.script_runner.proofs.playing.play.Goals as goal
+use Rattle.script_runner.proofs.Played.{next_number, start, whole, world_after}
+use Rattle.script_runner.proofs.playing.play_world.Goals as goal
 
 pub overflow_add-number : goal.overflow_add-number
 overflow_add-number g c = omega (arith, next_number (g.K.Sink.held c.args.output.now) (g.K.Sink.held c.loop-line.output) c.args.input.now c.loop-line.world c.loop-line.number c.loop-line.lines c.next_line.new.self c.in-Some.line.now c.in-Some.ensures.line c.loop-line.invariant.played)
@@ -19,3 +20,15 @@ returns-in_err-play_line-clause-part g c =
 
 pub returns-clause-whole : goal.returns-clause-whole
 returns-clause-whole g c = (whole c.scripts_are_played_line_by_line.ensures.ends (g.K.Sink.held c.args.output.now) (g.K.Sink.held c.loop-line.output) c.args.input.now c.loop-line.world c.loop-line.number c.loop-line.lines c.in_default.ensures.end c.loop-line.invariant.played).1
+
+pub returns-clause-left : goal.returns-clause-left
+returns-clause-left g c = world_after (g.K.Sink.held c.args.output.now) (g.K.Sink.held c.loop-line.output) c.args.input.now c.loop-line.world c.loop-line.number c.loop-line.lines c.in_default.ensures.end c.loop-line.invariant.played (c.scripts_are_followed.ensures.reached c.args.input.now)
+
+pub loop-line-init : goal.loop-line-init
+loop-line-init g c =
+    let held = g.K.Sink.held c.args.output.now in
+    let here : IsPlayedTo held held c.args.input.now empty_world 0 c.new-lines.result = subst (IsPlayedTo held held c.args.input.now empty_world 0) (sym c.new-lines.ensures) (start c.scripts_are_played_line_by_line.ensures.begins held c.args.input.now) in
+    record {
+      played = subst (λ (w : World). IsPlayedTo held held c.args.input.now w 0 c.new-lines.result) (sym c.in_ok-world.ensures) here;
+      later = omega arith;
+    }
