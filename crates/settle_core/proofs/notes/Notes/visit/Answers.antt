@@ -1,4 +1,4 @@
-use Rattle.std.proofs.Common.{◌≡◌, ◌∙◌, sym, true, false, Some, None, rules}
+use Rattle.std.proofs.Common.{◌≡◌, ◌∙◌, sym, true, false, None, rules}
 use Rattle.std.specs.Prelude.{option_map}
 use Rattle.protocol.specs.Settle.{link_at}
 use Rattle.world_core.specs.Lives.{link_view}
