@@ -1,5 +1,6 @@
 // `play` and `bulk` in plain Rust, written from the rules of the protocol and apart from the crates: a yardstick of speed, and a second
-// opinion on random scripts (`plain gen SEED LINES` writes one).
+// opinion on random scripts (`plain gen SEED LINES` writes one), and on how many rounds a settling takes (`plain rounds` plays a
+// script, settles, and prints the rounds beside their bound).
 // Scripts have to be good: a bad line ends it with status 3 and no reason. Nothing here is proved.
 use std::collections::{HashMap, VecDeque};
 use std::fmt::Write as _;
@@ -1500,7 +1501,21 @@ impl World {
         }
         v
     }
-    fn settle(&mut self) -> String {
+    /// The unacknowledged numbers of the live ends in Rts, the number of the live ends, and one.
+    fn load(&self) -> u64 {
+        let mut load = 1;
+        for dev in &self.devs {
+            for end in dev.ctxs.iter().flat_map(|c| &c.ends) {
+                load += 1;
+                if end.state == State::Rts {
+                    load += end.end - end.una;
+                }
+            }
+        }
+        load
+    }
+    /// Settles, and counts the rounds.
+    fn run_rounds(&mut self) -> u64 {
         let order = self.order();
         let mark = |w: &World| -> Vec<(u64, State, Phase)> {
             order
@@ -1526,7 +1541,9 @@ impl World {
                 |&(d, c, e)| w.devs[d].ctxs[c].ends[e].state == State::Error,
             )
         };
+        let mut rounds = 0;
         loop {
+            rounds += 1;
             // Whether anything that counts changed since this round began, also where it was undone.
             let mut changed = false;
             let mut seen: Vec<(u64, State, Phase)> = mark(self);
@@ -1610,9 +1627,12 @@ impl World {
                 }
             }
             if !changed && !stepped {
-                break;
+                return rounds;
             }
         }
+    }
+    /// How many ends have untold requests, and a line for each.
+    fn left(&self) -> (u64, String) {
         let mut out = String::new();
         let mut n = 0;
         let mut list = |ctx: &str, e: &End, why: &str| {
@@ -1643,7 +1663,7 @@ impl World {
                 }
             }
         }
-        format!("quiet {n}{out}")
+        (n, out)
     }
     fn dump(&self, name: &str) -> Ans {
         let ctx = self
@@ -2216,7 +2236,11 @@ fn line(w: &mut World, t: &[&str]) -> Ans {
             ok()
         }
         "dump" => w.dump(t[1]),
-        "settle" => Ok(w.settle()),
+        "settle" => {
+            w.run_rounds();
+            let (n, out) = w.left();
+            Ok(format!("quiet {n}{out}"))
+        }
         _ => std::process::exit(3),
     }
 }
@@ -2691,7 +2715,7 @@ fn plan(seed: u64, c: u64, m: u64, v: u64) -> String {
     t.push_str("settle\npoll a.c 256\npoll b.c 256\n");
     t
 }
-fn play(input: &str, out: &mut impl Write) {
+fn play(input: &str, out: &mut impl Write) -> World {
     let mut w = World {
         devs: vec![],
         ring: VecDeque::with_capacity(16384),
@@ -2718,6 +2742,7 @@ fn play(input: &str, out: &mut impl Write) {
             Err(r) => writeln!(out, "refused {r}").unwrap(),
         }
     }
+    w
 }
 
 fn main() {
@@ -2754,6 +2779,13 @@ fn main() {
     }
     let mut input = String::new();
     std::io::stdin().read_to_string(&mut input).unwrap();
+    if args.len() == 2 && args[1] == "rounds" {
+        let mut w = play(&input, &mut std::io::sink());
+        let most = 32 * w.load();
+        let rounds = w.run_rounds();
+        println!("rounds {rounds} of at most {most}, left {}", w.left().0);
+        return;
+    }
     play(
         &input,
         &mut std::io::BufWriter::new(std::io::stdout().lock()),
