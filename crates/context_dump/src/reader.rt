@@ -64,7 +64,7 @@ fn take_up(alloc: Global, bytes: &[u8], held: Option<Way>) -> Result<Way, DumpFa
 {
     match held {
         Some(way) => Ok(way),
-        None => Way::begin(alloc, bytes),
+        None => Ok(Way::begin(alloc, bytes)?),
     }
 }
 

@@ -1,13 +1,13 @@
 //! How far a dump was read, where its bytes come in pieces.
 
 ghost use Rattle.std.specs.Prelude.{◌≡◌, ◌+◌, ◌-◌, ◌*◌, ◌<◌, length, map, IfOk, IfErr, true};
-ghost use Rattle.protocol.specs.Dumps.{read_dump};
+ghost use Rattle.protocol.specs.Dumps.{Bad, read_dump};
 ghost use Rattle.dump_reader.specs.Groups.{placed};
 ghost use Rattle.dump_reader.specs.Ahead.{IsOpen, image_of, queues_of, weight};
 ghost use Rattle.dump_reader.specs.Steps.{IsFault, is_wanting};
 ghost use Rattle.dump_reader.specs.Way.{Stands, IsWhole, image_at};
 
-use crate::cursor::Cursor;
+use crate::cursor::{Cursor, Offence};
 use crate::fault::DumpFault;
 use crate::heads::{Opened, PlacedQueue};
 use crate::lists::{Lists, Place, push};
@@ -62,9 +62,9 @@ pub struct Way {
 impl Way {
     /// The first fields, up to the count of domains. It takes no memory.
     #[tactic(auto, unfolding(protocol::specs::Dumps::after), using(crate::proofs::Whole::dump_opens))]
-    pub fn begin(alloc: Global, bytes: &[u8]) -> Result<Way, DumpFault>
+    pub fn begin(alloc: Global, bytes: &[u8]) -> Result<Way, Offence>
         ensures stands { IfOk result (λ way. Stands way bytes.now) }
-        ensures fault { IfErr result (IsFault (read_dump bytes.now)) }
+        ensures fault { IfErr result (λ e. read_dump bytes.now ≡ Bad e.place e.why) }
     {
         let mut c = Cursor {
             bytes,
