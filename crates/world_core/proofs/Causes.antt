@@ -44,6 +44,12 @@ unfolding first_cause
 not_taken true b c h = absurd (cc)
 not_taken false b c h = refl
 
+pub free_address : (a b c : Bool) → first_cause (cause refusal.NumberTaken (a || b) ∷ cause refusal.TooMany c ∷ []) ≡ None → b ≡ false
+unfolding first_cause
+free_address true b c h = absurd (cc)
+free_address false true c h = absurd (cc)
+free_address false false c h = refl
+
 -- ---- tests joined
 
 pub or_left : (a b : Bool) → a ≡ true → (a || b) ≡ true

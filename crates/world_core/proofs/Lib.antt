@@ -1,4 +1,7 @@
 mod Places
+mod Taking
+mod Living
+mod Indexes
 mod Worlds
 mod Causes
 mod Views

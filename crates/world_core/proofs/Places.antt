@@ -112,6 +112,31 @@ is_some-first {A} test (y ∷ ys) = by_test (test y) (is_some-first test ys)
 pub is_some-position : {A : Type 0} (test : A → Bool) (xs : List A) → is_some (position test xs) ≡ some test xs
 is_some-position test xs = ap (λ o. is_some o) (position-first test xs) ∙ is_some-first test xs
 
+-- .. and behind others
+first_place-push-old : {A : Type 0} (test : A → Bool) (xs : List A) (x : A) → test x ≡ false → first_place test (xs ++ x ∷ []) ≡ first_place test xs
+unfolding first_place
+first_place-push-old test [] x h = rw h refl
+first_place-push-old test (y ∷ ys) x h = ap (λ o. if test y then Some 0 else option_map suc o) (first_place-push-old test ys x h)
+
+first_place-push-new : {A : Type 0} (test : A → Bool) (xs : List A) (x : A) → some test xs ≡ false → test x ≡ true → first_place test (xs ++ x ∷ []) ≡ Some (length xs)
+unfolding first_place some
+first_place-push-new test [] x none h = rw h refl
+first_place-push-new {A} test (y ∷ ys) x none h = by_test (test y) none (λ later. first_place-push-new test ys x later h)
+  where
+    by_test : (b : Bool) → (b || some test ys) ≡ false → (some test ys ≡ false → first_place test (ys ++ x ∷ []) ≡ Some (length ys)) → (if b then Some 0 else option_map suc (first_place test (ys ++ x ∷ []))) ≡ Some (suc (length ys))
+    by_test true i later = absurd (cc)
+    by_test false i later = ap (λ o. option_map suc o) (later i)
+
+pub position-push-old : {A : Type 0} (test : A → Bool) (xs : List A) (x : A) → test x ≡ false → position test (xs ++ x ∷ []) ≡ position test xs
+position-push-old test xs x h = position-first test (xs ++ x ∷ []) ∙ (first_place-push-old test xs x h ∙ sym (position-first test xs))
+
+pub position-push-new : {A : Type 0} (test : A → Bool) (xs : List A) (x : A) → some test xs ≡ false → test x ≡ true → position test (xs ++ x ∷ []) ≡ Some (length xs)
+position-push-new test xs x none h = position-first test (xs ++ x ∷ []) ∙ first_place-push-new test xs x none h
+
+pub position-none : {A : Type 0} (test : A → Bool) → position test [] ≡ None
+unfolding first_place
+position-none test = position-first test []
+
 -- where no thing passes there is no first one
 pub none_passes : {A : Type 0} (test : A → Bool) (xs : List A) → some test xs ≡ false → first_that test xs ≡ None
 unfolding some first_that
@@ -283,3 +308,7 @@ read_set xs k e y lt h = h ∙ get_or-set_same xs k e y lt
 
 pub same_thing : {A : Type 0} (x y : A) → Some x ≡ Some y → x ≡ y
 same_thing x y h = cc
+
+pub some_there : {A : Type 0} (o : Option A) → is_some o ≡ true → (x : A) × (o ≡ Some x)
+some_there None h = absurd (cc)
+some_there (Some x) h = (x, refl)

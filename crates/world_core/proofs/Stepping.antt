@@ -1,7 +1,8 @@
 -- A device's step in a world, done to the world's parts.
-use Rattle.std.proofs.Common.{◌≡◌, ℕ, ◌+◌, List, [], ◌∷◌, ◌++◌, length, Bool, true, false, Option, Some, None, refl, sym, ap, ◌∙◌, subst, nat_eq, slice_get, if◌then◌else◌, reverse}
+use Rattle.std.proofs.Common.{◌≡◌, ℕ, ◌+◌, List, [], ◌∷◌, ◌++◌, length, Bool, true, false, Option, Some, None, refl, sym, ap, ◌∙◌, subst, bytes_eq, nat_eq, slice_get, if◌then◌else◌, reverse}
 use Rattle.std.specs.Prelude.{All, IfSome}
 use Rattle.std.specs.List.{remove, IsDistinct}
+use Rattle.std.specs.Map.{lookup}
 use Rattle.std.proofs.Math.ListN.{set}
 use Rattle.std.proofs.lemmas.List.{append-nil, reverse-append}
 use Rattle.std.proofs.lemmas.List.Elements.{All-push}
@@ -12,7 +13,7 @@ use Rattle.rdma_types.specs.declared.answers.SilentWhy.TheVariants as why
 use Rattle.rdma_types.specs.declared.answers.Took.TheVariants as took
 use Rattle.rdma_types.specs.declared.names.Name.{Name}
 use Rattle.rdma_types.specs.declared.requests.Address.{Address}
-use Rattle.rdma_types.specs.Lists.{store, has}
+use Rattle.rdma_types.specs.Lists.{store, has, some}
 use Rattle.protocol.specs.declared.events.Event.{Event}
 use Rattle.protocol.specs.declared.events.Event.TheVariants as event
 use Rattle.protocol.specs.declared.images.ContextImage.{ContextImage}
@@ -24,13 +25,16 @@ use Rattle.protocol.specs.Refusals.{refusal_of}
 use Rattle.protocol.specs.Moves.{nak_stopped}
 use Rattle.protocol.specs.Wire.{Packet, is_control, packet_of, wire_of}
 use Rattle.protocol.specs.State.{Device, Flight, HuskEntry, World}
-use Rattle.protocol.specs.WorldStep.{has_device, is_done, numbered, ran, runs, with_device, with_image}
+use Rattle.protocol.specs.WorldStep.{has_device, is_done, numbered, ran, runs, same_address, with_device, with_image}
 use Rattle.protocol.specs.Lawful.{IsLawful}
 use Rattle.fabric.specs.Store.{forgetting}
 use Rattle.alike_worlds.specs.Alike.{forgetful}
 use Rattle.world_core.specs.Kept.{Makes}
-use Rattle.world_core.specs.Places.{AreParts, HaveOwnIds, images_of, names_of}
+use Rattle.world_core.specs.Places.{AreParts, HaveOwnIds, images_of, names_of, port_eq}
 use Rattle.world_core.specs.Sites.{joined_at}
+use Rattle.device_core.specs.Readings.{new_device}
+use Rattle.world_core.specs.Homes.{looked_up, mover}
+use Rattle.world_core.proofs.Indexes.{indexed-after, indexed-more}
 use Rattle.world_core.proofs.Places.{All-remove, distinct-push, map-place, store-place}
 use Rattle.world_core.proofs.Worlds.{kept_is}
 
@@ -89,32 +93,50 @@ joined_makes v w new p x x' d e o seen left here step there =
     some_is : (y z : Device) → Some y ≡ Some z → y ≡ z
     some_is y z h = cc
 
-pub parts_stay : (ds : List Device) (carried : List ContextImage) (p : ℕ) (x x' : Device) → AreParts ds carried → slice_get ds p ≡ Some x → x'.id ≡ x.id → AreParts (set ds p x') carried
-parts_stay ds carried p x x' parts here same = record {
-  ids = subst (λ ks. IsDistinct nat_eq ks) (sym (map-place (λ d. d.id) p ds x x' here same)) parts.ids;
-  lawful = parts.lawful;
-}
+module _ (by_id : ℕ → Option ℕ) (by_port : ℕ × ℕ → Option ℕ) where
+  pub parts_after : (by_name by_name' : Name → Option ℕ) (ds : List Device) (carried : List ContextImage) (p : ℕ) (x x' : Device) (e : Event) (o : Outcome) → AreParts ds carried by_id by_port by_name → slice_get ds p ≡ Some x → x'.id ≡ x.id → x'.address ≡ x.address
+      → device_step x e ≡ record { device = x'; outcome = o } → ((m : Name) → by_name' m ≡ looked_up (mover e) (set ds p x') by_name m) → AreParts (set ds p x') carried by_id by_port by_name'
+  parts_after by_name by_name' ds carried p x x' e o parts here same there step homes = record {
+    ids = subst (λ ks. IsDistinct nat_eq ks) (sym (map-place (λ d. d.id) p ds x x' here same)) parts.ids;
+    lawful = parts.lawful;
+    indexed = indexed-after ds by_id by_port by_name by_name' p x x' e o parts.indexed here same there step homes;
+  }
+
+  -- .. an image more
+  pub parts_carry : (by_name : Name → Option ℕ) (ds : List Device) (carried more : List ContextImage) (o : Option ContextImage) → AreParts ds carried by_id by_port by_name → more ≡ carried ++ images_of o → IfSome o (λ i. IsLawful i) → AreParts ds more by_id by_port by_name
+  parts_carry by_name ds carried more None parts left lawful = record { ids = parts.ids; lawful = subst (λ xs. All IsLawful xs) (sym (left ∙ append-nil carried)) parts.lawful; indexed = parts.indexed }
+  parts_carry by_name ds carried more (Some x) parts left lawful = record { ids = parts.ids; lawful = subst (λ xs. All IsLawful xs) (sym left) (All-push IsLawful carried x parts.lawful lawful); indexed = parts.indexed }
+
+  -- .. and one less
+  pub parts_less : (by_name : Name → Option ℕ) (ds : List Device) (carried less : List ContextImage) (spot : ℕ) → AreParts ds carried by_id by_port by_name → less ≡ remove carried spot → AreParts ds less by_id by_port by_name
+  parts_less by_name ds carried less spot parts left = record { ids = parts.ids; lawful = subst (λ xs. All IsLawful xs) (sym left) (All-remove IsLawful carried spot parts.lawful); indexed = parts.indexed }
+
+-- what was looked up, as the calls say it
+pub homes_noted : (o o' : Option Name) (ds ds' : List Device) (es es' : List (Name × ℕ)) (told : Name → Option ℕ) → ((m : Name) → told m ≡ looked_up o ds (λ k. lookup (bytes_eq k) es) m) → o ≡ o' → ds ≡ ds' → es ≡ es' →
+    (m : Name) → told m ≡ looked_up o' ds' (λ k. lookup (bytes_eq k) es') m
+homes_noted o o' ds ds' es es' told noted same_name same_devices same_entries m =
+    noted m ∙ (ap (λ x. looked_up x ds (λ k. lookup (bytes_eq k) es) m) same_name ∙ (ap (λ xs. looked_up o' xs (λ k. lookup (bytes_eq k) es) m) same_devices ∙ ap (λ xs. looked_up o' ds' (λ k. lookup (bytes_eq k) xs) m) same_entries))
+
+-- a place that was put into an index, as the calls say it
+pub put_noted : {K : Type 0} (eq : K → K → Bool) (key : K) (place n : ℕ) (es es' : List (K × ℕ)) (told : K → Option ℕ) → ((k : K) → told k ≡ (if eq key k then Some place else lookup (eq k) es)) → place ≡ n → es ≡ es' →
+    (k : K) → told k ≡ (if eq key k then Some n else lookup (eq k) es')
+put_noted eq key place n es es' told put same entries k = put k ∙ (ap (λ p. if eq key k then Some p else lookup (eq k) es) same ∙ ap (λ xs. if eq key k then Some n else lookup (eq k) xs) entries)
 
 -- one device more
-pub parts_more : (w : World) (ds : List Device) (carried : List ContextImage) (more : List Device) (d : Device) (id : ℕ) → ds ≡ w.devices → AreParts ds carried → has_device w id ≡ false → d.id ≡ id → more ≡ ds ++ d ∷ [] → AreParts more carried
-parts_more w ds carried more d id seen parts free same left = record {
-  ids =
-      let apart : has (λ x. x.id) d.id ds ≡ false = ap (λ k. has (λ x. x.id) k ds) same ∙ (ap (λ xs. has (λ x. x.id) id xs) seen ∙ free) in
-      subst (λ xs. HaveOwnIds xs) (sym left) (distinct-push (λ x. x.id) ds d parts.ids apart);
-  lawful = parts.lawful;
-}
+pub parts_more : (w : World) (by_id by_id' : ℕ → Option ℕ) (by_port by_port' : ℕ × ℕ → Option ℕ) (by_name : Name → Option ℕ) (ds : List Device) (carried : List ContextImage) (more : List Device) (d : Device) (id : ℕ) (address : Address) → ds ≡ w.devices → AreParts ds carried by_id by_port by_name
+    → has_device w id ≡ false → some (λ x. same_address x.address address) w.devices ≡ false → d ≡ new_device id address → more ≡ ds ++ d ∷ []
+    → ((k : ℕ) → by_id' k ≡ (if nat_eq id k then Some (length ds) else by_id k)) → ((a : ℕ × ℕ) → by_port' a ≡ (if port_eq (address.ip, address.port) a then Some (length ds) else by_port a)) → AreParts more carried by_id' by_port' by_name
+parts_more w by_id by_id' by_port by_port' by_name ds carried more d id address seen parts free apart made left ids ports =
+    let new_id : has (λ x. x.id) id ds ≡ false = ap (λ xs. has (λ x. x.id) id xs) seen ∙ free in
+    let new_address : some (λ x. same_address x.address address) ds ≡ false = ap (λ xs. some (λ x. same_address x.address address) xs) seen ∙ apart in
+    subst (λ xs. AreParts xs carried by_id' by_port' by_name) (sym left) (record {
+      ids = distinct-push (λ x. x.id) ds d parts.ids (ap (λ (y : Device). has (λ x. x.id) y.id ds) made ∙ new_id);
+      lawful = parts.lawful;
+      indexed = indexed-more ds by_id by_id' by_port by_port' by_name d id address parts.indexed ids ports new_id new_address (ap (λ (y : Device). y.id) made) (ap (λ (y : Device). y.address) made) (ap (λ (y : Device). y.contexts) made);
+    })
 
 pub added_makes : (v w new : World) (d : Device) → v ≡ w → forgetting w.sent ≡ w.sent → new ≡ record v { devices = v.devices ++ d ∷ [] } → new ≡ forgetful (record w { devices = w.devices ++ d ∷ [] })
 added_makes v w new d seen kept left = left ∙ (ap (λ (x : World). record x { devices = x.devices ++ d ∷ [] }) seen ∙ kept_is (record w { devices = w.devices ++ d ∷ [] }) kept)
-
--- .. an image more
-pub parts_carry : (ds : List Device) (carried more : List ContextImage) (o : Option ContextImage) → AreParts ds carried → more ≡ carried ++ images_of o → IfSome o (λ i. IsLawful i) → AreParts ds more
-parts_carry ds carried more None parts left lawful = record { ids = parts.ids; lawful = subst (λ xs. All IsLawful xs) (sym (left ∙ append-nil carried)) parts.lawful }
-parts_carry ds carried more (Some x) parts left lawful = record { ids = parts.ids; lawful = subst (λ xs. All IsLawful xs) (sym left) (All-push IsLawful carried x parts.lawful lawful) }
-
--- .. and one less
-pub parts_less : (ds : List Device) (carried less : List ContextImage) (spot : ℕ) → AreParts ds carried → less ≡ remove carried spot → AreParts ds less
-parts_less ds carried less spot parts left = record { ids = parts.ids; lawful = subst (λ xs. All IsLawful xs) (sym left) (All-remove IsLawful carried spot parts.lawful) }
 
 -- nothing is carried off
 pub bare_carried : (carried : List ContextImage) (o : Option ContextImage) → o ≡ None → carried ≡ carried ++ images_of o

@@ -1,5 +1,6 @@
 pub mod Causes
 pub mod Followed
+pub mod Homes
 pub mod Kept
 pub mod Places
 pub mod Settled

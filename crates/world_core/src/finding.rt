@@ -14,23 +14,21 @@ impl World {
     pub(crate) fn place_of(&self, id: u8) -> Option<usize>
         ensures { result ≡ position (λ d. d.id == id) self.now.devices }
     {
-        self.devices.iter().position(|d| d.id() == id)
+        self.ids.get(&id).copied()
     }
 
     /// The place of the device with an address.
     pub(crate) fn place_with(&self, address: Address) -> Option<usize>
         ensures { result ≡ position (λ d. same_address d.address address) self.now.devices }
     {
-        self.devices
-            .iter()
-            .position(|d| is_at(d.address(), address))
+        self.ports.get(&(address.ip, address.port)).copied()
     }
 
     /// The place of the device where a context lives.
     pub(crate) fn home_of(&self, name: Name) -> Option<usize>
         ensures { result ≡ position (λ d. has_context d name) self.now.devices }
     {
-        self.devices.iter().position(|d| d.has_context(name))
+        self.homes.get(&name).copied()
     }
 
     /// The place of the carried image of a context.
@@ -46,11 +44,4 @@ impl World {
     {
         self.stopped.iter().any(|n| *n == name)
     }
-}
-
-/// Whether two addresses are equal.
-fn is_at(a: Address, b: Address) -> bool
-    ensures { result ≡ same_address a b }
-{
-    a.ip == b.ip && a.port == b.port
 }

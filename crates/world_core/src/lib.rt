@@ -3,6 +3,7 @@
 #![tactic(auto)]
 
 mod finding;
+mod index;
 mod laws;
 mod lives;
 mod making;

@@ -17,6 +17,7 @@ ghost use Rattle.rdma_types.specs.Lists.{some};
 ghost use Rattle.protocol.specs.Refusals.{has_context};
 
 use crate::World;
+use crate::index::put_place;
 use device_core::{Device, Event};
 use rdma_types::{Address, Answer, EndState, Name, ObjName, Refusal, Terms};
 use std::alloc::{AllocError, Global};
@@ -110,7 +111,12 @@ impl World {
             return Ok(Answer::Refused(refusal));
         }
         self.devices.reserve(1)?;
+        self.ids.reserve(1)?;
+        self.ports.reserve(1)?;
         let device = Device::make(alloc, id, address)?;
+        let place = self.devices.len();
+        put_place(&mut self.ids, id, place);
+        put_place(&mut self.ports, (address.ip, address.port), place);
         self.devices.push_reserved(device);
         Ok(Answer::Done)
     }

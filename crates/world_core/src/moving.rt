@@ -11,6 +11,7 @@ ghost use Rattle.world_core.specs.Kept.{IsReady, Makes};
 ghost use Rattle.world_core.specs.Sites.{is_rts, put_back, view_moves};
 
 use crate::World;
+use crate::index::note_home;
 use crate::running::{number, send_all};
 use device_core::{ContextImage, Device, Event, Outcome};
 use protocol::EndImage;
@@ -143,7 +144,10 @@ impl World {
         ensures ok { IfOk result (λ answer. (d : state.Device) → (x : image.ContextImage) → slice_get self.old.devices place ≡ Some d → slice_get self.old.carried spot ≡ Some x → Makes (put_back (rules.runs self.old d (event.Restore x)) spot) answer self.new) }
         ensures err { OnErr result (self.new ≡ self.old) }
     {
-        let outcome = self.devices[place].restore(alloc, &self.carried[spot])?;
+        self.homes.reserve(1)?;
+        let image = &self.carried[spot];
+        let name = image.name;
+        let outcome = self.devices[place].restore(alloc, image)?;
         let Outcome {
             answer,
             sent,
@@ -152,6 +156,7 @@ impl World {
         let from = self.devices[place].address();
         let next = self.fabric.next();
         send_all(&mut self.fabric, from, sent);
+        note_home(&mut self.homes, self.devices.as_slice(), Some(name));
         let answer = number(answer, next);
         if let Answer::Done = answer {
             self.carried.remove(spot);

@@ -11,6 +11,7 @@ ghost use Rattle.world_core.specs.Kept.{IsReady, Makes};
 ghost use Rattle.world_core.specs.Places.{images_of, names_of};
 
 use crate::World;
+use crate::index::{moved_context, note_home};
 use device_core::ContextImage;
 use fabric::Fabric;
 use protocol::{Event, Outcome};
@@ -71,6 +72,7 @@ impl World {
         ensures ok { IfOk result (λ answer. (d : Device) → slice_get self.old.devices place ≡ Some d → Makes (runs self.old d event.now) answer self.new) }
         ensures err { OnErr result (self.new ≡ self.old) }
     {
+        self.homes.reserve(1)?;
         self.carried.reserve(1)?;
         self.stopped.reserve(1)?;
         let outcome = self.devices[place].step(alloc, event)?;
@@ -83,6 +85,11 @@ impl World {
         let next = self.fabric.next();
         send_all(&mut self.fabric, from, sent);
         carry(&mut self.carried, &mut self.stopped, image);
+        note_home(
+            &mut self.homes,
+            self.devices.as_slice(),
+            moved_context(event),
+        );
         Ok(number(answer, next))
     }
 }

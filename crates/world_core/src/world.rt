@@ -12,6 +12,7 @@ ghost use Rattle.world_core.specs.Places.{HaveOwnIds};
 use crate::laws::steps_are_followed;
 use device_core::{ContextImage, Device};
 use fabric::Fabric;
+use indexmap::IndexMap;
 use protocol::WorldEvent;
 use rdma_types::{Answer, Name};
 use std::alloc::{AllocError, Global};
@@ -25,21 +26,28 @@ const MOST_SENT: u64 = 1 << 62;
 #[derive(Drop)]
 pub struct World {
     pub(crate) devices: Vec<Device>,
+    /// The place of the device with an id.
+    pub(crate) ids: IndexMap<u8, usize>,
+    /// The place of the device with an IP address and a port.
+    pub(crate) ports: IndexMap<(u32, u16), usize>,
+    /// The place of the device where a context lives.
+    pub(crate) homes: IndexMap<Name, usize>,
     pub(crate) fabric: Fabric,
     pub(crate) carried: Vec<ContextImage>,
     pub(crate) stopped: Vec<Name>,
 }
 
 impl Model for World {
-    ghost use Rattle.std.specs.Prelude.{reverse};
+    ghost use Rattle.std.specs.Prelude.{bytes_eq, nat_eq, reverse};
+    ghost use Rattle.indexmap.specs.IndexMap.{get};
     ghost use Rattle.protocol.specs.State as state;
-    ghost use Rattle.world_core.specs.Places.{AreParts};
+    ghost use Rattle.world_core.specs.Places.{AreParts, port_eq};
 
     ghost Value = { state.World };
 
     ghost view = { λ w. record { devices = w.devices.items; sent = w.fabric; carried = w.carried.items; stopped = reverse w.stopped.items } };
 
-    ghost invariant = { λ w. AreParts w.devices.items w.carried.items };
+    ghost invariant = { λ w. AreParts w.devices.items w.carried.items (λ k. get nat_eq w.ids k) (λ a. get port_eq w.ports a) (λ n. get bytes_eq w.homes n) };
 }
 
 impl World {
@@ -49,6 +57,9 @@ impl World {
     {
         Ok(World {
             devices: Vec::new(alloc),
+            ids: IndexMap::new(alloc),
+            ports: IndexMap::new(alloc),
+            homes: IndexMap::new(alloc),
             fabric: Fabric::make(alloc)?,
             carried: Vec::new(alloc),
             stopped: Vec::new(alloc),

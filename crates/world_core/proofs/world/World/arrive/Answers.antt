@@ -1,16 +1,16 @@
 -- What the step did is done to the parts; it carries nothing off.
-use Rattle.std.proofs.Common.{◌≡◌, ◌<◌, ◌+◌, ◌∙◌, ap, sym, subst, slice_get, Some, None, refl, length, reverse}
+use Rattle.std.proofs.Common.{◌≡◌, ◌<◌, ◌+◌, ◌∙◌, ap, sym, subst, slice_get, Some, None, true, is_some, refl, length, reverse}
 use Rattle.std.proofs.lemmas.Option.{slice_get_read}
 use Rattle.protocol.specs.DeviceStep as device
 use Rattle.protocol.specs.DeviceStep.{device_step}
 use Rattle.protocol.specs.Fabric.{kept_flight, sending}
-use Rattle.protocol.specs.State.{World}
+use Rattle.protocol.specs.State.{Flight, World}
 use Rattle.protocol.specs.WorldStep.{with_taken}
 use Rattle.protocol.specs.declared.events.Event.{Event}
 use Rattle.protocol.specs.declared.events.Event.TheVariants as event
 use Rattle.fabric.specs.Store.{forgetting}
-use Rattle.world_core.proofs.Stepping.{arrives_bare, bare_carried, bare_stopped, parts_stay, ran_all}
-use Rattle.world_core.proofs.Places.{read_set}
+use Rattle.world_core.proofs.Stepping.{arrives_bare, bare_carried, bare_stopped, parts_after, ran_all}
+use Rattle.world_core.proofs.Places.{read_set, some_there}
 use Rattle.world_core.proofs.world.World.arrive.Goals as goal
 
 pub invariant_of-self-2 : goal.invariant_of-self-2
@@ -18,7 +18,10 @@ invariant_of-self-2 c =
     let ds = c.self.inside.devices.items in
     let lt : c.args.place < length ds = subst (λ (w : World). c.args.place < length w.devices) (sym c.self.view_is) c.requires.place in
     let here : slice_get ds c.args.place ≡ Some c.index_mut.result.now = slice_get_read ds (length ds) c.args.place c.index_mut.result.now refl lt c.index_mut.ensures.value in
-    parts_stay ds c.self.inside.carried.items c.args.place c.index_mut.result.now c.reach.new.device c.self.invariant here c.reach.ensures.same.0
+    let step : (f : Flight) → kept_flight c.self.inside.fabric c.args.k ≡ Some f → device_step c.index_mut.result.now (event.Arrive f.from f.bytes) ≡ record { device = c.reach.new.device; outcome = c.in_ok-outcome.outcome } = c.in_ok-outcome.ensures.ok in
+    let kept : is_some (kept_flight c.self.inside.fabric c.args.k) ≡ true = ap (λ (w : World). is_some (kept_flight w.sent c.args.k)) c.self.view_is ∙ c.requires.kept in
+    let f : (f : Flight) × (kept_flight c.self.inside.fabric c.args.k ≡ Some f) = some_there _ kept in
+    parts_after _ _ _ _ ds c.self.inside.carried.items c.args.place c.index_mut.result.now c.reach.new.device (event.Arrive f.0.from f.0.bytes) c.in_ok-outcome.outcome c.self.invariant here c.reach.ensures.same.0 c.reach.ensures.same.1 (step f.0 f.1) (λ m. refl)
 
 pub returns-clause-ok : goal.returns-clause-ok
 returns-clause-ok c = λ f d kept h.

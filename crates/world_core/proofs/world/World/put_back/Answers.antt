@@ -9,7 +9,7 @@ use Rattle.protocol.specs.WorldStep.{is_done, runs}
 use Rattle.protocol.specs.declared.events.Event.TheVariants as event
 use Rattle.world_core.specs.Kept.{Makes}
 use Rattle.world_core.proofs.Restoring.{put_makes}
-use Rattle.world_core.proofs.Stepping.{bare_carried, bare_stopped, not_done, parts_less, parts_stay, ran_all, restore_bare}
+use Rattle.world_core.proofs.Stepping.{bare_carried, bare_stopped, homes_noted, not_done, parts_after, parts_less, ran_all, restore_bare}
 use Rattle.world_core.proofs.Places.{read_set, same_thing}
 use Rattle.world_core.proofs.world.World.put_back.Goals as goal
 use Rattle.world_core.proofs.world.World.put_back.Goals.{in-Done, in_default}
@@ -19,15 +19,19 @@ invariant_of-self-in-Done c =
     let ds = c.self.inside.devices.items in
     let lt : c.args.place < length ds = subst (λ (w : World). c.args.place < length w.devices) (sym c.self.view_is) c.requires.place in
     let here : slice_get ds c.args.place ≡ Some c.index_mut.result.now = slice_get_read ds (length ds) c.args.place c.index_mut.result.now refl lt c.index_mut.ensures.value in
-    parts_less _ c.self.inside.carried.items c.remove.new.self.items c.args.spot
-    (parts_stay ds c.self.inside.carried.items c.args.place c.index_mut.result.now c.restore.new.self c.self.invariant here c.restore.ensures.id) c.remove.ensures.items
+    let devices : c.as_slice.result.now ≡ set ds c.args.place c.restore.new.self = c.as_slice.ensures.value in
+    parts_less _ _ _ _ c.self.inside.carried.items c.remove.new.self.items c.args.spot
+    (parts_after _ _ _ _ ds c.self.inside.carried.items c.args.place c.index_mut.result.now c.restore.new.self (event.Restore c.index-image.result.now) c.in_ok-outcome.outcome c.self.invariant here c.restore.ensures.id c.restore.ensures.address c.in_ok-outcome.ensures.ok
+    (homes_noted (Some c.index-image.result.now.name) _ _ _ _ _ _ c.note_home.ensures refl devices c.reserve.ensures.entries)) c.remove.ensures.items
 
 pub invariant_of-self-in_default : goal.invariant_of-self-in_default
 invariant_of-self-in_default c =
     let ds = c.self.inside.devices.items in
     let lt : c.args.place < length ds = subst (λ (w : World). c.args.place < length w.devices) (sym c.self.view_is) c.requires.place in
     let here : slice_get ds c.args.place ≡ Some c.index_mut.result.now = slice_get_read ds (length ds) c.args.place c.index_mut.result.now refl lt c.index_mut.ensures.value in
-    parts_stay ds c.self.inside.carried.items c.args.place c.index_mut.result.now c.restore.new.self c.self.invariant here c.restore.ensures.id
+    let devices : c.as_slice.result.now ≡ set ds c.args.place c.restore.new.self = c.as_slice.ensures.value in
+    parts_after _ _ _ _ ds c.self.inside.carried.items c.args.place c.index_mut.result.now c.restore.new.self (event.Restore c.index-image.result.now) c.in_ok-outcome.outcome c.self.invariant here c.restore.ensures.id c.restore.ensures.address c.in_ok-outcome.ensures.ok
+    (homes_noted (Some c.index-image.result.now.name) _ _ _ _ _ _ c.note_home.ensures refl devices c.reserve.ensures.entries)
 
 pub returns-clause-ok : goal.returns-clause-ok
 returns-clause-ok c = λ d x h k.
@@ -36,9 +40,9 @@ returns-clause-ok c = λ d x h k.
     let o = c.in_ok-outcome.outcome in
     let lt : c.args.place < length ds = subst (λ (w : World). c.args.place < length w.devices) (sym c.self.view_is) c.requires.place in
     let here : slice_get ds c.args.place ≡ Some c.index_mut.result.now = slice_get_read ds (length ds) c.args.place c.index_mut.result.now refl lt c.index_mut.ensures.value in
-    let there : c.index-2.result.now ≡ c.restore.new.self = read_set ds c.args.place c.restore.new.self c.index-2.result.now lt c.index-2.ensures in
+    let there : c.index.result.now ≡ c.restore.new.self = read_set ds c.args.place c.restore.new.self c.index.result.now lt c.index.ensures in
     let within : c.args.spot < length is = subst (λ (w : World). c.args.spot < length w.carried) (sym c.self.view_is) c.requires.spot in
-    let image : c.index.result.now ≡ x = same_thing c.index.result.now x (sym (slice_get_read is (length is) c.args.spot c.index.result.now refl within c.index.ensures) ∙ (ap (λ (w : World). slice_get w.carried c.args.spot) c.self.view_is ∙ k)) in
+    let image : c.index-image.result.now ≡ x = same_thing c.index-image.result.now x (sym (slice_get_read is (length is) c.args.spot c.index-image.result.now refl within c.index-image.ensures) ∙ (ap (λ (w : World). slice_get w.carried c.args.spot) c.self.view_is ∙ k)) in
     let step : device_step c.index_mut.result.now (event.Restore x) ≡ record { device = c.restore.new.self; outcome = o } = subst (λ y. device_step c.index_mut.result.now (event.Restore y) ≡ record { device = c.restore.new.self; outcome = o }) image c.in_ok-outcome.ensures.ok in
     let bare : o.image ≡ None = sym (ap (λ (s : device.Step). s.outcome.image) step) ∙ restore_bare c.index_mut.result.now x in
     let mid : World = record { devices = set ds c.args.place c.restore.new.self; sent = c.send_all.new.fabric; carried = is; stopped = reverse c.self.inside.stopped.items } in

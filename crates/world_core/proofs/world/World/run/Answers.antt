@@ -1,9 +1,10 @@
 -- What the step did is done to the parts.
 use Rattle.std.proofs.Common.{◌≡◌, ◌<◌, ◌∙◌, ◌++◌, ap, sym, subst, slice_get, Some, refl, length, reverse}
 use Rattle.std.proofs.lemmas.Option.{slice_get_read}
+use Rattle.std.proofs.Math.ListN.{set}
 use Rattle.protocol.specs.State.{World}
 use Rattle.world_core.specs.Places.{images_of, names_of}
-use Rattle.world_core.proofs.Stepping.{names_reversed, parts_carry, parts_stay, ran_all}
+use Rattle.world_core.proofs.Stepping.{homes_noted, names_reversed, parts_after, parts_carry, ran_all}
 use Rattle.world_core.proofs.Places.{read_set}
 use Rattle.world_core.proofs.world.World.run.Goals as goal
 
@@ -12,9 +13,11 @@ invariant_of-self-2 c =
     let ds = c.self.inside.devices.items in
     let lt : c.args.place < length ds = subst (λ (w : World). c.args.place < length w.devices) (sym c.self.view_is) c.requires.place in
     let here : slice_get ds c.args.place ≡ Some c.index_mut.result.now = slice_get_read ds (length ds) c.args.place c.index_mut.result.now refl lt c.index_mut.ensures.value in
-    parts_carry _ c.self.inside.carried.items c.carry.new.carried.items c.in_ok-outcome.outcome.image
-    (parts_stay ds c.self.inside.carried.items c.args.place c.index_mut.result.now c.step.new.self c.self.invariant here c.step.ensures.id)
-    (c.carry.ensures.carried ∙ ap (λ xs. xs ++ images_of c.in_ok-outcome.outcome.image) c.reserve.ensures.items) c.in_ok-outcome.ensures.image
+    let devices : c.as_slice.result.now ≡ set ds c.args.place c.step.new.self = c.as_slice.ensures.value in
+    parts_carry _ _ _ _ c.self.inside.carried.items c.carry.new.carried.items c.in_ok-outcome.outcome.image
+    (parts_after _ _ _ _ ds c.self.inside.carried.items c.args.place c.index_mut.result.now c.step.new.self c.args.event.now c.in_ok-outcome.outcome c.self.invariant here c.step.ensures.id c.step.ensures.address c.in_ok-outcome.ensures.ok
+    (homes_noted _ _ _ _ _ _ _ c.note_home.ensures c.moved_context.ensures devices c.reserve.ensures.entries))
+    (c.carry.ensures.carried ∙ ap (λ xs. xs ++ images_of c.in_ok-outcome.outcome.image) c.reserve-2.ensures.items) c.in_ok-outcome.ensures.image
 
 pub returns-clause-ok : goal.returns-clause-ok
 returns-clause-ok c = λ d h.
@@ -25,6 +28,6 @@ returns-clause-ok c = λ d h.
     ran_all _ c.args.self.now _ c.args.place d c.index_mut.result.now c.step.new.self c.args.event.now c.in_ok-outcome.outcome c.number.result c.address-from.result c.next-next.result
     c.self.view_is c.self.invariant.ids here c.in_ok-outcome.ensures.ok c.step.ensures.id
     refl (c.address-from.ensures ∙ ap (λ x. x.address) there) c.send_all.ensures
-    (c.carry.ensures.carried ∙ ap (λ xs. xs ++ images_of c.in_ok-outcome.outcome.image) c.reserve.ensures.items)
-    (ap (λ xs. reverse xs) (c.carry.ensures.stopped ∙ ap (λ xs. xs ++ names_of c.in_ok-outcome.outcome.image) c.reserve-2.ensures.items) ∙ names_reversed c.self.inside.stopped.items c.in_ok-outcome.outcome.image)
+    (c.carry.ensures.carried ∙ ap (λ xs. xs ++ images_of c.in_ok-outcome.outcome.image) c.reserve-2.ensures.items)
+    (ap (λ xs. reverse xs) (c.carry.ensures.stopped ∙ ap (λ xs. xs ++ names_of c.in_ok-outcome.outcome.image) c.reserve-3.ensures.items) ∙ names_reversed c.self.inside.stopped.items c.in_ok-outcome.outcome.image)
     c.next-next.ensures.number c.number.ensures h
