@@ -8,3 +8,4 @@ pub mod Writes
 pub mod Stock
 pub mod Drawn
 pub mod Kept
+pub mod Copied

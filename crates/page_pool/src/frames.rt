@@ -46,6 +46,26 @@ impl Frames {
         })
     }
 
+    /// Equal pages in memory of their own, with as much room.
+    pub fn copy(&self, alloc: Global) -> Result<Frames, AllocError>
+        ensures { IfOk result (λ f. f ≡ self.now) }
+    {
+        let count = self.pages as usize;
+        let mut bytes = Vec::with_capacity(alloc, PAGE * count)?;
+        bytes.extend_from_slice(&self.bytes)?;
+        let mut holders = Vec::with_capacity(alloc, count)?;
+        holders.extend_from_slice(&self.holders)?;
+        let mut stock = Vec::with_capacity(alloc, count)?;
+        stock.extend_from_slice(&self.stock)?;
+        Ok(Frames {
+            bytes,
+            holders,
+            stock,
+            spare: self.spare,
+            pages: self.pages,
+        })
+    }
+
     /// The pages less the holders of all.
     pub fn spare(&self) -> u32
         ensures spare { result + sum self.now.holders ≡ length self.now.holders }

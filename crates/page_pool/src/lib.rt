@@ -46,6 +46,19 @@ pub struct Payload {
     pub length: u32,
 }
 
+impl Payload {
+    /// The payload in the list of the same number, for a copy of its pool.
+    pub fn twin(&self) -> Payload
+        ensures { result ≡ self.now }
+    {
+        Payload {
+            list: self.list.twin(),
+            first: self.first,
+            length: self.length,
+        }
+    }
+}
+
 /// Bytes that a pool did not take in, and why.
 #[derive(Drop)]
 pub struct Unlowered {

@@ -28,6 +28,15 @@ impl Model for PageList {
     ghost view = { λ l. l.list };
 }
 
+impl PageList {
+    /// The list of the same number, for a copy of its pool.
+    pub fn twin(&self) -> PageList
+        ensures { result ≡ self.now }
+    {
+        PageList { list: self.list }
+    }
+}
+
 /// Pages of 4,096 bytes, and the lists that share them.
 #[derive(Drop)]
 pub struct PagePool {
@@ -54,6 +63,17 @@ impl PagePool {
         Ok(PagePool {
             frames: Frames::make(alloc, pages)?,
             lists: Slab::new(alloc),
+        })
+    }
+
+    /// An equal pool, with pages of its own. The lists keep their numbers: a list of one pool has the same bytes in the
+    /// other, until it is written.
+    pub fn copy(&self, alloc: Global) -> Result<PagePool, AllocError>
+        ensures { IfOk result (λ p. p ≡ self.now) }
+    {
+        Ok(PagePool {
+            frames: self.frames.copy(alloc)?,
+            lists: self.lists.clone()?,
         })
     }
 

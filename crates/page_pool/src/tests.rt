@@ -55,6 +55,27 @@ fn pages_given_back_are_taken_again(rt: HostRuntime) -> Result<(), Fail> {
 }
 
 #[test]
+fn a_copy_has_pages_of_its_own(rt: HostRuntime) -> Result<(), Fail> {
+    let mut pool = PagePool::make(rt.alloc(), 4)?;
+    let gone = pool.take(rt.alloc(), 1)?;
+    let mut a = pool.take(rt.alloc(), 2)?;
+    pool.give(gone);
+    assert_eq!(rt; pool.size(&a), 8192);
+    pool.write(&mut a, 4095, &[1, 2]);
+    let mut copy = pool.copy(rt.alloc())?;
+    let mut twin = a.twin();
+    assert_eq!(rt; copy.free(), 2);
+    assert_eq!(rt; two_at(&copy, &twin, 4095), Some([1, 2]));
+    copy.write(&mut twin, 4095, &[3, 4]);
+    assert_eq!(rt; two_at(&pool, &a, 4095), Some([1, 2]));
+    assert_eq!(rt; two_at(&copy, &twin, 4095), Some([3, 4]));
+    let b = copy.take(rt.alloc(), 2)?;
+    assert_eq!(rt; two_at(&copy, &b, 4095), Some([0, 0]));
+    assert_eq!(rt; (copy.free(), pool.free()), (0, 2));
+    Ok(())
+}
+
+#[test]
 fn bytes_are_lowered_and_lifted(rt: HostRuntime) -> Result<(), Fail> {
     let mut pool = PagePool::make(rt.alloc(), 2)?;
     let mut bytes = ByteRun::make(rt.alloc());
