@@ -1,3 +1,4 @@
+pub mod Copies
 pub mod Found
 pub mod Spots
 pub mod Stores

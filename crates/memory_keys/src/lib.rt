@@ -7,6 +7,7 @@ ghost use Rattle.memory_keys.specs.Faults.{fault_of};
 ghost use Rattle.memory_keys.specs.declared.MemFault.TheVariants.{OutOfMemory};
 
 mod bytes;
+mod copying;
 mod keyed;
 mod laws;
 mod making;

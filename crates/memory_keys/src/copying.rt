@@ -1,0 +1,33 @@
+//! Equal regions over memory of their own.
+
+ghost use Rattle.std.specs.Prelude.{◌≡◌, IfOk};
+
+use crate::{Held, Regions};
+use indexmap::IndexMap;
+use std::alloc::{AllocError, Global};
+
+impl Held {
+    /// The same region, for a copy of its pool.
+    fn twin(&self) -> Held
+        ensures { result ≡ self.now }
+    {
+        Held {
+            head: self.head,
+            list: self.list.twin(),
+        }
+    }
+}
+
+impl Regions {
+    /// Equal regions, for a copy of their pool.
+    pub fn copy(&self, alloc: Global) -> Result<Regions, AllocError>
+        ensures { IfOk result (λ r. r ≡ self.now) }
+    {
+        let mut held = IndexMap::new(alloc);
+        for i in 0..self.held.len() {
+            let (key, region) = self.held.get_index(i).unwrap();
+            held.insert(*key, region.twin())?;
+        }
+        Ok(Regions { held })
+    }
+}
