@@ -1,10 +1,12 @@
 //! Work that was posted to a queue pair, in posting order (IBA chapter 10).
 #![tactic(auto)]
 
+mod copying;
 mod laws;
 mod posted;
 mod queue;
 
+pub use copying::{copy_recvs, copy_sends};
 pub use laws::requests_stay_as_posted;
 pub use posted::Posted;
 pub use queue::WorkQueue;

@@ -1,5 +1,7 @@
 //! Posted requests.
 
+ghost use Rattle.std.specs.Prelude.{◌≡◌};
+
 use page_pool::Payload;
 use rdma_types::Request;
 
@@ -10,4 +12,16 @@ pub struct Posted {
     pub request: Request,
     /// It has no bytes for a Read or an atomic.
     pub payload: Payload,
+}
+
+impl Posted {
+    /// The same request, for a copy of its pool.
+    pub fn twin(&self) -> Posted
+        ensures { result ≡ self.now }
+    {
+        Posted {
+            request: self.request,
+            payload: self.payload.twin(),
+        }
+    }
 }
