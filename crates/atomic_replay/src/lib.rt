@@ -47,6 +47,17 @@ impl Kept {
         }
     }
 
+    /// The same replies.
+    pub fn copy(&self) -> Kept
+        ensures { result ≡ self.now }
+    {
+        Kept {
+            ring: self.ring,
+            oldest: self.oldest,
+            len: self.len,
+        }
+    }
+
     /// Keeps the old value that packet `number` was answered with, and forgets the oldest reply where sixteen are kept.
     /// The numbers rise.
     pub fn put(&mut self, number: u64, old: u64)
