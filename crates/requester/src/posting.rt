@@ -1,6 +1,6 @@
 //! Making a requester and posting to it, and its parts.
 
-ghost use Rattle.std.specs.Prelude.{◌≡◌, ◌+◌, ◌<◌, ◌^◌, ◌↔◌, [], length, slice_get, IfErr, IsErr, OnErr, OnOk};
+ghost use Rattle.std.specs.Prelude.{◌≡◌, ◌+◌, ◌<◌, ◌^◌, ◌↔◌, [], length, slice_get, IfErr, IfOk, IsErr, OnErr, OnOk};
 ghost use Rattle.std.specs.Option.{option_copied};
 ghost use Rattle.rdma_types.specs.Spans.{span};
 ghost use Rattle.protocol.specs.Requester.{end_of_queue};
@@ -11,7 +11,8 @@ use crate::caches::Caches;
 use crate::{Requester, kinds};
 use rdma_types::Terms;
 use segmenter::span_of;
-use work_queues::{Posted, SendQueue};
+use std::alloc::{AllocError, Global};
+use work_queues::{Posted, SendQueue, copy_sends};
 
 impl Requester {
     /// The requester of a new connection, whose first packet has number 0.
@@ -45,6 +46,18 @@ impl Requester {
             numbers: parts,
             caches,
         }
+    }
+
+    /// An equal requester, for a copy of the pool of its payloads.
+    pub fn copy(&self, alloc: Global) -> Result<Requester, AllocError>
+        ensures { IfOk result (λ r. r ≡ self.now) }
+    {
+        Ok(Requester {
+            terms: self.terms,
+            queue: copy_sends(alloc, &self.queue)?,
+            numbers: self.numbers,
+            caches: self.caches,
+        })
     }
 
     /// Puts a request at the end of the queue. It comes back exactly where the depth is reached, and all then stays as it

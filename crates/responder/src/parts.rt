@@ -36,6 +36,17 @@ impl Responder {
         }
     }
 
+    /// An equal responder.
+    pub fn copy(&self) -> Responder
+        ensures { result ≡ self.now }
+    {
+        Responder {
+            terms: self.terms,
+            parts: self.parts,
+            kept: self.kept.copy(),
+        }
+    }
+
     /// The replies to atomics that are kept.
     pub fn kept(&self) -> &Kept
         ensures kept { result.now ≡ self.now.receiver.kept }
