@@ -2,6 +2,7 @@
 #![tactic(auto)]
 
 mod answers;
+mod copying;
 mod due;
 mod end;
 mod failing;
