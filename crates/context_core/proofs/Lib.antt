@@ -52,3 +52,4 @@ pub mod Joined
 pub mod Entering
 pub mod Begun
 pub mod Linking
+pub mod Copied

@@ -8,6 +8,7 @@ ghost use Rattle.context_core.specs.declared.ContextFault.TheVariants.{OutOfMemo
 
 mod arriving;
 mod coming;
+mod copies;
 mod counting;
 mod datagrams;
 mod domains;
