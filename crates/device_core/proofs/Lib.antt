@@ -24,3 +24,4 @@ mod Restores
 mod Steps
 mod Seen
 mod LiveEnds
+mod Copied

@@ -4,6 +4,7 @@
 
 mod arriving;
 mod coming;
+mod copying;
 mod device;
 mod events;
 mod husks;
