@@ -1,3 +1,4 @@
 pub mod Tells
 pub mod Numbered
 pub mod Told
+pub mod Found

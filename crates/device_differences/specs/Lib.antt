@@ -1,3 +1,4 @@
 pub mod Differing
 pub mod Numbers
 pub mod Differences
+pub mod Shown

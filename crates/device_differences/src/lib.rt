@@ -1,7 +1,17 @@
 //! Where two devices differ: the first field in which they do, and the two values that it has. Nothing here takes memory.
 //! What is told, and in which order, is this project's choice.
-#![tactic(auto)]
+#![tactic(auto, using(crate::proofs::Found::looked), unfolding(crate::specs::Differing::apart, crate::specs::Differences::receive_difference, crate::specs::Differences::posted_difference, crate::specs::Differences::completion_difference, crate::specs::Differences::queue_difference, crate::specs::Differences::region_difference, crate::specs::Differences::sender_difference, crate::specs::Differences::reply_difference, crate::specs::Differences::receiver_difference, crate::specs::Differences::link_difference, crate::specs::Differences::work_difference))]
 
+mod between;
 mod laws;
+mod links;
+mod lists;
+mod memory;
+mod requests;
+mod values;
 
+pub use between::{apart, names, numbers};
 pub use laws::differences_tell_devices_apart;
+pub use links::work;
+pub use lists::{name_sets, queues};
+pub use memory::regions;
