@@ -1,8 +1,9 @@
 -- The first difference that is there, as it is looked for.
 use Rattle.std.proofs.Common.{◌≡◌, ℕ, zero, suc, ◌+◌, ◌<◌, ◌≤◌, List, [], ◌∷◌, length, drop, get_or, refl, ap, sym, ◌∙◌, add-one, arith}
-use Rattle.std.specs.Prelude.{Option, Some, None, true, false, is_some, min, slice_get}
-use Rattle.std.proofs.lemmas.Option.{slice_get-get_or, slice_get_within}
-use Rattle.std.specs.Option.{option_or}
+use Rattle.std.specs.Prelude.{Option, Some, None, true, false, is_some, map, min, slice_get}
+use Rattle.std.proofs.lemmas.Option.{slice_get-get_or, slice_get-map}
+use Rattle.std.proofs.lemmas.List.{length-map}
+use Rattle.std.specs.Option.{option_map, option_or}
 use Rattle.device_differences.specs.Differing.{first_of, apart, pairwise, across, between, maybe}
 
 -- the first one is there
@@ -65,7 +66,6 @@ pub passed-here : {A : Type 0} (f : A → A → Option (ℕ × ℕ)) (xs ys : Li
 passed-here f xs ys i x y None e h is none passed = passed-more f xs ys i x y e h (sym is) passed
 passed-here f xs ys i x y (Some p) e h is none passed = absurd (cc)
 
-
 pair-end : {A : Type 0} (f : A → A → Option (ℕ × ℕ)) (xs ys : List A) (i : ℕ) → min (length xs) (length ys) ≤ i → pairwise f (drop i xs) (drop i ys) ≡ None
 unfolding pairwise
 pair-end f [] ys zero l = refl
@@ -86,6 +86,23 @@ pub found-end : {A : Type 0} (f : A → A → Option (ℕ × ℕ)) (xs ys : List
 unfolding across
 found-end f xs ys i r l is p = is ∙ sym (ap (λ o. option_or o (apart (length xs) (length ys))) (p.same ∙ pair-end f xs ys i l))
 
+-- ---- lists that are seen by functions
+
+at-mapped : {X Y : Type 0} (g : X → Y) (xs : List X) (i : ℕ) (x : X) → slice_get xs i ≡ Some x → slice_get (map g xs) i ≡ Some (g x)
+at-mapped g xs i x e = slice_get-map g xs i ∙ ap (option_map g) e
+
+pub found-mapped : {X Y : Type 0} (f : Y → Y → Option (ℕ × ℕ)) (g h : X → Y) (xs ys : List X) (i : ℕ) (x y : X) (r : Option (ℕ × ℕ)) → slice_get xs i ≡ Some x → slice_get ys i ≡ Some y → r ≡ f (g x) (h y) → is_some r ≡ true → Passed f (map g xs) (map h ys) i → r ≡ across f (map g xs) (map h ys)
+found-mapped f g h xs ys i x y r e k is some passed = found-here f (map g xs) (map h ys) i (g x) (h y) r (at-mapped g xs i x e) (at-mapped h ys i y k) is some passed
+
+pub passed-mapped : {X Y : Type 0} (f : Y → Y → Option (ℕ × ℕ)) (g h : X → Y) (xs ys : List X) (i : ℕ) (x y : X) (r : Option (ℕ × ℕ)) → slice_get xs i ≡ Some x → slice_get ys i ≡ Some y → r ≡ f (g x) (h y) → is_some r ≡ false → Passed f (map g xs) (map h ys) i → Passed f (map g xs) (map h ys) (i + 1)
+passed-mapped f g h xs ys i x y r e k is none passed = passed-here f (map g xs) (map h ys) i (g x) (h y) r (at-mapped g xs i x e) (at-mapped h ys i y k) is none passed
+
+pub end-mapped : {X Y : Type 0} (f : Y → Y → Option (ℕ × ℕ)) (g h : X → Y) (xs ys : List X) (i : ℕ) (r : Option (ℕ × ℕ)) → min (length xs) (length ys) ≤ i → r ≡ apart (length xs) (length ys) → Passed f (map g xs) (map h ys) i → r ≡ across f (map g xs) (map h ys)
+end-mapped f g h xs ys i r l is passed =
+    let left = length-map xs g in
+    let right = length-map ys h in
+    found-end f (map g xs) (map h ys) i r (omega (arith, l, left, right)) (is ∙ (λ j. apart (sym left j) (sym right j))) passed
+
 -- ---- lists of numbers
 
 pub numbers-here : (xs ys : List ℕ) (i : ℕ) (r : Option (ℕ × ℕ)) → i < length xs → i < length ys → r ≡ apart (get_or xs i 0) (get_or ys i 0) → is_some r ≡ true → Passed apart xs ys i → r ≡ between xs ys
@@ -98,5 +115,17 @@ numbers-passed xs ys i r l k is none passed = passed-here apart xs ys i (get_or 
 pub numbers-end : (xs ys : List ℕ) (i : ℕ) (r : Option (ℕ × ℕ)) → min (length xs) (length ys) ≤ i → r ≡ apart (length xs) (length ys) → Passed apart xs ys i → r ≡ between xs ys
 unfolding between
 numbers-end xs ys i r l is p = found-end apart xs ys i r l is p
+
+-- ---- one part after another
+
+-- a part that differs is the first that does
+pub part-found : (r o : Option (ℕ × ℕ)) (os : List (Option (ℕ × ℕ))) → r ≡ o → is_some r ≡ true → r ≡ first_of (o ∷ os)
+part-found None o os e some = absurd (cc)
+part-found (Some p) o os e some = sym (first-found o os p (sym e))
+
+-- a part that does not is passed over
+pub part-passed : (r o : Option (ℕ × ℕ)) (os : List (Option (ℕ × ℕ))) → r ≡ o → is_some r ≡ false → first_of (o ∷ os) ≡ first_of os
+part-passed None o os e none = first-passed o os (sym e)
+part-passed (Some p) o os e none = absurd (cc)
 
 pub ruleset looked = (first-found, first-passed, first-last)

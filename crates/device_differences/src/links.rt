@@ -30,8 +30,11 @@ fn senders(
     requires other_held { All (λ p. HoldsPayload other_pool.now p.payload) b.now.items }
     ensures { result ≡ sender_difference (sender_in pool.now a.now) (sender_in other_pool.now b.now) }
 {
-    requests(pool, a, other_pool, b)
-        .or_else(|| numbers(&sender_numbers(&a.parts()), &sender_numbers(&b.parts())))
+    let found = requests(pool, a, other_pool, b);
+    if found.is_some() {
+        return found;
+    }
+    numbers(&sender_numbers(&a.parts()), &sender_numbers(&b.parts()))
 }
 
 /// Two responders.
@@ -40,9 +43,15 @@ fn receivers(a: &Responder, b: &Responder) -> Option<(u64, u64)>
 {
     let x = a.parts();
     let y = b.parts();
-    numbers(&receiver_numbers(&x), &receiver_numbers(&y))
-        .or_else(|| numbers(&progress_numbers(&x.flow), &progress_numbers(&y.flow)))
-        .or_else(|| replies(a.kept(), b.kept()))
+    let found = numbers(&receiver_numbers(&x), &receiver_numbers(&y));
+    if found.is_some() {
+        return found;
+    }
+    let found = numbers(&progress_numbers(&x.flow), &progress_numbers(&y.flow));
+    if found.is_some() {
+        return found;
+    }
+    replies(a.kept(), b.kept())
 }
 
 /// Two connections.
@@ -51,14 +60,23 @@ fn link(pool: &PagePool, a: &EndLink, other_pool: &PagePool, b: &EndLink) -> Opt
     requires other_held { All (λ p. HoldsPayload other_pool.now p.payload) b.now.requester.items }
     ensures { result ≡ link_difference (link_in pool.now a.now) (link_in other_pool.now b.now) }
 {
-    numbers(
-        &[flag(a.ended), u64::from(a.peer)],
-        &[flag(b.ended), u64::from(b.peer)],
-    )
-    .or_else(|| numbers(&terms_numbers(&a.terms), &terms_numbers(&b.terms)))
-    .or_else(|| numbers(&moving_numbers(&a.moves), &moving_numbers(&b.moves)))
-    .or_else(|| senders(pool, &a.requester, other_pool, &b.requester))
-    .or_else(|| receivers(&a.responder, &b.responder))
+    let found = numbers(&[flag(a.ended), u64::from(a.peer)], &[flag(b.ended), u64::from(b.peer)]);
+    if found.is_some() {
+        return found;
+    }
+    let found = numbers(&terms_numbers(&a.terms), &terms_numbers(&b.terms));
+    if found.is_some() {
+        return found;
+    }
+    let found = numbers(&moving_numbers(&a.moves), &moving_numbers(&b.moves));
+    if found.is_some() {
+        return found;
+    }
+    let found = senders(pool, &a.requester, other_pool, &b.requester);
+    if found.is_some() {
+        return found;
+    }
+    receivers(&a.responder, &b.responder)
 }
 
 /// Two connections that may be there.
@@ -86,10 +104,13 @@ pub fn work(pool: &PagePool, a: &Endpoint, other_pool: &PagePool, b: &Endpoint) 
     requires other_held { All (λ p. HoldsPayload other_pool.now p.payload) (untold_by b.now.link) }
     ensures { (names other_names : Names) → result ≡ work_difference (end_in pool.now names a.now) (end_in other_pool.now other_names b.now) }
 {
-    numbers(
-        &[u64::from(a.send_depth), u64::from(a.recv_depth)],
-        &[u64::from(b.send_depth), u64::from(b.recv_depth)],
-    )
-    .or_else(|| receives(&a.recvs, &b.recvs))
-    .or_else(|| links(pool, &a.link, other_pool, &b.link))
+    let found = numbers(&[u64::from(a.send_depth), u64::from(a.recv_depth)], &[u64::from(b.send_depth), u64::from(b.recv_depth)]);
+    if found.is_some() {
+        return found;
+    }
+    let found = receives(&a.recvs, &b.recvs);
+    if found.is_some() {
+        return found;
+    }
+    links(pool, &a.link, other_pool, &b.link)
 }

@@ -99,9 +99,15 @@ fn entries(a: &Cq, b: &Cq) -> Option<(u64, u64)>
 fn queue(x: (&Name, &Cq), y: (&Name, &Cq)) -> Option<(u64, u64)>
     ensures { result ≡ queue_difference (shown_queue (x.entry.0.now, x.entry.1.now)) (shown_queue (y.entry.0.now, y.entry.1.now)) }
 {
-    names(x.0, y.0)
-        .or_else(|| numbers(&[u64::from(x.1.capacity())], &[u64::from(y.1.capacity())]))
-        .or_else(|| entries(x.1, y.1))
+    let found = names(x.0, y.0);
+    if found.is_some() {
+        return found;
+    }
+    let found = numbers(&[u64::from(x.1.capacity())], &[u64::from(y.1.capacity())]);
+    if found.is_some() {
+        return found;
+    }
+    entries(x.1, y.1)
 }
 
 /// Two lists of completion queues.

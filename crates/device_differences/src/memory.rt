@@ -117,10 +117,19 @@ fn region(
     requires other_there { IsUnder other.now y.now }
     ensures { result ≡ region_difference (region_under pool.now regions.now x.now) (region_under other_pool.now other.now y.now) }
 {
-    names(&x.name, &y.name)
-        .or_else(|| names(&x.domain, &y.domain))
-        .or_else(|| numbers(&region_numbers(x), &region_numbers(y)))
-        .or_else(|| region_bytes(pool, regions, x, other_pool, other, y))
+    let found = names(&x.name, &y.name);
+    if found.is_some() {
+        return found;
+    }
+    let found = names(&x.domain, &y.domain);
+    if found.is_some() {
+        return found;
+    }
+    let found = numbers(&region_numbers(x), &region_numbers(y));
+    if found.is_some() {
+        return found;
+    }
+    region_bytes(pool, regions, x, other_pool, other, y)
 }
 
 /// Two lists of regions.

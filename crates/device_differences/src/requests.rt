@@ -19,8 +19,11 @@ fn posted(pool: &PagePool, x: &Posted, other_pool: &PagePool, y: &Posted) -> Opt
     requires other_held { HoldsPayload other_pool.now y.now.payload }
     ensures { result ≡ posted_difference (posted_in pool.now x.now) (posted_in other_pool.now y.now) }
 {
-    numbers(&request_numbers(&x.request), &request_numbers(&y.request))
-        .or_else(|| payloads(pool, &x.payload, other_pool, &y.payload))
+    let found = numbers(&request_numbers(&x.request), &request_numbers(&y.request));
+    if found.is_some() {
+        return found;
+    }
+    payloads(pool, &x.payload, other_pool, &y.payload)
 }
 
 /// The untold requests of two requesters.

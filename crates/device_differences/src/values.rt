@@ -1,11 +1,8 @@
 //! Plain values as arrays of numbers, in the order of their fields.
 
-ghost use Rattle.std.specs.Prelude.{◌≡◌, ℕ, List};
-ghost use Rattle.rdma_types.specs.Objects.{Posted};
-ghost use Rattle.page_pool.specs.Pool.{Pool};
-ghost use Rattle.memory_keys.specs.Regions.{region_of};
+ghost use Rattle.std.specs.Prelude.{◌≡◌, []};
+ghost use Rattle.memory_keys.specs.Regions.{blank_region};
 ghost use Rattle.move_core.specs.Table.{moving_of, phase_of};
-ghost use Rattle.protocol.specs.declared.images.KeptReply.{KeptReply};
 ghost use Rattle.requester.specs.Sending.{sender_with};
 ghost use Rattle.responder.specs.Receiving.{progress_of, receiver_of};
 ghost use Rattle.device_differences.specs.Numbers.{flag as flag_code, has_number as is_there, number_in as number_of, kind_code as code_of_kind, wc_kind_code as code_of_wc_kind, status_code as code_of_status, phase_code as code_of_phase, numbers_of_receive, numbers_of_request, numbers_of_completion, numbers_of_region, numbers_of_terms, numbers_of_moving, numbers_of_sender, numbers_of_progress, numbers_of_receiver};
@@ -136,7 +133,7 @@ pub fn completion_numbers(c: &Completion) -> [u64; 7]
 
 /// A region, but for its names and its bytes.
 pub fn region_numbers(r: &RegionHead) -> [u64; 5]
-    ensures { (pool : Pool) (list : ℕ) → result ≡ numbers_of_region (region_of pool (record { head = r.now; list = list })) }
+    ensures { result ≡ numbers_of_region (blank_region r.now) }
 {
     [
         r.base,
@@ -176,7 +173,7 @@ pub fn moving_numbers(m: &MoveState) -> [u64; 5]
 
 /// A requester, but for its requests.
 pub fn sender_numbers(n: &RequesterParts) -> [u64; 7]
-    ensures { (untold : List Posted) → result ≡ numbers_of_sender (sender_with untold n.now) }
+    ensures { result ≡ numbers_of_sender (sender_with [] n.now) }
 {
     [
         n.first,
@@ -191,7 +188,7 @@ pub fn sender_numbers(n: &RequesterParts) -> [u64; 7]
 
 /// A responder, but for its message in progress and the kept replies.
 pub fn receiver_numbers(r: &ResponderParts) -> [u64; 3]
-    ensures { (kept : List KeptReply) → result ≡ numbers_of_receiver (receiver_of r.now kept) }
+    ensures { result ≡ numbers_of_receiver (receiver_of r.now []) }
 {
     [r.expected, flag(r.nak_sent), u64::from(r.msn)]
 }
