@@ -14,3 +14,4 @@ pub mod Transmitting
 pub mod Arriving
 pub mod Coming
 pub mod Links
+pub mod Payloads

@@ -11,6 +11,7 @@ mod coming;
 mod copies;
 mod counting;
 mod datagrams;
+mod differing;
 mod domains;
 mod ends;
 mod heads;
