@@ -6,6 +6,7 @@ mod arriving;
 mod coming;
 mod copying;
 mod device;
+mod differing;
 mod events;
 mod husks;
 mod index;
