@@ -64,7 +64,7 @@ fn a_copy_has_pages_of_its_own(rt: HostRuntime) -> Result<(), Fail> {
     pool.write(&mut a, 4095, &[1, 2]);
     let mut copy = pool.copy(rt.alloc())?;
     let mut twin = a.twin();
-    assert_eq!(rt; copy.free(), 2);
+    assert_eq!(rt; (copy.free(), copy.size(&twin)), (2, 8192));
     assert_eq!(rt; two_at(&copy, &twin, 4095), Some([1, 2]));
     copy.write(&mut twin, 4095, &[3, 4]);
     assert_eq!(rt; two_at(&pool, &a, 4095), Some([1, 2]));
