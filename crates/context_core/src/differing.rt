@@ -44,7 +44,10 @@ fn slots(
     if found.is_some() {
         return found;
     }
-    let found = numbers(&[u64::from(a.endpoint.number)], &[u64::from(b.endpoint.number)]);
+    let found = numbers(
+        &[u64::from(a.endpoint.number)],
+        &[u64::from(b.endpoint.number)],
+    );
     if found.is_some() {
         return found;
     }
@@ -52,11 +55,17 @@ fn slots(
     if found.is_some() {
         return found;
     }
-    let found = names(&queue_name(queues, a.send), &queue_name(other_queues, b.send));
+    let found = names(
+        &queue_name(queues, a.send),
+        &queue_name(other_queues, b.send),
+    );
     if found.is_some() {
         return found;
     }
-    let found = names(&queue_name(queues, a.recv), &queue_name(other_queues, b.recv));
+    let found = names(
+        &queue_name(queues, a.recv),
+        &queue_name(other_queues, b.recv),
+    );
     if found.is_some() {
         return found;
     }
@@ -121,6 +130,13 @@ impl ContextState {
         if found.is_some() {
             return found;
         }
-        ends(pool, &self.ends, &self.queues, other_pool, &other.ends, &other.queues)
+        ends(
+            pool,
+            &self.ends,
+            &self.queues,
+            other_pool,
+            &other.ends,
+            &other.queues,
+        )
     }
 }

@@ -21,16 +21,8 @@ fn entry(x: &HuskEntry, y: &HuskEntry) -> Option<(u64, u64)>
     ensures { result ≡ entry_difference (entry_of x.now) (entry_of y.now) }
 {
     numbers(
-        &[
-            u64::from(x.number),
-            u64::from(x.peer),
-            u64::from(x.moves),
-        ],
-        &[
-            u64::from(y.number),
-            u64::from(y.peer),
-            u64::from(y.moves),
-        ],
+        &[u64::from(x.number), u64::from(x.peer), u64::from(x.moves)],
+        &[u64::from(y.number), u64::from(y.peer), u64::from(y.moves)],
     )
 }
 

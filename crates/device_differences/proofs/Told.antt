@@ -144,8 +144,8 @@ unfolding work_difference
 work-tells x y =
     tells-as (work_difference x y)
     (first-tells _ _ (between-tells (x.send_depth ∷ x.recv_depth ∷ []) (y.send_depth ∷ y.recv_depth ∷ []))
-      (first-tells _ _ (across-tells receive_difference receive-tells x.unused y.unused)
-        (first-tells _ _ (maybe-tells link_difference link-tells x.link y.link) none-tells)))
+    (first-tells _ _ (across-tells receive_difference receive-tells x.unused y.unused)
+    (first-tells _ _ (maybe-tells link_difference link-tells x.link y.link) none-tells)))
     (λ h. let depths = same-depths x y h.0 in record { send_depth = depths.0; recv_depth = depths.1; unused = h.1.0; link = h.1.1.0 })
     (λ e. ((λ i. e.send_depth i ∷ e.recv_depth i ∷ []), (e.unused, (e.link, tt))))
 

@@ -2,7 +2,6 @@
 
 ghost use Rattle.std.specs.Prelude.{◌≡◌, ◌<◌, ◌^◌, ◌∷◌, [], ℕ, List, length, Option};
 ghost use Rattle.device_differences.specs.Differing.{apart as apart_in, between, first_of};
-
 ghost use Rattle.std.specs.Result.{result_err};
 
 use rdma_types::Name;
@@ -46,4 +45,3 @@ pub fn names(a: &Name, b: &Name) -> Option<(u64, u64)>
 {
     bytes(a.as_bytes(), b.as_bytes())
 }
-

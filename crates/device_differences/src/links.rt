@@ -60,7 +60,10 @@ fn link(pool: &PagePool, a: &EndLink, other_pool: &PagePool, b: &EndLink) -> Opt
     requires other_held { All (λ p. HoldsPayload other_pool.now p.payload) b.now.requester.items }
     ensures { result ≡ link_difference (link_in pool.now a.now) (link_in other_pool.now b.now) }
 {
-    let found = numbers(&[flag(a.ended), u64::from(a.peer)], &[flag(b.ended), u64::from(b.peer)]);
+    let found = numbers(
+        &[flag(a.ended), u64::from(a.peer)],
+        &[flag(b.ended), u64::from(b.peer)],
+    );
     if found.is_some() {
         return found;
     }
@@ -99,12 +102,20 @@ fn links(
 }
 
 /// What two queue pairs have besides their names and numbers.
-pub fn work(pool: &PagePool, a: &Endpoint, other_pool: &PagePool, b: &Endpoint) -> Option<(u64, u64)>
+pub fn work(
+    pool: &PagePool,
+    a: &Endpoint,
+    other_pool: &PagePool,
+    b: &Endpoint,
+) -> Option<(u64, u64)>
     requires held { All (λ p. HoldsPayload pool.now p.payload) (untold_by a.now.link) }
     requires other_held { All (λ p. HoldsPayload other_pool.now p.payload) (untold_by b.now.link) }
     ensures { (names other_names : Names) → result ≡ work_difference (end_in pool.now names a.now) (end_in other_pool.now other_names b.now) }
 {
-    let found = numbers(&[u64::from(a.send_depth), u64::from(a.recv_depth)], &[u64::from(b.send_depth), u64::from(b.recv_depth)]);
+    let found = numbers(
+        &[u64::from(a.send_depth), u64::from(a.recv_depth)],
+        &[u64::from(b.send_depth), u64::from(b.recv_depth)],
+    );
     if found.is_some() {
         return found;
     }
