@@ -1,0 +1,228 @@
+//! Three devices, and the datagrams between them in order of sending. What a call gives is None where memory is short.
+
+ghost use Rattle.std.specs.Prelude.{◌≡◌, IfSome};
+ghost use Rattle.protocol.specs.Events.{IsLawfulEvent};
+ghost use Rattle.protocol.specs.Lawful.{IsLawful};
+
+use device_core::Device;
+use protocol::{ContextImage, Event, Outcome};
+use rdma_types::{
+    Address, Answer, Completion, Items, Keys, Name, NotWhy, ObjName, Refusal, Sent, Took,
+};
+use std::alloc::Global;
+use std::marker::Model;
+
+/// A thing of a context; None where a text spells no name.
+pub(crate) fn object(context: &[u8], text: &[u8]) -> Option<ObjName> {
+    Some(ObjName {
+        context: Name::read(context)?,
+        name: Name::read(text)?,
+    })
+}
+
+/// The address of a device: 10.0.0.1 to 10.0.0.3, port 4791.
+pub(crate) fn address_of(place: u8) -> Address {
+    Address {
+        ip: 0x0a00_0000 | u32::from(place),
+        port: 4791,
+    }
+}
+
+/// What a device answers, but for lists.
+#[derive(Clone, Copy, PartialEq, Eq)]
+pub(crate) enum Said {
+    Done,
+    Stopped,
+    Region(Keys),
+    Qp(u32),
+    Sent,
+    Idle,
+    Waiting,
+    Took(Took),
+    Expired(u8),
+    NotCounted(NotWhy),
+    Over,
+    NotWaiting,
+    Refused(Refusal),
+    Other,
+}
+
+/// The answer, where it is no list.
+fn word(answer: &Answer) -> Said {
+    match answer {
+        Answer::Done => Said::Done,
+        Answer::Stopped => Said::Stopped,
+        Answer::Region(keys) => Said::Region(*keys),
+        Answer::Qp(number) => Said::Qp(*number),
+        Answer::Sent { .. } => Said::Sent,
+        Answer::Idle => Said::Idle,
+        Answer::Waiting => Said::Waiting,
+        Answer::Took { took, .. } => Said::Took(*took),
+        Answer::Expired(spent) => Said::Expired(*spent),
+        Answer::NotCounted(why) => Said::NotCounted(*why),
+        Answer::Over => Said::Over,
+        Answer::NotWaiting => Said::NotWaiting,
+        Answer::Refused(refusal) => Said::Refused(*refusal),
+        _ => Said::Other,
+    }
+}
+
+/// A datagram that was sent.
+#[derive(Drop)]
+struct Flight {
+    from: Address,
+    sent: Sent,
+}
+
+/// Devices 1, 2 and 3. Contracts see nothing of them.
+#[derive(Drop)]
+pub(crate) struct Net {
+    alloc: Global,
+    one: Device,
+    two: Device,
+    three: Device,
+    flights: Vec<Flight>,
+}
+
+impl Model for Net {
+    ghost Value = { Unit {0} };
+
+    ghost view = { λ _. tt };
+}
+
+impl Net {
+    /// Devices without contexts.
+    pub(crate) fn make(alloc: Global) -> Option<Net> {
+        Some(Net {
+            alloc,
+            one: Device::make(alloc, 1, address_of(1)).ok()?,
+            two: Device::make(alloc, 2, address_of(2)).ok()?,
+            three: Device::make(alloc, 3, address_of(3)).ok()?,
+            flights: Vec::new(alloc),
+        })
+    }
+
+    /// The allocator of the examples.
+    pub(crate) fn alloc(&self) -> Global {
+        self.alloc
+    }
+
+    /// How many datagrams were sent.
+    pub(crate) fn flown(&self) -> usize {
+        self.flights.len()
+    }
+
+    /// A device.
+    fn device(&mut self, place: u8) -> &mut Device {
+        match place {
+            1 => &mut self.one,
+            2 => &mut self.two,
+            _ => &mut self.three,
+        }
+    }
+
+    /// Keeps what a device sent.
+    fn keep(&mut self, from: Address, sent: Items<Sent>) -> Option<()> {
+        for sent in sent.into_vec() {
+            self.flights.push(Flight { from, sent }).ok()?;
+        }
+        Some(())
+    }
+
+    /// A step of one device.
+    fn step(&mut self, place: u8, event: &Event) -> Option<(Answer, Option<ContextImage>)>
+        requires { IsLawfulEvent event.now }
+        ensures { IfSome result (λ p. IfSome p.1 (λ i. IsLawful i)) }
+    {
+        let alloc = self.alloc;
+        let outcome = self.device(place).step(alloc, event).ok()?;
+        let Outcome {
+            answer,
+            sent,
+            image,
+        } = outcome;
+        self.keep(address_of(place), sent)?;
+        Some((answer, image))
+    }
+
+    /// The answer of a step, where it is no list.
+    pub(crate) fn ask(&mut self, place: u8, event: Event) -> Option<Said>
+        requires { IsLawfulEvent event }
+    {
+        let (answer, _) = self.step(place, &event)?;
+        Some(word(&answer))
+    }
+
+    /// Datagram `k`, from 0, arrives where it was sent to; None where there is none.
+    pub(crate) fn deliver(&mut self, k: usize) -> Option<Said> {
+        let flight = self.flights.get(k)?;
+        let place = (flight.sent.to.ip % 256) as u8;
+        let event = Event::Arrive {
+            from: flight.from,
+            bytes: Items::new(flight.sent.bytes.as_slice().to_vec(self.alloc).ok()?),
+        };
+        self.ask(place, event)
+    }
+
+    /// Whether datagram `k`, from 0, has these bytes.
+    pub(crate) fn says(&self, k: usize, bytes: &[u8]) -> bool {
+        match self.flights.get(k) {
+            Some(flight) => flight.sent.bytes.as_slice() == bytes,
+            None => false,
+        }
+    }
+
+    /// Whether the next four completions of a context's queue, or as many as there are, are these.
+    pub(crate) fn tells(
+        &mut self,
+        place: u8,
+        context: &[u8],
+        entries: &[Completion],
+    ) -> Option<bool> {
+        let cq = object(context, b"c")?;
+        let (answer, _) = self.step(place, &Event::Poll { cq, max: 4 })?;
+        Some(match answer {
+            Answer::Polled(polled) => polled.as_slice() == entries,
+            _ => false,
+        })
+    }
+
+    /// Whether a context's region has these bytes from an address on.
+    pub(crate) fn holds(
+        &mut self,
+        place: u8,
+        context: &[u8],
+        at: u64,
+        bytes: &[u8],
+    ) -> Option<bool> {
+        let region = object(context, b"m")?;
+        let length = u32::try_from(bytes.len()).ok()?;
+        let (answer, _) = self.step(place, &Event::Load { region, at, length })?;
+        Some(match answer {
+            Answer::Bytes(held) => held.as_slice() == bytes,
+            _ => false,
+        })
+    }
+
+    /// The image of a context that leaves its device; None where it does not.
+    pub(crate) fn stop(&mut self, place: u8, context: &[u8]) -> Option<ContextImage>
+        ensures { IfSome result (λ i. IsLawful i) }
+    {
+        let context = Name::read(context)?;
+        let event = Event::Stop {
+            context,
+            alone: false,
+        };
+        let (_, image) = self.step(place, &event)?;
+        image
+    }
+
+    /// Puts an image, which stays with its owner, on a device.
+    pub(crate) fn restore(&mut self, place: u8, image: &ContextImage) -> Option<Said>
+        requires { IsLawful image.now }
+    {
+        let alloc = self.alloc;
+        let outcome = self.device(place).restore(alloc, image).ok()?;
+        Some(word(&outcome.answer))
+    }
+}
