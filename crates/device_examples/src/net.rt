@@ -78,9 +78,7 @@ struct Flight {
 #[derive(Drop)]
 pub(crate) struct Net {
     alloc: Global,
-    one: Device,
-    two: Device,
-    three: Device,
+    devices: Vec<Device>,
     flights: Vec<Flight>,
 }
 
@@ -93,11 +91,14 @@ impl Model for Net {
 impl Net {
     /// Devices without contexts.
     pub(crate) fn make(alloc: Global) -> Option<Net> {
+        let mut devices = Vec::new(alloc);
+        for id in 1..4 {
+            let device = Device::make(alloc, id, address_of(id)).ok()?;
+            devices.push(device).ok()?;
+        }
         Some(Net {
             alloc,
-            one: Device::make(alloc, 1, address_of(1)).ok()?,
-            two: Device::make(alloc, 2, address_of(2)).ok()?,
-            three: Device::make(alloc, 3, address_of(3)).ok()?,
+            devices,
             flights: Vec::new(alloc),
         })
     }
@@ -112,13 +113,10 @@ impl Net {
         self.flights.len()
     }
 
-    /// A device.
-    fn device(&mut self, place: u8) -> &mut Device {
-        match place {
-            1 => &mut self.one,
-            2 => &mut self.two,
-            _ => &mut self.three,
-        }
+    /// The device with an id.
+    fn device(&mut self, id: u8) -> Option<&mut Device> {
+        let place = usize::from(id).checked_sub(1)?;
+        self.devices.get_mut(place)
     }
 
     /// Keeps what a device sent.
@@ -135,7 +133,7 @@ impl Net {
         ensures { IfSome result (λ p. IfSome p.1 (λ i. IsLawful i)) }
     {
         let alloc = self.alloc;
-        let outcome = self.device(place).step(alloc, event).ok()?;
+        let outcome = self.device(place)?.step(alloc, event).ok()?;
         let Outcome {
             answer,
             sent,
@@ -222,7 +220,7 @@ impl Net {
         requires { IsLawful image.now }
     {
         let alloc = self.alloc;
-        let outcome = self.device(place).restore(alloc, image).ok()?;
+        let outcome = self.device(place)?.restore(alloc, image).ok()?;
         Some(word(&outcome.answer))
     }
 }
