@@ -119,6 +119,18 @@ impl Net {
         self.devices.get_mut(place)
     }
 
+    /// A copy of a device.
+    pub(crate) fn copy(&mut self, id: u8) -> Option<Device> {
+        let alloc = self.alloc;
+        self.device(id)?.copy(alloc).ok()
+    }
+
+    /// Where a device differs from another.
+    pub(crate) fn differs(&mut self, id: u8, other: &Device) -> Option<Option<(u64, u64)>> {
+        let device = self.device(id)?;
+        Some(device.differs(other))
+    }
+
     /// Keeps what a device sent.
     fn keep(&mut self, from: Address, sent: Items<Sent>) -> Option<()> {
         for sent in sent.into_vec() {

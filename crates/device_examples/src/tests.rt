@@ -230,6 +230,21 @@ fn two_queue_pairs_share_one_entry(rt: HostRuntime) {
     assert_eq!(rt; play(&mut net, &steps), Some(steps.len()));
 }
 
+#[test]
+fn a_copy_stands_apart(rt: HostRuntime) {
+    let mut net = opened(rt.alloc(), 64, 16).expect(&rt, AMPLE);
+    let steps = [(Step::Post(Pair::Q, FOUR), Said::Done)];
+    assert_eq!(rt; play(&mut net, &steps), Some(steps.len()));
+    let copy = net.copy(1).expect(&rt, AMPLE);
+    assert_eq!(rt; net.differs(1, &copy), Some(None));
+    let steps = [(Step::Store, Said::Done)];
+    assert_eq!(rt; play(&mut net, &steps), Some(steps.len()));
+    // The first byte of the region, which is 0 in the copy.
+    assert_eq!(rt; net.differs(1, &copy), Some(Some((0xde, 0))));
+    // The ids come first.
+    assert_eq!(rt; net.differs(2, &copy), Some(Some((2, 1))));
+}
+
 /// A Write of so many bytes.
 fn long(length: u32) -> Ask {
     Ask::Write {
