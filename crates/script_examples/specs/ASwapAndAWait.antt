@@ -1,22 +1,11 @@
 -- A compare and swap, and a send that waits for its timer.
 use Rattle.std.specs.Prelude.{ℕ, List, ◌++◌, codes}
+use Rattle.script_examples.specs.Openings.{two_devices, usual_things, opened_on_two}
 
 -- the script
 abbrev pub script : List ℕ
 script =
-    codes "device 1 10.0.0.1\n"
-    ++ codes "device 2 10.0.0.2\n"
-    ++ codes "context a 1\n"
-    ++ codes "context b 2\n"
-    ++ codes "domain a.p\n"
-    ++ codes "domain b.p\n"
-    ++ codes "region a.m a.p 4096 64 lwra\n"
-    ++ codes "region b.n b.p 8192 64 lwra\n"
-    ++ codes "cq a.c 16\n"
-    ++ codes "cq b.c 16\n"
-    ++ codes "qp a.q a.p a.c a.c 8 8\n"
-    ++ codes "qp b.q b.p b.c b.c 8 8\n"
-    ++ codes "connect a.q b.q mtu 256 psn 100 200 retry 7 rnr 7 reads 4\n"
+    two_devices ++ usual_things
     ++ codes "cas a.q 1 01000002 4096 8192 02000003 0 5\n"
     ++ codes "settle\n"
     ++ codes "load b.n 8192 8\n"
@@ -33,19 +22,7 @@ script =
 -- what is written for it
 abbrev pub written : List ℕ
 written =
-    codes "ok\n"
-    ++ codes "ok\n"
-    ++ codes "ok\n"
-    ++ codes "ok\n"
-    ++ codes "ok\n"
-    ++ codes "ok\n"
-    ++ codes "region 01000002 01000003\n"
-    ++ codes "region 02000002 02000003\n"
-    ++ codes "ok\n"
-    ++ codes "ok\n"
-    ++ codes "qp 010001\n"
-    ++ codes "qp 020001\n"
-    ++ codes "ok\n"
+    opened_on_two
     ++ codes "ok\n"
     ++ codes "quiet 0\n"
     ++ codes "bytes 0000000000000005\n"

@@ -1,3 +1,4 @@
+pub mod Openings
 pub mod OneWriteCompleted
 pub mod OneWriteOnTheWire
 pub mod RefusalsAtMoves
