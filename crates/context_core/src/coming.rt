@@ -201,9 +201,9 @@ impl ContextState {
         self.put_ends(pool, alloc, image)
     }
 
-    /// The moved context of an image that keeps the rules, none of whose ends has moved as often as may be. It is refused
-    /// exactly where too few pages are free. After that or for want of memory the lists of others and the count of free
-    /// pages are as before.
+    /// The moved context of an image that keeps the rules. None of its ends may have reached the limit of moves.
+    /// Errors: refused with `NoPage` exactly where too few pages are free, or `OutOfMemory`. The lists of others and
+    /// the count of free pages are then as before.
     pub fn from_image(
         alloc: Global,
         pool: &mut PagePool,

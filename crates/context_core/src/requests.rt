@@ -141,7 +141,7 @@ fn give_requests(queue: SendQueue, pool: &mut PagePool)
     }
 }
 
-/// The send queue of an end's requests. For want of memory all pages are given back.
+/// The send queue of an end's requests. Errors: `AllocError` when out of memory; all pages are given back then.
 pub fn send_queue(
     pool: &mut PagePool,
     alloc: Global,
