@@ -48,7 +48,7 @@ impl Model for Fabric {
 impl Fabric {
     ghost use Rattle.fabric.specs.Told.{told};
 
-    /// A store with room for 16,384 datagrams, of which none was sent.
+    /// An empty store with room for 16,384 datagrams. Errors: `AllocError` when out of memory.
     pub fn make(alloc: Global) -> Result<Fabric, AllocError>
         ensures { IfOk result (λ f. f ≡ []) }
     {
