@@ -83,8 +83,8 @@ impl Regions {
         Ok(())
     }
 
-    /// Drops the region with a name, and gives its pages back. `NoSuch` comes exactly where no region has the name, and
-    /// else `InUse` exactly where its local key is busy; all is then as before. It takes no memory.
+    /// Drops the region with a name, and gives its pages back. It takes no memory. Errors: `NoSuch` exactly where no
+    /// region has the name, and else `InUse` exactly where its local key is in `busy`. All is then as before.
     pub fn deregister(
         &mut self,
         pool: &mut PagePool,
