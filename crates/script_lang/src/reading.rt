@@ -39,7 +39,8 @@ fn length_printable(line: &[u8]) -> usize
     line.len()
 }
 
-/// The bytes of a line may stand in one, and are not too many.
+/// Whether the bytes may stand in a line, and are not too many. Errors: `Long` where they are over 8,400, and else
+/// `Ascii` at the first byte outside 32 to 126.
 #[tactic(auto, unfolding(crate::specs::Lines::bytes_offence))]
 pub fn check_bytes(line: &[u8]) -> Result<(), Offence>
     ensures good { OnOk result (bytes_offence line.now ≡ None) }

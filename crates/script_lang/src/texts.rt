@@ -99,11 +99,7 @@ pub fn queue_pair(text: &[u8]) -> Option<u32>
     Some(BigEndian::read_u24(&bytes))
 }
 
-/// The bytes of a word of 2 to 8,192 hexadecimal digits.
-///
-/// # Errors
-///
-/// Want of memory.
+/// The bytes of a word of 2 to 8,192 hexadecimal digits. Errors: `AllocError` when out of memory.
 #[tactic(auto, unfolding(crate::specs::Texts::bytes_of))]
 pub fn bytes(alloc: Global, text: &[u8]) -> Result<Option<Items<u8>>, AllocError>
     ensures { IfOk result (λ bytes. bytes ≡ bytes_of text.now) }
