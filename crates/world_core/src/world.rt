@@ -51,7 +51,7 @@ impl Model for World {
 }
 
 impl World {
-    /// No device, no datagram and no image.
+    /// A world with no device, no datagram and no image. Errors: `AllocError` when out of memory.
     pub fn make(alloc: Global) -> Result<World, AllocError>
         ensures { IfOk result (λ w. w ≡ empty_world) }
     {
