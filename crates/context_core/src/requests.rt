@@ -105,7 +105,7 @@ fn posted_of(
     })
 }
 
-/// Puts requests into an empty queue. What is put there before memory is wanting stays there.
+/// Puts requests into an empty queue. What is put there before memory runs out stays there.
 fn put_requests(
     queue: &mut SendQueue,
     pool: &mut PagePool,

@@ -91,7 +91,7 @@ fn bad_unless_short(place: usize, why: DumpWhy) -> Result<(), DumpFault>
     }
 }
 
-/// Reads a piece behind the bytes so far. Where memory is wanted, these are as before.
+/// Reads a piece behind the bytes so far. When out of memory, these are as before.
 fn read_piece(
     alloc: Global,
     bytes: &mut Vec<u8>,

@@ -102,7 +102,7 @@ fn put_context(contexts: &mut IndexMap<Name, ContextState>, name: Name, state: C
     let _ = contexts.insert(name, state).unwrap();
 }
 
-/// Which cause of a restore counts, but for want of pages.
+/// Which cause of a restore counts, apart from too few free pages.
 #[tactic(auto, unfolding(rdma_types::specs::Causes::first_cause))]
 fn restore_cause(taken: bool, full: bool) -> Option<Refusal>
     ensures { result ≡ first_cause (cause Refusal.NumberTaken taken ∷ cause Refusal.TooMany full ∷ []) }

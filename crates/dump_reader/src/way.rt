@@ -49,7 +49,7 @@ fn whole_image(opened: &Opened, lists: Lists) -> Result<ContextImage, AllocError
     })
 }
 
-/// What was read of the front of a dump: all groups of fields that have come whole.
+/// What was read of a prefix of a dump: all groups of fields that have come whole.
 #[derive(Drop)]
 pub struct Way {
     pub opened: Opened,
