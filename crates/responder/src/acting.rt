@@ -199,7 +199,7 @@ impl Responder {
         self.execute(d, Flow::Idle);
     }
 
-    /// A WRITE into this place, of which so many bytes are done.
+    /// A WRITE into this place, with so many bytes done.
     #[tactic(auto, unfolding(protocol::specs::Responder::executed, protocol::specs::EndWords::with_receiver, crate::specs::Taking::write_taking))]
     pub(crate) fn take_write(
         &mut self,
