@@ -30,8 +30,8 @@ fn refusal(queues: &IndexMap<Name, Cq>, name: Name) -> Option<Refusal>
 }
 
 /// Makes an empty completion queue behind the others, for `capacity` entries. Errors: refused for the first of these
-/// causes that holds: `NumberTaken` where a completion queue has the name, `TooMany` where there are 64 of them; or
-/// `OutOfMemory`. The queues are then as they were.
+/// causes that holds (this project's choice): `NumberTaken` where a completion queue has the name, `TooMany` where
+/// there are 64 of them; or `OutOfMemory`. The queues are then as they were.
 pub fn make(
     queues: &mut IndexMap<Name, Cq>,
     alloc: Global,

@@ -69,7 +69,7 @@ fn head_of(
     })
 }
 
-/// Why a region is not made for which there are no keys.
+/// Why a region is not made where no keys are left.
 fn without_keys(regions: &Regions, name: Name) -> Refusal
     ensures { (pool : Pool) → result ≡ (if has_name (λ r. r.name) name (regions_of pool regions.now) then NumberTaken else TooMany) }
 {
@@ -83,9 +83,9 @@ fn without_keys(regions: &Regions, name: Name) -> Refusal
 impl ContextState {
     /// Makes a region of zeros behind the others, with the device's next keys, or None where it has no more of them.
     ///
-    /// Errors: refused for the first of these causes that holds: `NoSuch` where the domain is not in this context,
-    /// `NumberTaken` where a region has the name, `TooMany` where there are 256 regions or no keys are left, `NoPage`
-    /// where fewer pages are free than hold the region; or `OutOfMemory`. Nothing has changed then.
+    /// Errors: refused for the first of these causes that holds (this project's choice): `NoSuch` where the domain is
+    /// not in this context, `NumberTaken` where a region has the name, `TooMany` where there are 256 regions or no keys
+    /// are left, `NoPage` where fewer pages are free than hold the region; or `OutOfMemory`. Nothing has changed then.
     pub fn make_region(
         &mut self,
         alloc: Global,

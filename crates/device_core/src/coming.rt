@@ -93,7 +93,7 @@ fn put_ends(index: &mut IndexMap<u32, Spot>, name: Name, ends: &[EndImage])
     }
 }
 
-/// Puts a new context behind the others, for which there is room.
+/// Puts a new context behind the others. There must be room for it.
 fn put_context(contexts: &mut IndexMap<Name, ContextState>, name: Name, state: ContextState)
     requires absent { get bytes_eq contexts.old name ≡ None }
     requires room { 0 < spare contexts.old }
