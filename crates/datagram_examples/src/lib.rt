@@ -12,12 +12,12 @@ ghost use Rattle.datagram_examples.specs.Datagrams.{worked, other_kinds};
 ghost use Rattle.datagram_examples.specs.Bits.{ignored};
 ghost use Rattle.datagram_examples.specs.Forged as forged;
 
-/// Those of worked examples are written as they were read.
+/// The datagrams of worked examples are written as they were read.
 pub fn worked_examples_are_written_as_they_were_read()
     ensures { AreWrittenAsRead worked }
 {}
 
-/// So is one of each kind that no worked example shows.
+/// One datagram of each kind that no worked example shows is written as it was read.
 pub fn each_other_kind_is_written_as_it_was_read()
     ensures { AreWrittenAsRead other_kinds }
 {}

@@ -302,7 +302,7 @@ fn advanced(link: &LinkHead, before: &Before, head: &RequestHead) -> Before
     }
 }
 
-/// Where a request stands that so many more follow.
+/// Where a request stands, with so many more behind it.
 fn standing_of(opened: &Opened, before: &Before, more: u16) -> Standing
     ensures { result ≡ record { version = opened.now.version; count = before.now.count; index = before.now.count - suc more; low = before.now.low; landing = before.now.landing } }
 {

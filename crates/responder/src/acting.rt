@@ -1,4 +1,4 @@
-//! What an expected packet does that is neither invalid nor without access.
+//! What an expected packet does where it is valid and its place is granted.
 
 ghost use Rattle.std.specs.Prelude.{◌≡◌, ℕ, ◌+◌, ◌++◌, ◌∷◌, [], ◌<◌, ◌≤◌, ◌&&◌, List, length, drop, is_some, not, false, true, if◌then◌else◌};
 ghost use Rattle.rdma_types.specs.Limits.{number_limit};
