@@ -72,7 +72,7 @@ impl ByteRun {
         }
     }
 
-    /// Puts bytes at the end. After want of memory the run is as it was.
+    /// Puts bytes at the end. Errors: `AllocError` when out of memory; the run is as it was.
     pub fn append(&mut self, alloc: Global, bytes: &[u8]) -> Result<(), AllocError>
         ensures ok { OnOk result (self.new ≡ self.old ++ bytes.now) }
         ensures err { OnErr result (self.new ≡ self.old) }
@@ -84,7 +84,7 @@ impl ByteRun {
         Ok(())
     }
 
-    /// A run of the same bytes.
+    /// A run of the same bytes. Errors: `AllocError` when out of memory.
     pub fn copy(&self, alloc: Global) -> Result<ByteRun, AllocError>
         ensures { IfOk result (λ run. run ≡ self.now) }
     {

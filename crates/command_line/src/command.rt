@@ -23,11 +23,8 @@ pub enum Command {
 }
 
 impl Command {
-    /// The command of these words, without the program's name; `Ok(None)` exactly where they are of none.
-    ///
-    /// # Errors
-    ///
-    /// Want of memory, which comes at no words that are of no command.
+    /// The command of these words, without the program's name; `Ok(None)` exactly where they are of none. Errors:
+    /// `AllocError` when out of memory, and never where the words are of no command.
     pub fn of(alloc: Global, words: &[String]) -> Result<Option<Command>, AllocError>
         ensures value { IfOk result (λ r. known_if r ≡ command_of (map string_bytes words.now)) }
         ensures none { command_of (map string_bytes words.now) ≡ None → result ≡ Ok None }

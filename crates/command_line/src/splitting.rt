@@ -60,7 +60,7 @@ fn forms<'a>(alloc: Global) -> Result<clap::Command<'a>, AllocError>
         .subcommand(show_dump_form(alloc)?)
 }
 
-/// Splits words that are of a command, which are refused for want of memory alone.
+/// Splits words that are of a command. They are refused only when out of memory.
 pub(crate) fn split<'a>(alloc: Global, words: &'a [String]) -> Result<ArgMatches<'a>, AllocError>
     requires { is_some (command_of (map string_bytes words.now)) ≡ true }
     ensures { IfOk result (λ m. spelled_in (subcommand_rows_of m) ≡ command_of (map string_bytes words.entry.now)) }

@@ -39,7 +39,7 @@ impl Model for Cq {
 }
 
 impl Cq {
-    /// An empty queue with room for `capacity` entries.
+    /// An empty queue with room for `capacity` entries. Errors: `AllocError` when out of memory.
     pub fn make(alloc: Global, capacity: u32) -> Result<Cq, AllocError>
         ensures { IfOk result (λ q. q ≡ unreserved capacity []) }
     {
@@ -51,7 +51,8 @@ impl Cq {
         })
     }
 
-    /// A queue with room for `capacity` entries that holds these, oldest first, as an image says them.
+    /// A queue with room for `capacity` entries that holds these, oldest first, as an image says them. There may be no
+    /// more of them than the capacity. Errors: `AllocError` when out of memory.
     pub fn from_entries(
         alloc: Global,
         capacity: u32,
@@ -71,7 +72,7 @@ impl Cq {
         })
     }
 
-    /// An equal queue.
+    /// An equal queue. Errors: `AllocError` when out of memory.
     pub fn copy(&self, alloc: Global) -> Result<Cq, AllocError>
         ensures { IfOk result (λ q. q ≡ self.now) }
     {
@@ -86,8 +87,8 @@ impl Cq {
         })
     }
 
-    /// Reserves a place for a completion to come. The queue is full exactly where its entries and reserved places are
-    /// as many as its capacity, and then it stays as it was.
+    /// Reserves a place for a completion to come. Errors: `CqFull` exactly where entries and reserved places are as
+    /// many as the capacity; the queue then stays as it was.
     pub fn reserve(&mut self) -> Result<(), CqFull>
         ensures ok { OnOk result (self.new ≡ reserving self.old) }
         ensures full { IsErr result ↔ (used_places self.old ≡ self.old.capacity) }

@@ -15,12 +15,12 @@ fault_of TooMany = Refused refusal.TooMany
 fault_of NoPage = Refused refusal.NoPage
 fault_of memory.OutOfMemory = OutOfMemory
 
--- a refusal, but for want of memory, which has no cause
+-- a refusal; out of memory is none, and has no cause
 abbrev pub told_as : ContextFault → Option Refusal
 told_as (Refused r) = Some r
 told_as OutOfMemory = None
 
--- the refusal of an answer, but for want of memory
+-- the refusal of an answer; out of memory is none
 abbrev pub refusal_of : {T : Type 0} → Result T ContextFault → Option Refusal
 refusal_of (Ok x) = None
 refusal_of (Err fault) = told_as fault

@@ -40,7 +40,7 @@ is_past (Some l) r = not l.ended && nat_le number_limit (end_of_queue l.terms (s
 abbrev pub is_full_place : List (Name × Queue) → ℕ → Bool
 is_full_place queues place = option_map_or is_full_at (slice_get (values_of queues) place) true
 
--- why no request is posted at a queue pair, but for want of pages
+-- why no request is posted at a queue pair, apart from too few free pages
 abbrev pub slot_causes : Pool → List Held → List (Name × Queue) → EndSlot → Request → List Cause
 slot_causes pool held queues e r =
     cause TooMany (is_past e.endpoint.link r)

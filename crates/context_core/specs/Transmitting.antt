@@ -21,7 +21,7 @@ pub record IsWay (way : Way) (l : EndLink) : Type 0 where
   pub is : way ≡ way_of l
   pub next : l.requester.numbers.next < 2 ^ 62
 
--- an end of which the link was l sent this, and has the requests that it had
+-- an end with link l sent this, and has the requests that it had
 pub record IsSending (pool : Pool) (e : Endpoint) (way : Way) (send : EndSend) (l : EndLink) : Type 0 where
   pub held : List Held
   pub domain : Name

@@ -264,7 +264,8 @@ fn reply_sent(alloc: Global, room: Room, link: &EndLink, reply: EndReply) -> Ite
 }
 
 impl ContextState {
-    /// Takes a datagram at the connected end of that place. `None` comes exactly where no connected end stands there.
+    /// Takes a datagram at the connected end of that place. `None` comes exactly where no connected end stands there,
+    /// and nothing has changed then. Errors: `AllocError` when out of memory; nothing has changed.
     pub fn take(
         &mut self,
         alloc: Global,

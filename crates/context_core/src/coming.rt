@@ -69,7 +69,7 @@ fn head_of(domains: &[Name], image: &RegionImage) -> RegionHead
     }
 }
 
-/// Puts the regions of an image into new pages. Those that are made before memory is wanting stay.
+/// Puts the regions of an image into new pages. Those that are made before memory runs out stay.
 fn put_regions(
     regions: &mut Regions,
     pool: &mut PagePool,
@@ -128,7 +128,8 @@ fn reserve_end(queues: &mut IndexMap<Name, Cq>, end: &EndImage)
 }
 
 impl ContextState {
-    /// Puts the next end of an image behind those that are there. For want of memory all pages that it took are given back.
+    /// Puts the next end of an image behind those that are there. When out of memory, all pages that it took are given
+    /// back.
     fn put_end(
         &mut self,
         pool: &mut PagePool,
@@ -201,9 +202,9 @@ impl ContextState {
         self.put_ends(pool, alloc, image)
     }
 
-    /// The moved context of an image that keeps the rules, none of whose ends has moved as often as may be. It is refused
-    /// exactly where too few pages are free. After that or for want of memory the lists of others and the count of free
-    /// pages are as before.
+    /// The moved context of an image that keeps the rules. None of its ends may have reached the limit of moves.
+    /// Errors: refused with `NoPage` exactly where too few pages are free, or `OutOfMemory`. The lists of others and
+    /// the count of free pages are then as before.
     pub fn from_image(
         alloc: Global,
         pool: &mut PagePool,

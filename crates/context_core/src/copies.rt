@@ -47,7 +47,7 @@ fn copy_ends(
 }
 
 impl EndSlot {
-    /// An equal queue pair, for a copy of the pool of its payloads.
+    /// An equal queue pair, for a copy of the pool of its payloads. Errors: `AllocError` when out of memory.
     fn copy(&self, alloc: Global) -> Result<EndSlot, AllocError>
         ensures { IfOk result (λ slot. slot ≡ self.now) }
     {
@@ -60,7 +60,7 @@ impl EndSlot {
 }
 
 impl ContextState {
-    /// An equal context, for a copy of the pool where its bytes lie.
+    /// An equal context, for a copy of the pool where its bytes lie. Errors: `AllocError` when out of memory.
     pub fn copy(&self, alloc: Global) -> Result<ContextState, AllocError>
         ensures { IfOk result (λ s. s ≡ self.now) }
     {

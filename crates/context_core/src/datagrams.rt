@@ -27,7 +27,7 @@ pub struct Room {
 }
 
 impl Room {
-    /// Memory for a datagram of at most so many bytes.
+    /// Memory for a datagram of at most so many bytes. Errors: `AllocError` when out of memory.
     pub fn make(alloc: Global, most: usize) -> Result<Room, AllocError>
         ensures { IfOk result (λ r. IsRoom r most) }
     {
@@ -71,7 +71,7 @@ pub fn zeros_in(mut memory: Vec<u8>, count: usize) -> Vec<u8>
     memory
 }
 
-/// The bytes of a datagram, in memory of their own.
+/// The bytes of a datagram, in memory of their own. Errors: `AllocError` when out of memory.
 pub fn encoded(alloc: Global, d: &Datagram<'_>) -> Result<Items<u8>, AllocError>
     requires { Fits (packet d.now) }
     ensures { IfOk result (λ bytes. bytes ≡ wire_of (packet d.now)) }

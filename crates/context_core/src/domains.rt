@@ -23,7 +23,9 @@ fn refusal(domains: &IndexSet<Name>, name: Name) -> Option<Refusal>
     (domains.len() >= MOST_DOMAINS).then_some(Refusal::TooMany)
 }
 
-/// Makes a domain behind the others.
+/// Makes a domain behind the others. Errors: refused for the first of these causes that holds (this project's choice):
+/// `NumberTaken` where a domain has the name, `TooMany` where there are 64 domains; or `OutOfMemory`. The domains are
+/// then as they were.
 pub fn make(domains: &mut IndexSet<Name>, name: Name) -> Result<(), ContextFault>
     ensures refused { (c : Context) → c.domains ≡ domains.old.keys → refusal_of result ≡ first_cause (domain_causes c name) }
     ensures made { OnOk result (domains.new.keys ≡ domains.old.keys ++ name ∷ []) }

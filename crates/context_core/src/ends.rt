@@ -16,7 +16,8 @@ use crate::EndSlot;
 use indexmap::IndexMap;
 use rdma_types::{Name, Refusal};
 
-/// The place of a connected queue pair; NoSuch where there is none of that name, and BadState where it is in Init.
+/// The place of a connected queue pair. Errors: `NoSuch` where no queue pair has the name, and `BadState` where it is
+/// in Init.
 pub fn connected(ends: &IndexMap<Name, EndSlot>, name: Name) -> Result<usize, Refusal>
     ensures refused { (pool : Pool) (queues : List (Name × Queue)) (c : Context) → c.ends ≡ map (end_of pool queues) ends.now.entries
         → result_err result ≡ first_cause (connected_causes c name) }
@@ -34,7 +35,8 @@ pub fn connected(ends: &IndexMap<Name, EndSlot>, name: Name) -> Result<usize, Re
     Ok(place)
 }
 
-/// The place of a queue pair in Init; NoSuch where there is none of that name, and BadState where it is connected.
+/// The place of a queue pair in Init. Errors: `NoSuch` where no queue pair has the name, and `BadState` where it is
+/// connected.
 pub fn unconnected(ends: &IndexMap<Name, EndSlot>, name: Name) -> Result<usize, Refusal>
     ensures refused { (pool : Pool) (queues : List (Name × Queue)) (c : Context) → c.ends ≡ map (end_of pool queues) ends.now.entries
         → result_err result ≡ first_cause (connect_causes c name) }

@@ -93,7 +93,7 @@ fn link_image(alloc: Global, regions: &Regions, link: &EndLink) -> Result<LinkIm
     })
 }
 
-/// The image of a connection, if there is one.
+/// The image of a connection, if there is one. Errors: `AllocError` when out of memory.
 pub fn linked_image(
     alloc: Global,
     regions: &Regions,

@@ -32,7 +32,7 @@ fn queue_image(alloc: Global, name: Name, queue: &Cq) -> Result<CqImage, AllocEr
     })
 }
 
-/// The images of completion queues, in order of making.
+/// The images of completion queues, in order of making. Errors: `AllocError` when out of memory.
 pub fn queue_images(
     alloc: Global,
     queues: &IndexMap<Name, Cq>,

@@ -34,7 +34,7 @@ pub fn position_of_key(regions: &Regions, key: u32) -> u16
     }
 }
 
-/// A copy of names.
+/// A copy of names. Errors: `AllocError` when out of memory.
 pub fn names(alloc: Global, names: &IndexSet<Name>) -> Result<Items<Name>, AllocError>
     ensures { IfOk result (λ copy. copy ≡ names.now.keys) }
 {
@@ -71,7 +71,7 @@ fn region_image(
     })
 }
 
-/// The images of regions, in order of making.
+/// The images of regions, in order of making. Errors: `AllocError` when out of memory.
 pub fn region_images(
     alloc: Global,
     pool: &PagePool,

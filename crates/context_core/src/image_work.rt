@@ -15,7 +15,7 @@ use requester::Requester;
 use std::alloc::{AllocError, Global};
 use work_queues::{Posted, RecvQueue};
 
-/// A copy of the receives of a queue, oldest first.
+/// A copy of the receives of a queue, oldest first. Errors: `AllocError` when out of memory.
 pub fn receives(alloc: Global, queue: &RecvQueue) -> Result<Items<Receive>, AllocError>
     ensures { IfOk result (λ receives. receives ≡ queue.now.items) }
 {
@@ -62,7 +62,8 @@ fn posted_images(
     Ok(Items::new(images))
 }
 
-/// The images of the untold requests of an end, which has none before it is connected.
+/// The images of the untold requests of an end, which has none before it is connected. Errors: `AllocError` when out of
+/// memory.
 pub fn untold_images(
     alloc: Global,
     pool: &PagePool,

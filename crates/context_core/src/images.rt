@@ -17,7 +17,7 @@ use rdma_types::{Items, Name};
 use std::alloc::{AllocError, Global};
 
 impl ContextState {
-    /// The image of the context of that name. All stays as it is.
+    /// The image of the context of that name. All stays as it is. Errors: `AllocError` when out of memory.
     pub fn image(
         &self,
         alloc: Global,

@@ -160,7 +160,8 @@ fn link_of(image: &ContextImage, end: &EndImage, link: &LinkImage, queue: SendQu
     }
 }
 
-/// An end, with its requests' payloads in new pages. For want of memory all pages are given back.
+/// An end, with its requests' payloads in new pages. Errors: `AllocError` when out of memory; all pages are given back
+/// then.
 pub fn endpoint_of(
     pool: &mut PagePool,
     alloc: Global,

@@ -89,11 +89,8 @@ fn live_end(context: Name, name: Name, slot: &EndSlot) -> LiveEnd
 }
 
 impl ContextState {
-    /// Appends what is looked at of the queue pairs of a context of that name, in order of making.
-    ///
-    /// # Errors
-    ///
-    /// Where no memory is left.
+    /// Appends what is looked at of the queue pairs of a context of that name, in order of making. Errors: `AllocError`
+    /// when out of memory.
     pub fn push_ends(&self, context: Name, live: &mut Vec<LiveEnd>) -> Result<(), AllocError>
         requires { SendByTerms self.now }
         ensures { (pool : Pool) → IfOk result (λ _. live.new.items

@@ -31,7 +31,9 @@ pub struct NewEnd {
 }
 
 impl ContextState {
-    /// Makes a domain behind the others.
+    /// Makes a domain behind the others. Errors: refused for the first of these causes that holds (this project's
+    /// choice): `NumberTaken` where a domain has the name, `TooMany` where there are 64 domains; or `OutOfMemory`.
+    /// Nothing has changed then.
     pub fn make_domain(&mut self, name: Name) -> Result<(), ContextFault>
         ensures refused { (pool : Pool) (n : Name) → refusal_of result ≡ first_cause (domain_causes (context_in pool n self.old) name) }
         ensures made { (pool : Pool) (n : Name) (d : Device) → OnOk result (makes_domain d (context_in pool n self.old) name ≡ answers (with_context d (context_in pool n self.new)) answer.Done) }
@@ -44,7 +46,9 @@ impl ContextState {
         domains::make(&mut self.domains, name)
     }
 
-    /// Makes an empty completion queue behind the others.
+    /// Makes an empty completion queue behind the others, for `capacity` entries. Errors: refused for the first of
+    /// these causes that holds (this project's choice): `NumberTaken` where a completion queue has the name, `TooMany`
+    /// where there are 64 of them; or `OutOfMemory`. Nothing has changed then.
     pub fn make_cq(&mut self, alloc: Global, name: Name, capacity: u32) -> Result<(), ContextFault>
         ensures refused { (pool : Pool) (n : Name) → refusal_of result ≡ first_cause (queue_causes (context_in pool n self.old) name) }
         ensures made { (pool : Pool) (n : Name) (d : Device) → IsContext pool self.old
@@ -58,7 +62,10 @@ impl ContextState {
         queues::make(&mut self.queues, alloc, name, capacity)
     }
 
-    /// Makes a queue pair in Init behind the others, with the device's next number; None where it has no more of them.
+    /// Makes a queue pair in Init behind the others, with the device's next number, or None where it has no more of
+    /// them. Errors: refused for the first of these causes that holds (this project's choice): `NoSuch` where the
+    /// domain or a completion queue is not in this context, `NumberTaken` where a queue pair has the name, `TooMany`
+    /// where there are 64 queue pairs or no number is left; or `OutOfMemory`. Nothing has changed then.
     pub fn make_qp(
         &mut self,
         alloc: Global,
@@ -85,7 +92,8 @@ impl ContextState {
         )
     }
 
-    /// Connects a queue pair in Init to its partner. It takes no memory.
+    /// Connects a queue pair in Init to its partner. It takes no memory. Errors: `NoSuch` where no queue pair has the
+    /// name, and else `BadState` where it is connected already. Nothing has changed then.
     pub fn connect(
         &mut self,
         name: Name,

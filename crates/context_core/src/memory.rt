@@ -52,7 +52,8 @@ fn range(regions: &Regions, name: Name, at: u64, length: usize) -> Result<Spot, 
 }
 
 impl ContextState {
-    /// Stores bytes at an address of a region. It takes no memory.
+    /// Stores bytes at an address of a region. It takes no memory. Errors: `NoSuch` where no region has the name, and
+    /// else `BadKey` where the region does not hold the whole range. Nothing has changed then.
     pub fn store(
         &mut self,
         pool: &mut PagePool,
@@ -76,7 +77,9 @@ impl ContextState {
         Ok(())
     }
 
-    /// The bytes of an address range of a region.
+    /// The bytes of an address range of a region: `length` bytes from address `at` on. Errors: refused with `NoSuch`
+    /// where no region has the name, and else with `BadKey` where the region does not hold the whole range; or
+    /// `OutOfMemory`.
     pub fn load(
         &self,
         alloc: Global,

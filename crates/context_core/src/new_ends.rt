@@ -75,7 +75,10 @@ fn number_for(
     }
 }
 
-/// Makes a queue pair in Init behind the others.
+/// Makes a queue pair in Init behind the others, with this number. Errors: refused for the first of these causes that
+/// holds (this project's choice): `NoSuch` where the domain or a completion queue is not there, `NumberTaken` where a
+/// queue pair has the name, `TooMany` where there are 64 queue pairs or no number is given; or `OutOfMemory`. The queue
+/// pairs are then as they were.
 pub fn make(
     domains: &IndexSet<Name>,
     queues: &IndexMap<Name, Cq>,

@@ -17,7 +17,8 @@ use rdma_types::{Completion, Items, Name};
 use std::alloc::Global;
 
 impl ContextState {
-    /// Hands out the oldest completions of a queue, as many as there are or as are asked for.
+    /// Hands out the oldest completions of a queue, as many as there are or as are asked for. Errors: refused with
+    /// `NoSuch` exactly where no completion queue has the name; or `OutOfMemory`. Nothing has changed then.
     pub fn poll(
         &mut self,
         alloc: Global,

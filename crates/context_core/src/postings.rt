@@ -168,6 +168,13 @@ fn taken(
 
 impl ContextState {
     /// Posts a request, and takes the bytes of a Write or Send as they are.
+    ///
+    /// Errors: refused for the first of these causes that holds (this project's choice): `NoSuch` where no queue pair
+    /// has the name; `TooMany` where the packet number past the request would not be below 2^62, unless the queue pair
+    /// is in Error; `BadState` where the queue pair is in Init; `TooLong` for a message over 1,048,576 bytes; `BadKey`
+    /// where the local place is not granted; `SqFull` where the untold requests reach the send depth; `CqFull` where
+    /// entries and reserved places reach the capacity of the completion queue; `NoPage` where fewer pages are free than
+    /// the bytes take, unless the queue pair is in Error. Or `OutOfMemory`. Nothing has changed then.
     pub fn post_send(
         &mut self,
         alloc: Global,

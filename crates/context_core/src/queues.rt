@@ -29,7 +29,9 @@ fn refusal(queues: &IndexMap<Name, Cq>, name: Name) -> Option<Refusal>
     (queues.len() >= MOST_QUEUES).then_some(Refusal::TooMany)
 }
 
-/// Makes an empty completion queue behind the others.
+/// Makes an empty completion queue behind the others, for `capacity` entries. Errors: refused for the first of these
+/// causes that holds (this project's choice): `NumberTaken` where a completion queue has the name, `TooMany` where
+/// there are 64 of them; or `OutOfMemory`. The queues are then as they were.
 pub fn make(
     queues: &mut IndexMap<Name, Cq>,
     alloc: Global,
@@ -73,7 +75,8 @@ fn polled(queue: &mut Cq, alloc: Global, most: u32) -> Result<Items<Completion>,
     Ok(Items::new(out))
 }
 
-/// Hands out the oldest completions of the queue with a name.
+/// Hands out the oldest completions of the queue with a name, `most` at the most. Errors: refused with `NoSuch` exactly
+/// where no queue has the name; or `OutOfMemory`. The queues are then as they were.
 pub fn poll(
     queues: &mut IndexMap<Name, Cq>,
     alloc: Global,

@@ -106,6 +106,11 @@ fn admitted(
 
 impl ContextState {
     /// Posts a receive. It takes no memory.
+    ///
+    /// Errors: the first of these causes that holds (this project's choice): `NoSuch` where no queue pair has the name;
+    /// `TooLong` for more than 1,048,576 bytes; `BadKey` where the place is not granted; `RqFull` where the unused
+    /// receives reach the receive depth; `CqFull` where entries and reserved places reach the capacity of the
+    /// completion queue. Nothing has changed then.
     pub fn post_recv(
         &mut self,
         pool: &mut PagePool,

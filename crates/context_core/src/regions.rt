@@ -69,7 +69,7 @@ fn head_of(
     })
 }
 
-/// Why a region is not made for which there are no keys.
+/// Why a region is not made where no keys are left.
 fn without_keys(regions: &Regions, name: Name) -> Refusal
     ensures { (pool : Pool) → result ≡ (if has_name (λ r. r.name) name (regions_of pool regions.now) then NumberTaken else TooMany) }
 {
@@ -81,7 +81,11 @@ fn without_keys(regions: &Regions, name: Name) -> Refusal
 }
 
 impl ContextState {
-    /// Makes a region of zeros behind the others, with the device's next keys; None where it has no more of them.
+    /// Makes a region of zeros behind the others, with the device's next keys, or None where it has no more of them.
+    ///
+    /// Errors: refused for the first of these causes that holds (this project's choice): `NoSuch` where the domain is
+    /// not in this context, `NumberTaken` where a region has the name, `TooMany` where there are 256 regions or no keys
+    /// are left, `NoPage` where fewer pages are free than hold the region; or `OutOfMemory`. Nothing has changed then.
     pub fn make_region(
         &mut self,
         alloc: Global,
@@ -108,7 +112,9 @@ impl ContextState {
         Ok(())
     }
 
-    /// Drops a region that no work of a queue pair names, and gives its pages back. It takes no memory.
+    /// Drops a region that no work of a queue pair names, and gives its pages back. It takes no memory. Errors:
+    /// `NoSuch` where no region has the name, and else `InUse` where work of a queue pair names its local key. Nothing
+    /// has changed then.
     pub fn drop_region(&mut self, pool: &mut PagePool, name: Name) -> Result<(), Refusal>
         requires is { IsContext pool.old self.old }
         ensures refused { (n : Name) → result_err result ≡ first_cause (drop_causes (context_in pool.old n self.old) name) }

@@ -105,7 +105,7 @@ fn posted_of(
     })
 }
 
-/// Puts requests into an empty queue. What is put there before memory is wanting stays there.
+/// Puts requests into an empty queue. What is put there before memory runs out stays there.
 fn put_requests(
     queue: &mut SendQueue,
     pool: &mut PagePool,
@@ -141,7 +141,7 @@ fn give_requests(queue: SendQueue, pool: &mut PagePool)
     }
 }
 
-/// The send queue of an end's requests. For want of memory all pages are given back.
+/// The send queue of an end's requests. Errors: `AllocError` when out of memory; all pages are given back then.
 pub fn send_queue(
     pool: &mut PagePool,
     alloc: Global,

@@ -208,7 +208,9 @@ fn sent_for(
 }
 
 impl ContextState {
-    /// The next packet of an end may be sent. A RESUME tells the address of the device, `own`.
+    /// Sends the next packet of an end, where one may be sent. A RESUME tells the address of the device, `own`. Errors:
+    /// refused with `NoSuch` where no queue pair has the name, and else with `BadState` where it is in Init; or
+    /// `OutOfMemory`. Nothing has changed then.
     pub fn transmit(
         &mut self,
         alloc: Global,

@@ -18,7 +18,8 @@ use page_pool::PagePool;
 use rdma_types::{Answer, Name, Refusal};
 
 impl ContextState {
-    /// The retransmission timeout of an end. It takes no memory.
+    /// The retransmission timeout of an end. It takes no memory. Errors: `NoSuch` where no queue pair has the name, and
+    /// else `BadState` where it is in Init. Nothing has changed then.
     pub fn expire(&mut self, pool: &mut PagePool, name: Name) -> Result<Answer, Refusal>
         requires is { IsContext pool.old self.old }
         ensures refused { (n : Name) → result_err result ≡ first_cause (connected_causes (context_in pool.old n self.old) name) }
@@ -43,7 +44,8 @@ impl ContextState {
         Ok(slot.endpoint.expire(memory))
     }
 
-    /// The RNR timer of an end is over. It takes no memory.
+    /// The RNR timer of an end is over. It takes no memory. Errors: `NoSuch` where no queue pair has the name, and else
+    /// `BadState` where it is in Init. Nothing has changed then.
     pub fn rnr_over(&mut self, name: Name) -> Result<Answer, Refusal>
         ensures refused { (pool : Pool) (n : Name) → result_err result ≡ first_cause (connected_causes (context_in pool n self.old) name) }
         ensures over { (pool : Pool) (n : Name) (d : Device) → IsContext pool self.old → with_context d (context_in pool n self.old) ≡ d

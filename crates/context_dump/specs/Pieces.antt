@@ -23,7 +23,7 @@ pub record IsRefused (old piece new : List ℕ) (place : ℕ) (why : DumpWhy) : 
   pub here : read_dump (old ++ piece) ≡ Bad place why
   pub ever : read_dump new ≡ Bad place why
 
--- memory was wanted, and the reader is as before
+-- it was out of memory, and the reader is as before
 pub record IsAsBefore (old new : List ℕ) : Type 0 where
   pub bytes : new ≡ old
   pub sound : is_bad (read_dump old) ≡ false

@@ -91,7 +91,7 @@ fn bad_unless_short(place: usize, why: DumpWhy) -> Result<(), DumpFault>
     }
 }
 
-/// Reads a piece behind the bytes so far. Where memory is wanted, these are as before.
+/// Reads a piece behind the bytes so far. When out of memory, these are as before.
 fn read_piece(
     alloc: Global,
     bytes: &mut Vec<u8>,
@@ -165,8 +165,8 @@ impl DumpReader {
         }
     }
 
-    /// Takes more bytes, or answers their fault: the one that they have whatever bytes follow. Such a fault is answered ever
-    /// after. Where memory is wanted, the reader is as before.
+    /// Takes more bytes. Errors: `BadDump` with the fault that the bytes have whatever bytes follow, which is answered
+    /// ever after; or `OutOfMemory`, and the reader is then as before.
     pub fn feed(&mut self, piece: &[u8]) -> Result<(), DumpFault>
         ensures { Feeds self.old piece.now self.new result }
     {
@@ -178,7 +178,8 @@ impl DumpReader {
         read
     }
 
-    /// The image that all bytes are a dump of, or why they are none: what `decode_dump` of them answers.
+    /// The image that all bytes are a dump of: what `decode_dump` of them answers. Errors: `BadDump` with the first
+    /// fault of the bytes and its place where they are no dump, or `OutOfMemory`.
     pub fn finish(self) -> Result<ContextImage, DumpFault>
         ensures image { IfOk result (λ image. read_dump self ≡ Good image (length self) []) }
         ensures dumps { IfOk result (λ image. Dumps image self) }

@@ -152,7 +152,7 @@ fn short(place: usize) -> Option<DumpFault> {
     })
 }
 
-/// Each front of a dump but the whole is too short, read in one piece and in pieces.
+/// Each prefix of a dump but the whole is too short, read in one piece and in pieces.
 fn fronts_are_short(rt: &impl Abort, alloc: Global, dump: &[u8]) -> Result<(), Fail> {
     for count in 0..dump.len() {
         let whole = tell(alloc, decode_dump(alloc, &dump[..count]))?;

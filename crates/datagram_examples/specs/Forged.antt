@@ -1,4 +1,4 @@
--- A WRITE of which one field at a time was forged, and its front.
+-- A WRITE with one field at a time forged, and a prefix of it.
 use Rattle.std.specs.Prelude.{ℕ, List, [], ◌∷◌, Some, None, Option, true, codes}
 use Rattle.protocol.specs.Wire.{Packet}
 use Rattle.datagram_examples.specs.Said.{octets}

@@ -12,17 +12,17 @@ ghost use Rattle.datagram_examples.specs.Datagrams.{worked, other_kinds};
 ghost use Rattle.datagram_examples.specs.Bits.{ignored};
 ghost use Rattle.datagram_examples.specs.Forged as forged;
 
-/// Those of worked examples are written as they were read.
+/// The datagrams of worked examples are written as they were read.
 pub fn worked_examples_are_written_as_they_were_read()
     ensures { AreWrittenAsRead worked }
 {}
 
-/// So is one of each kind that no worked example shows.
+/// One datagram of each kind that no worked example shows is written as it was read.
 pub fn each_other_kind_is_written_as_it_was_read()
     ensures { AreWrittenAsRead other_kinds }
 {}
 
-/// A WRITE of which one field at a time was forged is read as it is spelled, and its front is short.
+/// A WRITE with one field at a time forged is read as it is spelled, and a prefix of it is short.
 pub fn a_forged_write_is_read_as_it_is_spelled()
     ensures front { offence_of forged.front ≡ Some (record { place = 15; why = Short }) }
     ensures said { map packet_of forged.forged ≡ forged.said }

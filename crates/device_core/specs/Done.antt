@@ -35,7 +35,7 @@ IsDone d e new (Ok o) = device_step d e ≡ record { device = new; outcome = o }
 IsDone d e new (Err (Refused r)) = (device_step d e ≡ answers d (answer.Refused r)) × (new ≡ d)
 IsDone d e new (Err OutOfMemory) = new ≡ d
 
--- what is told of a call that may be refused or lack memory
+-- what is told of a call that may be refused or run out of memory
 abbrev pub told_by : {T : Type 0} → (T → Outcome) → Result T ContextFault → Result Outcome ContextFault
 told_by tell (Ok x) = Ok (tell x)
 told_by tell (Err fault) = Err fault
@@ -69,12 +69,12 @@ told_taken (Ok None) = Ok (silent why.Unknown)
 told_taken (Ok (Some t)) = Ok (taking t)
 told_taken (Err e) = Err OutOfMemory
 
--- a step that lacks memory or not
+-- a step that may run out of memory
 abbrev pub told_memory : Result Outcome AllocError → Result Outcome ContextFault
 told_memory (Ok o) = Ok o
 told_memory (Err e) = Err OutOfMemory
 
--- there was no want of memory
+-- it was not out of memory
 abbrev pub IsSure : Result Outcome ContextFault → Type 0
 IsSure (Ok o) = Unit {0}
 IsSure (Err (Refused r)) = Unit {0}

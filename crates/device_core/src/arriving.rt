@@ -90,7 +90,7 @@ fn stopped_datagram(entry: &HuskEntry, psn: u32) -> Datagram<'static>
     }
 }
 
-/// A step that lacks memory or not.
+/// A step that may run out of memory.
 fn told_memory(done: Result<Outcome, AllocError>) -> Result<Outcome, ContextFault>
     ensures told { result ≡ memory_told done }
     ensures few { IfOk done (λ o. length o.sent ≤ 2 ^ 32) → AreFew result }

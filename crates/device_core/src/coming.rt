@@ -93,7 +93,7 @@ fn put_ends(index: &mut IndexMap<u32, Spot>, name: Name, ends: &[EndImage])
     }
 }
 
-/// Puts a new context behind the others, for which there is room.
+/// Puts a new context behind the others. There must be room for it.
 fn put_context(contexts: &mut IndexMap<Name, ContextState>, name: Name, state: ContextState)
     requires absent { get bytes_eq contexts.old name ≡ None }
     requires room { 0 < spare contexts.old }
@@ -102,7 +102,7 @@ fn put_context(contexts: &mut IndexMap<Name, ContextState>, name: Name, state: C
     let _ = contexts.insert(name, state).unwrap();
 }
 
-/// Which cause of a restore counts, but for want of pages.
+/// Which cause of a restore counts, apart from too few free pages.
 #[tactic(auto, unfolding(rdma_types::specs::Causes::first_cause))]
 fn restore_cause(taken: bool, full: bool) -> Option<Refusal>
     ensures { result ≡ first_cause (cause Refusal.NumberTaken taken ∷ cause Refusal.TooMany full ∷ []) }

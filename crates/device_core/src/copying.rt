@@ -55,7 +55,7 @@ fn copy_index(alloc: Global, index: &IndexMap<u32, Spot>) -> Result<IndexMap<u32
 
 impl Device {
     /// An equal device, over memory of its own. What is done to the one is not seen at the other. All its bytes are
-    /// copied.
+    /// copied. Errors: `AllocError` when out of memory.
     pub fn copy(&self, alloc: Global) -> Result<Device, AllocError>
         ensures { IfOk result (λ d. d ≡ self.now) }
     {

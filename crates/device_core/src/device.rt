@@ -70,7 +70,8 @@ pub(crate) fn answered(alloc: Global, answer: Answer) -> Outcome
 }
 
 impl Device {
-    /// A device without contexts. It takes all pages that its regions and posted requests will ever have.
+    /// A device without contexts. It takes all pages that its regions and posted requests will ever have. Errors:
+    /// `AllocError` when out of memory.
     pub fn make(alloc: Global, id: u8, address: Address) -> Result<Device, AllocError>
         requires { 1 ≤ id }
         ensures { IfOk result (λ d. d ≡ new_device id address) }

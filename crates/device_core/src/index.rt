@@ -13,7 +13,7 @@ pub(crate) struct Spot {
     pub(crate) place: usize,
 }
 
-/// Notes where a number is, for which there is room.
+/// Notes where a number is. There must be room for it.
 pub(crate) fn put_spot(index: &mut IndexMap<u32, Spot>, number: u32, spot: Spot)
     requires { 0 < spare index.old }
     ensures puts { (k : ℕ) → get nat_eq index.new k ≡ (if number == k then Some spot else get nat_eq index.old k) }

@@ -137,7 +137,7 @@ fn stop_cause(paused: bool, full: bool) -> Option<Refusal>
     }
 }
 
-/// Puts a new husk behind the others, for which there is room.
+/// Puts a new husk behind the others. There must be room for it.
 fn put_husk(husks: &mut IndexMap<Name, Items<HuskEntry>>, name: Name, entries: Items<HuskEntry>)
     requires absent { get bytes_eq husks.old name ≡ None }
     requires room { 0 < spare husks.old }

@@ -9,11 +9,8 @@ use rdma_types::ObjName;
 use std::alloc::AllocError;
 
 impl Device {
-    /// Appends what is looked at of the live ends, in order of contexts and queue pairs.
-    ///
-    /// # Errors
-    ///
-    /// Where no memory is left.
+    /// Appends what is looked at of the live ends, in order of contexts and queue pairs. Errors: `AllocError` when out
+    /// of memory.
     pub fn push_ends(&self, live: &mut Vec<LiveEnd>) -> Result<(), AllocError>
         ensures { IfOk result (λ _. live.new.items ≡ live.old.items ++ readings.live_ends self.now) }
     {

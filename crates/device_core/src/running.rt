@@ -85,8 +85,8 @@ impl Device {
         }
     }
 
-    /// One step on an event. A refusal is an answer; after it, and after want of memory, the device is as before. A
-    /// connection and a release take no memory.
+    /// One step on an event. A refusal is an answer, and the device is then as before. A connection and a release take
+    /// no memory. Errors: `AllocError` when out of memory; the device is then as before.
     pub fn step(&mut self, alloc: Global, event: &Event) -> Result<Outcome, AllocError>
         requires { IsLawfulEvent event.now }
         ensures ok { IfOk result (λ o. device_step self.old event.now ≡ record { device = self.new; outcome = o }) }
@@ -101,7 +101,8 @@ impl Device {
         told_step(alloc, done)
     }
 
-    /// The step on `Event::Restore`, with an image that stays with its owner.
+    /// The step on `Event::Restore`, with an image that stays with its owner. Errors: `AllocError` when out of memory;
+    /// the device is then as before.
     pub fn restore(&mut self, alloc: Global, image: &ContextImage) -> Result<Outcome, AllocError>
         requires { IsLawful image.now }
         ensures ok { IfOk result (λ o. device_step self.old (Event.Restore image.now) ≡ record { device = self.new; outcome = o }) }
@@ -114,7 +115,8 @@ impl Device {
         told_step(alloc, done)
     }
 
-    /// The step on `Event::Arrive`, with bytes that stay with their owner.
+    /// The step on `Event::Arrive`, with bytes that stay with their owner. Errors: `AllocError` when out of memory; the
+    /// device is then as before.
     pub fn arrive(
         &mut self,
         alloc: Global,

@@ -24,7 +24,7 @@ impl Model for Exchange {
     ghost view = { λ _. tt };
 }
 
-/// Puts so many bytes at the end, each of which differs from its neighbours.
+/// Puts so many bytes at the end, each different from its neighbours.
 fn put_pattern(bytes: &mut Vec<u8>, count: usize) -> Option<()> {
     for i in 0..count {
         bytes.push((i % 251) as u8).ok()?;

@@ -7,7 +7,7 @@ use Rattle.dump_reader.specs.declared.lists.Place.{Place}
 use Rattle.dump_reader.specs.declared.fault.DumpFault.{DumpFault}
 use Rattle.dump_reader.specs.declared.fault.DumpFault.TheVariants.{BadDump, OutOfMemory}
 
--- what was still to be read is what is so at the next place, or the bytes are bad there, or memory was wanted
+-- what was still to be read is what is so at the next place, or the bytes are bad there, or it was out of memory
 abbrev pub Moves : Reading ContextImage → (Place → Reading ContextImage) → Result Place DumpFault → Type 0
 Moves before next (Ok place) = before ≡ next place
 Moves before next (Err (BadDump place why)) = before ≡ Bad place why
@@ -17,7 +17,7 @@ Moves before next (Err OutOfMemory) = ⊤
 abbrev pub Alike : Reader ContextImage → ℕ → List ℕ → Reader ContextImage → ℕ → List ℕ → Type 0
 Alike before place bytes after place' bytes' = (later : List ℕ) → before place (bytes ++ later) ≡ after place' (bytes' ++ later)
 
--- the bytes are bad there, or memory was wanted
+-- the bytes are bad there, or it was out of memory
 abbrev pub IsFault : {A : Type 0} → Reading A → DumpFault → Type 0
 IsFault reading (BadDump place why) = reading ≡ Bad place why
 IsFault reading OutOfMemory = ⊤

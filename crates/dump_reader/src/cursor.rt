@@ -27,7 +27,7 @@ pub struct Cursor<'a> {
 }
 
 impl<'a> Cursor<'a> {
-    /// The next bytes, so many.
+    /// The next `count` bytes. Errors: `Short` where fewer are left.
     #[tactic(auto, unfolding(protocol::specs::Dumps::raw))]
     pub fn raw(&mut self, count: usize) -> Result<&'a [u8], Offence>
         requires { self.old.place + length self.old.bytes.now < 2 ^ 64 }
@@ -51,7 +51,7 @@ impl<'a> Cursor<'a> {
         Ok(field)
     }
 
-    /// The next number of one byte.
+    /// The next number of one byte. Errors: `Short` where no byte is left.
     #[tactic(auto, unfolding(protocol::specs::Bytes::big_number))]
     pub fn u8(&mut self) -> Result<u8, Offence>
         requires { self.old.place + length self.old.bytes.now < 2 ^ 64 }
@@ -65,7 +65,7 @@ impl<'a> Cursor<'a> {
         Ok(field[0])
     }
 
-    /// The next number of two bytes.
+    /// The next number of two bytes, the most significant first. Errors: `Short` where fewer are left.
     #[tactic(auto, unfolding(protocol::specs::Bytes::big_number))]
     pub fn u16(&mut self) -> Result<u16, Offence>
         requires { self.old.place + length self.old.bytes.now < 2 ^ 64 }
@@ -79,7 +79,7 @@ impl<'a> Cursor<'a> {
         Ok(BigEndian::read_u16(field))
     }
 
-    /// The next number of four bytes.
+    /// The next number of four bytes, the most significant first. Errors: `Short` where fewer are left.
     #[tactic(auto, unfolding(protocol::specs::Bytes::big_number))]
     pub fn u32(&mut self) -> Result<u32, Offence>
         requires { self.old.place + length self.old.bytes.now < 2 ^ 64 }
@@ -93,7 +93,7 @@ impl<'a> Cursor<'a> {
         Ok(BigEndian::read_u32(field))
     }
 
-    /// The next number of eight bytes.
+    /// The next number of eight bytes, the most significant first. Errors: `Short` where fewer are left.
     #[tactic(auto, unfolding(protocol::specs::Bytes::big_number))]
     pub fn u64(&mut self) -> Result<u64, Offence>
         requires { self.old.place + length self.old.bytes.now < 2 ^ 64 }
@@ -107,7 +107,8 @@ impl<'a> Cursor<'a> {
         Ok(BigEndian::read_u64(field))
     }
 
-    /// The field that was read last keeps a rule.
+    /// Checks that the field that was read last keeps a rule, as `ok` says. Errors: `Field`, at the place of that
+    /// field, where `ok` is false.
     pub fn keep(&self, ok: bool) -> Result<(), Offence>
         ensures { result ≡ (if ok then Ok tt else Err (record { place = self.now.start; why = DumpWhy.Field })) }
     {
@@ -121,7 +122,8 @@ impl<'a> Cursor<'a> {
         }
     }
 
-    /// The field that was read last is a count under its limit.
+    /// Checks that the field that was read last is a count within its limit, as `ok` says. Errors: `Count`, at the
+    /// place of that field, where `ok` is false.
     pub fn count(&self, ok: bool) -> Result<(), Offence>
         ensures { result ≡ (if ok then Ok tt else Err (record { place = self.now.start; why = DumpWhy.Count })) }
     {
@@ -135,7 +137,8 @@ impl<'a> Cursor<'a> {
         }
     }
 
-    /// The next text: its length byte and its bytes, which are one field.
+    /// The next text: its length byte and its bytes, which are one field. Errors: `Short` where the bytes end before it
+    /// is whole.
     #[tactic(auto, unfolding(protocol::specs::Dumps::after))]
     pub fn text(&mut self) -> Result<&'a [u8], Offence>
         requires { self.old.place + length self.old.bytes.now < 2 ^ 64 }
@@ -152,7 +155,8 @@ impl<'a> Cursor<'a> {
         text
     }
 
-    /// The text that was read last is a name that was not there.
+    /// The text that was read last, as a name; `twice` says whether it stands in its list already. Errors: `Name`, at
+    /// the place of that field, exactly where the text is no name or stands there already.
     pub fn name(&self, text: &[u8], twice: bool) -> Result<Name, Offence>
         ensures { result ≡ (if is_name text.now && not twice then Ok text.now else Err (record { place = self.now.start; why = DumpWhy.Name })) }
     {
@@ -165,7 +169,8 @@ impl<'a> Cursor<'a> {
         }
     }
 
-    /// The field that was read last is a known version.
+    /// Checks that the field that was read last is a known version, as `ok` says. Errors: `Version`, at the place of
+    /// that field, where `ok` is false.
     pub fn version(&self, ok: bool) -> Result<(), Offence>
         ensures { result ≡ (if ok then Ok tt else Err (record { place = self.now.start; why = DumpWhy.Version })) }
     {

@@ -19,8 +19,8 @@ fn read_whole(alloc: Global, bytes: &[u8]) -> Result<ContextImage, DumpFault>
     Ok(way.into_image()?)
 }
 
-/// The image that bytes are a dump of, in version 1 or 2, or where they are none and why: the first fault, field by
-/// field from the first. The image keeps the rules.
+/// The image that bytes are a dump of, in version 1 or 2. The image keeps the rules. Errors: `BadDump` with the first
+/// fault, field by field from the first, where the bytes are no dump; or `OutOfMemory`.
 pub fn decode_dump(alloc: Global, bytes: &[u8]) -> Result<ContextImage, DumpFault>
     ensures image { IfOk result (λ image. read_dump bytes.now ≡ Good image (length bytes.now) []) }
     ensures dumps { IfOk result (λ image. Dumps image bytes.now) }

@@ -21,7 +21,8 @@ use protocol::{DumpWhy, EndImage, KeptReply, LinkImage, PostedImage};
 use rdma_types::{Items, Request};
 use std::mem;
 
-/// So many queue pairs are next, or the image is whole.
+/// So many queue pairs are next, or the image is whole. Errors: `BadDump` with `Field` at a completion queue that lacks
+/// room for its entries and for what the queue pairs will put there. It is never `Short`.
 #[tactic(auto, unfolding(protocol::specs::Dumps::after, protocol::specs::Dumps::items, crate::specs::Ahead::ahead, crate::specs::Ahead::more_ends, crate::specs::Ahead::finished))]
 pub fn enter_ends(
     opened: &Opened,
@@ -45,7 +46,8 @@ pub fn enter_ends(
     }
 }
 
-/// The count of queue pairs.
+/// The count of queue pairs. Errors: `BadDump` with the first fault of the bytes, or `OutOfMemory`. After `Short` the
+/// lists are as they were.
 #[tactic(auto, unfolding(protocol::specs::Dumps::after, protocol::specs::Dumps::items, crate::specs::Ahead::ahead))]
 pub fn end_count_step(
     opened: &Opened,
@@ -76,7 +78,8 @@ pub fn enter_end(opened: &Opened, lists: &Lists, head: &EndHead, after: u16) -> 
     }
 }
 
-/// A queue pair, up to its state.
+/// A queue pair, up to its state. Errors: `BadDump` with the first fault of the bytes, or `OutOfMemory`. After `Short`
+/// the lists are as they were.
 #[tactic(auto, unfolding(protocol::specs::Dumps::after, protocol::specs::Dumps::items, crate::specs::Ahead::ahead), using(crate::proofs::Ends::placed_begin))]
 pub fn end_step(
     opened: &Opened,
@@ -132,7 +135,8 @@ pub fn enter_kept(
     }
 }
 
-/// A kept reply.
+/// A kept reply. Errors: `BadDump` with the first fault of the bytes, or `OutOfMemory`. After `Short` the lists are as
+/// they were.
 #[tactic(auto, unfolding(protocol::specs::Dumps::after, protocol::specs::Dumps::items, crate::specs::Ahead::ahead, crate::specs::Ahead::more_kept))]
 pub fn kept_step(
     opened: &Opened,
@@ -229,7 +233,8 @@ fn read_unused_count(
     Ok(count)
 }
 
-/// What a connected end has, up to its kept replies.
+/// What a connected end has, up to its kept replies. Errors: `BadDump` with the first fault of the bytes, or
+/// `OutOfMemory`. After `Short` the lists are as they were.
 #[tactic(auto, unfolding(protocol::specs::Dumps::after, protocol::specs::Dumps::items, crate::specs::Ahead::ahead), using(crate::proofs::Ends::linked_begins))]
 pub fn link_step(
     opened: &Opened,
@@ -251,7 +256,8 @@ pub fn link_step(
     Ok(enter_kept(opened, lists, head, &link, link.count, after))
 }
 
-/// The count of untold requests.
+/// The count of untold requests. Errors: `BadDump` with the first fault of the bytes, or `OutOfMemory`. After `Short`
+/// the lists are as they were.
 #[tactic(auto, unfolding(protocol::specs::Dumps::after, protocol::specs::Dumps::items, crate::specs::Ahead::ahead), using(crate::proofs::Ends::untold_opens))]
 pub fn untold_step(
     opened: &Opened,
@@ -296,7 +302,7 @@ fn advanced(link: &LinkHead, before: &Before, head: &RequestHead) -> Before
     }
 }
 
-/// Where a request stands of which so many more follow.
+/// Where a request stands, with so many more behind it.
 fn standing_of(opened: &Opened, before: &Before, more: u16) -> Standing
     ensures { result ≡ record { version = opened.now.version; count = before.now.count; index = before.now.count - suc more; low = before.now.low; landing = before.now.landing } }
 {
@@ -309,7 +315,7 @@ fn standing_of(opened: &Opened, before: &Before, more: u16) -> Standing
     }
 }
 
-/// A request is whole.
+/// A request is whole. Errors: `OutOfMemory`. It reads nothing, and so is never `Short`.
 #[tactic(auto, unfolding(protocol::specs::Dumps::after, protocol::specs::Dumps::items, crate::specs::Ahead::ahead))]
 pub fn take_request(
     opened: &Opened,
@@ -332,7 +338,8 @@ pub fn take_request(
     Ok(enter_requests(opened, lists, head, link, before, count, after))
 }
 
-/// The payload of a request is next, or the request is whole.
+/// The payload of a request is next, or the request is whole. Errors: `OutOfMemory`. It reads nothing, and so is never
+/// `Short`.
 #[tactic(auto, unfolding(protocol::specs::Dumps::after, protocol::specs::Dumps::items, crate::specs::Ahead::ahead))]
 pub fn enter_payload(
     opened: &Opened,
@@ -357,7 +364,8 @@ pub fn enter_payload(
     take_request(opened, lists, c, head, link, before, count, after, request)
 }
 
-/// An untold request, up to its payload.
+/// An untold request, up to its payload. Errors: `BadDump` with the first fault of the bytes, or `OutOfMemory`. After
+/// `Short` the lists are as they were.
 #[tactic(auto, unfolding(protocol::specs::Dumps::after, protocol::specs::Dumps::items, crate::specs::Ahead::ahead), using(crate::proofs::Ends::request_begins))]
 pub fn request_step(
     opened: &Opened,
@@ -383,7 +391,8 @@ pub fn request_step(
     enter_payload(opened, lists, c, head, link, &before, more, after, request)
 }
 
-/// The payload of a request, all that is missing.
+/// The payload of a request, all that is missing. Errors: `BadDump` with the first fault of the bytes, or
+/// `OutOfMemory`. After `Short` the lists are as they were.
 #[tactic(auto, unfolding(protocol::specs::Dumps::after, protocol::specs::Dumps::items, crate::specs::Ahead::ahead))]
 pub fn payload_step(
     opened: &Opened,
@@ -473,7 +482,8 @@ fn end_image(lists: &mut Lists, head: &EndHead, link: &Option<LinkHead>) -> EndI
     }
 }
 
-/// So many unused receives are next, or the queue pair is whole.
+/// So many unused receives are next, or the queue pair is whole. Errors: those of `enter_ends`, or `OutOfMemory`. It is
+/// never `Short`.
 #[tactic(auto, unfolding(protocol::specs::Dumps::after, protocol::specs::Dumps::items, crate::specs::Ahead::ahead, crate::specs::Ahead::more_receives))]
 pub fn enter_receives(
     opened: &Opened,
@@ -496,7 +506,8 @@ pub fn enter_receives(
     enter_ends(opened, lists, c, after)
 }
 
-/// The count of unused receives.
+/// The count of unused receives. Errors: `BadDump` with the first fault of the bytes, or `OutOfMemory`. After `Short`
+/// the lists are as they were.
 #[tactic(auto, unfolding(protocol::specs::Dumps::after, protocol::specs::Dumps::items, crate::specs::Ahead::ahead), using(crate::proofs::Ends::unused_opens))]
 pub fn unused_step(
     opened: &Opened,
@@ -519,7 +530,8 @@ pub fn unused_step(
     enter_receives(opened, lists, c, head, link, count, after)
 }
 
-/// An unused receive.
+/// An unused receive. Errors: `BadDump` with the first fault of the bytes, or `OutOfMemory`. After `Short` the lists
+/// are as they were.
 #[tactic(auto, unfolding(protocol::specs::Dumps::after, protocol::specs::Dumps::items, crate::specs::Ahead::ahead, crate::specs::Ahead::more_receives))]
 pub fn receive_step(
     opened: &Opened,

@@ -66,7 +66,7 @@ fn completed_status(n: u8) -> WcStatus
     }
 }
 
-/// A completion.
+/// A completion. Errors: the first fault of its fields, with its place: `Short` or `Field`.
 #[tactic(auto, unfolding(protocol::specs::Dumps::after, protocol::specs::Dumps::judged, protocol::specs::Dumps::entry_field))]
 pub fn read_entry(c: &mut Cursor<'_>) -> Result<Completion, Offence>
     requires { c.old.place + length c.old.bytes.now < 2 ^ 64 }
@@ -97,7 +97,7 @@ pub fn read_entry(c: &mut Cursor<'_>) -> Result<Completion, Offence>
     })
 }
 
-/// The terms of a connection.
+/// The terms of a connection. Errors: the first fault of its fields, with its place: `Short` or `Field`.
 #[tactic(auto, unfolding(protocol::specs::Dumps::after, protocol::specs::Dumps::judged, protocol::specs::Dumps::terms_field))]
 pub fn read_terms(c: &mut Cursor<'_>) -> Result<Terms, Offence>
     requires { c.old.place + length c.old.bytes.now < 2 ^ 64 }
@@ -128,7 +128,7 @@ pub fn read_terms(c: &mut Cursor<'_>) -> Result<Terms, Offence>
     })
 }
 
-/// The partner of a connected end.
+/// The partner of a connected end. Errors: the first fault of its fields, with its place: `Short` or `Field`.
 #[tactic(auto, unfolding(protocol::specs::Dumps::after, protocol::specs::Dumps::judged, crate::specs::Groups::peer_field))]
 pub fn read_peer(c: &mut Cursor<'_>, ended: bool) -> Result<Peer, Offence>
     requires { c.old.place + length c.old.bytes.now < 2 ^ 64 }
@@ -159,7 +159,7 @@ fn follows_number(ended: bool, low: u64, n: u64) -> bool
     n < 1 << 62 && if ended { n == low } else { low <= n }
 }
 
-/// The numbers of the requester.
+/// The numbers of the requester. Errors: the first fault of its fields, with its place: `Short` or `Field`.
 #[tactic(auto, unfolding(protocol::specs::Dumps::after, protocol::specs::Dumps::judged, crate::specs::Groups::numbers_field))]
 pub fn read_numbers(c: &mut Cursor<'_>, ended: bool) -> Result<Numbers, Offence>
     requires { c.old.place + length c.old.bytes.now < 2 ^ 64 }
@@ -183,7 +183,7 @@ pub fn read_numbers(c: &mut Cursor<'_>, ended: bool) -> Result<Numbers, Offence>
     })
 }
 
-/// What both halves of an end wait for.
+/// What both halves of an end wait for. Errors: the first fault of its fields, with its place: `Short` or `Field`.
 #[tactic(auto, unfolding(protocol::specs::Dumps::after, protocol::specs::Dumps::judged, crate::specs::Groups::waiting_field))]
 pub fn read_waiting(c: &mut Cursor<'_>, terms: &Terms) -> Result<Waiting, Offence>
     requires { c.old.place + length c.old.bytes.now < 2 ^ 64 }
@@ -222,7 +222,7 @@ fn rises_above(seen: &[KeptReply], n: u64) -> bool
     }
 }
 
-/// A kept reply.
+/// A kept reply. Errors: the first fault of its fields, with its place: `Short` or `Field`.
 #[tactic(auto, unfolding(protocol::specs::Dumps::after, protocol::specs::Dumps::judged, protocol::specs::Dumps::kept_field))]
 pub fn read_kept(
     c: &mut Cursor<'_>,
@@ -246,7 +246,8 @@ fn has_domain(seen: &[Name], text: &[u8]) -> bool
     seen.iter().any(|name| name.as_bytes() == text)
 }
 
-/// A name that is not yet in the list.
+/// A name that is not yet in the list. Errors: `Short` where the bytes end before it is whole, or `Name` where it is no
+/// name or stands in the list already.
 #[tactic(auto, unfolding(protocol::specs::Dumps::judged_name))]
 pub fn read_name(c: &mut Cursor<'_>, seen: &[Name]) -> Result<Name, Offence>
     requires { c.old.place + length c.old.bytes.now < 2 ^ 64 }
@@ -287,7 +288,7 @@ fn read_key(c: &mut Cursor<'_>, seen: &[RegionImage]) -> Result<u32, Offence>
     Ok(key)
 }
 
-/// A region without its bytes.
+/// A region without its bytes. Errors: the first fault of its fields, with its place: `Short`, `Name` or `Field`.
 #[tactic(auto, unfolding(protocol::specs::Dumps::after, protocol::specs::Dumps::judged, protocol::specs::Dumps::judged_name, crate::specs::Groups::region_head_field))]
 pub fn read_region(
     c: &mut Cursor<'_>,
@@ -341,7 +342,8 @@ fn read_count_u32(c: &mut Cursor<'_>, limit: u32) -> Result<u32, Offence>
     Ok(count)
 }
 
-/// A completion queue without its entries.
+/// A completion queue without its entries. Errors: the first fault of its fields, with its place: `Short`, `Name`,
+/// `Field` or `Count`.
 #[tactic(auto, unfolding(protocol::specs::Dumps::after, protocol::specs::Dumps::judged, protocol::specs::Dumps::judged_name, crate::specs::Groups::queue_head_field))]
 pub fn read_queue(c: &mut Cursor<'_>, seen: &[PlacedQueue]) -> Result<QueueHead, Offence>
     requires { c.old.place + length c.old.bytes.now < 2 ^ 64 }
@@ -392,7 +394,7 @@ fn read_number(c: &mut Cursor<'_>, seen: &[EndImage]) -> Result<u32, Offence>
     Ok(number)
 }
 
-/// A queue pair up to its state.
+/// A queue pair up to its state. Errors: the first fault of its fields, with its place: `Short`, `Name` or `Field`.
 #[tactic(auto, unfolding(protocol::specs::Dumps::after, protocol::specs::Dumps::judged, protocol::specs::Dumps::judged_name, crate::specs::Groups::end_head_field))]
 pub fn read_end(
     c: &mut Cursor<'_>,
@@ -432,7 +434,8 @@ pub fn read_end(
     })
 }
 
-/// A count of two bytes under its limit.
+/// A count of two bytes within its limit. Errors: `Short` where fewer bytes are left, or `Count` where the count is
+/// over the limit.
 #[tactic(auto, unfolding(protocol::specs::Dumps::after, protocol::specs::Dumps::judged))]
 pub fn read_count(c: &mut Cursor<'_>, limit: u16) -> Result<u16, Offence>
     requires { c.old.place + length c.old.bytes.now < 2 ^ 64 }

@@ -68,7 +68,7 @@ impl Lists {
     }
 }
 
-/// Puts an item at the end.
+/// Puts an item at the end. Errors: `AllocError` when out of memory; the list is as it was.
 pub fn push<T: Drop>(list: &mut Vec<T>, item: T) -> Result<(), AllocError>
     ensures ok { OnOk result (list.new.items ≡ list.old.items ++ item ∷ []) }
     ensures err { OnErr result (list.new.items ≡ list.old.items) }

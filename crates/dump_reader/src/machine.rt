@@ -39,7 +39,8 @@ fn is_version(n: u16) -> bool
     n == 1 || n == 2
 }
 
-/// The first fields, up to the count of domains.
+/// The first fields, up to the count of domains. Errors: the first fault of its fields, with its place: `Short`,
+/// `Magic`, `Version`, `Name` or `Count`.
 #[tactic(auto, unfolding(protocol::specs::Dumps::after, protocol::specs::Dumps::judged, crate::specs::Ahead::opening_field))]
 pub fn read_opening(c: &mut Cursor<'_>) -> Result<Opened, Offence>
     requires { c.old.place + length c.old.bytes.now < 2 ^ 64 }
@@ -59,7 +60,8 @@ pub fn read_opening(c: &mut Cursor<'_>) -> Result<Opened, Offence>
     })
 }
 
-/// One group of fields.
+/// One group of fields. Errors: `BadDump` with the first fault of the group, or `OutOfMemory`. After `Short` the lists
+/// are as they were.
 #[tactic(auto, unfolding(crate::specs::Ahead::ahead))]
 pub fn step(
     opened: &Opened,
@@ -113,6 +115,8 @@ pub fn step(
     }
 }
 
+/// Whether all fields of the image were read: true at `Done` alone, and false where a group of fields is still to be
+/// read.
 pub fn is_done(place: &Place) -> bool
     ensures done { result ≡ true → place.now ≡ Place.Done }
     ensures open { result ≡ false → IsOpen place.now }

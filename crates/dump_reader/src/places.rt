@@ -99,7 +99,7 @@ fn receives(scope: &Scope<'_>, done: u32, r: &Receive) -> bool
     (done..=1_048_576).contains(&r.length) && is_place_granted(scope, &asked)
 }
 
-/// A receive of which so many bytes are used.
+/// A receive with `done` of its bytes used. Errors: the first fault of its fields, with its place: `Short` or `Field`.
 #[tactic(auto, unfolding(protocol::specs::Dumps::after, protocol::specs::Dumps::judged, protocol::specs::Dumps::receive_field))]
 pub fn read_receive(c: &mut Cursor<'_>, scope: &Scope<'_>, done: u32) -> Result<Receive, Offence>
     requires { c.old.place + length c.old.bytes.now < 2 ^ 64 }
@@ -199,7 +199,7 @@ fn read_write(c: &mut Cursor<'_>, scope: &Scope<'_>, mtu: u32) -> Result<Progres
     })
 }
 
-/// The message in progress.
+/// The message in progress. Errors: the first fault of its fields, with its place: `Short` or `Field`.
 #[tactic(auto, unfolding(protocol::specs::Dumps::after, protocol::specs::Dumps::judged, protocol::specs::Dumps::progress_by, crate::specs::Groups::message_field))]
 pub fn read_message(
     c: &mut Cursor<'_>,
@@ -222,7 +222,8 @@ pub fn read_message(
     }
 }
 
-/// What a connected end has, up to the count of its kept replies.
+/// What a connected end has, up to the count of its kept replies. Errors: the first fault of its fields, with its
+/// place: `Short`, `Field` or `Count`.
 #[tactic(auto, unfolding(protocol::specs::Dumps::after, protocol::specs::Dumps::judged, crate::specs::Groups::link_head_field))]
 pub fn read_link(c: &mut Cursor<'_>, scope: &Scope<'_>, ended: bool) -> Result<LinkHead, Offence>
     requires { c.old.place + length c.old.bytes.now < 2 ^ 64 }

@@ -112,7 +112,7 @@ fn length_fits(link: &LinkHead, standing: &Standing, kind: Kind, length: u32) ->
     }
 }
 
-/// A request up to its length.
+/// A request up to its length. Errors: the first fault of its fields, with its place: `Short` or `Field`.
 #[tactic(auto, unfolding(protocol::specs::Dumps::after, protocol::specs::Dumps::judged, crate::specs::Groups::request_head_field))]
 pub fn read_request_head(
     c: &mut Cursor<'_>,
@@ -155,7 +155,7 @@ fn imm_of(head: &RequestHead) -> Option<u32>
     }
 }
 
-/// The places and operands of a request.
+/// The places and operands of a request. Errors: the first fault of its fields, with its place: `Short` or `Field`.
 #[tactic(auto, unfolding(protocol::specs::Dumps::after, protocol::specs::Dumps::judged, crate::specs::Groups::request_places_field))]
 pub fn read_request_places(
     c: &mut Cursor<'_>,

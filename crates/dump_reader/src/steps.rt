@@ -27,7 +27,8 @@ pub fn enter_domains(opened: &Opened, lists: &Lists, count: u16) -> Place
     }
 }
 
-/// A domain.
+/// A domain. Errors: `BadDump` with the first fault of the bytes, or `OutOfMemory`. After `Short` the lists are as
+/// they were.
 #[tactic(auto, unfolding(protocol::specs::Dumps::after, protocol::specs::Dumps::items, crate::specs::Ahead::ahead, crate::specs::Ahead::more_domains))]
 pub fn domain_step(
     opened: &Opened,
@@ -60,7 +61,8 @@ pub fn enter_regions(opened: &Opened, lists: &Lists, count: u16) -> Place
     }
 }
 
-/// The count of regions.
+/// The count of regions. Errors: `BadDump` with the first fault of the bytes, or `OutOfMemory`. After `Short` the
+/// lists are as they were.
 #[tactic(auto, unfolding(protocol::specs::Dumps::after, protocol::specs::Dumps::items, crate::specs::Ahead::ahead))]
 pub fn region_count_step(
     opened: &Opened,
@@ -94,7 +96,8 @@ fn region_image(head: &RegionHead, bytes: ByteRun) -> RegionImage
     }
 }
 
-/// The bytes of a region, all that are missing.
+/// The bytes of a region, all that are missing. Errors: `BadDump` with the first fault of the bytes, or `OutOfMemory`.
+/// After `Short` the lists are as they were.
 #[tactic(auto, unfolding(protocol::specs::Dumps::after, protocol::specs::Dumps::items, crate::specs::Ahead::ahead))]
 pub fn bytes_step(
     opened: &Opened,
@@ -120,7 +123,8 @@ pub fn bytes_step(
     Ok(enter_regions(opened, lists, after))
 }
 
-/// A region, up to its bytes.
+/// A region, up to its bytes. Errors: `BadDump` with the first fault of the bytes, or `OutOfMemory`. After `Short` the
+/// lists are as they were.
 #[tactic(auto, unfolding(protocol::specs::Dumps::after, protocol::specs::Dumps::items, crate::specs::Ahead::ahead, crate::specs::Ahead::more_regions), using(crate::proofs::Split::region_split))]
 pub fn region_step(
     opened: &Opened,
@@ -153,7 +157,8 @@ pub fn enter_queues(opened: &Opened, lists: &Lists, count: u16) -> Place
     }
 }
 
-/// The count of completion queues.
+/// The count of completion queues. Errors: `BadDump` with the first fault of the bytes, or `OutOfMemory`. After
+/// `Short` the lists are as they were.
 #[tactic(auto, unfolding(protocol::specs::Dumps::after, protocol::specs::Dumps::items, crate::specs::Ahead::ahead))]
 pub fn queue_count_step(
     opened: &Opened,
@@ -173,7 +178,7 @@ pub fn queue_count_step(
     Ok(enter_queues(opened, lists, count))
 }
 
-/// So many entries are next, or the queue is whole.
+/// So many entries are next, or the queue is whole. Errors: `OutOfMemory`. It reads nothing, and so is never `Short`.
 #[tactic(auto, unfolding(protocol::specs::Dumps::after, protocol::specs::Dumps::items, crate::specs::Ahead::ahead, crate::specs::Ahead::more_entries), using(crate::proofs::Split::placed_more))]
 pub fn enter_entries(
     opened: &Opened,
@@ -201,7 +206,8 @@ pub fn enter_entries(
     Ok(enter_queues(opened, lists, after))
 }
 
-/// A completion queue, up to its entries.
+/// A completion queue, up to its entries. Errors: `BadDump` with the first fault of the bytes, or `OutOfMemory`. After
+/// `Short` the lists are as they were.
 #[tactic(auto, unfolding(protocol::specs::Dumps::after, protocol::specs::Dumps::items, crate::specs::Ahead::ahead, crate::specs::Ahead::more_queues, crate::specs::Ahead::more_entries), using(crate::proofs::Split::queue_split))]
 pub fn queue_step(
     opened: &Opened,
@@ -222,7 +228,8 @@ pub fn queue_step(
     enter_entries(opened, lists, c, &head, head.count, more)
 }
 
-/// An entry.
+/// An entry. Errors: `BadDump` with the first fault of the bytes, or `OutOfMemory`. After `Short` the lists are as
+/// they were.
 #[tactic(auto, unfolding(protocol::specs::Dumps::after, protocol::specs::Dumps::items, crate::specs::Ahead::ahead, crate::specs::Ahead::more_entries), using(crate::proofs::Split::entry_any))]
 pub fn entry_step(
     opened: &Opened,

@@ -49,7 +49,7 @@ fn whole_image(opened: &Opened, lists: Lists) -> Result<ContextImage, AllocError
     })
 }
 
-/// What was read of the front of a dump: all groups of fields that have come whole.
+/// What was read of a prefix of a dump: all groups of fields that have come whole.
 #[derive(Drop)]
 pub struct Way {
     pub opened: Opened,
@@ -60,7 +60,8 @@ pub struct Way {
 }
 
 impl Way {
-    /// The first fields, up to the count of domains. It takes no memory.
+    /// The first fields, up to the count of domains. It takes no memory. Errors: the first fault of the bytes, with its
+    /// place.
     #[tactic(auto, unfolding(protocol::specs::Dumps::after), using(crate::proofs::Whole::dump_opens))]
     pub fn begin(alloc: Global, bytes: &[u8]) -> Result<Way, Offence>
         ensures stands { IfOk result (λ way. Stands way bytes.now) }
@@ -106,8 +107,8 @@ impl Way {
         }
     }
 
-    /// Reads on as far as the bytes go: those that were read before and more. Where they end too early, it can go on with
-    /// more; after another fault it is of no use.
+    /// Reads on as far as the bytes go: those that were read before and more. Errors: `BadDump` with the first fault of
+    /// the bytes, or `OutOfMemory`. After `Short` it can go on with more bytes; after another error it is of no use.
     pub fn go_on(&mut self, bytes: &[u8]) -> Result<(), DumpFault>
         requires { Stands self.old bytes.now }
         ensures whole { IfOk result (λ u. IsWhole self.new bytes.now) }
@@ -126,7 +127,7 @@ impl Way {
         Ok(())
     }
 
-    /// The image of what was read.
+    /// The image of what was read. Errors: `AllocError` when out of memory.
     pub fn into_image(self) -> Result<ContextImage, AllocError>
         ensures { IfOk result (λ image. image ≡ image_at self) }
     {

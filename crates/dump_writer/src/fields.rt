@@ -93,6 +93,7 @@ pub fn opening_bytes(image: &ContextImage) -> Chunk
     chunk
 }
 
+/// A name: one byte with its length, and its bytes.
 pub fn name_bytes(name: &Name) -> Chunk
     ensures bytes { result ≡ text name.now }
     ensures some { 1 ≤ length result }
@@ -102,6 +103,7 @@ pub fn name_bytes(name: &Name) -> Chunk
     chunk
 }
 
+/// The low 16 bits of a count as two bytes, the most significant first.
 pub fn count_bytes(count: usize) -> Chunk
     ensures bytes { result ≡ big_bytes 2 count }
     ensures some { 1 ≤ length result }
@@ -111,6 +113,7 @@ pub fn count_bytes(count: usize) -> Chunk
     chunk
 }
 
+/// A region without its bytes: name, place of its domain, base, length, rights, local key and remote key.
 pub fn region_fields(region: &RegionImage) -> Chunk
     ensures bytes { result ≡ region_head region.now }
     ensures some { 1 ≤ length result }
@@ -126,6 +129,7 @@ pub fn region_fields(region: &RegionImage) -> Chunk
     chunk
 }
 
+/// A completion queue without its entries: name, capacity and how many entries follow.
 pub fn queue_fields(queue: &CqImage) -> Chunk
     ensures bytes { result ≡ queue_head queue.now }
     ensures some { 1 ≤ length result }
@@ -137,6 +141,8 @@ pub fn queue_fields(queue: &CqImage) -> Chunk
     chunk
 }
 
+/// An entry of a completion queue: queue pair number, id, kind, status, length, and whether there is an immediate, with
+/// its value or 0.
 pub fn entry_fields(entry: &Completion) -> Chunk
     ensures bytes { result ≡ entry_bytes entry.now }
     ensures some { 1 ≤ length result }
@@ -152,6 +158,7 @@ pub fn entry_fields(entry: &Completion) -> Chunk
     chunk
 }
 
+/// A queue pair up to its state: name, number, places of its domain and completion queues, depths and state.
 pub fn end_fields(end: &EndImage) -> Chunk
     ensures bytes { result ≡ end_head end.now }
     ensures some { 1 ≤ length result }
@@ -168,6 +175,7 @@ pub fn end_fields(end: &EndImage) -> Chunk
     chunk
 }
 
+/// The partner of a connected end: queue pair number, address, both counts of moves, and whether the end is resuming.
 pub fn link_fields(link: &LinkImage) -> Chunk
     ensures bytes { result ≡ link_head link.now }
     ensures some { 1 ≤ length result }
@@ -182,6 +190,7 @@ pub fn link_fields(link: &LinkImage) -> Chunk
     chunk
 }
 
+/// The terms of a connection: MTU, both first packet numbers, `retry`, `rnr` and `reads`.
 pub fn terms_fields(terms: &Terms) -> Chunk
     ensures bytes { result ≡ terms_bytes terms.now }
     ensures some { 1 ≤ length result }
@@ -196,6 +205,7 @@ pub fn terms_fields(terms: &Terms) -> Chunk
     chunk
 }
 
+/// The packet numbers and counts of a connected end: those of its requester, and then those of its responder.
 pub fn number_fields(link: &LinkImage) -> Chunk
     ensures bytes { result ≡ link_numbers link.now }
     ensures some { 1 ≤ length result }
@@ -214,6 +224,7 @@ pub fn number_fields(link: &LinkImage) -> Chunk
     chunk
 }
 
+/// A receive: id, local key, address and length.
 pub fn receive_fields(receive: &Receive) -> Chunk
     ensures bytes { result ≡ receive_bytes receive.now }
     ensures some { 1 ≤ length result }
@@ -256,6 +267,7 @@ pub fn progress_fields(progress: &Progress) -> Chunk
     chunk
 }
 
+/// The low 8 bits of the count of kept replies, as one byte.
 pub fn kept_count(link: &LinkImage) -> Chunk
     ensures bytes { result ≡ big_bytes 1 (length link.now.kept) }
     ensures some { 1 ≤ length result }
@@ -265,6 +277,7 @@ pub fn kept_count(link: &LinkImage) -> Chunk
     chunk
 }
 
+/// A kept reply to an atomic: its packet number and the old value.
 pub fn kept_fields(kept: &KeptReply) -> Chunk
     ensures bytes { result ≡ kept_bytes kept.now }
     ensures some { 1 ≤ length result }
@@ -275,6 +288,8 @@ pub fn kept_fields(kept: &KeptReply) -> Chunk
     chunk
 }
 
+/// An untold request without its payload: id, kind, flags, immediate or 0, length, local place, remote place and
+/// operands.
 pub fn request_fields(posted: &PostedImage) -> Chunk
     ensures bytes { result ≡ request_head posted.now }
     ensures some { 1 ≤ length result }

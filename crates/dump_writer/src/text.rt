@@ -158,7 +158,7 @@ fn put_ends(alloc: Global, out: &mut Vec<u8>, ends: &[EndImage]) -> Result<(), A
 }
 
 /// What an image holds: a line for the context, and one for each thing in the order of the dump. It needs an image that
-/// keeps the rules.
+/// keeps the rules. Errors: `AllocError` when out of memory.
 #[tactic(auto, unfolding(crate::specs::Text::text_of))]
 pub fn dump_text(alloc: Global, image: &ContextImage) -> Result<Vec<u8>, AllocError>
     requires { IsLawful image.now }

@@ -145,7 +145,8 @@ impl<'a> DumpWriter<'a> {
     }
 }
 
-/// The bytes of an image, in version 2. It needs an image that keeps the rules.
+/// The bytes of an image, in version 2. It needs an image that keeps the rules. Errors: `AllocError` when out of
+/// memory.
 pub fn encode_dump(alloc: Global, image: &ContextImage) -> Result<Vec<u8>, AllocError>
     requires { IsLawful image.now }
     ensures bytes { IfOk result (λ dump. dump.items ≡ dump_bytes 2 image.now) }

@@ -50,8 +50,8 @@ pub record AreReserved (queues : List (Name × Queue)) (send recv : ℕ) (e : En
 abbrev pub nothing : ℕ → ℕ
 nothing place = 0
 
--- the queues are as many under the same names with the same room, and what is reserved changes by what the work takes,
--- of which so many more places were reserved before
+-- the queues are as many under the same names with the same room, and what is reserved changes by what the work takes;
+-- so many more of its places were reserved before
 pub record KeepsReserved (old new : List (Name × Queue)) (send recv : ℕ) (before after : Endpoint) (more : ℕ → ℕ) : Type 0 where
   pub names : keys_of new ≡ keys_of old
   pub capacities : map (λ q. q.1.capacity) new ≡ map (λ q. q.1.capacity) old

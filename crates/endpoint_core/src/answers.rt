@@ -14,7 +14,7 @@ pub struct BadState;
 pub enum EndSend {
     /// A request packet, or why none is sent.
     Transmit(Transmit),
-    /// RESUME with the end's move count, to which the device adds its own address.
+    /// RESUME with the end's move count; the device adds its own address.
     Resume { count: u32 },
 }
 

@@ -30,7 +30,7 @@ fn copy_link(alloc: Global, link: &Option<EndLink>) -> Result<Option<EndLink>, A
 }
 
 impl EndLink {
-    /// An equal connection, for a copy of the pool of its payloads.
+    /// An equal connection, for a copy of the pool of its payloads. Errors: `AllocError` when out of memory.
     fn copy(&self, alloc: Global) -> Result<EndLink, AllocError>
         ensures { IfOk result (λ l. l ≡ self.now) }
     {
@@ -46,7 +46,7 @@ impl EndLink {
 }
 
 impl Endpoint {
-    /// An equal end, for a copy of the pool of its payloads.
+    /// An equal end, for a copy of the pool of its payloads. Errors: `AllocError` when out of memory.
     pub fn copy(&self, alloc: Global) -> Result<Endpoint, AllocError>
         ensures { IfOk result (λ e. e ≡ self.now) }
     {

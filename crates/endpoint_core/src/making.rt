@@ -22,7 +22,7 @@ use std::alloc::{AllocError, Global};
 use work_queues::{RecvQueue, SendQueue};
 
 impl Endpoint {
-    /// An end in Init, with both its queues.
+    /// An end in Init, with both its queues. Errors: `AllocError` when out of memory.
     pub fn make(
         alloc: Global,
         number: u32,
@@ -43,8 +43,8 @@ impl Endpoint {
         })
     }
 
-    /// Connects an end in Init with a partner of that number, at that address. The end is refused exactly where it is
-    /// connected already, and then stays as it was.
+    /// Connects an end in Init with a partner of that number, at that address. Errors: `BadState` exactly where the end
+    /// is connected already; it then stays as it was.
     pub fn connect(&mut self, peer: u32, partner: Address, terms: &Terms) -> Result<(), BadState>
         requires terms { AreTerms terms.now }
         requires queue { HoldsQueue self.old.send_depth self.old.unlinked self.old.link }

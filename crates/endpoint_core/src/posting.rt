@@ -22,8 +22,9 @@ use responder::soundness_stays;
 use work_queues::Posted;
 
 impl Endpoint {
-    /// Posts a request, for whose completion a place more is reserved. In Error it completes at once, flushed, and its
-    /// payload's pages are free. It comes back exactly where the send depth is reached, and all then stays as it was.
+    /// Posts a request, and reserves one more place for its completion. In Error it completes at once, flushed, and its
+    /// payload's pages are free. Errors: the request itself, exactly where the send depth is reached; all then stays as
+    /// it was.
     pub fn post_send(&mut self, p: Posted, memory: EndMemory<'_>) -> Result<(), Posted>
         requires connected { IsSome self.old.link }
         requires sound { IsSound (site_of memory self.old) (count_at memory.send 1) }
@@ -62,8 +63,8 @@ impl Endpoint {
         Ok(())
     }
 
-    /// Posts a receive, for whose completion a place more is reserved. In Error it completes at once, flushed. It comes back
-    /// exactly where the receive depth is reached, and all then stays as it was.
+    /// Posts a receive, and reserves one more place for its completion. In Error it completes at once, flushed. Errors:
+    /// the receive itself, exactly where the receive depth is reached; all then stays as it was.
     pub fn post_recv(&mut self, r: Receive, memory: EndMemory<'_>) -> Result<(), Receive>
         requires sound { IsSound (site_of memory self.old) (count_at memory.recv 1) }
         requires place { IsPlace memory.regions.now self.old.domain r }

@@ -22,9 +22,9 @@ use std::marker::Model;
 /// How many datagrams are kept.
 const ROOM: usize = 16_384;
 
-/// The datagrams that were sent, of which the last 16,384 are kept. Contracts see them all, with a blank in the place of
-/// each that is not kept any more. Only `make` takes memory. Each call takes constant time, except that the place of
-/// the least pending number passes once over each datagram that is lost or taken.
+/// The datagrams that were sent. The last 16,384 of them are kept. Contracts see them all, with a blank in the place of
+/// each that is not kept any more. Only `make` takes memory. Each call takes constant time, except that the place of the
+/// least pending number passes once over each datagram that is lost or taken.
 #[derive(Drop)]
 pub struct Fabric {
     gone: u64,
@@ -48,7 +48,7 @@ impl Model for Fabric {
 impl Fabric {
     ghost use Rattle.fabric.specs.Told.{told};
 
-    /// A store with room for 16,384 datagrams, of which none was sent.
+    /// An empty store with room for 16,384 datagrams. Errors: `AllocError` when out of memory.
     pub fn make(alloc: Global) -> Result<Fabric, AllocError>
         ensures { IfOk result (λ f. f ≡ []) }
     {

@@ -10,7 +10,7 @@ use Rattle.ideal_model.specs.Verbs.{may_verb, after_verb, verb_answer}
 use Rattle.ideal_model.specs.Legal.{is_enabled, effect, answer_of}
 
 -- the old machine may make a step that leads to `next` with the answer `said`, and did; or it may not; or it may and
--- memory was wanting, and it is as it was
+-- was out of memory, and it is as it was
 abbrev pub Makes : Machine → Machine → Bool → Machine → Answer → Result Answer IdealFault → Type 0
 Makes old new may next said (Ok a) = (may ≡ true) × (new ≡ next) × (a ≡ said)
 Makes old new may next said (Err NotEnabled) = (may ≡ false) × (new ≡ old)

@@ -65,6 +65,8 @@ impl Context {
         }
     }
 
+    /// The end of that name, lent out: the context ends with the last value that is written to it. None where the
+    /// context has no such end.
     pub fn end_mut(&mut self, name: Name) -> Option<&mut End>
         ensures* lends { sem 𝓛 (LendsEndOf self.entry name result) }
         ensures some { IfSome result (λ e. (none : EndRecord) → e.now ≡ named (λ x. x.name) none name self.old.ends) }
@@ -74,6 +76,8 @@ impl Context {
         self.ends.get_mut(place)
     }
 
+    /// The completion queue of that name, lent out: the context ends with the last value that is written to it. None
+    /// where the context has no such queue.
     pub fn queue_mut(&mut self, name: Name) -> Option<&mut Queue>
         ensures* lends { sem 𝓛 (LendsQueueOf self.entry name result) }
         ensures some { IfSome result (λ q. q.now ≡ named (λ x. x.name) no_queue name self.old.queues) }
@@ -83,6 +87,7 @@ impl Context {
         self.queues.get_mut(place)
     }
 
+    /// Whether a domain has the name.
     pub fn has_domain(&self, name: Name) -> bool
         ensures { result ≡ has_name (λ d. d) name self.now.domains }
     {

@@ -145,7 +145,7 @@ impl End {
         self.waits = 0;
     }
 
-    /// A request is posted.
+    /// A request is posted. Errors: `AllocError` when out of memory; nothing has changed.
     pub fn post(&mut self, r: Posted) -> Result<(), AllocError>
         ensures ok { OnOk result (self.new ≡ with_request r self.old) }
         ensures err { OnErr result (self.new ≡ self.old) }
@@ -154,7 +154,7 @@ impl End {
         Ok(())
     }
 
-    /// A receive is posted.
+    /// A receive is posted. Errors: `AllocError` when out of memory; nothing has changed.
     pub fn receive(&mut self, v: Receive) -> Result<(), AllocError>
         ensures ok { OnOk result (self.new ≡ with_receive v self.old) }
         ensures err { OnErr result (self.new ≡ self.old) }
@@ -235,7 +235,7 @@ impl End {
         None
     }
 
-    /// A copy of the next n bytes of its current request r.
+    /// A copy of the next n bytes of its current request r. Errors: `AllocError` when out of memory.
     #[tactic(auto, unfolding(rdma_types::specs::Memory::cut))]
     pub fn next_bytes(&self, alloc: Global, r: &Posted, n: u32) -> Result<Vec<u8>, AllocError>
         requires { r.now ≡ current self.now }
@@ -249,7 +249,7 @@ impl End {
             .collect(alloc)
     }
 
-    /// Copies of its unused receives, once a Send has its receive in use.
+    /// Copies of its unused receives, once a Send has its receive in use. Errors: `AllocError` when out of memory.
     pub fn unused_after(&self, alloc: Global) -> Result<Vec<Receive>, AllocError>
         ensures { IfOk result (λ v. v.items ≡ unused_after self.now) }
     {
@@ -258,7 +258,8 @@ impl End {
         Vec::from_slice(alloc, &self.unused[first.min(count)..])
     }
 
-    /// The next n bytes of its current request are in place, and make it whole or not.
+    /// The next n bytes of its current request are in place, and make it whole or not. Errors: `AllocError` when out of
+    /// memory; nothing has changed.
     pub fn advance(&mut self, n: u32, whole: bool) -> Result<(), AllocError>
         requires whole { whole ≡ fills self.old n }
         requires small { self.old.into + n < 2 ^ 32 }
@@ -346,7 +347,7 @@ impl End {
         }
     }
 
-    /// The current request has acted.
+    /// The current request has acted. Errors: `AllocError` when out of memory; nothing has changed.
     pub fn act(&mut self, reply: Reply) -> Result<(), AllocError>
         requires { self.old.acted < length self.old.posted }
         ensures ok { OnOk result (self.new ≡ acted_with self.old reply) }
@@ -358,7 +359,7 @@ impl End {
         Ok(())
     }
 
-    /// The current request is refused.
+    /// The current request is refused. Errors: `AllocError` when out of memory; nothing has changed.
     pub fn deny(&mut self, why: Why) -> Result<(), AllocError>
         ensures ok { OnOk result (self.new ≡ denied self.old why) }
         ensures err { OnErr result (self.new ≡ self.old) }
@@ -367,7 +368,7 @@ impl End {
         Ok(())
     }
 
-    /// The current request met no receive.
+    /// The current request met no receive. Errors: `AllocError` when out of memory; nothing has changed.
     pub fn dry(&mut self) -> Result<(), AllocError>
         ensures ok { OnOk result (self.new ≡ dried_at self.old) }
         ensures err { OnErr result (self.new ≡ self.old) }
@@ -376,7 +377,7 @@ impl End {
         Ok(())
     }
 
-    /// Bytes of a Read are offered.
+    /// Bytes of a Read are offered. Errors: `AllocError` when out of memory; nothing has changed.
     pub fn offer(&mut self, offer: Offered) -> Result<(), AllocError>
         ensures ok { OnOk result (self.new ≡ with_offer self.old offer.request offer.offset offer.bytes) }
         ensures err { OnErr result (self.new ≡ self.old) }

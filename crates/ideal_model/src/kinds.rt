@@ -20,6 +20,7 @@ pub fn lands(kind: Kind) -> bool
     }
 }
 
+/// Whether it is a CompareSwap or a FetchAdd.
 pub fn is_atomic(kind: Kind) -> bool
     ensures { result ≡ is_atomic kind }
 {
@@ -29,6 +30,7 @@ pub fn is_atomic(kind: Kind) -> bool
     }
 }
 
+/// Whether it is a Read.
 pub fn is_read(kind: Kind) -> bool
     ensures { result ≡ is_read kind }
 {
@@ -38,6 +40,7 @@ pub fn is_read(kind: Kind) -> bool
     }
 }
 
+/// Whether it is a Send.
 pub fn is_send(kind: Kind) -> bool
     ensures { result ≡ is_send kind }
 {
@@ -47,6 +50,7 @@ pub fn is_send(kind: Kind) -> bool
     }
 }
 
+/// Whether it is a Write.
 pub fn is_write(kind: Kind) -> bool
     ensures { result ≡ is_write kind }
 {

@@ -9,6 +9,7 @@ use rdma_types::Name;
 pub trait Named {
     ghost named: { Self → List ℕ };
 
+    /// The name of the thing.
     fn name(&self) -> Name
         ensures { result ≡ named self.now };
 }

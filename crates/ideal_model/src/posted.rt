@@ -23,36 +23,42 @@ impl Model for Posted {
 }
 
 impl Posted {
+    /// A request with the bytes that it took as it was posted.
     pub fn make(request: Request, payload: Vec<u8>) -> Posted
         ensures { result ≡ record { request = request; payload = payload.items } }
     {
         Posted { request, payload }
     }
 
+    /// The request.
     pub fn request(&self) -> Request
         ensures { result ≡ self.now.request }
     {
         self.request
     }
 
+    /// What kind of request it is.
     pub fn kind(&self) -> Kind
         ensures { result ≡ kind_of self.now }
     {
         self.request.shape.kind
     }
 
+    /// How many bytes its message has.
     pub fn length(&self) -> u32
         ensures { result ≡ size_of self.now }
     {
         self.request.shape.length
     }
 
+    /// Its immediate; None where it has none.
     pub fn imm(&self) -> Option<u32>
         ensures { result ≡ self.now.request.shape.imm }
     {
         self.request.shape.imm
     }
 
+    /// The bytes that it took as it was posted.
     pub fn payload(&self) -> &[u8]
         ensures { result.now ≡ self.now.payload }
     {
@@ -80,6 +86,8 @@ impl Model for Offered {
 }
 
 impl Offered {
+    /// Bytes for the request at place `request` among the posted ones, from byte `offset` of its message on. They end
+    /// before byte 2^32.
     pub fn make(request: usize, offset: u32, bytes: Vec<u8>) -> Offered
         requires { offset + length bytes.items < 2 ^ 32 }
         ensures { result ≡ record { request = request; offset = offset; bytes = bytes.items } }
@@ -91,18 +99,21 @@ impl Offered {
         }
     }
 
+    /// The place of the Read among the posted requests.
     pub fn request(&self) -> usize
         ensures { result ≡ self.now.request }
     {
         self.request
     }
 
+    /// The byte of the message where the offered bytes begin, counted from 0.
     pub fn offset(&self) -> u32
         ensures { result ≡ self.now.offset }
     {
         self.offset
     }
 
+    /// The offered bytes. They end before byte 2^32 of the message.
     pub fn bytes(&self) -> &[u8]
         ensures bytes { result.now ≡ self.now.bytes }
         ensures inside { self.now.offset + length self.now.bytes < 2 ^ 32 }

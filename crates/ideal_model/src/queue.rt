@@ -34,6 +34,7 @@ impl Named for Queue {
 }
 
 impl Queue {
+    /// An empty completion queue of this name, for `capacity` entries.
     pub fn make(alloc: Global, name: Name, capacity: u32) -> Queue
         ensures { result ≡ record { name = name; capacity = capacity; entries = [] } }
     {
@@ -44,6 +45,7 @@ impl Queue {
         }
     }
 
+    /// How many entries it may hold.
     pub fn capacity(&self) -> u32
         ensures { result ≡ self.now.capacity }
     {
@@ -57,7 +59,7 @@ impl Queue {
         self.entries.len()
     }
 
-    /// Completions are added.
+    /// Completions are added at the end. Errors: `AllocError` when out of memory; nothing has changed.
     pub fn complete(&mut self, more: &[Completion]) -> Result<(), AllocError>
         ensures ok { OnOk result (self.new ≡ longer self.old more.now) }
         ensures err { OnErr result (self.new ≡ self.old) }
@@ -65,7 +67,7 @@ impl Queue {
         self.entries.extend_from_slice(more)
     }
 
-    /// Copies of the oldest entries, at most so many.
+    /// Copies of the oldest entries, at most so many. Errors: `AllocError` when out of memory.
     pub fn oldest(&self, alloc: Global, max: u32) -> Result<Vec<Completion>, AllocError>
         ensures { IfOk result (λ v. v.items ≡ take max self.now.entries) }
     {
@@ -73,7 +75,7 @@ impl Queue {
         Vec::from_slice(alloc, &self.entries[..count])
     }
 
-    /// Copies of the other entries.
+    /// Copies of the entries behind the oldest `max`. Errors: `AllocError` when out of memory.
     pub fn others(&self, alloc: Global, max: u32) -> Result<Vec<Completion>, AllocError>
         ensures { IfOk result (λ v. v.items ≡ drop max self.now.entries) }
     {
@@ -88,7 +90,7 @@ impl Queue {
         self.entries = entries;
     }
 
-    /// An equal queue.
+    /// An equal queue. Errors: `AllocError` when out of memory.
     pub fn copied(&self, alloc: Global) -> Result<Queue, AllocError>
         ensures { IfOk result (λ q. q ≡ self.now) }
     {
@@ -101,7 +103,7 @@ impl Queue {
     }
 }
 
-/// Equal queues.
+/// Equal queues. Errors: `AllocError` when out of memory.
 pub fn copied(alloc: Global, queues: &[Queue]) -> Result<Vec<Queue>, AllocError>
     ensures { IfOk result (λ v. v.items ≡ queues.now) }
 {
@@ -112,7 +114,7 @@ pub fn copied(alloc: Global, queues: &[Queue]) -> Result<Vec<Queue>, AllocError>
     Ok(all)
 }
 
-/// Completions are added to the queue of a name. After an `Err` the queues are as they were.
+/// Completions are added to the queue of a name. Errors: `AllocError` when out of memory; the queues are as they were.
 pub fn complete(queues: &mut Vec<Queue>, name: Name, more: &[Completion]) -> Result<(), AllocError>
     ensures ok { OnOk result (queues.new.items ≡ completed name more.now queues.old.items) }
     ensures err { OnErr result (queues.new.items ≡ queues.old.items) }

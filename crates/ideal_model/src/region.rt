@@ -69,7 +69,8 @@ impl Named for Region {
 }
 
 impl Region {
-    /// A region of zeros, with the given local key and the next one as its remote key.
+    /// A region of zeros, with the given local key and the next one as its remote key. Errors: `AllocError` when out of
+    /// memory.
     pub fn make(
         alloc: Global,
         name: Name,
@@ -96,6 +97,7 @@ impl Region {
         })
     }
 
+    /// Its local and remote keys.
     pub fn keys(&self) -> Keys
         ensures { result ≡ self.now.keys }
     {
@@ -157,7 +159,7 @@ impl Region {
         self.bytes[from..from + new.len()].copy_from_slice(new);
     }
 
-    /// A copy of its bytes from an address on.
+    /// A copy of its bytes from an address on. Errors: `AllocError` when out of memory.
     pub fn read(&self, alloc: Global, address: u128, count: usize) -> Result<Vec<u8>, AllocError>
         requires { holds self.now address count ≡ true }
         ensures bytes { IfOk result (λ v. v.items ≡ cut (address - self.now.base) count self.now.bytes) }
@@ -203,7 +205,7 @@ pub fn put_at(regions: &mut Vec<Region>, place: &Place, new: &[u8])
     }
 }
 
-/// A copy of the bytes at a place.
+/// A copy of the bytes at a place. Errors: `AllocError` when out of memory.
 pub fn bytes_at(alloc: Global, regions: &[Region], place: &Place) -> Result<Vec<u8>, AllocError>
     ensures bytes { IfOk result (λ v. v.items ≡ bytes_at (key_by place.now.kind) place.now.key place.now.address place.now.count regions.now) }
     ensures short { IfOk result (λ v. length v.items ≤ place.now.count) }

@@ -12,11 +12,11 @@ use rdma_types::{Answer, ObjName, Why};
 use std::alloc::Global;
 
 impl Ideal {
-    /// Makes a step. It answers what the machine answers, and `Done` for an inner step.
+    /// Makes a step. It answers what the machine answers, and `Done` for an inner step. `given` is the local key of a
+    /// region or the number of a queue pair that the step gives, and is not looked at for another verb.
     ///
-    /// `NotEnabled` comes exactly where no case of the machine's steps holds; after it, and after want of memory, the
-    /// machine is as it was. `given` is the local key of a region or the number of a queue pair that the step gives,
-    /// and is not looked at for another verb.
+    /// Errors: `NotEnabled` exactly where no case of the machine's steps holds, or `OutOfMemory`. The machine is then
+    /// as it was.
     pub fn step(&mut self, alloc: Global, step: &IdealStep) -> Result<Answer, IdealFault>
         ensures enabled { OnOk result (is_enabled self.old step.now ≡ true) }
         ensures next { OnOk result (self.new ≡ effect self.old step.now) }

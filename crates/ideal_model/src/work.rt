@@ -12,7 +12,8 @@ use rdma_types::{Completion, Name, Receive, WcKind, WcStatus};
 use std::alloc::{AllocError, Global};
 
 impl End {
-    /// Completions of its untold requests: the first has the status, the others are flushed.
+    /// Completions of its untold requests: the first has the status, the others are flushed. Errors: `AllocError` when
+    /// out of memory.
     pub fn failed_requests(
         &self,
         alloc: Global,
@@ -31,7 +32,7 @@ impl End {
         Ok(all)
     }
 
-    /// The receive in use, and then the unused ones.
+    /// The receive in use, and then the unused ones. Errors: `AllocError` when out of memory.
     pub fn receives(&self, alloc: Global) -> Result<Vec<Receive>, AllocError>
         ensures { IfOk result (λ v. v.items ≡ receives_of self.now) }
     {
@@ -43,7 +44,8 @@ impl End {
         Ok(all)
     }
 
-    /// All its work is completed in these queues.
+    /// All its work is completed in these queues. Errors: `AllocError` when out of memory; what the queues then hold is
+    /// not said.
     pub fn fail_in(
         &self,
         alloc: Global,

@@ -94,7 +94,7 @@ fn make_all(ideal: &mut Ideal, alloc: Global, steps: &[IdealStep]) -> Result<(),
     Ok(())
 }
 
-/// Makes steps of which each answers `Done`.
+/// Makes steps that each answer `Done`.
 fn all_done(
     rt: &impl Abort,
     ideal: &mut Ideal,

@@ -32,14 +32,14 @@ deregister_causes regions name busy =
     ∷ cause refusal.InUse (list_any (λ key. key == (region_named name regions).keys.local) busy)
     ∷ []
 
--- a refusal, but for want of memory, which has no cause here
+-- a refusal; out of memory is none, and has no cause here
 abbrev pub told_as : MemFault → Option Refusal
 told_as NumberTaken = Some refusal.NumberTaken
 told_as TooMany = Some refusal.TooMany
 told_as NoPage = Some refusal.NoPage
 told_as OutOfMemory = None
 
--- the refusal of an answer, but for want of memory
+-- the refusal of an answer; out of memory is none
 abbrev pub refusal_of : {T : Type 0} → Result T MemFault → Option Refusal
 refusal_of (Ok x) = None
 refusal_of (Err fault) = told_as fault

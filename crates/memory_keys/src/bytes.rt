@@ -86,8 +86,8 @@ impl Regions {
         self.store(pool, spot, &word.to_be_bytes());
     }
 
-    /// The bytes of a spot as they are now, whatever is stored later: the region and the payload share pages. `NoPage`
-    /// comes exactly where fewer pages are free than the spot touches.
+    /// The bytes of a spot as they are now, whatever is stored later: the region and the payload share pages. Errors:
+    /// `NoPage` exactly where fewer pages are free than the spot touches, or `OutOfMemory`. The pool is then as it was.
     pub fn snapshot(
         &mut self,
         pool: &mut PagePool,

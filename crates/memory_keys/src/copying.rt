@@ -19,7 +19,7 @@ impl Held {
 }
 
 impl Regions {
-    /// Equal regions, for a copy of their pool.
+    /// Equal regions, for a copy of their pool. Errors: `AllocError` when out of memory.
     pub fn copy(&self, alloc: Global) -> Result<Regions, AllocError>
         ensures { IfOk result (λ r. r ≡ self.now) }
     {

@@ -17,10 +17,12 @@ use std::alloc::Global;
 const MOST_REGIONS: usize = 256;
 
 impl Regions {
-    /// Makes a region of zeros behind the others. It is refused for the first of these causes: `NumberTaken` where a region
-    /// has the name, `TooMany` where there are 256 regions, `NoPage` where fewer pages are free than hold its bytes, and
-    /// `OutOfMemory` (this project's choice). All is then as before. No region may have its local key, and the remote key
-    /// is the number after the local one.
+    /// Makes a region of zeros behind the others. No region may have its local key, and the remote key is the number
+    /// after the local one.
+    ///
+    /// Errors: the first of these causes that holds (this project's choice): `NumberTaken` where a region has the name,
+    /// `TooMany` where there are 256 regions, `NoPage` where fewer pages are free than hold its bytes; or
+    /// `OutOfMemory`. All is then as before.
     pub fn register(
         &mut self,
         pool: &mut PagePool,
@@ -56,7 +58,8 @@ impl Regions {
         Ok(())
     }
 
-    /// Makes a region of these bytes behind the others, as many as it is long. It is refused as `register` says.
+    /// Makes a region of these bytes behind the others, as many as it is long. Errors: those of `register`; all is then
+    /// as before.
     pub fn restore(
         &mut self,
         pool: &mut PagePool,
@@ -83,8 +86,8 @@ impl Regions {
         Ok(())
     }
 
-    /// Drops the region with a name, and gives its pages back. `NoSuch` comes exactly where no region has the name, and
-    /// else `InUse` exactly where its local key is busy; all is then as before. It takes no memory.
+    /// Drops the region with a name, and gives its pages back. It takes no memory. Errors: `NoSuch` exactly where no
+    /// region has the name, and else `InUse` exactly where its local key is in `busy`. All is then as before.
     pub fn deregister(
         &mut self,
         pool: &mut PagePool,

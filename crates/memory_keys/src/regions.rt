@@ -61,7 +61,7 @@ impl Regions {
         self.held.len()
     }
 
-    /// A copy of the bytes of region `i` in order of making.
+    /// A copy of the bytes of region `i` in order of making. Errors: `AllocError` when out of memory.
     pub fn bytes_at(&self, alloc: Global, pool: &PagePool, i: usize) -> Result<ByteRun, AllocError>
         requires held { AreHeld pool.now self.now }
         requires there { i < length self.now }

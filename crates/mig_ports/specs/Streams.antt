@@ -4,7 +4,7 @@ use Rattle.std.specs.Prelude.{ℕ, ◌≡◌, ◌<◌, ◌≤◌, ◌⊎◌, ◌
 abbrev pub Rose : ℕ → ℕ → Type 0
 Rose old new = (old < new) ⊎ (2 ^ 64 - 1 ≤ new)
 
--- these bytes were taken from the front of what was left, where that is told
+-- these bytes were taken from the start of what was left, where that is told
 abbrev pub Takes : Option (List ℕ) → Option (List ℕ) → List ℕ → Type 0
 Takes None new taken = new ≡ None
 Takes (Some left) new taken = (rest : List ℕ) × (left ≡ taken ++ rest) × (new ≡ Some rest)
@@ -14,7 +14,7 @@ abbrev pub TakesAll : Option (List ℕ) → Option (List ℕ) → List ℕ → T
 TakesAll None new taken = new ≡ None
 TakesAll (Some left) new taken = (taken ≡ left) × (new ≡ Some [])
 
--- that many bytes were taken from the front of what was left, where that is told
+-- that many bytes were taken from the start of what was left, where that is told
 abbrev pub TakesCount : Option (List ℕ) → Option (List ℕ) → ℕ → Type 0
 TakesCount None new n = new ≡ None
 TakesCount (Some left) new n = (n ≤ length left) × (new ≡ Some (drop n left))

@@ -154,7 +154,7 @@ impl Depot for MemDepot {
     }
 }
 
-/// A depot that holds nothing, and never fails. There is no room in it: a `put` wants memory.
+/// A depot that holds nothing, and never fails. There is no room in it: a `put` is out of memory.
 #[derive(Debug, Drop)]
 pub struct EmptyDepot;
 

@@ -38,7 +38,7 @@ impl MemSink {
     ///
     /// # Errors
     ///
-    /// Want of memory.
+    /// `AllocError` when out of memory.
     pub fn make(held: Vec<u8>, fails: Vec<u64>, room: usize) -> Result<MemSink, AllocError>
         ensures { IfOk result (λ s. s ≡ record { held = held.items; room = room; fails = fails.items; calls = 0; faults = 0 }) }
     {

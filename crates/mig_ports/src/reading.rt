@@ -19,7 +19,7 @@ pub trait Source {
     // No call fails from here on.
     ghost sure: { Self → Type 0 };
 
-    /// Reads bytes into the front of `out`, and says how many. 0 is the end, where `out` has room.
+    /// Reads bytes into the first places of `out`, and says how many. 0 is the end, where `out` has room.
     ///
     /// A call may read fewer bytes than there are, and what it leaves in the rest of `out` isn't
     /// said.

@@ -17,7 +17,7 @@ pub trait Sink {
     // How many more bytes it takes for sure, in whatever pieces: 0 promises nothing.
     ghost room: { Self → ℕ };
 
-    /// Writes the front of `bytes` behind what was written, and says how many.
+    /// Writes a prefix of `bytes` behind what was written, and says how many.
     ///
     /// A call may write fewer bytes than there are. 0 for a piece that isn't empty is a fault too,
     /// and is counted.
@@ -50,7 +50,7 @@ pub struct WriteFault;
 ///
 /// # Errors
 ///
-/// A fault of the sink, which then holds a front of the bytes, and not all of them.
+/// A fault of the sink, which then holds a prefix of the bytes, and not all of them.
 pub fn write_all_of<K: Sink>(sink: &mut K, bytes: &[u8]) -> Result<(), WriteFault>
     ensures all { OnOk result (Puts (K.held sink.old) (K.held sink.new) bytes.now) }
     ensures part { OnErr result ((n : ℕ) × (n < length bytes.now) × Puts (K.held sink.old) (K.held sink.new) (take n bytes.now)) }

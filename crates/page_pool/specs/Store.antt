@@ -28,7 +28,7 @@ pub record IsSound (s : Store) : Type 0 where
   pub few : length s.holders < 2 ^ 32
   pub within : sum s.holders ≤ length s.holders
 
--- the front of a list, and zeros up to a length
+-- a list, and zeros up to a length
 unfoldable pub padded : ℕ → List ℕ → List ℕ
 padded n front = front ++ replicate (n - length front) 0
 

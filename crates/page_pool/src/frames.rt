@@ -32,7 +32,7 @@ impl Model for Frames {
 }
 
 impl Frames {
-    /// Pages of zeros that nobody holds.
+    /// Pages of zeros that nobody holds. Errors: `AllocError` when out of memory.
     pub fn make(alloc: Global, pages: u32) -> Result<Frames, AllocError>
         ensures { IfOk result (λ f. f ≡ record { bytes = replicate (4096 * pages) 0; holders = replicate pages 0 }) }
     {
@@ -46,7 +46,7 @@ impl Frames {
         })
     }
 
-    /// Equal pages in memory of their own, with as much room.
+    /// Equal pages in memory of their own, with as much room. Errors: `AllocError` when out of memory.
     pub fn copy(&self, alloc: Global) -> Result<Frames, AllocError>
         ensures { IfOk result (λ f. f ≡ self.now) }
     {

@@ -56,7 +56,7 @@ impl Model for PagePool {
 }
 
 impl PagePool {
-    /// A pool of free pages.
+    /// A pool of free pages. Errors: `AllocError` when out of memory.
     pub fn make(alloc: Global, pages: u32) -> Result<PagePool, AllocError>
         ensures { IfOk result (λ p. p ≡ record { pages = pages; lists = [] }) }
     {
@@ -67,7 +67,7 @@ impl PagePool {
     }
 
     /// An equal pool, with pages of its own. The lists keep their numbers: a list of one pool has the same bytes in the
-    /// other, until it is written.
+    /// other, until it is written. Errors: `AllocError` when out of memory.
     pub fn copy(&self, alloc: Global) -> Result<PagePool, AllocError>
         ensures { IfOk result (λ p. p ≡ self.now) }
     {
@@ -94,7 +94,8 @@ impl PagePool {
         (self.lists[list.list].len() * PAGE) as u64
     }
 
-    /// A list of `n` new pages of zeros. `NoPage` comes exactly where fewer are free.
+    /// A list of `n` new pages of zeros. Errors: `NoPage` exactly where fewer are free, or `OutOfMemory`. The pool is
+    /// then as it was.
     pub fn take(&mut self, alloc: Global, n: u32) -> Result<PageList, PoolFault>
         ensures new { IfOk result (λ list. bytes_of self.old list ≡ None) }
         ensures puts { IfOk result (λ list. Puts self.old self.new list (Some (blank (4096 * n)))) }
@@ -112,8 +113,8 @@ impl PagePool {
         Ok(PageList { list })
     }
 
-    /// A list of `count` pages of another list from page `first` on, which both share from now on. `NoPage` comes exactly
-    /// where fewer than `count` are free.
+    /// A list of `count` pages of another list from page `first` on, which both share from now on. Errors: `NoPage`
+    /// exactly where fewer than `count` are free, or `OutOfMemory`. The pool is then as it was.
     pub fn share(
         &mut self,
         alloc: Global,
@@ -201,8 +202,8 @@ impl PagePool {
         }
     }
 
-    /// Takes bytes of a list out, and ends the list. The list comes back, and the pool is as it was, for want of memory
-    /// alone.
+    /// Takes bytes of a list out, and ends the list. Errors: the list itself when out of memory; the pool is then as it
+    /// was.
     pub fn lift(
         &mut self,
         alloc: Global,
@@ -227,7 +228,7 @@ impl PagePool {
         }
     }
 
-    /// A copy of `count` bytes of a list from `first` on.
+    /// A copy of `count` bytes of a list from `first` on. Errors: `AllocError` when out of memory.
     pub fn copy_out(
         &self,
         alloc: Global,
@@ -251,8 +252,9 @@ impl PagePool {
         Ok(run)
     }
 
-    /// A list of the fewest pages that hold `first` and the bytes: the bytes from `first` on, and zeros elsewhere. After a
-    /// refusal the pool is as it was, and the bytes come back; `NoPage` comes exactly where fewer pages are free.
+    /// A list of the fewest pages that hold `first` and the bytes: the bytes from `first` on, and zeros elsewhere.
+    /// Errors: the bytes, with `NoPage` exactly where fewer pages are free, or with `OutOfMemory`. The pool is then as
+    /// it was.
     pub fn lower(
         &mut self,
         alloc: Global,

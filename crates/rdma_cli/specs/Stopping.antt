@@ -55,7 +55,7 @@ run_of words left left_after held held_after stored stored_after = record {
 abbrev pub IsSilent : Run → Type 0
 IsSilent r = r.held_after ≡ r.held
 
--- a front was written of a text of which that holds
+-- a prefix was written of a text for which that holds
 pub record WritesFront (P : List ℕ → Type 0) (r : Run) : Type 0 where
   pub front : List ℕ
   pub rest : List ℕ
@@ -79,7 +79,7 @@ PlayStops r stop.OutOfMemory = WritesFront (λ text. (text ≡ []) ⊎ AreAnswer
 PlayStops r stop.TooLong = IsSilent r × TakesCount r.left r.left_after (input_limit + 1)
 PlayStops r other = ⊥
 
--- the answers to a script are not known: a line of it is bad, or memory was wanted
+-- the answers to a script are not known: a line of it is bad, or it was out of memory
 abbrev pub AnswersStop : List ℕ → Stop → Type 0
 AnswersStop script (stop.BadLine line column why) = bad_line script ≡ Some (record { number = line; offence = record { column = column; why = why } })
 AnswersStop script stop.OutOfMemory = Unit {0}
@@ -114,7 +114,7 @@ ShowStops said name r stop.OutOfMemory = IsSilent r
 ShowStops said name r (stop.Missing other) = IsSilent r × (other ≡ name) × Has r.stored name None
 ShowStops said name r other = ⊥
 
--- no command is known: the words are of none, or memory was wanted
+-- no command is known: the words are of none, or it was out of memory
 abbrev pub IsNotAsked : Option rules.Command → Stop → Type 0
 IsNotAsked k stop.Usage = k ≡ None
 IsNotAsked k stop.OutOfMemory = k ≢ None

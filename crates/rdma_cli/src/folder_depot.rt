@@ -67,7 +67,7 @@ impl<'a, R: Files> FolderDepot<'a, R> {
         fs::remove_file(self.files, path.as_str())
     }
 
-    /// Why a call failed; want of memory is no fault of the folder.
+    /// Why a call failed; to be out of memory is no fault of the folder.
     fn failed(&mut self, error: &io::Error) -> DepotFault
         ensures short { result ≡ fault.OutOfMemory → self.new.fault_count ≡ self.old.fault_count }
         ensures rose { result ≡ fault.Failed → Rose self.old.fault_count self.new.fault_count }

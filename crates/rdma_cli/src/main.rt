@@ -39,7 +39,7 @@ const VERSION: &str = "jichurpa 0.1.0\n";
 ///
 /// # Errors
 ///
-/// Want of memory.
+/// When out of memory.
 fn words_of(rt: &HostRuntime) -> io::Result<Vec<String>> {
     match env::args(rt) {
         Ok(words) => Ok(words.skip(1).collect(rt.alloc())?),
@@ -83,7 +83,7 @@ fn main(rt: HostRuntime) -> ExitCode {
     match run(&rt) {
         Ok(status) => ExitCode::from(status),
         Err(_) => {
-            // Only memory was wanting; the last line is written where that can be done.
+            // It only was out of memory; the last line is written where that can be done.
             let mut output = StdSink::new(io::writer(&rt));
             let _ = write_all_of(&mut output, b"out of memory\n");
             ExitCode::from(8)

@@ -100,8 +100,8 @@ fn perform<S: Source, K: Sink, D: Depot>(
 /// - `bulk` plays the generated script of a seed, and writes one line that sums up its answers.
 /// - `show-dump` looks a dump up in the depot, and writes what it says.
 ///
-/// A run that is not done writes a last line, but none after a fault of the input or the output. Want of memory, which is
-/// status 8, may come at any time, and a fault of the output while the last line is written is status 5.
+/// A run that is not done writes a last line, but none after a fault of the input or the output. Status 8, out of memory,
+/// may come at any time, and a fault of the output while the last line is written is status 5.
 pub(crate) fn run_serial<S: Source, K: Sink, D: Depot>(
     alloc: Global,
     words: &[String],
@@ -129,26 +129,26 @@ pub(crate) fn run_serial<S: Source, K: Sink, D: Depot>(
     ensures unread { result ≡ 4 → Rose (S.faults input.old) (S.faults input.new) × IsUnread (run_of words.now (S.left input.old) (S.left input.new) (K.held output.old) (K.held output.new) (D.held depot.old) (D.held depot.new)) }
     ensures sure { S.sure input.old → result ≡ 4 → ⊥ }
 
-    // Status 5: a write failed, and what was written is a front.
+    // Status 5: a write failed, and what was written is a prefix.
     ensures unwritten { result ≡ 5 → Rose (K.faults output.old) (K.faults output.new) × IsCutOff text_of (run_of words.now (S.left input.old) (S.left input.new) (K.held output.old) (K.held output.new) (D.held depot.old) (D.held depot.new)) }
 
     // Status 7: the depot failed.
     ensures no_depot { result ≡ 7 → Rose (D.faults depot.old) (D.faults depot.new) × IsWithoutDepot (run_of words.now (S.left input.old) (S.left input.new) (K.held output.old) (K.held output.new) (D.held depot.old) (D.held depot.new)) }
     ensures sure_depot { D.sure depot.old → result ≡ 7 → ⊥ }
 
-    // Status 8 is want of memory, which may come at any time: what was written is a front and the last line.
+    // Status 8 is out of memory, which may come at any time: what was written is a prefix and the last line.
     ensures memory { result ≡ 8 → IsShortOfMemory text_of (run_of words.now (S.left input.old) (S.left input.new) (K.held output.old) (K.held output.new) (D.held depot.old) (D.held depot.new)) }
 
     // Status 9 comes exactly where one byte more than the limit was taken.
     ensures long { result ≡ 9 → IsTooLong (run_of words.now (S.left input.old) (S.left input.new) (K.held output.old) (K.held output.new) (D.held depot.old) (D.held depot.new)) }
     ensures long_only { command_of (map string_bytes words.now) ≡ Some rules.Play → IsSome (S.left input.old) → TakesCount (S.left input.old) (S.left input.new) (input_limit + 1) → (result ≡ 9) ⊎ (result ≡ 5) }
 
-    // Status 12 comes exactly where the depot holds nothing under the name, unless it fails or memory is wanting.
+    // Status 12 comes exactly where the depot holds nothing under the name, unless it fails or memory runs out.
     ensures missing { result ≡ 12 → IsMissing (run_of words.now (S.left input.old) (S.left input.new) (K.held output.old) (K.held output.new) (D.held depot.old) (D.held depot.new)) }
     ensures missing_only { (name : Name) → command_of (map string_bytes words.now) ≡ Some (rules.ShowDump name) → IsSome (D.held depot.old) → Has (D.held depot.old) name None → (result ≡ 12) ⊎ (result ≡ 7) ⊎ (result ≡ 8) ⊎ (result ≡ 5) }
 
-    // Where nothing fails, a script of good lines is answered whole, a generated one is summed up, and what a dump says that is
-    // held under the name is written, unless memory is wanting.
+    // Where nothing fails, a script of good lines is answered whole, a generated one is summed up, and what the dump held under
+    // the name says is written, unless memory runs out.
     ensures play_is_done { (text : List ℕ) → command_of (map string_bytes words.now) ≡ Some rules.Play → S.left input.old ≡ Some text → length text ≤ input_limit → bad_line text ≡ None → (Rose (S.faults input.old) (S.faults input.new) → ⊥) → (Rose (K.faults output.old) (K.faults output.new) → ⊥) → (result ≡ 0) ⊎ (result ≡ 8) }
     ensures bulk_is_done { (seed : ℕ) (mix : Mix) → command_of (map string_bytes words.now) ≡ Some (rules.Bulk seed mix) → (Rose (K.faults output.old) (K.faults output.new) → ⊥) → (result ≡ 0) ⊎ (result ≡ 8) }
     ensures show_dump_is_done { (name : Name) (bytes : List ℕ) (image : ContextImage) (place : ℕ) (rest : List ℕ) → command_of (map string_bytes words.now) ≡ Some (rules.ShowDump name) → IsSome (D.held depot.old) → Has (D.held depot.old) name (Some bytes) → read_dump bytes ≡ Good image place rest → (Rose (D.faults depot.old) (D.faults depot.new) → ⊥) → (Rose (K.faults output.old) (K.faults output.new) → ⊥) → ((result ≡ 0) × Puts (K.held output.old) (K.held output.new) (text_of image)) ⊎ (result ≡ 8) }

@@ -1,4 +1,4 @@
-//! Texts are written whole, or a front of them.
+//! Texts are written whole, or a prefix of them.
 
 ghost use Rattle.std.specs.Prelude.{◌≡◌, ◌≤◌, map, OnOk, OnErr};
 ghost use Rattle.mig_ports.specs.Streams.{Rose, Puts};
@@ -7,7 +7,7 @@ ghost use Rattle.script_runner.specs.Playing.{PutsFront};
 
 use mig_ports::{Sink, WriteFault, write_all_of};
 
-/// Writes a text; after an error a front of it is written.
+/// Writes a text; after an error a prefix of it is written.
 pub(crate) fn write_text<K: Sink>(text: &[u8], output: &mut K) -> Result<(), WriteFault>
     ensures whole { OnOk result (Puts (K.held output.old) (K.held output.new) text.now) }
     ensures part { OnErr result (PutsFront (K.held output.old) (K.held output.new) text.now) }

@@ -1,4 +1,4 @@
--- Refusals with their causes: a list in its order, of which the first cause that holds is answered (this project's choice).
+-- Refusals with their causes: a list in its order; the first cause that holds is answered (this project's choice).
 use Rattle.std.specs.Prelude.{Bool, List, [], ◌∷◌, Option, Some, None, if◌then◌else◌}
 use Rattle.rdma_types.specs.declared.answers.Refusal.{Refusal}
 

@@ -34,7 +34,7 @@ most_ends = 64
 abbrev pub most_numbers : ℕ
 most_numbers = 65535
 
--- pairs of keys of a device: keys have 24 bits below its id, of which the lowest says which of a pair
+-- pairs of keys of a device: keys have 24 bits below its id, and the lowest says which of a pair
 abbrev pub most_keys : ℕ
 most_keys = 8388607
 

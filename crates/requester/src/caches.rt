@@ -47,7 +47,7 @@ fn overlap(low: u64, high: u64, numbers: &RequesterParts) -> u64
     high.min(numbers.next).saturating_sub(low.max(numbers.una))
 }
 
-/// Request packets of one request, of which so many numbers are in flight.
+/// Request packets in flight of one request with so many numbers in flight.
 fn packets_of(kind: Kind, inside: u64) -> u64
     ensures { result ≡ (if is_read kind then min 1 inside else inside) }
 {
@@ -58,7 +58,7 @@ fn packets_of(kind: Kind, inside: u64) -> u64
     }
 }
 
-/// 1 for a Read or atomic of which so many numbers are in flight, where there are any.
+/// 1 for a Read or atomic with numbers in flight, and else 0.
 fn reads_of(kind: Kind, inside: u64) -> u64
     ensures { result ≡ (if lands kind then min 1 inside else 0) }
 {
@@ -219,7 +219,7 @@ impl Caches {
         }
     }
 
-    /// The response at the barrier has landed, of which this is the next; all before it is acknowledged.
+    /// The response at the barrier has landed, and this is the next one; all before it is acknowledged.
     pub fn landed(self, numbers: &RequesterParts, last: bool, barrier: u64, at: Mark) -> Caches
         requires una { numbers.now.una ≤ self.barrier }
         requires packets { self.barrier < numbers.now.next

@@ -48,7 +48,7 @@ impl Requester {
         }
     }
 
-    /// An equal requester, for a copy of the pool of its payloads.
+    /// An equal requester, for a copy of the pool of its payloads. Errors: `AllocError` when out of memory.
     pub fn copy(&self, alloc: Global) -> Result<Requester, AllocError>
         ensures { IfOk result (λ r. r ≡ self.now) }
     {
@@ -60,8 +60,8 @@ impl Requester {
         })
     }
 
-    /// Puts a request at the end of the queue. It comes back exactly where the depth is reached, and all then stays as it
-    /// was.
+    /// Puts a request at the end of the queue. Errors: the request itself, exactly where the depth is reached; all then
+    /// stays as it was.
     pub fn post(&mut self, p: Posted) -> Result<(), Posted>
         requires below_limit { end_of_queue self.old.terms (sender_of self.old) + span p.request.shape self.old.terms.mtu < 2 ^ 62 }
         ensures ok { OnOk result (self.new ≡ posting self.old p) }

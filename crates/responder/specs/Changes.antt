@@ -61,7 +61,7 @@ pub record IsSameRegion (old new : Region) : Type 0 where
   pub rights : new.rights ≡ old.rights
   pub keys : new.keys ≡ old.keys
 
--- the same region, each of whose bytes is as it was where it may not change
+-- the same region, where each byte that may not change is as it was
 pub record KeepsRest (domain : Name) (receiver : Receiver) (unused : List Receive) (d : Packet) (old new : Region) : Type 0 where
   pub same : IsSameRegion old new
   pub rest : (k : ℕ) → OnFalse (may_change domain receiver unused d old k) (slice_get new.bytes k ≡ slice_get old.bytes k)

@@ -1,4 +1,4 @@
-//! What an expected packet does that is neither invalid nor without access.
+//! What an expected packet does where it is valid and its place is granted.
 
 ghost use Rattle.std.specs.Prelude.{◌≡◌, ℕ, ◌+◌, ◌++◌, ◌∷◌, [], ◌<◌, ◌≤◌, ◌&&◌, List, length, drop, is_some, not, false, true, if◌then◌else◌};
 ghost use Rattle.rdma_types.specs.Limits.{number_limit};
@@ -199,7 +199,7 @@ impl Responder {
         self.execute(d, Flow::Idle);
     }
 
-    /// A WRITE into this place, of which so many bytes are done.
+    /// A WRITE into this place, with so many bytes done.
     #[tactic(auto, unfolding(protocol::specs::Responder::executed, protocol::specs::EndWords::with_receiver, crate::specs::Taking::write_taking))]
     pub(crate) fn take_write(
         &mut self,

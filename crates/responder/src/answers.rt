@@ -32,9 +32,9 @@ pub enum Reply {
 pub enum Flow {
     /// There is none.
     Idle,
-    /// A SEND, of which so many bytes lie in its receive.
+    /// A SEND, with so many of its bytes in its receive.
     Send { done: u32, receive: Receive },
-    /// A WRITE to a spot, of which so many bytes lie there.
+    /// A WRITE to a spot, with so many of its bytes there.
     Write { spot: Spot, done: u32 },
 }
 

@@ -243,7 +243,7 @@ abbrev pub Begins : {F : Type 0} → (List ℕ → Option F) → F → List Word
 Begins form f [] = ⊥
 Begins form f (w ∷ ws) = form w.text ≡ Some f
 
--- what the code returned is what a line says, or its first offence, unless memory lacked
+-- what the code returned is what a line says, or its first offence, unless it was out of memory
 abbrev pub Says : {L : Type 0} → Result L LineFault → Result L Offence → Type 0
 Says (Ok l) reading = reading ≡ Ok l
 Says (Err (fault.Bad column why)) reading = reading ≡ Err (offence column why)

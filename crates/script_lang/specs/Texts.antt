@@ -132,7 +132,7 @@ pub record Part : Type 0 where
   pub number : ℕ
   pub rest : List ℕ
 
--- such a number at the front of a text
+-- such a number at the start of a text
 unfoldable pub part_of : List ℕ → Option Part
 part_of text = do
   n ← number_in 0 255 (cut_at 46 text).front

@@ -25,7 +25,7 @@ placed column (piece ∷ more) =
     if length piece == 0 then placed (column + 1) more
     else record { column = column; text = piece } ∷ placed (column + length piece + 1) more
 
--- the words of bytes of which the first has that column
+-- the words of bytes, where the first byte has that column
 unfoldable pub words_from : ℕ → List ℕ → List Word
 words_from column bs = placed column (slice_split is_space bs)
 
@@ -111,7 +111,7 @@ abbrev pub Gives : {A : Type 0} → Result A Offence → Input → Read A → Ty
 Gives (Ok x) rest read = read ≡ Ok (x, rest)
 Gives (Err e) rest read = read ≡ Err e
 
--- the same where memory may lack
+-- the same where memory may run out
 abbrev pub GivesOr : {A : Type 0} → Result A LineFault → Input → Read A → Type 0
 GivesOr (Ok x) rest read = read ≡ Ok (x, rest)
 GivesOr (Err (Bad column why)) rest read = read ≡ Err (offence column why)

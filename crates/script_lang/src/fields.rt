@@ -13,7 +13,7 @@ use rdma_types::{Address, Items, Name, ObjName, Rights, Terms};
 use std::alloc::Global;
 
 impl Words<'_> {
-    /// A name.
+    /// A name. Errors: `Missing` where no word is left, or `Name` where the word is no name.
     #[tactic(auto, unfolding(crate::specs::Fields::a_name))]
     pub fn name(&mut self) -> Result<Name, Offence>
         ensures { Gives result self.new (fields.a_name self.old) }
@@ -22,7 +22,7 @@ impl Words<'_> {
         texts::name(word.text).ok_or(word.bad(LineWhy::Name))
     }
 
-    /// An object.
+    /// An object, `context.name`. Errors: `Missing` where no word is left, or `Name` where the word is no object.
     #[tactic(auto, unfolding(crate::specs::Fields::an_object))]
     pub fn object(&mut self) -> Result<ObjName, Offence>
         ensures { Gives result self.new (fields.an_object self.old) }
@@ -31,7 +31,8 @@ impl Words<'_> {
         texts::object(word.text).ok_or(word.bad(LineWhy::Name))
     }
 
-    /// The name of an object in the context of another one; None where it is in a context of its own.
+    /// The name of an object in the context of another one; None where it is in a context of its own. Errors: `Missing`
+    /// where no word is left, or `Name` where the word is no object.
     #[tactic(auto, unfolding(crate::specs::Fields::an_own))]
     pub fn own(&mut self, object: &ObjName) -> Result<Option<Name>, Offence>
         ensures { Gives result self.new (fields.an_own object.now self.old) }
@@ -40,7 +41,8 @@ impl Words<'_> {
         Ok((object.context == other.context).then_some(other.name))
     }
 
-    /// A number from `low` to `high`.
+    /// A number from `low` to `high`. Errors: `Missing` where no word is left, or `Number` where the word is no such
+    /// number.
     #[tactic(auto, unfolding(crate::specs::Fields::a_number))]
     pub fn number(&mut self, low: u64, high: u64) -> Result<u64, Offence>
         ensures value { Gives result self.new (fields.a_number low high self.old) }
@@ -50,21 +52,22 @@ impl Words<'_> {
         texts::number(word.text, low, high).ok_or(word.bad(LineWhy::Number))
     }
 
-    /// A number of 64 bits.
+    /// A number of 64 bits. Errors: `Missing` where no word is left, or `Number` where the word is no such number.
     pub fn long(&mut self) -> Result<u64, Offence>
         ensures { Gives result self.new (fields.a_long self.old) }
     {
         self.number(0, u64::MAX)
     }
 
-    /// A number of 32 bits.
+    /// A number of 32 bits. Errors: `Missing` where no word is left, or `Number` where the word is no such number.
     pub fn short(&mut self) -> Result<u32, Offence>
         ensures { Gives result self.new (fields.a_short self.old) }
     {
         Ok(self.number(0, u64::from(u32::MAX))? as u32)
     }
 
-    /// The id of a device.
+    /// The id of a device, 1 to 255. Errors: `Missing` where no word is left, or `Number` where the word is no such
+    /// number.
     pub fn device(&mut self) -> Result<u8, Offence>
         ensures value { Gives result self.new (fields.a_device self.old) }
         ensures within { IfOk result (IsIn 1 255) }
@@ -82,7 +85,8 @@ impl Words<'_> {
         texts::mtu(word.text).ok_or(word.bad(LineWhy::Number))
     }
 
-    /// A key or an immediate.
+    /// A key or an immediate, of eight hexadecimal digits. Errors: `Missing` where no word is left, or `Hex` where the
+    /// word is none.
     #[tactic(auto, unfolding(crate::specs::Fields::a_key))]
     pub fn key(&mut self) -> Result<u32, Offence>
         ensures { Gives result self.new (fields.a_key self.old) }
@@ -91,7 +95,8 @@ impl Words<'_> {
         texts::key(word.text).ok_or(word.bad(LineWhy::Hex))
     }
 
-    /// The number of a queue pair.
+    /// The number of a queue pair, of six hexadecimal digits. Errors: `Missing` where no word is left, or `Hex` where
+    /// the word is none.
     #[tactic(auto, unfolding(crate::specs::Fields::a_queue_pair))]
     pub fn queue_pair(&mut self) -> Result<u32, Offence>
         ensures value { Gives result self.new (fields.a_queue_pair self.old) }
@@ -101,7 +106,8 @@ impl Words<'_> {
         texts::queue_pair(word.text).ok_or(word.bad(LineWhy::Hex))
     }
 
-    /// Bytes of hexadecimal digits.
+    /// Bytes of 2 to 8,192 hexadecimal digits. Errors: `Missing` where no word is left, `Hex` where the word is none,
+    /// or `OutOfMemory`.
     #[tactic(auto, unfolding(crate::specs::Fields::some_bytes))]
     pub fn bytes(&mut self, alloc: Global) -> Result<Items<u8>, LineFault>
         ensures { GivesOr result self.new (fields.some_bytes self.old) }
@@ -113,7 +119,8 @@ impl Words<'_> {
         }
     }
 
-    /// Rights.
+    /// Rights: `-` for none, or their letters. Errors: `Missing` where no word is left, or `Rights` where the word is
+    /// neither.
     #[tactic(auto, unfolding(crate::specs::Fields::some_rights))]
     pub fn rights(&mut self) -> Result<Rights, Offence>
         ensures value { Gives result self.new (fields.some_rights self.old) }
@@ -123,7 +130,8 @@ impl Words<'_> {
         texts::rights(word.text).ok_or(word.bad(LineWhy::Rights))
     }
 
-    /// An address.
+    /// An IPv4 address, and perhaps a colon and a port. Errors: `Missing` where no word is left, or `Address` where the
+    /// word is none.
     #[tactic(auto, unfolding(crate::specs::Fields::an_address))]
     pub fn address(&mut self) -> Result<Address, Offence>
         ensures { Gives result self.new (fields.an_address self.old) }
@@ -144,7 +152,7 @@ impl Words<'_> {
         Ok(())
     }
 
-    /// `imm` and an immediate, where `imm` stands next.
+    /// `imm` and an immediate, where `imm` stands next. Errors: behind `imm`, those of `key`.
     #[tactic(auto, unfolding(crate::specs::Fields::an_immediate))]
     pub fn immediate(&mut self) -> Result<Option<u32>, Offence>
         ensures { Gives result self.new (fields.an_immediate self.old) }
@@ -156,6 +164,10 @@ impl Words<'_> {
     }
 
     /// `mtu` m `psn` own peer `retry` r `rnr` w `reads` n
+    ///
+    /// Errors: at the first word that is wrong, `Missing` where it is not there, `BadOption` where it is not the word
+    /// that must stand there, or `Number` where it is out of its range: one of the five MTUs, own and peer 0 to
+    /// 16,777,215, r and w 0 to 7, n 1 to 16.
     #[tactic(auto, unfolding(crate::specs::Fields::some_terms))]
     pub fn terms(&mut self) -> Result<Terms, Offence>
         ensures value { Gives result self.new (fields.some_terms self.old) }

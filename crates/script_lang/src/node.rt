@@ -106,7 +106,7 @@ fn read_from(alloc: Global, first: Word<'_>, words: &mut Words<'_>) -> Result<No
     whole_line(alloc, form, words)
 }
 
-/// What a line says whose bytes may stand in one.
+/// What a line with lawful bytes says.
 fn read_words(alloc: Global, line: &[u8]) -> Result<NodeLine, LineFault>
     ensures value { Says result (reading_of_words line_is.Blank lines.node_form_of lines.node_line_of (words_from 1 line.now) (length line.now + 1)) }
     ensures lawful { IfOk result IsLawfulNodeLine }
@@ -124,8 +124,8 @@ fn read_words(alloc: Global, line: &[u8]) -> Result<NodeLine, LineFault>
 ///
 /// # Errors
 ///
-/// As for a line of a script of a world: the first word that is wrong and why, or want of memory, which only `store`
-/// takes.
+/// As for a line of a script of a world: the first word that is wrong and why, or `OutOfMemory`, which only a `store`
+/// can meet.
 #[tactic(auto, unfolding(crate::specs::Lines::node_reading_of))]
 pub fn parse_node_line(alloc: Global, line: &[u8]) -> Result<NodeLine, LineFault>
     ensures value { Says result (node_reading_of line.now) }

@@ -430,7 +430,7 @@ fn put_answer(out: &mut Vec<u8>, answer: &Answer) -> Result<(), AllocError>
 ///
 /// # Errors
 ///
-/// Want of memory. `out` is then as it was.
+/// `AllocError` when out of memory; `out` is then as it was.
 pub fn print_answer(answer: &Answer, out: &mut Vec<u8>) -> Result<(), AllocError>
     ensures ok { OnOk result (out.new.items ≡ out.old.items ++ text.printed answer.now) }
     ensures err { OnErr result (out.new.items ≡ out.old.items) }

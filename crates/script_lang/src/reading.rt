@@ -39,7 +39,8 @@ fn length_printable(line: &[u8]) -> usize
     line.len()
 }
 
-/// The bytes of a line may stand in one, and are not too many.
+/// Whether the bytes may stand in a line, and are not too many. Errors: `Long` where they are over 8,400, and else
+/// `Ascii` at the first byte outside 32 to 126.
 #[tactic(auto, unfolding(crate::specs::Lines::bytes_offence))]
 pub fn check_bytes(line: &[u8]) -> Result<(), Offence>
     ensures good { OnOk result (bytes_offence line.now ≡ None) }
@@ -170,7 +171,7 @@ fn read_from(alloc: Global, first: Word<'_>, words: &mut Words<'_>) -> Result<Li
     whole_line(alloc, form, words)
 }
 
-/// What a line says whose bytes may stand in one.
+/// What a line with lawful bytes says.
 fn read_words(alloc: Global, line: &[u8]) -> Result<Line, LineFault>
     ensures value { Says result (reading_of_words line_is.Blank lines.form_of lines.line_of (words_from 1 line.now) (length line.now + 1)) }
     ensures lawful { IfOk result IsLawfulLine }
@@ -190,7 +191,7 @@ fn read_words(alloc: Global, line: &[u8]) -> Result<Line, LineFault>
 ///
 /// The first word that is wrong and why, of these in order (this project's choice): `Long`, over 8,400 bytes; `Ascii`, a
 /// byte outside 32 to 126; `Word`, no line begins so; then word by word `Missing`, `Name`, `Number`, `Hex`, `Rights`,
-/// `Address` or `BadOption`; last `Extra`. Want of memory, which only `store` takes.
+/// `Address` or `BadOption`; last `Extra`. `OutOfMemory`, which only a `store` can meet.
 #[tactic(auto, unfolding(crate::specs::Lines::reading_of))]
 pub fn parse_line(alloc: Global, line: &[u8]) -> Result<Line, LineFault>
     ensures value { Says result (reading_of line.now) }

@@ -99,11 +99,7 @@ pub fn queue_pair(text: &[u8]) -> Option<u32>
     Some(BigEndian::read_u24(&bytes))
 }
 
-/// The bytes of a word of 2 to 8,192 hexadecimal digits.
-///
-/// # Errors
-///
-/// Want of memory.
+/// The bytes of a word of 2 to 8,192 hexadecimal digits. Errors: `AllocError` when out of memory.
 #[tactic(auto, unfolding(crate::specs::Texts::bytes_of))]
 pub fn bytes(alloc: Global, text: &[u8]) -> Result<Option<Items<u8>>, AllocError>
     ensures { IfOk result (λ bytes. bytes ≡ bytes_of text.now) }
@@ -192,7 +188,7 @@ pub fn rights(text: &[u8]) -> Option<Rights>
     rest.is_empty().then_some(Rights(sum))
 }
 
-/// A number from 0 to 255 at the front of a text, and the text behind the point after it.
+/// A number from 0 to 255 at the start of a text, and the text behind the point after it.
 #[tactic(auto, unfolding(crate::specs::Texts::part_of))]
 fn part(text: &[u8]) -> Option<(u32, &[u8])>
     ensures value { option_map (λ p. record { number = p.0; rest = p.1.now }) result ≡ texts.part_of text.now }

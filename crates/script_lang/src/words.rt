@@ -87,7 +87,7 @@ impl<'a> Words<'a> {
         Some(word)
     }
 
-    /// The next word, which must be there.
+    /// The next word. Errors: `Missing`, at the column past the line's end, where no word is left.
     #[tactic(auto, unfolding(crate::specs::Words::a_word))]
     pub fn word(&mut self) -> Result<Word<'a>, Offence>
         ensures word { IfOk result (λ w. words.a_word self.old ≡ Ok (record { column = w.column; text = w.text.now }, self.new)) }
@@ -114,7 +114,7 @@ impl<'a> Words<'a> {
         }
     }
 
-    /// No more words are left.
+    /// No more words are left. Errors: `Extra` at the first word that is.
     #[tactic(auto, unfolding(crate::specs::Words::the_end))]
     pub fn end(&mut self) -> Result<(), Offence>
         ensures { Gives result self.new (words.the_end self.old) }

@@ -181,7 +181,7 @@ pub record IsMissing (r : Run) : Type 0 where
   pub nothing : Has r.stored name None
   pub written : Writes r (missing_line name)
 
--- ---- statuses 5 and 8: a front of what the command writes
+-- ---- statuses 5 and 8: a prefix of what the command writes
 
 -- the input was read to its end, and this is the answers to it; the machine follows its lines
 pub record AreAnswersRead (r : Run) (answers : List ℕ) : Type 0 where
@@ -211,14 +211,14 @@ IsToWriteBy said r (Some (ShowDump name)) text = (text ≡ []) ⊎ IsDumpRead sa
 abbrev pub IsToWrite : ImageText → Run → List ℕ → Type 0
 IsToWrite said r text = IsToWriteBy said r (command r) text
 
--- status 8: what was written is a front of what the command writes, and the last line
+-- status 8: what was written is a prefix of what the command writes, and the last line
 pub record IsShortOfMemory (said : ImageText) (r : Run) : Type 0 where
   pub front : List ℕ
   pub rest : List ℕ
   pub to_write : IsToWrite said r (front ++ rest)
   pub written : Writes r (front ++ memory_line)
 
--- status 5: what was written is a front of what the command writes, and perhaps a front of a last line
+-- status 5: what was written is a prefix of what the command writes, and perhaps a prefix of a last line
 pub record IsCutOff (said : ImageText) (r : Run) : Type 0 where
   pub front : List ℕ
   pub rest : List ℕ

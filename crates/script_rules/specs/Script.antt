@@ -31,7 +31,7 @@ abbrev pub begins_with : Result Line Offence → ℕ → Script → Script
 begins_with (Ok l) number s = record { lines = l ∷ s.lines; bad = s.bad }
 begins_with (Err e) number s = record { lines = []; bad = Some (record { number = number; offence = e }) }
 
--- what lines say of which the first has this number
+-- what lines say, where the first has this number
 abbrev pub script_from : ℕ → List (List ℕ) → Script
 script_from number [] = record { lines = []; bad = None }
 script_from number (bs ∷ more) = begins_with (reading_of bs) number (script_from (number + 1) more)

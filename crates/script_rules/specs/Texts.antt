@@ -49,7 +49,7 @@ bad_dump_line place why = line (codes "bad") (codes "dump" ∷ decimal place ∷
 abbrev pub depot_line : List ℕ
 depot_line = line (codes "depot") (codes "fault" ∷ [])
 
--- memory was wanting
+-- it was out of memory
 abbrev pub memory_line : List ℕ
 memory_line = line (codes "out") (codes "of" ∷ codes "memory" ∷ [])
 

@@ -50,8 +50,9 @@ pub fn lines_are_followed()
     settling_follows();
 }
 
-/// The machine follows the lines of each text before its first bad one, and what applications hear of them is legal. So it is for
-/// each front of them, as where a run stops early. The world that they leave stands for the state that the machine comes to.
+/// The machine follows the lines of each text before its first bad one, and what applications hear of them is legal. The same
+/// holds for each prefix of them, as where a run stops early. The world that they leave stands for the state that the machine
+/// comes to.
 pub fn scripts_are_followed()
     ensures whole { (text : List ℕ) → IsFollowed text }
     ensures follows_front { (text : List ℕ) (front rest : List Happening) → happenings text ≡ front ++ rest → FollowsAll empty_world empty front }

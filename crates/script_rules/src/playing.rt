@@ -16,8 +16,8 @@ pub fn scripts_say_their_lines()
     ensures { (text : List ℕ) → SaysLines 1 (lines_of text) (script_of text) }
 {}
 
-/// Each line that is not blank has one answer, and what is written for lines is what is written for a front of them, and then for
-/// the others from the world that the front leaves.
+/// Each line that is not blank has one answer, and what is written for lines is what is written for a prefix of them, and then
+/// for the others from the world that the prefix leaves.
 pub fn answers_stand_in_order()
     ensures count { (text : List ℕ) (w : World) → length (answers_in w (happenings text)) ≡ count_by is_answered (script_of text).lines }
     ensures text { (w : World) (front rest : List Happening) → text_from w (front ++ rest) ≡ text_from w front ++ text_from (world_left w front) rest }

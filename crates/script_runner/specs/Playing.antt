@@ -25,7 +25,7 @@ pub record Answers (old : World) (h : Happening) (answer : Answer) (new : World)
   pub answered : answer ≡ (happens old h).answer
   pub left : Leaves old (Some h) new
 
--- a front of a text was put behind what was held
+-- a prefix of a text was put behind what was held
 pub record PutsFront (held held' : Option (List ℕ)) (text : List ℕ) : Type 0 where
   pub front : List ℕ
   pub rest : List ℕ
@@ -38,7 +38,7 @@ IfBadLine P (fault.BadLine line column why) = P (record { number = line; offence
 IfBadLine P fault.WriteFault = Unit {0}
 IfBadLine P fault.OutOfMemory = Unit {0}
 
--- a fault of answering a line: of the sink, or want of memory
+-- a fault of answering a line: of the sink, or out of memory
 abbrev pub IsOneLineFault : PlayFault → Type 0
 IsOneLineFault (fault.BadLine line column why) = ⊥
 IsOneLineFault fault.WriteFault = Unit {0}

@@ -19,7 +19,7 @@ use script_rules::{lines_are_in_range, scripts_are_followed, scripts_are_played_
 use std::alloc::Global;
 use world_core::{Settler, World};
 
-/// Writes a text; after an error a front of it is written.
+/// Writes a text; after an error a prefix of it is written.
 fn write_text<K: Sink>(text: &[u8], output: &mut K) -> Result<(), WriteFault>
     ensures whole { OnOk result (Puts (K.held output.old) (K.held output.new) text.now) }
     ensures part { OnErr result (PutsFront (K.held output.old) (K.held output.new) text.now) }
@@ -96,7 +96,7 @@ fn play_line<T: Settler, K: Sink>(
 ///
 /// # Errors
 ///
-/// The first bad line, where the lines before it are answered; a fault of the sink, and want of memory, where a front of
+/// The first bad line, where the lines before it are answered; a fault of the sink, or `OutOfMemory`, where a prefix of
 /// the answers is written.
 pub fn play_world<T: Settler, K: Sink>(
     alloc: Global,

@@ -10,7 +10,7 @@ ghost use Rattle.segmenter.specs.Heads.{asks_by_place};
 pub struct PacketHead {
     /// Its opcode.
     pub opcode: u8,
-    /// The remote address from which its bytes are written or read.
+    /// The remote address where its bytes begin, to be written or read.
     pub remote: u64,
     /// How many bytes are left from there: the length of its RETH, if it has one.
     pub rest: u32,

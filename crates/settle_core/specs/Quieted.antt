@@ -20,6 +20,6 @@ pub record Quiets (w : World) (m : Machine) (new : World) (listed : List (ObjNam
   pub left : new ≡ forgetful (settled w).world
   pub quiet : (m' : Machine) → Stands (settled w).world m' → IsQuiet new m' listed
 
--- .. of each whole world of which this one keeps the last datagrams, and each machine state for which it stands
+-- .. of each whole world whose last datagrams this one keeps, and each machine state for which it stands
 abbrev pub IsQuieted : World → World → List (ObjName × LeftWhy) → Type 0
 IsQuieted old new listed = (w : World) (m : Machine) → forgetful w ≡ old → Stands w m → Quiets w m new listed

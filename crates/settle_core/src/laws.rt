@@ -10,8 +10,8 @@ ghost use Rattle.world_core.specs.declared.settling.Quiet.{Quiet};
 use settling_leaves::settling_leaves;
 use settling_steps::{settling_follows, settling_is_events};
 
-/// What a `Settler` leaves, whichever it is, is quiet, where the carried images keep the rules: the packetless machine follows the
-/// settling of each whole world of which the old one keeps the last datagrams; nothing is pending; and each end with untold
+/// What a `Settler` leaves, whichever it is, is quiet, where the carried images keep the rules: the packetless machine follows
+/// the settling of each whole world whose last datagrams the old one keeps; nothing is pending; and each end with untold
 /// requests is listed once, in order, with the first reason that holds.
 pub fn settled_worlds_are_quiet()
     ensures { (old new : World) (q : Quiet) → All IsLawful old.carried → IsSettled old new q → IsQuieted old new q.unfinished }

@@ -108,16 +108,15 @@ impl Notes {
 }
 
 impl Settler for Rounds {
-    /// Settles a world by rounds, of which it takes at most 32 for each unit of the load. Where the world stands for a
-    /// state of the packetless machine, nothing changes in the last of them and no timer is stepped
-    /// (`settling_bound::settling_ends`). The packetless machine follows it, and the world is then quiet: nothing is pending,
-    /// and each end with untold requests is listed with the first reason that holds. That is so of every settler
-    /// ([`settled_worlds_are_quiet`]).
+    /// Settles a world by rounds, at most 32 for each unit of the load. Where the world stands for a state of the packetless
+    /// machine, nothing changes in the last of them and no timer is stepped (`settling_bound::settling_ends`). The packetless
+    /// machine follows it, and the world is then quiet: nothing is pending, and each end with untold requests is listed with
+    /// the first reason that holds. That is so of every settler ([`settled_worlds_are_quiet`]).
     ///
     /// # Errors
     ///
-    /// Where no memory is left, or the most rounds do not fit in 64 bits. The world is then one that some steps of
-    /// settling lead to.
+    /// `AllocError` when out of memory, or where the most rounds do not fit in 64 bits. The world is then one that some
+    /// steps of settling lead to.
     fn settle(&self, alloc: Global, world: &mut World) -> Result<Quiet, AllocError>
         ensures settled { IfOk result (λ quiet. IsSettled world.old world.new quiet) }
         ensures few { IfOk result (λ quiet. quiet.rounds ≤ 32 * load_of world.old) }

@@ -1,4 +1,4 @@
--- The events of which settling is made.
+-- The events that settling is made of.
 use Rattle.std.specs.Prelude.{◌≡◌, List, All}
 use Rattle.protocol.specs.declared.events.Event.{Event}
 use Rattle.protocol.specs.declared.events.Event.TheVariants.{Transmit, Expire, RnrOver}

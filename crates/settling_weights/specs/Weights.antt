@@ -30,7 +30,7 @@ phase_left Running = 1
 phase_left Paused = 0
 phase_left Resuming = 2
 
--- .. of which one more comes with the news of the partner's last move, and the last one is Error
+-- .. one more of them comes with the news of the partner's last move, and the last one is Error
 unfoldable pub moves_left : ℕ → Moving → ℕ
 moves_left partner m = 1 + phase_left m.phase + (if nat_lt m.recorded partner then 2 else 0)
 

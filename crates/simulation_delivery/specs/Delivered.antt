@@ -1,4 +1,4 @@
--- The delivery of a datagram: what is owed of each kind of datagram, so that the machine follows every delivery.
+-- The delivery of a datagram: what must hold of each kind of datagram, so that the machine follows every delivery.
 use Rattle.std.specs.Prelude.{◌≡◌, ℕ, ◌-◌, List, [], ◌∷◌, slice_get, Bool, true, false, Option, Some, None, if◌then◌else◌}
 use Rattle.rdma_types.specs.declared.names.ObjName.{ObjName}
 use Rattle.rdma_types.specs.declared.answers.Answer.TheVariants as answers
@@ -68,7 +68,7 @@ pub record Takes (w : World) (m : Machine) (o : ObjName) (l : Link) (number : Op
   pub allowed : CarriesNumbered w m o number d.payload (class_of d) steps
   pub stands : Stands (ran w (ended_step (home w o.context) (takes (context_there w o) (end_there w o) l d))).world (after m steps)
 
--- ---- what is owed of each kind
+-- ---- what must hold of each kind
 
 -- a datagram of that kind is followed at each end that lives in Rts
 abbrev pub IsOwed : Class → Type 0

@@ -1,5 +1,5 @@
 //! The law of deliveries: the machine follows each delivery of a datagram, where it follows each kind of datagram at the
-//! ends that live in Rts. `specs/Delivered.antt` says what is owed of each kind.
+//! ends that live in Rts. `specs/Delivered.antt` says what must hold of each kind.
 //!
 //! The functions have no code. Each promises the law that it names.
 #![tactic(auto)]

@@ -21,7 +21,7 @@ asked m o n = request_for (machine.end_of m (machine.end_of m o).peer) n
 abbrev pub current_of : Machine → ObjName → Posted
 current_of m o = current (machine.end_of m (machine.end_of m o).peer)
 
--- each request n that arrives at an end in Rts, of which a test holds, is followed
+-- each request n that arrives at an end in Rts, and for which a test holds, is followed
 abbrev pub AreTakenWhere : (World → Machine → ObjName → Link → ℕ → Packet → Type 0) → Type 0
 AreTakenWhere Test =
     (w : World) (m : Machine) (o : ObjName) (l : Link) (n : ℕ) (bytes : List ℕ) (d : Packet) →

@@ -1,5 +1,5 @@
-//! The law of responses: what is owed of each kind of response that arrives at an end in Rts, and that the machine so
-//! follows their deliveries.
+//! The law of responses: what must hold of each kind of response that arrives at an end in Rts does hold, and so the
+//! machine follows their deliveries.
 //!
 //! The functions do nothing. Each promises the law that it names.
 #![tactic(auto)]

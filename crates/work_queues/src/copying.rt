@@ -5,7 +5,7 @@ ghost use Rattle.std.specs.Prelude.{◌≡◌, IfOk};
 use crate::{RecvQueue, SendQueue};
 use std::alloc::{AllocError, Global};
 
-/// An equal queue of requests, for a copy of their pool.
+/// An equal queue of requests, for a copy of their pool. Errors: `AllocError` when out of memory.
 pub fn copy_sends(alloc: Global, queue: &SendQueue) -> Result<SendQueue, AllocError>
     ensures { IfOk result (λ q. q ≡ queue.now) }
 {
@@ -17,7 +17,7 @@ pub fn copy_sends(alloc: Global, queue: &SendQueue) -> Result<SendQueue, AllocEr
     Ok(copy)
 }
 
-/// An equal queue of receives.
+/// An equal queue of receives. Errors: `AllocError` when out of memory.
 pub fn copy_recvs(alloc: Global, queue: &RecvQueue) -> Result<RecvQueue, AllocError>
     ensures { IfOk result (λ q. q ≡ queue.now) }
 {

@@ -29,7 +29,7 @@ impl<T> Model for WorkQueue<T> {
 }
 
 impl<T> WorkQueue<T> {
-    /// An empty queue of this depth.
+    /// An empty queue of this depth. Errors: `AllocError` when out of memory.
     pub fn make(alloc: Global, depth: u32) -> Result<WorkQueue<T>, AllocError>
         ensures { IfOk result (λ q. q ≡ empty_queue depth) }
     {
@@ -37,7 +37,8 @@ impl<T> WorkQueue<T> {
         Ok(WorkQueue { depth, held })
     }
 
-    /// Puts work at the end. It comes back exactly where the depth is reached, and the queue then stays as it was.
+    /// Puts work at the end. Errors: the work itself, exactly where the depth is reached; the queue then stays as it
+    /// was.
     pub fn post(&mut self, item: T) -> Result<(), T>
         ensures ok { OnOk result (self.new ≡ posting self.old item) }
         ensures full { IsErr result ↔ (length self.old.items ≡ self.old.depth) }

@@ -90,7 +90,8 @@ fn put_send(out: &mut Vec<u8>, message: &Message) -> Result<(), AllocError>
     put(out, b"\n")
 }
 
-/// The posting of a message of kind 0 to 3: a Write, a Read, a FetchAdd, or a Send and its receive.
+/// The posting of a message of kind 0 to 3: a Write, a Read, a FetchAdd, or a Send and its receive. Errors:
+/// `AllocError` when out of memory; what `out` then holds is not said.
 #[tactic(auto, unfolding(crate::specs::Plan::posting_lines))]
 pub fn put_posting(out: &mut Vec<u8>, kind: u32, message: &Message) -> Result<(), AllocError>
     requires { kind < 4 }

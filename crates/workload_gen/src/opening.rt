@@ -79,7 +79,8 @@ fn put_connections(out: &mut Vec<u8>, connections: u32) -> Result<(), AllocError
     Ok(())
 }
 
-/// Three devices, two contexts and what they have, and the connections between them.
+/// Three devices, two contexts and what they have, and the connections between them, 8 at the most. Errors:
+/// `AllocError` when out of memory; what `out` then holds is not said.
 #[tactic(auto, using(std::proofs::lemmas::List::append_assoc), unfolding(crate::specs::Plan::opening_lines))]
 pub fn put_opening(out: &mut Vec<u8>, connections: u32) -> Result<(), AllocError>
     requires { connections ≤ 8 }

@@ -72,9 +72,7 @@ fn put_messages(out: &mut Vec<u8>, seed: u64, mix: &Mix) -> Result<(), AllocErro
 /// The script of a seed: the opening lines, messages with what is done after each, moves of the second context between
 /// them, and the closing lines (this project's choice). The same seed and mix always give the same bytes.
 ///
-/// # Errors
-///
-/// Want of memory.
+/// Errors: `AllocError` when out of memory.
 #[tactic(auto, using(std::proofs::lemmas::List::append_assoc), unfolding(crate::specs::Plan::plan))]
 pub fn plan_of(alloc: Global, seed: u64, mix: &Mix) -> Result<Vec<u8>, AllocError>
     requires connections { (0 < mix.now.connections) × (mix.now.connections ≤ 8) }

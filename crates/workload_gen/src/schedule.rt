@@ -39,7 +39,8 @@ fn put_two(out: &mut Vec<u8>, connection: u32) -> Result<(), AllocError>
 }
 
 /// What is sent after message `number`: each sixteenth from the first on is sent and expires, and for another `bits`, 0
-/// to 3, say whether it is sent once, twice or not at all, or all is settled.
+/// to 3, say whether it is sent once, twice or not at all, or all is settled. Errors: `AllocError` when out of memory;
+/// what `out` then holds is not said.
 #[tactic(auto, using(crate::proofs::Growth::nothing_more), unfolding(crate::specs::Plan::sending_lines))]
 pub fn put_sending(
     out: &mut Vec<u8>,
@@ -61,7 +62,8 @@ pub fn put_sending(
     }
 }
 
-/// Settles and polls after each sixteenth message.
+/// Settles and polls after each sixteenth message. Errors: `AllocError` when out of memory; what `out` then holds is
+/// not said.
 #[tactic(auto, unfolding(crate::specs::Plan::polling_lines))]
 pub fn put_polling(out: &mut Vec<u8>, number: u32) -> Result<(), AllocError>
     ensures { OnOk result (out.new.items ≡ out.old.items ++ plan.polling_lines number) }
@@ -96,7 +98,8 @@ fn put_move_at(out: &mut Vec<u8>, mix: &Mix, number: u32, k: u64) -> Result<(), 
     }
 }
 
-/// The moves that stand after message `number`, or before the first where it is 0.
+/// The moves that stand after message `number`, or before the first where it is 0. Errors: `AllocError` when out of
+/// memory; what `out` then holds is not said.
 #[tactic(auto, using(crate::proofs::Growth::moves_start, crate::proofs::Growth::moves_more))]
 pub fn put_moves(out: &mut Vec<u8>, mix: &Mix, number: u32) -> Result<(), AllocError>
     ensures { OnOk result (out.new.items ≡ out.old.items ++ plan.moves_at mix.now number mix.now.moves) }

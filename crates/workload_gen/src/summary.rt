@@ -117,7 +117,7 @@ fn line_count(text: &[u8]) -> usize
 ///
 /// # Errors
 ///
-/// Want of memory.
+/// `AllocError` when out of memory.
 #[tactic(auto, using(std::proofs::lemmas::List::append_assoc), unfolding(crate::specs::Summary::summary))]
 pub fn summary_of(alloc: Global, script: &[u8], text: &[u8]) -> Result<Vec<u8>, AllocError>
     ensures { IfOk result (λ l. l.items ≡ spec.summary script.now text.now) }

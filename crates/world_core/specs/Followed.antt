@@ -15,6 +15,6 @@ pub record Follows (w : World) (m : Machine) (e : WorldEvent) (answer : Answer) 
   pub reached : Reaches w m e (world_step w e).world answer
   pub left : new ≡ forgetful (world_step w e).world
 
--- .. from each whole world of which this one keeps the last datagrams, and each machine state for which it stands
+-- .. from each whole world whose last datagrams this one keeps, and each machine state for which it stands
 abbrev pub IsFollowed : World → WorldEvent → Answer → World → Type 0
 IsFollowed old e answer new = (w : World) (m : Machine) → forgetful w ≡ old → Stands w m → IsInRange e → Follows w m e answer new

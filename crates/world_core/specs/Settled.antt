@@ -1,4 +1,4 @@
--- What a settler owes.
+-- What a settler must do.
 use Rattle.std.specs.Prelude.{◌≡◌, List, All}
 use Rattle.protocol.specs.declared.events.WorldEvent.{WorldEvent}
 use Rattle.protocol.specs.State.{World}

@@ -12,7 +12,7 @@ use indexmap::IndexMap;
 use rdma_types::Name;
 use std::hash::Hash;
 
-/// Notes the place of a key, for which there is room.
+/// Notes the place of a key. There must be room for it.
 pub(crate) fn put_place<K: Eq + Hash + Drop>(index: &mut IndexMap<K, usize>, key: K, place: usize)
     requires { 0 < spare index.old }
     ensures { (k : K) → get K.eq index.new k ≡ (if K.eq key k then Some place else get K.eq index.old k) }
@@ -39,7 +39,7 @@ fn home_among(devices: &[Device], name: Name) -> Option<usize>
     devices.iter().position(|d| d.has_context(name))
 }
 
-/// Notes the place of the device where a context lives, for which there is room, or that it lives nowhere.
+/// Notes the place of the device where a context lives, or that it lives nowhere. There must be room for it.
 fn put_home(homes: &mut IndexMap<Name, usize>, name: Name, place: Option<usize>)
     requires { 0 < spare homes.old }
     ensures { (m : name_of.Name) → get bytes_eq homes.new m ≡ (if bytes_eq name m then place else get bytes_eq homes.old m) }

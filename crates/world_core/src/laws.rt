@@ -1,4 +1,4 @@
-//! What holds of the whole world of which a world keeps the last datagrams.
+//! What holds of each whole world whose last datagrams a world keeps.
 
 ghost use Rattle.rdma_types.specs.declared.answers.Answer.{Answer};
 ghost use Rattle.protocol.specs.declared.events.WorldEvent.{WorldEvent};
@@ -10,8 +10,8 @@ ghost use Rattle.world_core.specs.Kept.{Makes};
 use alike_worlds::alike_worlds_are_answered_alike;
 use simulation_runs::events_follow;
 
-/// A call that makes the rules' step of a world makes it of each whole world of which this one keeps the last datagrams, and
-/// the packetless machine follows it.
+/// A call that makes the rules' step of a world makes it of each whole world whose last datagrams this one keeps, and the
+/// packetless machine follows it.
 pub fn steps_are_followed()
     ensures { (old new : World) (e : WorldEvent) (answer : Answer) → Makes (world_step old e) answer new → IsFollowed old e answer new }
 {

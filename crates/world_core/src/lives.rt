@@ -50,11 +50,7 @@ impl World {
         self.fabric.is_pending(k)
     }
 
-    /// The live ends, in order of devices, contexts and queue pairs.
-    ///
-    /// # Errors
-    ///
-    /// Where no memory is left.
+    /// The live ends, in order of devices, contexts and queue pairs. Errors: `AllocError` when out of memory.
     pub fn live_ends(&self, alloc: Global) -> Result<Items<LiveEnd>, AllocError>
         ensures { IfOk result (λ ends. ends ≡ live_list self.now) }
     {

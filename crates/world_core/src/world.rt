@@ -18,7 +18,7 @@ use rdma_types::{Answer, Name};
 use std::alloc::{AllocError, Global};
 use std::marker::Model;
 
-/// As many datagrams may have been sent before a step; a step after more of them answers want of memory.
+/// As many datagrams may have been sent before a step; a step after more of them answers that it is out of memory.
 const MOST_SENT: u64 = 1 << 62;
 
 /// Devices, the network between them, and the carried images of stopped contexts. Contracts see every datagram ever
@@ -51,7 +51,7 @@ impl Model for World {
 }
 
 impl World {
-    /// No device, no datagram and no image.
+    /// A world with no device, no datagram and no image. Errors: `AllocError` when out of memory.
     pub fn make(alloc: Global) -> Result<World, AllocError>
         ensures { IfOk result (λ w. w ≡ empty_world) }
     {
@@ -71,7 +71,7 @@ impl World {
     ///
     /// # Errors
     ///
-    /// Where no memory is left, and then nothing has changed.
+    /// `AllocError` when out of memory; nothing has changed.
     pub fn step(&mut self, alloc: Global, event: &WorldEvent) -> Result<Answer, AllocError>
         requires { IsLawfulWorldEvent event.now }
         ensures ok { IfOk result (λ answer. Makes (world_step self.old event.now) answer self.new) }
