@@ -1,5 +1,5 @@
 -- The usual opening of a script, and the names in it.
-use Rattle.std.specs.Prelude.{ℕ, List, [], ◌∷◌, Some}
+use Rattle.std.specs.Prelude.{ℕ, List, [], ◌∷◌, ◌++◌, Some}
 use Rattle.rdma_types.specs.declared.answers.Answer.{Answer}
 use Rattle.rdma_types.specs.declared.answers.Answer.TheVariants.{Done, Qp}
 use Rattle.rdma_types.specs.declared.names.Name.{Name}
@@ -100,9 +100,9 @@ opening s =
     ∷ connect (obj n_a n_q) (obj n_b n_q) 256 s.start 200 s.retry s.rnr 4
     ∷ []
 
--- what it is answered
-abbrev pub opened : List Answer
-opened =
+-- what it is answered before the queue pairs are connected
+abbrev pub made : List Answer
+made =
     Done
     ∷ Done
     ∷ Done
@@ -116,5 +116,11 @@ opened =
     ∷ Done
     ∷ Qp 65537
     ∷ Qp 131073
-    ∷ Done
+    ∷ []
+
+-- what it is answered
+abbrev pub opened : List Answer
+opened =
+    made
+    ++ Done
     ∷ []

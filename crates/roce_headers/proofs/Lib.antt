@@ -1,3 +1,4 @@
 pub mod Grammar
 pub mod Written
 pub mod Ranges
+pub mod Fitting

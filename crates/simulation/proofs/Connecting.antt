@@ -3,7 +3,7 @@ use Rattle.std.proofs.Common.{arith, ◌≡◌, ◌≢◌, ◌≤◌, ◌+◌, �
 use Rattle.std.specs.Prelude.{Some, not, ◌&&◌, if◌then◌else◌, is_some, flat_map, bytes_eq}
 use Rattle.std.specs.List.{count_by}
 use Rattle.std.proofs.Math.Nat.{zero-div, zero-mod}
-use Rattle.std.proofs.lemmas.List.Elements.{All-nil, All-weaker}
+use Rattle.std.proofs.lemmas.List.Elements.{All-nil}
 use Rattle.rdma_types.specs.declared.names.Name.{Name}
 use Rattle.rdma_types.specs.declared.names.ObjName.{ObjName}
 use Rattle.rdma_types.specs.declared.requests.Address.{Address}
@@ -19,12 +19,12 @@ use Rattle.protocol.specs.State.{World, Device, Link, Phase, Running, Resuming, 
 use Rattle.protocol.specs.WorldStep.{is_live, is_carried, home, exchanged}
 use Rattle.ideal_model.specs.Machine.{Machine, End, new_end, untold_count}
 use Rattle.ideal_model.specs.Numbers.{due, oldest}
-use Rattle.ideal_model.specs.Sound.{IsOfferOf}
 use Rattle.ideal_model.specs.Steps.{in_place, untold}
 use Rattle.ideal_model.specs.Verbs as verbing
 use Rattle.simulation.specs.Views.{Side, contexts_of, context_of, end_of, home_in, address_or_none, place_of, side_of, in_rts, link_or_none}
 use Rattle.simulation.specs.Joined.{IsJoined, old_values, last_of}
 use Rattle.simulation.specs.Stands.{IsEndSound, IsPlaced}
+use Rattle.simulation.proofs.SoundEnds.{sound_still}
 use Rattle.simulation.proofs.Tables.{name_or_not, count_by-cons, named-store_same, named-store_other}
 use Rattle.simulation.proofs.Worlds.{WorldChanged, context_here, context_other, home_found, has_name-flat, place_same}
 
@@ -166,24 +166,7 @@ fresh_joined o p e f t a b terms apart = record {
 pub joined_sound : (regions : List Region) (names : List Name) (e : End) (p : ObjName) (t : Terms) → IsEndSound regions names e → IsEndSound regions names (verbing.joined p t e)
 unfolding verbing.joined in_place untold untold_count
 joined_sound regions names e p t s = record {
-  sound = record {
-    acted_posted = s.sound.acted_posted;
-    told_posted = s.sound.told_posted;
-    told_acted = s.sound.told_acted;
-    over = s.sound.over;
-    unfinished = s.sound.unfinished;
-    whole_turns = s.sound.whole_turns;
-    known_there = s.sound.known_there;
-    known_within = s.sound.known_within;
-    unlanded = s.sound.unlanded;
-    whole_atomics = s.sound.whole_atomics;
-    replies = s.sound.replies;
-    answered = s.sound.answered;
-    offers = All-weaker (IsOfferOf e) (IsOfferOf (record e { connected = true; peer = p; mtu = t.mtu; retry = t.retry; rnr = t.rnr; spent = 0; waits = 0 })) (λ x h. record { acted = h.acted; reads = h.reads; inside = h.inside }) e.offers s.sound.offers;
-    sizes = s.sound.sizes;
-    depth = s.sound.depth;
-    receive_depth = s.sound.receive_depth;
-  };
+  sound = sound_still e (verbing.joined p t e) s.sound.offers s.sound.receive_depth s.sound;
   made = λ h. absurd (cc);
   depth = s.depth;
   send_queue = s.send_queue;

@@ -1,7 +1,6 @@
 -- The facts of all ends, husks and datagrams are kept where one end in Rts posts one more request.
 use Rattle.std.proofs.Common.{arith, ◌≡◌, ◌≢◌, ◌≤◌, ◌<◌, ◌+◌, ℕ, List, length, true, false, sym, ap, ◌∙◌, subst, inl, inr}
 use Rattle.std.specs.Prelude.{Option, Some, None}
-use Rattle.std.proofs.lemmas.List.Elements.{All-weaker}
 use Rattle.rdma_types.specs.declared.names.Name.{Name}
 use Rattle.rdma_types.specs.declared.names.ObjName.{ObjName}
 use Rattle.rdma_types.specs.Limits.{number_limit}
@@ -11,12 +10,13 @@ use Rattle.protocol.specs.Wire.{Packet, packet_of}
 use Rattle.protocol.specs.State.{Flight, HuskEntry}
 use Rattle.ideal_model.specs.Machine.{End, untold_count}
 use Rattle.ideal_model.specs.Numbers.{due}
-use Rattle.ideal_model.specs.Sound.{IsSound, IsOfferOf}
+use Rattle.ideal_model.specs.Sound.{IsSound}
 use Rattle.ideal_model.specs.Steps.{in_place}
 use Rattle.simulation.specs.Views.{Net, Side, peer, requests_of}
 use Rattle.simulation.specs.Joined.{IsJoined, IsProgress, IsSayable}
 use Rattle.simulation.specs.Facts.{HuskFact, IsLeft, BytesFact, PacketFact}
 use Rattle.simulation.specs.Stands.{AreJoined, AreLeft, AreSent, AreProgressing}
+use Rattle.simulation.proofs.SoundEnds.{sound_still}
 use Rattle.simulation.proofs.Tables.{same_name}
 use Rattle.simulation.proofs.Grows.{IsConnected, joined_like, object_or_not}
 use Rattle.simulation.proofs.OnePosted.{posted_end, posted_side, posted_joined, peer_joined, progress_posted, left_own, left_peer, fact_to, fact_from}
@@ -24,24 +24,7 @@ use Rattle.simulation.proofs.OnePosted.{posted_end, posted_side, posted_joined, 
 -- an end is sound without its receives
 pub requests_sound : (e : End) → IsSound e → IsSound (requests_of e)
 unfolding in_place untold_count
-requests_sound e s = record {
-  acted_posted = s.acted_posted;
-  told_posted = s.told_posted;
-  told_acted = s.told_acted;
-  over = s.over;
-  unfinished = s.unfinished;
-  whole_turns = s.whole_turns;
-  known_there = s.known_there;
-  known_within = s.known_within;
-  unlanded = s.unlanded;
-  whole_atomics = s.whole_atomics;
-  replies = s.replies;
-  answered = s.answered;
-  offers = All-weaker (IsOfferOf e) (IsOfferOf (requests_of e)) (λ o h. record { acted = h.acted; reads = h.reads; inside = h.inside }) e.offers s.offers;
-  sizes = s.sizes;
-  depth = s.depth;
-  receive_depth = omega arith;
-}
+requests_sound e s = sound_still e (requests_of e) s.offers (omega arith) s
 
 -- from n to n' the end o posts the request r
 pub record NetPosts (n n' : Net) (o : ObjName) (r : Posted) : Type 0 where

@@ -11,10 +11,10 @@ use Rattle.rdma_types.specs.Objects.{CompletionQueue, Region}
 use Rattle.rdma_types.specs.Kinds.{kind_of, size_of}
 use Rattle.rdma_types.specs.Memory.{LocalWrite, Right, is_granted, landing_right, local_key}
 use Rattle.ideal_model.specs.Machine.{End, new_end, untold_count}
-use Rattle.ideal_model.specs.Sound.{IsOfferOf}
 use Rattle.rdma_types.specs.declared.requests.Receive.{Receive}
 use Rattle.ideal_model.specs.Steps.{in_place, untold, receives_of}
 use Rattle.simulation.specs.Stands.{IsEndSound}
+use Rattle.simulation.proofs.SoundEnds.{sound_still}
 use Rattle.simulation.proofs.Tables.{has_name-map, has_name-push}
 
 -- ---- queues
@@ -73,24 +73,7 @@ queues_like regions names names' es same all = subst (λ ns. All (IsEndSound reg
 pub receiving_sound : (regions : List Region) (names : List Name) (e : End) (v : Receive) → length e.unused < e.receive_depth → is_granted local_key regions e.domain v.lkey v.local v.length LocalWrite ≡ true → IsEndSound regions names e → IsEndSound regions names (record e { unused = e.unused ++ v ∷ [] })
 unfolding in_place untold untold_count
 receiving_sound regions names e v room granted s = record {
-  sound = record {
-    acted_posted = s.sound.acted_posted;
-    told_posted = s.sound.told_posted;
-    told_acted = s.sound.told_acted;
-    over = s.sound.over;
-    unfinished = s.sound.unfinished;
-    whole_turns = s.sound.whole_turns;
-    known_there = s.sound.known_there;
-    known_within = s.sound.known_within;
-    unlanded = s.sound.unlanded;
-    whole_atomics = s.sound.whole_atomics;
-    replies = s.sound.replies;
-    answered = s.sound.answered;
-    offers = All-weaker (IsOfferOf e) (IsOfferOf (record e { unused = e.unused ++ v ∷ [] })) (λ x h. record { acted = h.acted; reads = h.reads; inside = h.inside }) e.offers s.sound.offers;
-    sizes = s.sound.sizes;
-    depth = s.sound.depth;
-    receive_depth = omega (arith, room, length_push e.unused v);
-  };
+  sound = sound_still e (record e { unused = e.unused ++ v ∷ [] }) s.sound.offers (omega (arith, room, length_push e.unused v)) s.sound;
   made = s.made;
   depth = s.depth;
   send_queue = s.send_queue;

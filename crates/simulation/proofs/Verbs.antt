@@ -128,11 +128,11 @@ at_live w m e v s iv live there = by_device w m e v _ s iv live there refl
 
 -- ---- by where the context is
 
-stepped_at : (w : World) (e : Event) (r : Option Refusal) → first_cause (context_causes w (context_of_event e) []) ≡ r → world_step w (world_events.At e) ≡ step.by_refusal w r (runs w (home w (context_of_event e)) e)
+pub stepped_at : (w : World) (e : Event) (r : Option Refusal) → first_cause (context_causes w (context_of_event e) []) ≡ r → world_step w (world_events.At e) ≡ step.by_refusal w r (runs w (home w (context_of_event e)) e)
 unfolding world_step step.steps_at
 stepped_at w e r h = ap (λ x. step.by_refusal w x (runs w (home w (context_of_event e)) e)) h
 
-causes_are : (w : World) (c : Name) → first_cause (context_causes w c []) ≡ (if is_live w c then None else if is_carried w c then Some refusals.Stopped else Some refusals.NoSuch)
+pub causes_are : (w : World) (c : Name) → first_cause (context_causes w c []) ≡ (if is_live w c then None else if is_carried w c then Some refusals.Stopped else Some refusals.NoSuch)
 unfolding first_cause
 causes_are w c = by_tests (is_live w c) (is_carried w c)
   where
