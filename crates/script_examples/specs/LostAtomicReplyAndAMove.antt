@@ -1,15 +1,13 @@
 -- The reply to an addition is lost, its owner moves, and the addition acts once.
 use Rattle.std.specs.Prelude.{ℕ, List, ◌++◌, codes}
 use Rattle.script_examples.specs.Openings.{usual_opening, opened}
+use Rattle.script_examples.specs.LostAtomicReply.{lost, lost_written, looks, shown}
 
 -- the script
 abbrev pub script : List ℕ
 script =
     usual_opening
-    ++ codes "add a.q 1 01000002 4096 8192 02000003 5\n"
-    ++ codes "go a.q\n"
-    ++ codes "deliver 1\n"
-    ++ codes "lose 2\n"
+    ++ lost
     ++ codes "stop b\n"
     ++ codes "restore b 3\n"
     ++ codes "expire a.q\n"
@@ -22,18 +20,13 @@ script =
     ++ codes "go a.q\n"
     ++ codes "deliver 7\n"
     ++ codes "deliver 8\n"
-    ++ codes "poll a.c 4\n"
-    ++ codes "load a.m 4096 8\n"
-    ++ codes "load b.n 8192 8\n"
+    ++ looks
 
 -- what is written for it
 abbrev pub written : List ℕ
 written =
     opened
-    ++ codes "ok\n"
-    ++ codes "sent 1\n"
-    ++ codes "took old sent 2\n"
-    ++ codes "ok\n"
+    ++ lost_written
     ++ codes "stopped\n"
     ++ codes "ok\n"
     ++ codes "expired 1\n"
@@ -46,6 +39,4 @@ written =
     ++ codes "sent 7\n"
     ++ codes "took old sent 8\n"
     ++ codes "took landed\n"
-    ++ codes "wc 010001 1 add 0 8\n"
-    ++ codes "bytes 0000000000000000\n"
-    ++ codes "bytes 0000000000000005\n"
+    ++ shown

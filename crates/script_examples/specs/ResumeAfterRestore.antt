@@ -1,20 +1,11 @@
 -- A restored end resumes its connection.
 use Rattle.std.specs.Prelude.{ℕ, List, ◌++◌, codes}
-use Rattle.script_examples.specs.Openings.{usual_opening, opened}
+use Rattle.script_examples.specs.HuskAnswersAndPeerPauses as paused
 
 -- the script
 abbrev pub script : List ℕ
 script =
-    usual_opening
-    ++ codes "store a.m 4096 deadbeef\n"
-    ++ codes "write a.q 1 01000002 4096 4 8192 02000003\n"
-    ++ codes "go a.q\n"
-    ++ codes "stop b\n"
-    ++ codes "deliver 1\n"
-    ++ codes "wire 2\n"
-    ++ codes "deliver 2\n"
-    ++ codes "expire a.q\n"
-    ++ codes "go a.q\n"
+    paused.script
     ++ codes "restore b 3\n"
     ++ codes "go b.q\n"
     ++ codes "wire 3\n"
@@ -25,16 +16,7 @@ script =
 -- what is written for it
 abbrev pub written : List ℕ
 written =
-    opened
-    ++ codes "ok\n"
-    ++ codes "ok\n"
-    ++ codes "sent 1\n"
-    ++ codes "stopped\n"
-    ++ codes "took stopped sent 2\n"
-    ++ codes "wire 1100ffff00010001000000646500000000000000\n"
-    ++ codes "took paused\n"
-    ++ codes "notcounted paused\n"
-    ++ codes "waiting\n"
+    paused.written
     ++ codes "ok\n"
     ++ codes "sent 3\n"
     ++ codes "wire 1e00ffff0001000100000000000000010a00000312b7000000000000\n"

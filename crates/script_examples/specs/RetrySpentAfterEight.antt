@@ -2,33 +2,23 @@
 use Rattle.std.specs.Prelude.{ℕ, List, ◌++◌, codes}
 use Rattle.script_examples.specs.Openings.{usual_opening, opened}
 
+-- two expiries, and the write is sent again
+abbrev pub again : List ℕ
+again = codes "expire a.q\nexpire a.q\ngo a.q\n"
+
 -- the script
 abbrev pub script : List ℕ
 script =
     usual_opening
     ++ codes "write a.q 1 01000002 4096 4 8192 02000003\n"
     ++ codes "go a.q\n"
-    ++ codes "expire a.q\n"
-    ++ codes "expire a.q\n"
-    ++ codes "go a.q\n"
-    ++ codes "expire a.q\n"
-    ++ codes "expire a.q\n"
-    ++ codes "go a.q\n"
-    ++ codes "expire a.q\n"
-    ++ codes "expire a.q\n"
-    ++ codes "go a.q\n"
-    ++ codes "expire a.q\n"
-    ++ codes "expire a.q\n"
-    ++ codes "go a.q\n"
-    ++ codes "expire a.q\n"
-    ++ codes "expire a.q\n"
-    ++ codes "go a.q\n"
-    ++ codes "expire a.q\n"
-    ++ codes "expire a.q\n"
-    ++ codes "go a.q\n"
-    ++ codes "expire a.q\n"
-    ++ codes "expire a.q\n"
-    ++ codes "go a.q\n"
+    ++ again
+    ++ again
+    ++ again
+    ++ again
+    ++ again
+    ++ again
+    ++ again
     ++ codes "expire a.q\n"
 
 -- what is written for it

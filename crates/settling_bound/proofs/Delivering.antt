@@ -92,7 +92,7 @@ unfolding found_in
 all_numbered n [] = All-nil _
 all_numbered n (c ∷ cs) = All-append (λ x. x.end.number ≡ n) (ends_with n c c.ends) (found_in n cs) (ends_numbered n c c.ends) (all_numbered n cs)
 
-found_number : (n : ℕ) (cs : List Context) (x : Found) (xs : List Found) → found_in n cs ≡ x ∷ xs → x.end.number ≡ n
+pub found_number : (n : ℕ) (cs : List Context) (x : Found) (xs : List Found) → found_in n cs ≡ x ∷ xs → x.end.number ≡ n
 found_number n cs x xs h = All-head (λ y. y.end.number ≡ n) x xs (subst (All (λ y. y.end.number ≡ n)) h (all_numbered n cs))
 
 -- ---- a live end

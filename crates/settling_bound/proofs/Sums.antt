@@ -81,7 +81,7 @@ module _ (w : World) (m : Machine) (s : Stands w m) where
         count_both (λ c. bytes_eq c.name k) (lives w) (map images.context_of w.carried),
       )
 
-  context_is : (c : Context) → Contains (lives w) c → context_in (lives w) c.name ≡ c
+  pub context_is : (c : Context) → Contains (lives w) c → context_in (lives w) c.name ≡ c
   context_is c there = named_once (λ z. z.name) no_context c (lives w) there (once_live c.name)
 
   same_context : (c : Context) → Contains (lives w) c → AreSame c (machine.context_of m c.name)
@@ -90,7 +90,7 @@ module _ (w : World) (m : Machine) (s : Stands w m) where
       let live : is_live w c.name ≡ true = sym (has_name-flat c.name w.devices) ∙ contains_named (λ z. z.name) c (lives w) there in
       subst (λ z. AreSame z (machine.context_of m c.name)) (live_context_is w c.name ∙ context_is c there) (live_same w m c.name s live)
 
-  once_end : (c : Context) → Contains (lives w) c → (n : Name) → count_by (λ e. bytes_eq e.name n) c.ends ≤ 1
+  pub once_end : (c : Context) → Contains (lives w) c → (n : Name) → count_by (λ e. bytes_eq e.name n) c.ends ≤ 1
   once_end c there n =
       let same = same_context c there in
       omega (

@@ -105,7 +105,7 @@ unfolding named
 in_by true w o l h linked' = refl
 in_by false w o l h linked' = absurd (cc (ap (λ c. (named (λ e. e.name) no_end o.name c.ends).link) (named-absent (λ c. c.name) no_context o.context (lives w) h), linked'))
 
-has_by : (b : Bool) (n : Name) (es : List End) (l : Link) → has_name (λ y. y.name) n es ≡ b → (named (λ e. e.name) no_end n es).link ≡ Some l → b ≡ true
+pub has_by : (b : Bool) (n : Name) (es : List End) (l : Link) → has_name (λ y. y.name) n es ≡ b → (named (λ e. e.name) no_end n es).link ≡ Some l → b ≡ true
 has_by true n es l h linked' = refl
 has_by false n es l h linked' = absurd (cc (ap (λ e. e.link) (named-absent (λ e. e.name) no_end n es h), linked'))
 
@@ -122,7 +122,7 @@ live_end w m o l s linked' =
     }
 
 -- a connected end may transmit, expire and wait out
-connected_none : (w : World) (m : Machine) (o : ObjName) (l : Link) → LiveEnd w m o l → first_cause (refusing.within (home w o.context) o.context (λ c. refusing.connected_causes c o.name)) ≡ None
+pub connected_none : (w : World) (m : Machine) (o : ObjName) (l : Link) → LiveEnd w m o l → first_cause (refusing.within (home w o.context) o.context (λ c. refusing.connected_causes c o.name)) ≡ None
 connected_none w m o l h =
     let holds : has_name (λ x. x.name) o.context (home w o.context).contexts ≡ true = home_holds w o.context h.live in
     no_cause refusals.NoSuch _ _ (ap (λ b. not b && not (refusing.has_husk (home w o.context) o.context)) holds)
@@ -135,7 +135,7 @@ connected_none w m o l h =
 causes_live : (w : World) (c : Name) → is_live w c ≡ true → first_cause (context_causes w c []) ≡ None
 causes_live w c h = no_cause refusals.NoSuch _ _ (ap (λ b. not b && not (step.is_carried w c)) h) (no_cause refusals.Stopped _ _ (ap not h) no_causes)
 
-stepped_done : (w : World) (e : Event) → is_live w (context_of_event e) ≡ true → refusing.refusal_of (home w (context_of_event e)) e ≡ None → world_step w (world_events.At e) ≡ ran w (device.done_by (home w (context_of_event e)) e)
+pub stepped_done : (w : World) (e : Event) → is_live w (context_of_event e) ≡ true → refusing.refusal_of (home w (context_of_event e)) e ≡ None → world_step w (world_events.At e) ≡ ran w (device.done_by (home w (context_of_event e)) e)
 unfolding world_step step.steps_at device.device_step
 stepped_done w e live none =
     ap (λ r. step.by_refusal w r (runs w (home w (context_of_event e)) e)) (causes_live w (context_of_event e) live)

@@ -3,7 +3,7 @@ use Rattle.std.proofs.Common.{arith, ◌≡◌, ◌≤◌, ◌-◌, ℕ, List, [
 use Rattle.std.specs.Prelude.{All, Contains, Option, Some, None, slice_get, if◌then◌else◌, ◌==◌, ◌&&◌, ◌||◌, ◌⊎◌}
 use Rattle.std.proofs.lemmas.Bool.Decides.{nat_tests, eqb_tells}
 use Rattle.std.proofs.lemmas.Option.{slice_get_within}
-use Rattle.std.proofs.lemmas.List.Elements.{All-append, All-head, All-nil, All-cons, All-contains, All-contains_itself, All-map, All-weaker}
+use Rattle.std.proofs.lemmas.List.Elements.{All-nil, All-cons, All-contains, All-contains_itself, All-map, All-weaker}
 use Rattle.rdma_types.specs.declared.names.Name.{Name}
 use Rattle.rdma_types.specs.declared.names.ObjName.{ObjName}
 use Rattle.rdma_types.specs.declared.answers.Answer.{Answer}
@@ -25,7 +25,7 @@ use Rattle.protocol.specs.Moves.{control_of, nak_stopped}
 use Rattle.protocol.specs.EndWords as words
 use Rattle.protocol.specs.EndStep.{takes}
 use Rattle.protocol.specs.DeviceStep as device
-use Rattle.protocol.specs.DeviceStep.{Found, ends_with, found_link, found_in, ended_step, gives, husk_entries, at_husk, at_found}
+use Rattle.protocol.specs.DeviceStep.{Found, found_in, ended_step, gives, husk_entries, at_husk, at_found}
 use Rattle.protocol.specs.WorldStep as step
 use Rattle.protocol.specs.WorldStep.{world_step, is_live, home, live_context, ran, with_taken, delivers, delivers_by, device_with, now_of, reaches, same_address}
 use Rattle.ideal_model.specs.Machine.{Machine}
@@ -43,7 +43,7 @@ use Rattle.settling_drains.proofs.Pending.{changed_length, get_append_cases}
 use Rattle.settling_drains.proofs.Replies.{IsStop}
 use Rattle.settling_weights.specs.Weights.{BringsNews, EndGoesOn, TakingLightens}
 use Rattle.settling_bound.proofs.Lives.{lives, live_context_is, IsThere, context_name, self_stored}
-use Rattle.settling_bound.proofs.Delivering.{ran_devices, ran_still, ran_stored, tame}
+use Rattle.settling_bound.proofs.Delivering.{found_number, ran_devices, ran_still, ran_stored, tame}
 
 -- the bytes of a datagram that is sent
 abbrev pub IsOneOf : List Sent → List ℕ → Type 0
@@ -160,24 +160,6 @@ ran_shapes w m test d d' a sent s found shape =
     ap (map shape_of) (ran_devices w (gives d' a sent))
     ∙ (ap (λ k. map shape_of (store (λ e. e.id) k d' w.devices)) (ap (λ z. z.id) shape)
     ∙ map-store_found shape_of (λ e. e.id) test d d' w.devices (ids_once w m s.placed) found shape)
-
-ends_numbered : (n : ℕ) (c : Context) (es : List End) → All (λ x. x.end.number ≡ n) (ends_with n c es)
-unfolding ends_with
-ends_numbered n c [] = All-nil _
-ends_numbered n c (e ∷ es) = by_test (e.number == n) e.link refl (ends_numbered n c es)
-  where
-    by_test : (b : Bool) (l : Option Link) → (e.number == n) ≡ b → All (λ x. x.end.number ≡ n) (ends_with n c es) → All (λ x. x.end.number ≡ n) (if b then found_link c e l (ends_with n c es) else ends_with n c es)
-    by_test true None h rest = rest
-    by_test true (Some l) h rest = All-cons (λ x. x.end.number ≡ n) _ _ (grind (arith, nat_tests, eqb_tells e.number n, h)) rest
-    by_test false l h rest = rest
-
-all_numbered : (n : ℕ) (cs : List Context) → All (λ x. x.end.number ≡ n) (found_in n cs)
-unfolding found_in
-all_numbered n [] = All-nil _
-all_numbered n (c ∷ cs) = All-append (λ x. x.end.number ≡ n) (ends_with n c c.ends) (found_in n cs) (ends_numbered n c c.ends) (all_numbered n cs)
-
-found_number : (n : ℕ) (cs : List Context) (x : Found) (xs : List Found) → found_in n cs ≡ x ∷ xs → x.end.number ≡ n
-found_number n cs x xs h = All-head (λ y. y.end.number ≡ n) x xs (subst (All (λ y. y.end.number ≡ n)) h (all_numbered n cs))
 
 live_has : (w : World) (c : Name) → is_live w c ≡ true → has_name (λ y. y.name) c (lives w) ≡ true
 live_has w c h = has_name-flat c w.devices ∙ h

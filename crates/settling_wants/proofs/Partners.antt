@@ -10,19 +10,17 @@ use Rattle.protocol.specs.declared.images.EndImage.{EndImage}
 use Rattle.protocol.specs.EndWords.{is_in_error}
 use Rattle.protocol.specs.Images as images
 use Rattle.protocol.specs.State.{World, Context, End, Link, no_context, no_end}
-use Rattle.protocol.specs.WorldStep.{is_live, live_context}
 use Rattle.protocol.specs.Settle.{is_ended_image, live_ends, partner_ended}
 use Rattle.ideal_model.specs.Machine as machine
 use Rattle.ideal_model.specs.Machine.{Machine}
-use Rattle.simulation.specs.Stands.{Stands, AreSame}
+use Rattle.simulation.specs.Stands.{Stands}
 use Rattle.simulation.specs.Views.{contexts_of, context_of, name_of, owned, owned_there}
-use Rattle.simulation.proofs.Ends.{names_there, names_here}
-use Rattle.simulation.proofs.Live.{live_same}
 use Rattle.simulation.proofs.Tables.{named-absent}
 use Rattle.simulation.proofs.Worlds.{has_name-flat}
 use Rattle.simulation_delivery.proofs.First.{contains_counted, contains_named, count_both, count_map, named_counted, named_once}
 use Rattle.settling_drains.proofs.Pending.{contains_cases, contains_here, contains_later}
-use Rattle.settling_bound.proofs.Lives.{lives, at_end, context_in, ends_are, live_context_is}
+use Rattle.settling_bound.proofs.Lives.{lives, at_end, context_in, ends_are}
+use Rattle.settling_bound.proofs.Sums.{context_is, once_end}
 use Rattle.settling_bound.proofs.Turns.{live_end}
 use Rattle.settling_quiets.proofs.Places.{one_named}
 use Rattle.settling_wants.proofs.Noted.{IsLost}
@@ -144,38 +142,8 @@ lost_ended w l t =
 -- ---- .. and the other way
 
 module _ (w : World) (m : Machine) (s : Stands w m) where
-  once_live : (k : Name) → count_by (λ c. bytes_eq c.name k) (lives w) ≤ 1
-  unfolding contexts_of
-  once_live k =
-      omega (
-        arith,
-        s.placed.once k,
-        count_map (λ c. c.name) (λ n. bytes_eq n k) (λ (c : Context). bytes_eq c.name k) (lives w ++ map images.context_of w.carried) (λ c. refl),
-        count_both (λ c. bytes_eq c.name k) (lives w) (map images.context_of w.carried),
-      )
-
-  context_is : (c : Context) → Contains (lives w) c → context_in (lives w) c.name ≡ c
-  context_is c there = named_once (λ z. z.name) no_context c (lives w) there (once_live c.name)
-
-  same_context : (c : Context) → Contains (lives w) c → AreSame c (machine.context_of m c.name)
-  unfolding live_context
-  same_context c there =
-      let live : is_live w c.name ≡ true = sym (has_name-flat c.name w.devices) ∙ contains_named (λ z. z.name) c (lives w) there in
-      subst (λ z. AreSame z (machine.context_of m c.name)) (live_context_is w c.name ∙ context_is c there) (live_same w m c.name s live)
-
-  once_end : (c : Context) → Contains (lives w) c → (n : Name) → count_by (λ e. bytes_eq e.name n) c.ends ≤ 1
-  once_end c there n =
-      let same = same_context c there in
-      omega (
-        arith,
-        (s.sound c.name).named_once n,
-        count_map owned_there (λ z. bytes_eq z.name n) (λ e. bytes_eq e.name n) c.ends (λ e. ap (λ k. bytes_eq k n) (names_there e)),
-        ap (count_by (λ z. bytes_eq z.name n)) same.ends,
-        count_map owned (λ z. bytes_eq z.name n) (λ e. bytes_eq e.name n) (machine.context_of m c.name).ends (λ e. ap (λ k. bytes_eq k n) (names_here e)),
-      )
-
   end_there : (c : Context) → Contains (lives w) c → (e : End) → Contains c.ends e → at_end w (record { context = c.name; name = e.name }) ≡ e
-  end_there c there e in_c = ap (λ z. named (λ y. y.name) no_end e.name z.ends) (context_is c there) ∙ named_once (λ z. z.name) no_end e c.ends in_c (once_end c there e.name)
+  end_there c there e in_c = ap (λ z. named (λ y. y.name) no_end e.name z.ends) (context_is w m s c there) ∙ named_once (λ z. z.name) no_end e c.ends in_c (once_end w m s c there e.name)
 
   module _ (p : ObjName) (lp : Link) (at : (at_end w p).link ≡ Some lp) (n : ℕ) (number : (at_end w p).number ≡ n) where
     here : name_of m n ≡ p

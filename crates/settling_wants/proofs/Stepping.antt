@@ -1,18 +1,14 @@
 -- What a step of an end's own leaves of all ends: it sends, its timer is over, or an expiry counts.
 use Rattle.std.proofs.Common.{◌≡◌, ◌≢◌, ◌+◌, List, [], ◌∷◌, ◌++◌, map, true, false, Bool, refl, sym, ap, ◌∙◌, subst, inl, inr}
-use Rattle.std.specs.Prelude.{Some, None, not, ◌==◌, ◌&&◌, if◌then◌else◌}
+use Rattle.std.specs.Prelude.{Some, None, not, ◌==◌, if◌then◌else◌}
 use Rattle.std.proofs.lemmas.List.{append-nil}
 use Rattle.rdma_types.specs.declared.answers.Answer.{Answer}
 use Rattle.rdma_types.specs.declared.answers.Answer.TheVariants as answers
-use Rattle.rdma_types.specs.declared.answers.Refusal.TheVariants as refusals
 use Rattle.rdma_types.specs.declared.answers.Sent.{Sent}
-use Rattle.rdma_types.specs.declared.names.Name.{Name}
 use Rattle.rdma_types.specs.declared.names.ObjName.{ObjName}
 use Rattle.rdma_types.specs.declared.requests.WcStatus.TheVariants as status
-use Rattle.rdma_types.specs.Causes.{first_cause}
-use Rattle.rdma_types.specs.Lists.{has_name, named, store_named}
+use Rattle.rdma_types.specs.Lists.{named, store_named}
 use Rattle.rdma_types.specs.Spans.{Piece}
-use Rattle.protocol.specs.declared.events.Event.{Event}
 use Rattle.protocol.specs.declared.events.Event.TheVariants as events
 use Rattle.protocol.specs.declared.events.WorldEvent.TheVariants as world_events
 use Rattle.protocol.specs.Fabric.{flight_of}
@@ -24,47 +20,23 @@ use Rattle.protocol.specs.Refusals as refusing
 use Rattle.protocol.specs.Requester.{Sends, SendsResume, transmission, transmitted, counted, ended_link, ended_with, not_counted, waited_out}
 use Rattle.protocol.specs.DeviceStep as device
 use Rattle.protocol.specs.DeviceStep.{gives}
-use Rattle.protocol.specs.WorldStep as step
-use Rattle.protocol.specs.WorldStep.{world_step, is_live, home, live_context, ran, runs, context_of_event, context_causes}
+use Rattle.protocol.specs.WorldStep.{world_step, home, live_context, ran}
 use Rattle.protocol.specs.Settle.{transmit}
 use Rattle.ideal_model.specs.Machine.{Machine}
 use Rattle.simulation.specs.Stands.{Stands}
-use Rattle.simulation.proofs.Linked.{no_cause, no_causes}
 use Rattle.simulation.proofs.Grows.{object_or_not}
-use Rattle.simulation.proofs.Tables.{named-absent}
-use Rattle.simulation.proofs.Worlds.{holds_it, home_found, home_holds}
+use Rattle.simulation.proofs.Worlds.{holds_it, home_found}
 use Rattle.simulation_sending.proofs.GoLive.{LiveEnd}
 use Rattle.settling_drains.proofs.Arrivals.{ran_sent}
 use Rattle.settling_bound.proofs.Lives.{lives, at_end, context_in, IsThere, context_name, name_is}
 use Rattle.settling_bound.proofs.Delivering.{live_end_there, ran_still, ran_stored}
-use Rattle.settling_bound.proofs.Turns.{live_end}
+use Rattle.settling_bound.proofs.Turns.{connected_none, live_end, stepped_done}
 use Rattle.settling_quiets.proofs.Places.{end_else, end_now}
 use Rattle.settling_quiets.proofs.Transmitting.{transmit_is}
 use Rattle.settling_wants.proofs.Kept.{IsEndKept, IsLinkKept, end_kept_same, linked_of, some_link}
 use Rattle.settling_wants.proofs.Answered.{IsFree}
 
 -- ---- the device where a live end is takes its events
-
-has_by : (b : Bool) (n : Name) (es : List End) (l : Link) → has_name (λ y. y.name) n es ≡ b → (named (λ e. e.name) no_end n es).link ≡ Some l → b ≡ true
-has_by true n es l h linked' = refl
-has_by false n es l h linked' = absurd (cc (ap (λ e. e.link) (named-absent (λ e. e.name) no_end n es h), linked'))
-
-connected_none : (w : World) (m : Machine) (o : ObjName) (l : Link) → LiveEnd w m o l → first_cause (refusing.within (home w o.context) o.context (λ c. refusing.connected_causes c o.name)) ≡ None
-connected_none w m o l h =
-    let holds : has_name (λ x. x.name) o.context (home w o.context).contexts ≡ true = home_holds w o.context h.live in
-    no_cause refusals.NoSuch _ _ (ap (λ b. not b && not (refusing.has_husk (home w o.context) o.context)) holds)
-    (no_cause refusals.Stopped _ _ (ap not holds)
-    (no_cause refusals.NoSuch _ _ (ap not (has_by _ o.name (context_at (home w o.context) o.context).ends l refl h.linked))
-    (no_cause refusals.BadState _ _ (ap refusing.is_init h.linked) no_causes)))
-
-causes_live : (w : World) (c : Name) → is_live w c ≡ true → first_cause (context_causes w c []) ≡ None
-causes_live w c h = no_cause refusals.NoSuch _ _ (ap (λ b. not b && not (step.is_carried w c)) h) (no_cause refusals.Stopped _ _ (ap not h) no_causes)
-
-stepped_done : (w : World) (e : Event) → is_live w (context_of_event e) ≡ true → refusing.refusal_of (home w (context_of_event e)) e ≡ None → world_step w (world_events.At e) ≡ ran w (device.done_by (home w (context_of_event e)) e)
-unfolding world_step step.steps_at device.device_step
-stepped_done w e live none =
-    ap (λ r. step.by_refusal w r (runs w (home w (context_of_event e)) e)) (causes_live w (context_of_event e) live)
-    ∙ ap (λ r. ran w (device.by_refusal (home w (context_of_event e)) e r)) none
 
 -- an expiry, or the end of a timer: the others are the same, and the end is in Error or does not wait
 pub record IsTimed (w w' : World) (o : ObjName) : Type 0 where

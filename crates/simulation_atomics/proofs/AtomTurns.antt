@@ -27,7 +27,7 @@ use Rattle.ideal_model.specs.declared.reply.Reply.TheVariants.{OldValue}
 use Rattle.ideal_model.specs.declared.reply.Reply.{Reply}
 use Rattle.ideal_model.specs.declared.steps.IdealStep.TheVariants as steps
 use Rattle.ideal_model.specs.Machine as machine
-use Rattle.ideal_model.specs.Machine.{Machine, End, bytes_at, has_context, nobody, put_at, regions_of}
+use Rattle.ideal_model.specs.Machine.{Machine, End, has_context, nobody, put_at, regions_of}
 use Rattle.ideal_model.specs.Numbers.{due}
 use Rattle.ideal_model.specs.Steps.{acted_with, atom, atom_on, changed_word, current, has_current, is_current_granted, is_misaligned, may_add, may_atom, may_run, may_run_kind, right_for, word_there}
 use Rattle.simulation.specs.Packets.{class_of, IsRequest}
@@ -40,11 +40,11 @@ use Rattle.simulation.proofs.Machines as machines
 use Rattle.simulation.proofs.Machines.{MachineChanged}
 use Rattle.simulation.proofs.Linked.{context_with}
 use Rattle.simulation.proofs.Sounds.{end_regions}
-use Rattle.simulation_delivery.specs.Delivered as delivered
 use Rattle.simulation_delivery.specs.Delivered.{Arrives, Takes}
 use Rattle.simulation_delivery.proofs.Arriving.{stored_again}
 use Rattle.simulation_delivery.proofs.Lifted.{IsAnswer, side_now}
-use Rattle.simulation_requests.proofs.Requests.{IsRequestAt, asker, asking, request_at_end}
+use Rattle.simulation_requests.proofs.Requests.{IsRequestAt, asking, request_at_end}
+use Rattle.simulation_requests.proofs.Scenes.{scene}
 use Rattle.simulation_requests.proofs.Replies.{IsTowards}
 use Rattle.simulation_requests.proofs.Due.{mtu_is, span_atomic}
 use Rattle.simulation_requests.proofs.Early.{same_due}
@@ -53,14 +53,15 @@ use Rattle.simulation_requests.proofs.Advancing.{got, moved_on}
 use Rattle.simulation_requests.proofs.Acted.{acts_advance, acted_sound, end_moved_sound, got_last, offers_acted, old-more}
 use Rattle.simulation_requests.proofs.Counting.{apart, name_there, o_in, o_sound, owned_got, owned_here, progress_now, q_in, q_sound, q_there, same_here}
 use Rattle.simulation_requests.proofs.Expected.{at, carries_now, connected_now, due_now, g_sound, inside, mtu_now, request_now, step_now}
-use Rattle.simulation_requests.proofs.Regions.{like_local, put_like, put_said, put_whole}
+use Rattle.simulation_delivery.proofs.Regions.{like_local, put_like, put_said, put_whole}
 use Rattle.simulation_requests.proofs.Written.{IsGrantedBy, granted_region, held_high, held_low, written_put}
 use Rattle.simulation_requests.proofs.Running as running
 use Rattle.simulation_requests.proofs.Runs.{next_first, piece_top}
 use Rattle.simulation_requests.proofs.Landing.{lands, there_with, with_parts}
 use Rattle.simulation_requests.proofs.Offers.{bytes_remote}
 use Rattle.simulation_requests.proofs.Checks as checks
-use Rattle.simulation_atomics.proofs.Words.{keeping_last, word_length, word_said, word_small}
+use Rattle.simulation_delivery.proofs.Words.{word_length, word_said}
+use Rattle.simulation_atomics.proofs.Words.{keeping_last, word_small}
 use Rattle.simulation_atomics.proofs.OldAnswers.{old_is_answer}
 use Rattle.simulation_atomics.proofs.AtomPackets.{IsAtomicPacket, atomic_not, atomic_packet_is, atomic_right, header_of}
 
@@ -119,32 +120,7 @@ linked_over c rs n e e' l named' same = λ i. record c { regions = rs; ends = st
 
 module _ (w : World) (m : Machine) (o : ObjName) (l : Link) (number : Option ℕ) (bytes : List ℕ) (d : Packet) (a : Arrives w m o l number bytes d) (is : class_of d ≡ IsRequest) (paused : is_paused l.moving.phase ≡ false) (now : (request_at_end w m o l number bytes d a is).0 ≡ l.receiver.expected)
     (turn : may_atom m (machine.end_of m o).peer ≡ true) where
-  abbrev q : ObjName
-  q = asker m o
-
-  abbrev g : End
-  g = machine.end_of m q
-
-  abbrev r : Posted
-  r = current g
-
-  abbrev x : End
-  x = machine.end_of m o
-
-  abbrev y : machine.Context
-  y = machine.context_of m o.context
-
-  abbrev n : ℕ
-  n = (request_at_end w m o l number bytes d a is).0
-
-  abbrev c : state.Context
-  c = delivered.context_there w o
-
-  abbrev e : state.End
-  e = delivered.end_there w o
-
-  abbrev regions : List Region
-  regions = regions_of m o.context
+  open scene w m o l number bytes d a is use {n, q, g, r, x, y, regions, c, e}
 
   abbrev req : IsRequestAt w m o l n d
   req = at w m o l number bytes d a is paused now

@@ -1,12 +1,12 @@
 -- ATOMIC ACKs are read back, and say the old value that was answered.
-use Rattle.std.proofs.Common.{◌≡◌, ◌<◌, ◌^◌, ◌%◌, ℕ, false, refl, sym, ap, subst, arith}
+use Rattle.std.proofs.Common.{◌≡◌, ◌<◌, ◌^◌, ◌%◌, ℕ, refl, sym, ap, subst, arith}
 use Rattle.std.specs.Prelude.{Some}
-use Rattle.protocol.specs.declared.wire.Headers.TheVariants as headers
 use Rattle.protocol.specs.declared.wire.Syndrome.TheVariants.{Ack}
 use Rattle.protocol.specs.Numbers.{wire_number}
 use Rattle.protocol.specs.State.{Link}
 use Rattle.protocol.specs.Wire.{Packet, Fits, plain, layout_of, is_request}
 use Rattle.protocol.specs.Responder.{old_answer}
+use Rattle.roce_headers.proofs.Fitting.{fits}
 use Rattle.ideal_model.specs.Machine.{End}
 use Rattle.simulation.specs.Packets.{class_of, IsAtomicResponse}
 use Rattle.simulation.specs.Views.{Side}
@@ -20,27 +20,7 @@ holding dest psn old = record (plain 0x12 dest psn) { old = Some old }
 
 old_fits : (dest psn msn old : ℕ) → dest < 2 ^ 24 → psn < 2 ^ 24 → msn < 2 ^ 24 → old < 2 ^ 64 → Fits (with_aeth (holding dest psn old) Ack msn)
 unfolding layout_of
-old_fits dest psn msn old a b c word = record {
-  layout = record { headers = headers.AethOld; payload = false };
-  known = refl;
-  dest = a;
-  psn = b;
-  unnumbered = tt;
-  reth = refl;
-  imm = refl;
-  aeth = refl;
-  atomic = refl;
-  old = refl;
-  resume = refl;
-  reth_fits = tt;
-  imm_fits = tt;
-  aeth_fits = record { syndrome = refl; msn = c };
-  atomic_fits = tt;
-  old_fits = word;
-  resume_fits = tt;
-  allowed = refl;
-  payload = omega arith;
-}
+old_fits dest psn msn old a b c word = fits (with_aeth (holding dest psn old) Ack msn) _ refl refl a b tt (tt, tt, record { syndrome = refl; msn = c }, tt, word, tt) refl (omega arith)
 
 old_class : (dest psn msn old : ℕ) → class_of (with_aeth (holding dest psn old) Ack msn) ≡ IsAtomicResponse
 unfolding class_of is_request

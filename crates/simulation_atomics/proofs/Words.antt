@@ -1,30 +1,13 @@
 -- The words that atomics act on: eight bytes each, and numbers below 2^64; and the last old values.
-use Rattle.std.proofs.Common.{arith, ◌≡◌, ◌<◌, ◌^◌, ◌+◌, ◌-◌, ℕ, zero, suc, List, [], ◌∷◌, ◌++◌, length, refl, sym, ap, ◌∙◌}
+use Rattle.std.proofs.Common.{arith, ◌≡◌, ◌<◌, ◌^◌, ◌+◌, ◌-◌, ℕ, List, [], ◌∷◌, ◌++◌, length, sym, ap, ◌∙◌}
 use Rattle.std.specs.Prelude.{All, get_or, drop}
-use Rattle.std.specs.Int.{byte_at, bytes_high_first}
 use Rattle.std.proofs.lemmas.List.{drop-append-le, drop-drop, length-drop, length_push}
-use Rattle.std.proofs.lemmas.List.Elements.{All-nil, All-cons, All-get_or}
+use Rattle.std.proofs.lemmas.List.Elements.{All-get_or}
 use Rattle.rdma_types.specs.Limits.{most_kept}
-use Rattle.rdma_types.specs.Memory.{word_bytes, word_of}
+use Rattle.rdma_types.specs.Memory.{word_of}
 use Rattle.protocol.specs.declared.images.KeptReply.{KeptReply}
 use Rattle.protocol.specs.Responder.{keeping}
 use Rattle.simulation.specs.Joined.{last_of}
-
-pub word_length : (n : ℕ) → length (word_bytes n) ≡ 8
-unfolding word_bytes
-word_length n = refl
-
-byte_said : (i n : ℕ) → byte_at i n < 256
-byte_said zero n = omega arith
-byte_said (suc i) n = omega arith
-
-bytes_said : (k n : ℕ) → All (λ b. b < 256) (bytes_high_first k n)
-bytes_said zero n = All-nil _
-bytes_said (suc k) n = All-cons (λ b. b < 256) (byte_at k n) (bytes_high_first k n) (byte_said k n) (bytes_said k n)
-
-pub word_said : (n : ℕ) → All (λ b. b < 256) (word_bytes n)
-unfolding word_bytes
-word_said n = bytes_said 8 n
 
 -- eight bytes spell a number below 2^64
 pub word_small : (bs : List ℕ) → length bs ≡ 8 → All (λ b. b < 256) bs → word_of bs < 2 ^ 64

@@ -4,3 +4,5 @@ pub mod Arriving
 pub mod EachKind
 pub mod Pairs
 pub mod Lifted
+pub mod Regions
+pub mod Words

@@ -11,6 +11,7 @@ use Rattle.protocol.specs.Bytes.{big_bytes, number_at}
 use Rattle.protocol.specs.Moves.{Control, Stopped, Resume, ResumeAck, control_of, stopped_of, resuming_of, nak_stopped, resume_packet}
 use Rattle.protocol.specs.State.{HuskEntry}
 use Rattle.protocol.specs.Wire.{Packet, Spells, Fits, FitsResume, packet_of, wire_of, layout_of, has_resume, has_reth, has_imm, has_aeth, has_atomic, has_old, imm_place, when, read_aeth, read_reth, read_atomic, read_resume, is_request, is_read_response, is_nak_stopped}
+use Rattle.roce_headers.proofs.Fitting.{fits, resume-fits}
 use Rattle.roce_headers.proofs.Grammar.{read_spelled, spelled_read}
 use Rattle.roce_headers.proofs.Written.{written_spelled}
 use Rattle.simulation.specs.Packets.{Class, class_of, nak_class, syndrome_class, aeth_class, resume_class, IsRequest, IsReadResponse, IsAtomicResponse, IsSequenceNak, IsRefusal, IsStopped, IsResume, IsResumeAck, IsNothing}
@@ -92,51 +93,11 @@ module _ (d : Packet) (bs : List ℕ) (body : ResumeBody) (spelled : bs ≡ wire
 
 pub stopped_fits : (h : HuskEntry) (psn : ℕ) → h.peer < 2 ^ 24 → psn < 2 ^ 24 → h.moves < 2 ^ 24 → Fits (nak_stopped h psn)
 unfolding layout_of
-stopped_fits h psn peer bits moves = record {
-  layout = _;
-  known = refl;
-  dest = peer;
-  psn = bits;
-  unnumbered = tt;
-  reth = refl;
-  imm = refl;
-  aeth = refl;
-  atomic = refl;
-  old = refl;
-  resume = refl;
-  reth_fits = tt;
-  imm_fits = tt;
-  aeth_fits = record { syndrome = refl; msn = moves };
-  atomic_fits = tt;
-  old_fits = tt;
-  resume_fits = tt;
-  allowed = refl;
-  payload = omega arith;
-}
+stopped_fits h psn peer bits moves = fits (nak_stopped h psn) _ refl refl peer bits tt (tt, tt, record { syndrome = refl; msn = moves }, tt, tt, tt) refl (omega arith)
 
 pub ack_fits : (dest : ℕ) (body : ResumeBody) → dest < 2 ^ 24 → FitsResume body → Fits (resume_packet 0x1F dest body)
 unfolding layout_of
-ack_fits dest body small h = record {
-  layout = _;
-  known = refl;
-  dest = small;
-  psn = omega arith;
-  unnumbered = refl;
-  reth = refl;
-  imm = refl;
-  aeth = refl;
-  atomic = refl;
-  old = refl;
-  resume = refl;
-  reth_fits = tt;
-  imm_fits = tt;
-  aeth_fits = tt;
-  atomic_fits = tt;
-  old_fits = tt;
-  resume_fits = h;
-  allowed = refl;
-  payload = omega arith;
-}
+ack_fits dest body small h = resume-fits 0x1F dest body refl small h
 
 pub stopped_class : (h : HuskEntry) (psn : ℕ) → class_of (nak_stopped h psn) ≡ IsStopped h.moves
 unfolding class_of is_request aeth_class syndrome_class nak_class

@@ -10,9 +10,8 @@ use Rattle.rdma_types.specs.declared.answers.Took.TheVariants as took
 use Rattle.rdma_types.specs.declared.answers.Why.TheVariants as refused
 use Rattle.rdma_types.specs.Kinds as kinds
 use Rattle.rdma_types.specs.Kinds.{kind_of}
-use Rattle.rdma_types.specs.Objects.{Posted, Region}
+use Rattle.rdma_types.specs.Objects.{Region}
 use Rattle.protocol.specs.declared.wire.Syndrome.TheVariants.{Rnr}
-use Rattle.protocol.specs.State as state
 use Rattle.protocol.specs.State.{World, Link, Progress, NoMessage, InSend, InWrite}
 use Rattle.protocol.specs.Wire.{Packet}
 use Rattle.protocol.specs.EndWords as words
@@ -24,9 +23,9 @@ use Rattle.ideal_model.specs.declared.steps.IdealStep.{IdealStep}
 use Rattle.ideal_model.specs.declared.steps.IdealStep.TheVariants as steps
 use Rattle.ideal_model.specs.Legal.{after}
 use Rattle.ideal_model.specs.Machine as machine
-use Rattle.ideal_model.specs.Machine.{Machine, End, has_context, has_end}
+use Rattle.ideal_model.specs.Machine.{Machine, End, has_end}
 use Rattle.ideal_model.specs.Numbers.{due}
-use Rattle.ideal_model.specs.Steps.{current, dried, dried_at, has_imm, has_unused, fills, is_current_granted, peer_of}
+use Rattle.ideal_model.specs.Steps.{dried, dried_at, has_imm, has_unused, fills, is_current_granted, peer_of}
 use Rattle.simulation.specs.Packets.{class_of, IsRequest}
 use Rattle.simulation.specs.Joined.{IsProgress}
 use Rattle.simulation.specs.Stands.{Stands}
@@ -37,7 +36,8 @@ use Rattle.simulation.proofs.InUse.{owned_of}
 use Rattle.simulation_delivery.specs.Delivered as delivered
 use Rattle.simulation_delivery.specs.Delivered.{Arrives, Takes}
 use Rattle.simulation_delivery.proofs.Lifted.{IsAnswer, side_now}
-use Rattle.simulation_requests.proofs.Requests.{IsRequestAt, asker, asking, request_at_end}
+use Rattle.simulation_requests.proofs.Requests.{IsRequestAt, asking, request_at_end}
+use Rattle.simulation_requests.proofs.Scenes.{scene}
 use Rattle.simulation_requests.proofs.Replies.{dry_answer}
 use Rattle.simulation_requests.proofs.Advancing.{got}
 use Rattle.simulation_requests.proofs.Responding.{IsRespond, responds, takes_so, made_there}
@@ -68,29 +68,10 @@ pub one : {A : Type 0} (P : A → Type 0) (x : A) → P x → All P (x ∷ [])
 one P x h = All-cons P x [] h (All-nil P)
 
 module _ (w : World) (m : Machine) (o : ObjName) (l : Link) (number : Option ℕ) (bytes : List ℕ) (d : Packet) (a : Arrives w m o l number bytes d) (is : class_of d ≡ IsRequest) (paused : is_paused l.moving.phase ≡ false) (now : (request_at_end w m o l number bytes d a is).0 ≡ l.receiver.expected) where
-  abbrev n : ℕ
-  n = (request_at_end w m o l number bytes d a is).0
+  open scene w m o l number bytes d a is use {n, q, g, r, x, c, e}
 
   abbrev it : IsRequestAt w m o l n d
   it = (request_at_end w m o l number bytes d a is).2
-
-  abbrev q : ObjName
-  q = asker m o
-
-  abbrev g : End
-  g = machine.end_of m q
-
-  abbrev r : Posted
-  r = current g
-
-  abbrev x : End
-  x = machine.end_of m o
-
-  abbrev c : state.Context
-  c = delivered.context_there w o
-
-  abbrev e : state.End
-  e = delivered.end_there w o
 
   abbrev g' : End
   g' = noted g g.answers (g.dry ++ g.acted ∷ [])

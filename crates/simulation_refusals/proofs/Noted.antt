@@ -2,7 +2,7 @@
 use Rattle.std.proofs.Common.{arith, ◌≡◌, ◌<◌, ◌≤◌, ◌⊎◌, ℕ, zero, suc, List, [], ◌∷◌, ◌++◌, length, true, refl, sym, ap, ◌∙◌, subst, inr}
 use Rattle.std.specs.Prelude.{Some, slice_get}
 use Rattle.std.proofs.lemmas.List.{length_push}
-use Rattle.std.proofs.lemmas.List.Elements.{All-weaker, Contains-append_left}
+use Rattle.std.proofs.lemmas.List.Elements.{Contains-append_left}
 use Rattle.rdma_types.specs.declared.names.Name.{Name}
 use Rattle.rdma_types.specs.declared.answers.Why.{Why}
 use Rattle.rdma_types.specs.Objects.{Region}
@@ -11,10 +11,11 @@ use Rattle.ideal_model.specs.declared.reply.Reply.{Reply}
 use Rattle.ideal_model.specs.declared.reply.Reply.TheVariants.{Denied}
 use Rattle.ideal_model.specs.Machine.{End, posted_at, untold_count}
 use Rattle.ideal_model.specs.Numbers.{due}
-use Rattle.ideal_model.specs.Sound.{IsReplyTo, IsOfferOf, IsDenial}
+use Rattle.ideal_model.specs.Sound.{IsReplyTo, IsDenial}
 use Rattle.ideal_model.specs.Steps.{in_place, untold}
 use Rattle.simulation.specs.Joined.{IsInPieces, IsProgress, Receives}
 use Rattle.simulation.specs.Stands.{IsEndSound}
+use Rattle.simulation.proofs.SoundEnds.{answered_sound}
 use Rattle.simulation_requests.proofs.Acted.{got_last}
 use Rattle.simulation_requests.proofs.Advancing.{IsAdvance, moved_on}
 
@@ -35,24 +36,7 @@ pub noted_sound : (regions : List Region) (names : List Name) (g : End) (answers
     IsEndSound regions names g → IsEndSound regions names (noted g answers dry)
 unfolding in_place untold untold_count
 noted_sound regions names g answers dry connected replies answered s = record {
-  sound = record {
-    acted_posted = s.sound.acted_posted;
-    told_posted = s.sound.told_posted;
-    told_acted = s.sound.told_acted;
-    over = s.sound.over;
-    unfinished = s.sound.unfinished;
-    whole_turns = s.sound.whole_turns;
-    known_there = s.sound.known_there;
-    known_within = s.sound.known_within;
-    unlanded = s.sound.unlanded;
-    whole_atomics = s.sound.whole_atomics;
-    replies = replies;
-    answered = answered;
-    offers = All-weaker (IsOfferOf g) (IsOfferOf (noted g answers dry)) (λ o h. record { acted = h.acted; reads = h.reads; inside = h.inside }) g.offers s.sound.offers;
-    sizes = s.sound.sizes;
-    depth = s.sound.depth;
-    receive_depth = s.sound.receive_depth;
-  };
+  sound = answered_sound g (record g { answers = answers; dry = dry }) replies answered s.sound.offers s.sound.receive_depth s.sound;
   made = λ h. absurd (cc (connected, h));
   depth = s.depth;
   send_queue = s.send_queue;

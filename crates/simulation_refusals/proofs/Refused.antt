@@ -6,10 +6,9 @@ use Rattle.rdma_types.specs.declared.answers.Took.TheVariants as took
 use Rattle.rdma_types.specs.declared.answers.Why.TheVariants as whys
 use Rattle.rdma_types.specs.declared.requests.Receive.{Receive}
 use Rattle.rdma_types.specs.Kinds as kinds
-use Rattle.rdma_types.specs.Kinds.{kind_of, size_of}
-use Rattle.rdma_types.specs.Objects.{Posted, Region}
+use Rattle.rdma_types.specs.Kinds.{kind_of}
+use Rattle.rdma_types.specs.Objects.{Region}
 use Rattle.protocol.specs.declared.wire.Syndrome.TheVariants.{Nak}
-use Rattle.protocol.specs.State as state
 use Rattle.protocol.specs.State.{World, Link}
 use Rattle.protocol.specs.Wire.{Packet}
 use Rattle.protocol.specs.EndWords as words
@@ -19,14 +18,14 @@ use Rattle.protocol.specs.DeviceStep.{ended_step}
 use Rattle.protocol.specs.WorldStep.{home, ran}
 use Rattle.ideal_model.specs.declared.steps.IdealStep.TheVariants as steps
 use Rattle.ideal_model.specs.Machine as machine
-use Rattle.ideal_model.specs.Machine.{Machine, End}
-use Rattle.ideal_model.specs.Steps.{current, is_current_granted, overflows, peer_of, receive_for, refuse, refused_entries, refused_receives}
+use Rattle.ideal_model.specs.Machine.{Machine}
+use Rattle.ideal_model.specs.Steps.{is_current_granted, overflows, peer_of, receive_for, refuse, refused_entries, refused_receives}
 use Rattle.simulation.specs.Packets.{class_of, IsRequest}
 use Rattle.simulation.specs.Facts.{is_access_denied}
 use Rattle.simulation.specs.Stands.{Stands}
-use Rattle.simulation_delivery.specs.Delivered as delivered
 use Rattle.simulation_delivery.specs.Delivered.{Arrives, Takes}
-use Rattle.simulation_requests.proofs.Requests.{IsRequestAt, asker, request_at_end}
+use Rattle.simulation_requests.proofs.Requests.{IsRequestAt, request_at_end}
+use Rattle.simulation_requests.proofs.Scenes.{scene}
 use Rattle.simulation_requests.proofs.Replies.{access_answer, refusal_answer}
 use Rattle.simulation_requests.proofs.Counting.{o_in, o_sound, owned_here, same_here}
 use Rattle.simulation_requests.proofs.Expected.{has_now}
@@ -53,29 +52,10 @@ overflown None k h = absurd (cc)
 overflown (Some u) k h = (u, refl)
 
 module _ (w : World) (m : Machine) (o : ObjName) (l : Link) (number : Option ℕ) (bytes : List ℕ) (d : Packet) (a : Arrives w m o l number bytes d) (is : class_of d ≡ IsRequest) (paused : is_paused l.moving.phase ≡ false) (now : (request_at_end w m o l number bytes d a is).0 ≡ l.receiver.expected) where
-  abbrev n : ℕ
-  n = (request_at_end w m o l number bytes d a is).0
+  open scene w m o l number bytes d a is use {n, q, g, r, x, c, e}
 
   abbrev it : IsRequestAt w m o l n d
   it = (request_at_end w m o l number bytes d a is).2
-
-  abbrev q : ObjName
-  q = asker m o
-
-  abbrev g : End
-  g = machine.end_of m q
-
-  abbrev r : Posted
-  r = current g
-
-  abbrev x : End
-  x = machine.end_of m o
-
-  abbrev c : state.Context
-  c = delivered.context_there w o
-
-  abbrev e : state.End
-  e = delivered.end_there w o
 
   -- ---- an invalid request
 

@@ -1,26 +1,22 @@
 -- The context of an end that refuses: where its receive is too short, that completes with an error, and the rest is flushed.
-use Rattle.std.proofs.Common.{arith, ◌≡◌, ℕ, List, [], ◌∷◌, ◌++◌, length, map, true, refl, sym, ap, ◌∙◌, subst}
-use Rattle.std.specs.Prelude.{Option, Some, None, is_some, drop, if◌then◌else◌, option_to_list, All}
+use Rattle.std.proofs.Common.{arith, ◌≡◌, ℕ, List, [], ◌∷◌, ◌++◌, length, map, true, refl, sym, ap, ◌∙◌}
+use Rattle.std.specs.Prelude.{Option, Some, None, is_some, drop, if◌then◌else◌, option_to_list}
 use Rattle.std.proofs.lemmas.List.{append-nil, drop_all}
-use Rattle.std.proofs.lemmas.List.Elements.{All-nil, All-weaker}
 use Rattle.rdma_types.specs.declared.names.Name.{Name}
 use Rattle.rdma_types.specs.declared.requests.Completion.{Completion}
 use Rattle.rdma_types.specs.declared.requests.Receive.{Receive}
 use Rattle.rdma_types.specs.declared.requests.WcStatus.{WcStatus}
 use Rattle.rdma_types.specs.declared.requests.WcStatus.TheVariants as statuses
-use Rattle.rdma_types.specs.Kinds.{kind_of, size_of}
 use Rattle.rdma_types.specs.Lists.{has_name, has_word, store_named}
-use Rattle.rdma_types.specs.Memory.{is_granted, landing_right, local_key}
-use Rattle.rdma_types.specs.Objects.{CompletionQueue, Posted, Region, no_queue}
+use Rattle.rdma_types.specs.Objects.{CompletionQueue, Posted, no_queue}
 use Rattle.protocol.specs.State as state
 use Rattle.protocol.specs.State.{Link, Progress, NoMessage, InSend, InWrite}
 use Rattle.protocol.specs.EndWords as words
 use Rattle.protocol.specs.Requester.{ended_link, ended_with, failing}
 use Rattle.protocol.specs.Responder as responder
 use Rattle.ideal_model.specs.Machine as machine
-use Rattle.ideal_model.specs.Machine.{End, completed, nobody, untold_count}
-use Rattle.ideal_model.specs.Sound.{IsOfferOf}
-use Rattle.ideal_model.specs.Steps.{closed, failed_queues, failed_receives, failed_requests, first_receive, in_place, receive_for, receives_of, too_long, unused_after, untold}
+use Rattle.ideal_model.specs.Machine.{End, completed, nobody}
+use Rattle.ideal_model.specs.Steps.{closed, failed_queues, failed_receives, failed_requests, first_receive, receive_for, receives_of, too_long, unused_after, untold}
 use Rattle.simulation.specs.Views.{Owned, owned, owned_there, link_or_none, receive_in}
 use Rattle.simulation.specs.Stands.{AreSame, IsContextSound, IsEndSound}
 use Rattle.simulation.proofs.Tables.{replaced-stored, has_name-store, name-named_there}
@@ -28,6 +24,7 @@ use Rattle.simulation.proofs.Ends.{ends_store, queue_in, with_more, with_more_na
 use Rattle.simulation.proofs.Sounds.{queue_there, queues_like}
 use Rattle.simulation.proofs.Linked.{connected_sound}
 use Rattle.simulation_delivery.proofs.Arriving.{stored_again}
+use Rattle.simulation_sending.proofs.GoSound.{closed_sound}
 
 -- ---- what is completed is the same
 
@@ -73,35 +70,6 @@ unfolding owned_there owned untold link_or_none closed ended_link receive_in
 owned_over e x l same =
     ap (λ (z : Owned). record z { ended = true; untold = []; in_use = None; unused = [] }) same
     ∙ ap (λ us. record (owned x) { ended = true; untold = us; in_use = None; unused = [] }) (sym (drop_all (length x.posted) x.posted (omega arith)))
-
-closed_sound : (regions : List Region) (names : List Name) (x : End) → x.connected ≡ true → IsEndSound regions names x → IsEndSound regions names (closed x)
-unfolding closed in_place untold untold_count
-closed_sound regions names x connected s = record {
-  sound = record {
-    acted_posted = s.sound.acted_posted;
-    told_posted = omega arith;
-    told_acted = λ h. absurd (cc);
-    over = λ h. refl;
-    unfinished = s.sound.unfinished;
-    whole_turns = s.sound.whole_turns;
-    known_there = λ h. absurd (cc);
-    known_within = omega arith;
-    unlanded = λ h e. refl;
-    whole_atomics = λ h. refl;
-    replies = s.sound.replies;
-    answered = s.sound.answered;
-    offers = All-weaker (IsOfferOf x) (IsOfferOf (closed x)) (λ o h. record { acted = h.acted; reads = h.reads; inside = h.inside }) x.offers s.sound.offers;
-    sizes = s.sound.sizes;
-    depth = omega arith;
-    receive_depth = omega arith;
-  };
-  made = λ h. absurd (cc (connected, h));
-  depth = s.depth;
-  send_queue = s.send_queue;
-  receive_queue = s.receive_queue;
-  requests = subst (All (λ r. is_granted local_key regions x.domain r.request.lkey r.request.local (size_of r) (landing_right (kind_of r)) ≡ true)) (sym (drop_all (length x.posted) x.posted (omega arith))) (All-nil _);
-  receives = All-nil _;
-}
 
 -- ---- receives
 

@@ -25,14 +25,14 @@ use Rattle.protocol.specs.Responder.{is_invalid, part_of, is_send, is_write, is_
 use Rattle.ideal_model.specs.Machine as machine
 use Rattle.ideal_model.specs.Machine.{Machine, End, regions_of}
 use Rattle.ideal_model.specs.Numbers.{due}
-use Rattle.ideal_model.specs.Steps.{current, fills, is_misaligned, is_current_granted, is_request_granted, is_granted_there, right_for, has_unused, has_imm, receive_for, first_receive, overflows, peer_of}
+use Rattle.ideal_model.specs.Steps.{fills, is_misaligned, is_current_granted, is_request_granted, is_granted_there, right_for, has_unused, has_imm, receive_for, first_receive, overflows, peer_of}
 use Rattle.simulation.specs.Packets.{class_of, IsRequest}
 use Rattle.simulation.specs.Facts.{past_packet, request_for}
 use Rattle.simulation.specs.Views.{link_of, link_or_none, requests_of, owned, owned_there, receive_in}
 use Rattle.simulation.specs.Joined.{IsProgress, IsSayable, is_granted_in}
-use Rattle.simulation_delivery.specs.Delivered as delivered
 use Rattle.simulation_delivery.specs.Delivered.{Arrives}
-use Rattle.simulation_requests.proofs.Requests.{IsRequestAt, asker, asking, request_at_end}
+use Rattle.simulation_requests.proofs.Requests.{IsRequestAt, asking, request_at_end}
+use Rattle.simulation_requests.proofs.Scenes.{scene}
 use Rattle.simulation_requests.proofs.Counting.{same_here, owned_here, progress_now}
 use Rattle.simulation_requests.proofs.Opcodes.{IsMessage, part, read_is, atomic_is}
 use Rattle.simulation_requests.proofs.Pieces.{first_suc}
@@ -184,29 +184,10 @@ empty_is (v ∷ vs) = grind (arith, nat_tests)
 -- ---- the expected request
 
 module _ (w : World) (m : Machine) (o : ObjName) (l : Link) (number : Option ℕ) (bytes : List ℕ) (d : Packet) (a : Arrives w m o l number bytes d) (is : class_of d ≡ IsRequest) (paused : is_paused l.moving.phase ≡ false) (now : (request_at_end w m o l number bytes d a is).0 ≡ l.receiver.expected) where
-  abbrev n : ℕ
-  n = (request_at_end w m o l number bytes d a is).0
+  open scene w m o l number bytes d a is use {n, q, g, r, x, c, e}
 
   abbrev it : IsRequestAt w m o l n d
   it = (request_at_end w m o l number bytes d a is).2
-
-  abbrev q : ObjName
-  q = asker m o
-
-  abbrev g : End
-  g = machine.end_of m q
-
-  abbrev r : Posted
-  r = current g
-
-  abbrev x : End
-  x = machine.end_of m o
-
-  abbrev c : state.Context
-  c = delivered.context_there w o
-
-  abbrev e : state.End
-  e = delivered.end_there w o
 
   abbrev dest : ℕ
   dest = (link_of w q).peer

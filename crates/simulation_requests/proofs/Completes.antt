@@ -2,7 +2,7 @@
 use Rattle.std.proofs.Common.{arith, ◌≡◌, ◌≤◌, List, [], ◌∷◌, ◌++◌, map, length, true, ap, ◌∙◌}
 use Rattle.std.specs.Prelude.{Option, All, drop, option_to_list}
 use Rattle.std.proofs.lemmas.List.{append-nil}
-use Rattle.std.proofs.lemmas.List.Elements.{All-weaker, All-drop, All-append, All-tail, All-head, All-cons}
+use Rattle.std.proofs.lemmas.List.Elements.{All-drop, All-append, All-tail, All-head, All-cons}
 use Rattle.rdma_types.specs.declared.names.Name.{Name}
 use Rattle.rdma_types.specs.declared.requests.Completion.{Completion}
 use Rattle.rdma_types.specs.declared.requests.Receive.{Receive}
@@ -10,9 +10,9 @@ use Rattle.rdma_types.specs.Lists.{has_name, store_named}
 use Rattle.rdma_types.specs.Memory.{LocalWrite, is_granted, local_key}
 use Rattle.rdma_types.specs.Objects.{CompletionQueue, Region, no_queue}
 use Rattle.ideal_model.specs.Machine.{End, completed, untold_count}
-use Rattle.ideal_model.specs.Sound.{IsOfferOf}
 use Rattle.ideal_model.specs.Steps.{in_place, untold, receives_of}
 use Rattle.simulation.specs.Stands.{IsEndSound}
+use Rattle.simulation.proofs.SoundEnds.{sound_still}
 use Rattle.simulation.proofs.Tables.{replaced-stored}
 use Rattle.simulation.proofs.Ends.{with_more, queue_in, with_more_names}
 use Rattle.simulation_delivery.proofs.Arriving.{stored_again}
@@ -49,24 +49,7 @@ IsLocalPlace regions domain v = is_granted local_key regions domain v.lkey v.loc
 pub receives_sound : (regions : List Region) (names : List Name) (e : End) (used : Option Receive) (unused : List Receive) → e.connected ≡ true → length unused ≤ length e.unused → All (IsLocalPlace regions e.domain) (option_to_list used ++ unused) → IsEndSound regions names e → IsEndSound regions names (record e { in_use = used; unused = unused })
 unfolding in_place untold untold_count
 receives_sound regions names e used unused connected fewer places s = record {
-  sound = record {
-    acted_posted = s.sound.acted_posted;
-    told_posted = s.sound.told_posted;
-    told_acted = s.sound.told_acted;
-    over = s.sound.over;
-    unfinished = s.sound.unfinished;
-    whole_turns = s.sound.whole_turns;
-    known_there = s.sound.known_there;
-    known_within = s.sound.known_within;
-    unlanded = s.sound.unlanded;
-    whole_atomics = s.sound.whole_atomics;
-    replies = s.sound.replies;
-    answered = s.sound.answered;
-    offers = All-weaker (IsOfferOf e) (IsOfferOf (record e { in_use = used; unused = unused })) (λ x h. record { acted = h.acted; reads = h.reads; inside = h.inside }) e.offers s.sound.offers;
-    sizes = s.sound.sizes;
-    depth = s.sound.depth;
-    receive_depth = omega (arith, fewer, s.sound.receive_depth);
-  };
+  sound = sound_still e (record e { in_use = used; unused = unused }) s.sound.offers (omega (arith, fewer, s.sound.receive_depth)) s.sound;
   made = λ h. absurd (cc (connected, h));
   depth = s.depth;
   send_queue = s.send_queue;

@@ -1,7 +1,7 @@
 -- The expected request finds no receive: it stays expected, and an RNR NAK is sent.
 use Rattle.std.proofs.Common.{arith, ◌≡◌, ℕ, List, [], ◌∷◌, ◌++◌, length, true, false, refl, sym, ◌∙◌, subst, inl, inr}
 use Rattle.std.specs.Prelude.{Option, Contains}
-use Rattle.std.proofs.lemmas.List.Elements.{All-nil, All-cons, All-weaker}
+use Rattle.std.proofs.lemmas.List.Elements.{All-nil, All-cons}
 use Rattle.rdma_types.specs.declared.names.ObjName.{ObjName}
 use Rattle.rdma_types.specs.declared.answers.Took.TheVariants as took
 use Rattle.protocol.specs.declared.wire.Syndrome.TheVariants.{Rnr}
@@ -17,13 +17,14 @@ use Rattle.ideal_model.specs.declared.steps.IdealStep.TheVariants as steps
 use Rattle.ideal_model.specs.Machine as machine
 use Rattle.ideal_model.specs.Machine.{Machine, End, regions_of}
 use Rattle.ideal_model.specs.Numbers.{due}
-use Rattle.ideal_model.specs.Sound.{IsSound, IsOfferOf}
+use Rattle.ideal_model.specs.Sound.{IsSound}
 use Rattle.ideal_model.specs.Steps.{in_place, may_dry, dried, dried_at}
 use Rattle.simulation.specs.Packets.{class_of, IsRequest}
 use Rattle.simulation.specs.Carries.{due_steps}
 use Rattle.simulation.specs.Views.{link_of, requests_of, side_of}
 use Rattle.simulation.specs.Joined.{IsProgress}
 use Rattle.simulation.specs.Stands.{Stands}
+use Rattle.simulation.proofs.SoundEnds.{sound_still}
 use Rattle.simulation.proofs.Grants.{contains_last, contains_cases, contains_here, contains_later}
 use Rattle.simulation.proofs.Linked.{end_changed}
 use Rattle.simulation_delivery.specs.Delivered as delivered
@@ -47,24 +48,7 @@ contains_push (z ∷ xs) y x h = elim (contains_cases x z xs h) [
 
 dry_sound : (q : End) (dry : List ℕ) → IsSound q → IsSound (moved_on q q.acted q.into q.answers q.offers dry)
 unfolding in_place machine.untold_count
-dry_sound q dry s = record {
-  acted_posted = s.acted_posted;
-  told_posted = s.told_posted;
-  told_acted = s.told_acted;
-  over = s.over;
-  unfinished = s.unfinished;
-  whole_turns = s.whole_turns;
-  known_there = s.known_there;
-  known_within = s.known_within;
-  unlanded = s.unlanded;
-  whole_atomics = s.whole_atomics;
-  replies = s.replies;
-  answered = s.answered;
-  offers = All-weaker (IsOfferOf q) (IsOfferOf (moved_on q q.acted q.into q.answers q.offers dry)) (λ o h. record { acted = h.acted; reads = h.reads; inside = h.inside }) q.offers s.offers;
-  sizes = s.sizes;
-  depth = s.depth;
-  receive_depth = s.receive_depth;
-}
+dry_sound q dry s = sound_still q (record q { dry = dry }) s.offers s.receive_depth s
 
 dry_advance : (q : End) (i top : ℕ) (r : Receiver) → IsAdvance q q.acted q.into q.answers q.offers q.dry top r → IsAdvance q q.acted q.into q.answers q.offers (q.dry ++ i ∷ []) top r
 unfolding due

@@ -24,7 +24,7 @@ use Rattle.simulation_delivery.specs.Delivered as delivered
 use Rattle.simulation_requests.proofs.Requests.{IsRequestAt, asker, asking}
 use Rattle.simulation_requests.proofs.Advancing.{IsAdvance, got, moved_on}
 use Rattle.simulation_requests.proofs.Responding.{IsRespond}
-use Rattle.simulation_requests.proofs.Regions.{AreLike, like_sound, like_progress}
+use Rattle.simulation_delivery.proofs.Regions.{AreLike, like_sound, like_progress}
 use Rattle.simulation_requests.proofs.Counting.{o_in, same_here}
 
 -- the machine's context with other regions and queues, and another end

@@ -2,6 +2,7 @@ pub mod Replies
 pub mod Pieces
 pub mod Opcodes
 pub mod Requests
+pub mod Scenes
 pub mod Advancing
 pub mod Responding
 pub mod Counting

@@ -8,6 +8,7 @@ use Rattle.protocol.specs.State.{Link}
 use Rattle.protocol.specs.Wire.{Packet, Fits, plain, layout_of, is_request}
 use Rattle.protocol.specs.EndWords.{to_partner}
 use Rattle.protocol.specs.Responder.{response, read_response}
+use Rattle.roce_headers.proofs.Fitting.{fits}
 use Rattle.roce_headers.proofs.Grammar.{spelled_read}
 use Rattle.roce_headers.proofs.Written.{written_spelled}
 use Rattle.ideal_model.specs.Machine.{End}
@@ -23,51 +24,11 @@ loaded opcode dest psn bytes = record (plain opcode dest psn) { payload = bytes 
 
 -- with an acknowledge header, where its opcode has one
 headed_fits : (opcode dest psn msn : ℕ) (bytes : List ℕ) → layout_of opcode ≡ Some (record { headers = headers.Aeth; payload = true }) → dest < 2 ^ 24 → psn < 2 ^ 24 → msn < 2 ^ 24 → length bytes ≤ 4096 → Fits (with_aeth (loaded opcode dest psn bytes) Ack msn)
-headed_fits opcode dest psn msn bytes known a b c short = record {
-  layout = record { headers = headers.Aeth; payload = true };
-  known = known;
-  dest = a;
-  psn = b;
-  unnumbered = tt;
-  reth = refl;
-  imm = refl;
-  aeth = refl;
-  atomic = refl;
-  old = refl;
-  resume = refl;
-  reth_fits = tt;
-  imm_fits = tt;
-  aeth_fits = record { syndrome = refl; msn = c };
-  atomic_fits = tt;
-  old_fits = tt;
-  resume_fits = tt;
-  allowed = tt;
-  payload = short;
-}
+headed_fits opcode dest psn msn bytes known a b c short = fits (with_aeth (loaded opcode dest psn bytes) Ack msn) _ known refl a b tt (tt, tt, record { syndrome = refl; msn = c }, tt, tt, tt) tt short
 
 bare_fits : (dest psn : ℕ) (bytes : List ℕ) → dest < 2 ^ 24 → psn < 2 ^ 24 → length bytes ≤ 4096 → Fits (loaded 0x0E dest psn bytes)
 unfolding layout_of
-bare_fits dest psn bytes a b short = record {
-  layout = record { headers = headers.Bare; payload = true };
-  known = refl;
-  dest = a;
-  psn = b;
-  unnumbered = tt;
-  reth = refl;
-  imm = refl;
-  aeth = refl;
-  atomic = refl;
-  old = refl;
-  resume = refl;
-  reth_fits = tt;
-  imm_fits = tt;
-  aeth_fits = tt;
-  atomic_fits = tt;
-  old_fits = tt;
-  resume_fits = tt;
-  allowed = tt;
-  payload = short;
-}
+bare_fits dest psn bytes a b short = fits (loaded 0x0E dest psn bytes) _ refl refl a b tt (tt, tt, tt, tt, tt, tt) tt short
 
 module _ (l : Link) (p x : Side) (e g : End) (n : ℕ) (bytes : List ℕ) (t : IsTowards l p e) (short : length bytes ≤ 4096) (offered : IsOffered e n bytes) where
   abbrev psn : ℕ

@@ -18,7 +18,7 @@ use Rattle.rdma_types.specs.Objects.{Posted, Region, no_region, no_posted}
 use Rattle.rdma_types.specs.Spans.{span, first_number, piece_of, request_of, pieces, span_of, piece_length}
 use Rattle.protocol.specs.declared.wire.Reth.{Reth}
 use Rattle.protocol.specs.State as state
-use Rattle.protocol.specs.State.{World, Link, Receiver, Progress, NoMessage, InSend, InWrite}
+use Rattle.protocol.specs.State.{World, Link, Progress, NoMessage, InSend, InWrite}
 use Rattle.protocol.specs.Numbers.{wire_number}
 use Rattle.protocol.specs.Segments.{read_packet, wrapped}
 use Rattle.protocol.specs.Wire.{Packet}
@@ -46,10 +46,10 @@ use Rattle.simulation.specs.Facts.{IsOffered, past_packet}
 use Rattle.simulation.proofs.Tables.{name-named_there}
 use Rattle.simulation.proofs.Linked.{end_changed}
 use Rattle.simulation_requests.proofs.Early.{same_due}
-use Rattle.simulation_delivery.specs.Delivered as delivered
 use Rattle.simulation_delivery.specs.Delivered.{Arrives, Takes, AreInner}
 use Rattle.simulation_delivery.proofs.Lifted.{IsAnswer, side_now}
-use Rattle.simulation_requests.proofs.Requests.{IsRequestAt, asker, asking, request_at_end}
+use Rattle.simulation_requests.proofs.Requests.{IsRequestAt, asking, request_at_end}
+use Rattle.simulation_requests.proofs.Scenes.{scene}
 use Rattle.simulation_requests.proofs.Replies.{IsTowards}
 use Rattle.simulation_requests.proofs.Opcodes.{read_is}
 use Rattle.simulation_requests.proofs.Due.{request_first, piece_first, mtu_is, mtu_small}
@@ -171,29 +171,7 @@ expected_read c e l d n h region op reth limit valid found =
 
 module _ (w : World) (m : Machine) (o : ObjName) (l : Link) (number : Option ℕ) (bytes : List ℕ) (d : Packet) (a : Arrives w m o l number bytes d) (is : class_of d ≡ IsRequest) (paused : is_paused l.moving.phase ≡ false) (now : (request_at_end w m o l number bytes d a is).0 ≡ l.receiver.expected)
     (read : kinds.is_read (kind_of (current (machine.end_of m (machine.end_of m o).peer))) ≡ true) (turn : may_read m (machine.end_of m o).peer ≡ true) where
-  abbrev q : ObjName
-  q = asker m o
-
-  abbrev g : End
-  g = machine.end_of m q
-
-  abbrev r : Posted
-  r = current g
-
-  abbrev x : End
-  x = machine.end_of m o
-
-  abbrev n : ℕ
-  n = (request_at_end w m o l number bytes d a is).0
-
-  abbrev c : state.Context
-  c = delivered.context_there w o
-
-  abbrev e : state.End
-  e = delivered.end_there w o
-
-  abbrev regions : List Region
-  regions = regions_of m o.context
+  open scene w m o l number bytes d a is use {n, q, g, r, x, regions, c, e}
 
   abbrev req : IsRequestAt w m o l n d
   req = at w m o l number bytes d a is paused now

@@ -1,15 +1,15 @@
 -- The acknowledges that a responder sends are read back, and say what is true.
 use Rattle.std.proofs.Common.{arith, ◌≡◌, ◌<◌, ◌≤◌, ◌^◌, ◌%◌, ◌/◌, ◌+◌, ℕ, [], ◌∷◌, ◌++◌, true, false, refl, sym, ap, ◌∙◌, subst, IsTrue}
 use Rattle.std.specs.Prelude.{Some, replicate, length}
-use Rattle.protocol.specs.declared.wire.Headers.TheVariants as headers
 use Rattle.protocol.specs.declared.wire.Syndrome.{Syndrome}
 use Rattle.protocol.specs.declared.wire.Syndrome.TheVariants.{Ack, Rnr, Nak}
 use Rattle.protocol.specs.Bytes.{big_bytes}
 use Rattle.protocol.specs.Numbers.{wire_number}
 use Rattle.protocol.specs.State.{Link}
 use Rattle.protocol.specs.Wire as wire
-use Rattle.protocol.specs.Wire.{Packet, Fits, plain, packet_of, wire_of, layout_of, fits_syndrome, base_bytes, is_request, is_read_response}
+use Rattle.protocol.specs.Wire.{Packet, Fits, plain, packet_of, wire_of, layout_of, fits_syndrome, base_bytes, is_request}
 use Rattle.protocol.specs.Responder.{acknowledge}
+use Rattle.roce_headers.proofs.Fitting.{fits}
 use Rattle.roce_headers.proofs.Grammar.{spelled_read}
 use Rattle.roce_headers.proofs.Written.{written_spelled}
 use Rattle.ideal_model.specs.Machine.{End}
@@ -51,27 +51,7 @@ wire_small start n = omega arith
 -- an acknowledge, or a NAK
 ack_fits : (dest psn msn : ℕ) (s : Syndrome) → dest < 2 ^ 24 → psn < 2 ^ 24 → msn < 2 ^ 24 → IsTrue (fits_syndrome 0x11 s) → Fits (with_aeth (plain 0x11 dest psn) s msn)
 unfolding layout_of
-ack_fits dest psn msn s a b c t = record {
-  layout = record { headers = headers.Aeth; payload = false };
-  known = refl;
-  dest = a;
-  psn = b;
-  unnumbered = tt;
-  reth = refl;
-  imm = refl;
-  aeth = refl;
-  atomic = refl;
-  old = refl;
-  resume = refl;
-  reth_fits = tt;
-  imm_fits = tt;
-  aeth_fits = record { syndrome = t; msn = c };
-  atomic_fits = tt;
-  old_fits = tt;
-  resume_fits = tt;
-  allowed = refl;
-  payload = omega arith;
-}
+ack_fits dest psn msn s a b c t = fits (with_aeth (plain 0x11 dest psn) s msn) _ refl refl a b tt (tt, tt, record { syndrome = t; msn = c }, tt, tt, tt) refl (omega arith)
 
 -- where the link l is that of an end whose peer is p, which the machine has as e
 pub record IsTowards (l : Link) (p : Side) (e : End) : Type 0 where

@@ -23,7 +23,7 @@ use Rattle.protocol.specs.Responder.{no_repeat, refuses, not_ready, is_too_long,
 use Rattle.ideal_model.specs.Machine.{put_at}
 use Rattle.ideal_model.specs.Steps.{first_receive}
 use Rattle.simulation_requests.proofs.Opcodes.{part}
-use Rattle.simulation_requests.proofs.Regions.{over, put_nothing}
+use Rattle.simulation_delivery.proofs.Regions.{over, put_nothing}
 use Rattle.simulation_requests.proofs.Written.{granted_region, number_once, contains_has, held_part}
 use Rattle.simulation_requests.proofs.Runs.{one_number}
 

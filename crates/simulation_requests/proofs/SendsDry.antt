@@ -7,23 +7,22 @@ use Rattle.rdma_types.specs.declared.answers.Why.TheVariants as whys
 use Rattle.rdma_types.specs.declared.requests.Receive.{Receive}
 use Rattle.rdma_types.specs.Kinds as kinds
 use Rattle.rdma_types.specs.Kinds.{kind_of, size_of}
-use Rattle.rdma_types.specs.Objects.{Posted, no_region}
+use Rattle.rdma_types.specs.Objects.{no_region}
 use Rattle.protocol.specs.declared.wire.Reth.{Reth}
-use Rattle.protocol.specs.State as state
 use Rattle.protocol.specs.State.{World, Link, Progress, NoMessage, InSend, InWrite}
 use Rattle.protocol.specs.Wire.{Packet, when}
 use Rattle.protocol.specs.EndWords.{is_paused}
 use Rattle.protocol.specs.Responder.{is_invalid, is_not_ready, is_empty, begins, part_of}
 use Rattle.protocol.specs.Segments.{is_first_piece, is_last_piece}
 use Rattle.ideal_model.specs.Machine as machine
-use Rattle.ideal_model.specs.Machine.{Machine, End, regions_of}
+use Rattle.ideal_model.specs.Machine.{Machine, regions_of}
 use Rattle.ideal_model.specs.Steps.{current, fills, has_unused, has_current, may_run, may_refuse, may_refuse_for, may_dry, may_dry_kind, first_receive, is_misaligned, overflows, peer_of, receive_for}
 use Rattle.simulation.specs.Packets.{class_of, IsRequest}
 use Rattle.simulation.specs.Views.{owned, owned_there, link_or_none, receive_in}
 use Rattle.simulation.specs.Joined.{IsProgress}
-use Rattle.simulation_delivery.specs.Delivered as delivered
 use Rattle.simulation_delivery.specs.Delivered.{Arrives, Takes}
-use Rattle.simulation_requests.proofs.Requests.{IsRequestAt, asker, asking, request_at_end}
+use Rattle.simulation_requests.proofs.Requests.{IsRequestAt, asking, request_at_end}
+use Rattle.simulation_requests.proofs.Scenes.{scene}
 use Rattle.simulation_requests.proofs.Counting.{owned_here, progress_now}
 use Rattle.simulation_requests.proofs.Due.{piece_bytes, not_last, mtu_is}
 use Rattle.simulation_requests.proofs.Expected.{at}
@@ -82,26 +81,7 @@ no_receive_short m q h = rw h (by_tests (has_current m q) (kinds.is_send (kind_o
 
 module _ (w : World) (m : Machine) (o : ObjName) (l : Link) (number : Option ℕ) (bytes : List ℕ) (d : Packet) (a : Arrives w m o l number bytes d) (is : class_of d ≡ IsRequest) (paused : is_paused l.moving.phase ≡ false) (now : (request_at_end w m o l number bytes d a is).0 ≡ l.receiver.expected)
     (send : kinds.is_send (kind_of (current (machine.end_of m (machine.end_of m o).peer))) ≡ true) (runs : may_run m (machine.end_of m o).peer (length d.payload) ≡ false) (dries : may_dry m (machine.end_of m o).peer ≡ true) where
-  abbrev q : ObjName
-  q = asker m o
-
-  abbrev g : End
-  g = machine.end_of m q
-
-  abbrev r : Posted
-  r = current g
-
-  abbrev x : End
-  x = machine.end_of m o
-
-  abbrev n : ℕ
-  n = (request_at_end w m o l number bytes d a is).0
-
-  abbrev c : state.Context
-  c = delivered.context_there w o
-
-  abbrev e : state.End
-  e = delivered.end_there w o
+  open scene w m o l number bytes d a is use {n, q, g, r, x, c, e}
 
   abbrev count : ℕ
   count = length d.payload

@@ -24,14 +24,14 @@ use Rattle.protocol.specs.Wire.{Packet, when}
 use Rattle.protocol.specs.EndWords as words
 use Rattle.protocol.specs.EndWords.{is_paused, in_use_by}
 use Rattle.protocol.specs.Responder as responder
-use Rattle.protocol.specs.Responder.{send_done, finished, begins, no_repeat, refuses, not_ready, is_too_long, refuses_length, receive_of, bytes_before, send_acts, read_acts, atomic_acts, with_immediate, Place, expected_packet, granted_packet, packet_acts, write_acts, write_done, acts, executed, in_progress, is_invalid, target, is_not_ready, is_send, is_write, is_read_request, span_of_packet, place_of, part_of, finishes, acknowledge, is_empty, front}
+use Rattle.protocol.specs.Responder.{send_done, finished, begins, receive_of, bytes_before, send_acts, acts, executed, in_progress, is_invalid, is_not_ready, is_send, is_write, span_of_packet, part_of, finishes, acknowledge, is_empty, front}
 use Rattle.protocol.specs.EndStep.{takes}
 use Rattle.protocol.specs.DeviceStep.{ended_step}
 use Rattle.protocol.specs.WorldStep.{home, ran}
 use Rattle.ideal_model.specs.declared.reply.Reply.{Reply}
 use Rattle.ideal_model.specs.declared.steps.IdealStep.TheVariants as steps
 use Rattle.ideal_model.specs.Machine as machine
-use Rattle.ideal_model.specs.Machine.{Machine, End, regions_of, put_at}
+use Rattle.ideal_model.specs.Machine.{Machine, End, put_at}
 use Rattle.ideal_model.specs.Steps.{fits, first_receive, untold, receive_for, unused_after, current, fills, has_imm, has_current, may_run, may_run_kind, may_add, next_bytes, receiving, arrivals, received_whole, used_by, run}
 use Rattle.simulation.specs.Packets.{class_of, IsRequest}
 use Rattle.simulation.specs.Views.{Owned, requests_of, side_of, owned, owned_there, receive_in, link_or_none}
@@ -39,10 +39,10 @@ use Rattle.simulation.specs.Joined.{IsProgress}
 use Rattle.simulation.specs.Stands.{Stands, IsEndSound}
 use Rattle.simulation.proofs.Sounds.{end_regions, queue_there}
 use Rattle.simulation.proofs.Ends.{with_more, completing_there}
-use Rattle.simulation_delivery.specs.Delivered as delivered
 use Rattle.simulation_delivery.specs.Delivered.{Arrives, Takes}
 use Rattle.simulation_delivery.proofs.Lifted.{IsAnswer, side_now}
-use Rattle.simulation_requests.proofs.Requests.{IsRequestAt, asker, asking, request_at_end}
+use Rattle.simulation_requests.proofs.Requests.{IsRequestAt, asking, request_at_end}
+use Rattle.simulation_requests.proofs.Scenes.{scene}
 use Rattle.simulation_requests.proofs.Replies.{IsTowards, ack_answer}
 use Rattle.simulation_requests.proofs.Opcodes.{IsMessage}
 use Rattle.simulation_requests.proofs.Responding.{IsRespond, responds, takes_so, made_there}
@@ -50,7 +50,7 @@ use Rattle.simulation_requests.proofs.Advancing.{got, moved_on}
 use Rattle.simulation_requests.proofs.Expected.{at, connected_now, run_steps, step_now, carries_now}
 use Rattle.simulation_requests.proofs.Messages as messages
 use Rattle.simulation_requests.proofs.Counting.{progress_now, same_here, owned_here, owned_got, o_sound, q_sound, o_in, q_in, q_there, name_there, apart}
-use Rattle.simulation_requests.proofs.Regions.{put_like, put_whole, put_said, like_local}
+use Rattle.simulation_delivery.proofs.Regions.{put_like, put_whole, put_said, like_local}
 use Rattle.simulation_requests.proofs.Running as running
 use Rattle.simulation_requests.proofs.Runs.{IsRunPeer, filled_peer, more_peer, within_limit, one_number}
 use Rattle.simulation_requests.proofs.Due.{mtu_positive}
@@ -153,35 +153,10 @@ some_pieces into mtu is' = mtu_is (λ k. into % k ≡ 0 → 0 < into → 1 ≤ i
 
 module _ (w : World) (m : Machine) (o : ObjName) (l : Link) (number : Option ℕ) (bytes : List ℕ) (d : Packet) (a : Arrives w m o l number bytes d) (is : class_of d ≡ IsRequest) (paused : is_paused l.moving.phase ≡ false) (now : (request_at_end w m o l number bytes d a is).0 ≡ l.receiver.expected)
     (send : kinds.is_send (kind_of (current (machine.end_of m (machine.end_of m o).peer))) ≡ true) (runs : may_run m (machine.end_of m o).peer (length d.payload) ≡ true) where
-  abbrev q : ObjName
-  q = asker m o
-
-  abbrev g : End
-  g = machine.end_of m q
-
-  abbrev r : Posted
-  r = current g
-
-  abbrev x : End
-  x = machine.end_of m o
-
-  abbrev y : machine.Context
-  y = machine.context_of m o.context
-
-  abbrev n : ℕ
-  n = (request_at_end w m o l number bytes d a is).0
-
-  abbrev c : state.Context
-  c = delivered.context_there w o
-
-  abbrev e : state.End
-  e = delivered.end_there w o
+  open scene w m o l number bytes d a is use {n, q, g, r, x, y, regions, c, e}
 
   abbrev count : ℕ
   count = length d.payload
-
-  abbrev regions : List Region
-  regions = regions_of m o.context
 
   abbrev req : IsRequestAt w m o l n d
   req = at w m o l number bytes d a is paused now

@@ -9,7 +9,7 @@ use Rattle.rdma_types.specs.Kinds as kinds
 use Rattle.rdma_types.specs.Kinds.{kind_of, size_of}
 use Rattle.rdma_types.specs.Limits.{number_limit}
 use Rattle.rdma_types.specs.Memory.{is_granted, remote_key}
-use Rattle.rdma_types.specs.Objects.{Posted, Region}
+use Rattle.rdma_types.specs.Objects.{Region}
 use Rattle.protocol.specs.State as state
 use Rattle.protocol.specs.State.{World, Link}
 use Rattle.protocol.specs.Wire.{Packet}
@@ -24,9 +24,9 @@ use Rattle.simulation.specs.Packets.{class_of, IsRequest}
 use Rattle.simulation.specs.Carries.{due_steps}
 use Rattle.simulation.specs.Views.{owned, owned_there}
 use Rattle.simulation.specs.Joined.{is_granted_in}
-use Rattle.simulation_delivery.specs.Delivered as delivered
 use Rattle.simulation_delivery.specs.Delivered.{Arrives, Takes}
-use Rattle.simulation_requests.proofs.Requests.{IsRequestAt, asker, request_at_end}
+use Rattle.simulation_requests.proofs.Requests.{IsRequestAt, request_at_end}
+use Rattle.simulation_requests.proofs.Scenes.{scene}
 use Rattle.simulation_requests.proofs.Counting.{owned_here}
 use Rattle.simulation_requests.proofs.Due.{piece_bytes, mtu_positive}
 use Rattle.simulation_requests.proofs.Expected.{at, has_now}
@@ -106,26 +106,7 @@ both_parts false u h = absurd (cc)
 
 module _ (w : World) (m : Machine) (o : ObjName) (l : Link) (number : Option ℕ) (bytes : List ℕ) (d : Packet) (a : Arrives w m o l number bytes d) (is : class_of d ≡ IsRequest) (paused : is_paused l.moving.phase ≡ false) (now : (request_at_end w m o l number bytes d a is).0 ≡ l.receiver.expected)
     (write : kinds.is_write (kind_of (current (machine.end_of m (machine.end_of m o).peer))) ≡ true) (runs : may_run m (machine.end_of m o).peer (length d.payload) ≡ false) (dries : may_dry m (machine.end_of m o).peer ≡ true) where
-  abbrev q : ObjName
-  q = asker m o
-
-  abbrev g : End
-  g = machine.end_of m q
-
-  abbrev r : Posted
-  r = current g
-
-  abbrev x : End
-  x = machine.end_of m o
-
-  abbrev n : ℕ
-  n = (request_at_end w m o l number bytes d a is).0
-
-  abbrev c : state.Context
-  c = delivered.context_there w o
-
-  abbrev e : state.End
-  e = delivered.end_there w o
+  open scene w m o l number bytes d a is use {n, q, g, r, x, c, e}
 
   abbrev count : ℕ
   count = length d.payload

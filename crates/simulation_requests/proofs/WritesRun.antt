@@ -39,10 +39,10 @@ use Rattle.simulation.specs.Joined.{IsProgress, is_granted_in}
 use Rattle.simulation.specs.Stands.{Stands, IsEndSound}
 use Rattle.simulation.proofs.Sounds.{end_regions, queue_there}
 use Rattle.simulation.proofs.Ends.{with_more, completing_there}
-use Rattle.simulation_delivery.specs.Delivered as delivered
 use Rattle.simulation_delivery.specs.Delivered.{Arrives, Takes}
 use Rattle.simulation_delivery.proofs.Lifted.{IsAnswer, side_now}
-use Rattle.simulation_requests.proofs.Requests.{IsRequestAt, asker, asking, request_at_end}
+use Rattle.simulation_requests.proofs.Requests.{IsRequestAt, asking, request_at_end}
+use Rattle.simulation_requests.proofs.Scenes.{scene}
 use Rattle.simulation_requests.proofs.Replies.{IsTowards, ack_answer}
 use Rattle.simulation_requests.proofs.Opcodes.{IsMessage}
 use Rattle.simulation_requests.proofs.Responding.{IsRespond, responds, takes_so, made_there}
@@ -50,7 +50,7 @@ use Rattle.simulation_requests.proofs.Advancing.{got, moved_on}
 use Rattle.simulation_requests.proofs.Expected.{at, connected_now, run_steps, step_now, carries_now}
 use Rattle.simulation_requests.proofs.Messages as messages
 use Rattle.simulation_requests.proofs.Counting.{same_here, owned_here, owned_got, o_sound, q_sound, o_in, q_in, q_there, name_there, apart}
-use Rattle.simulation_requests.proofs.Regions.{put_like, put_whole, put_said, like_local}
+use Rattle.simulation_delivery.proofs.Regions.{put_like, put_whole, put_said, like_local}
 use Rattle.simulation_requests.proofs.Written.{IsPlaceOf, written_put}
 use Rattle.simulation_requests.proofs.Running as running
 use Rattle.simulation_requests.proofs.Runs.{IsRunPeer, filled_peer, more_peer, within_limit, one_number}
@@ -139,35 +139,10 @@ none_in = refl
 
 module _ (w : World) (m : Machine) (o : ObjName) (l : Link) (number : Option ℕ) (bytes : List ℕ) (d : Packet) (a : Arrives w m o l number bytes d) (is : class_of d ≡ IsRequest) (paused : is_paused l.moving.phase ≡ false) (now : (request_at_end w m o l number bytes d a is).0 ≡ l.receiver.expected)
     (write : kinds.is_write (kind_of (current (machine.end_of m (machine.end_of m o).peer))) ≡ true) (runs : may_run m (machine.end_of m o).peer (length d.payload) ≡ true) where
-  abbrev q : ObjName
-  q = asker m o
-
-  abbrev g : End
-  g = machine.end_of m q
-
-  abbrev r : Posted
-  r = current g
-
-  abbrev x : End
-  x = machine.end_of m o
-
-  abbrev y : machine.Context
-  y = machine.context_of m o.context
-
-  abbrev n : ℕ
-  n = (request_at_end w m o l number bytes d a is).0
-
-  abbrev c : state.Context
-  c = delivered.context_there w o
-
-  abbrev e : state.End
-  e = delivered.end_there w o
+  open scene w m o l number bytes d a is use {n, q, g, r, x, y, regions, c, e}
 
   abbrev count : ℕ
   count = length d.payload
-
-  abbrev regions : List Region
-  regions = regions_of m o.context
 
   abbrev req : IsRequestAt w m o l n d
   req = at w m o l number bytes d a is paused now

@@ -18,7 +18,8 @@ use Rattle.simulation.specs.Joined.{IsWriting, is_granted_in}
 use Rattle.simulation.proofs.Grants.{contains_cases, contains_here, contains_later}
 use Rattle.simulation.proofs.Tables.{count_by-cons}
 use Rattle.simulation_delivery.proofs.First.{first_passes}
-use Rattle.simulation_requests.proofs.Regions.{over, put_nothing, put_stored}
+use Rattle.simulation_requests.proofs.Regions.{put_stored}
+use Rattle.simulation_delivery.proofs.Regions.{over, put_nothing}
 
 pub first_contained : {A : Type 0} (p : A → Bool) (x : A) (xs : List A) → first_that p xs ≡ Some x → Contains xs x
 unfolding first_that

@@ -1,7 +1,7 @@
 -- What a repeated READ request is answered, and what more offers leave as it was.
 use Rattle.std.proofs.Common.{arith, ◌≡◌, ◌<◌, ◌≤◌, ◌+◌, ◌-◌, ◌*◌, ℕ, List, [], ◌++◌, true, false, Bool, refl, sym, ap, ◌∙◌}
 use Rattle.std.specs.Prelude.{Option, Some, None, if◌then◌else◌, is_some, nat_le, ◌==◌, ◌&&◌, ◌||◌, All}
-use Rattle.std.proofs.lemmas.List.Elements.{Contains-append_left, All-weaker, All-append}
+use Rattle.std.proofs.lemmas.List.Elements.{Contains-append_left, All-append}
 use Rattle.rdma_types.specs.declared.names.Name.{Name}
 use Rattle.rdma_types.specs.declared.names.ObjName.{ObjName}
 use Rattle.rdma_types.specs.Kinds.{is_read, kind_of, size_of}
@@ -14,13 +14,14 @@ use Rattle.protocol.specs.State.{Link, Receiver, Progress, NoMessage, InSend, In
 use Rattle.protocol.specs.Wire.{Packet}
 use Rattle.protocol.specs.Responder.{repeated, answers_read, read_grant}
 use Rattle.ideal_model.specs.Machine as machine
-use Rattle.ideal_model.specs.Machine.{Machine, End, Offered, regions_of, posted_at}
+use Rattle.ideal_model.specs.Machine.{Machine, End, Offered, posted_at}
 use Rattle.ideal_model.specs.Numbers.{due}
 use Rattle.ideal_model.specs.Sound.{IsOfferOf, IsSound}
 use Rattle.ideal_model.specs.Steps.{in_place, is_granted_there}
 use Rattle.ideal_model.specs.Machine.{untold_count}
 use Rattle.simulation.specs.Carries.{is_rest_granted, offers_of, repeat_steps}
 use Rattle.simulation.specs.Joined.{IsInPieces, IsProgress, Receives}
+use Rattle.simulation.proofs.SoundEnds.{sound_still}
 use Rattle.simulation.proofs.Linked.{end_changed}
 use Rattle.simulation_requests.proofs.Advancing.{IsAdvance, moved_on}
 use Rattle.simulation_requests.proofs.Responding.{peer_again}
@@ -64,24 +65,7 @@ end_again m q there found =
 
 pub offers_sound : (q : End) (list : List Offered) → All (IsOfferOf q) list → IsSound q → IsSound (moved_on q q.acted q.into q.answers (q.offers ++ list) q.dry)
 unfolding in_place untold_count
-offers_sound q list inside s = record {
-  acted_posted = s.acted_posted;
-  told_posted = s.told_posted;
-  told_acted = s.told_acted;
-  over = s.over;
-  unfinished = s.unfinished;
-  whole_turns = s.whole_turns;
-  known_there = s.known_there;
-  known_within = s.known_within;
-  unlanded = s.unlanded;
-  whole_atomics = s.whole_atomics;
-  replies = s.replies;
-  answered = s.answered;
-  offers = All-weaker (IsOfferOf q) (IsOfferOf (moved_on q q.acted q.into q.answers (q.offers ++ list) q.dry)) (λ o h. record { acted = h.acted; reads = h.reads; inside = h.inside }) (q.offers ++ list) (All-append (IsOfferOf q) q.offers list s.offers inside);
-  sizes = s.sizes;
-  depth = s.depth;
-  receive_depth = s.receive_depth;
-}
+offers_sound q list inside s = sound_still q (record q { offers = q.offers ++ list }) (All-append (IsOfferOf q) q.offers list s.offers inside) s.receive_depth s
 
 pub offers_advance : (q : End) (list : List Offered) (top : ℕ) (r : Receiver) → due q ≤ top → All (λ f. All (λ b. b < 256) f.bytes) list → IsInPieces q → Receives r q → IsAdvance q q.acted q.into q.answers (q.offers ++ list) q.dry top r
 unfolding due

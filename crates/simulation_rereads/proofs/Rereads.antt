@@ -16,7 +16,6 @@ use Rattle.rdma_types.specs.Objects.{Posted, Region, no_region, no_posted}
 use Rattle.rdma_types.specs.Spans.{span, first_number, piece_of, request_of, pieces, span_of, piece_length}
 use Rattle.rdma_types.proofs.Numbers.{split}
 use Rattle.protocol.specs.declared.wire.Reth.{Reth}
-use Rattle.protocol.specs.State as state
 use Rattle.protocol.specs.State.{World, Link}
 use Rattle.protocol.specs.Numbers.{wire_number}
 use Rattle.protocol.specs.Segments.{read_packet, wrapped, packet_of_piece}
@@ -42,12 +41,12 @@ use Rattle.simulation.specs.Facts.{IsOffered}
 use Rattle.simulation.proofs.InUse.{owned_of}
 use Rattle.simulation.proofs.Tables.{name-named_there}
 use Rattle.simulation.proofs.Linked.{end_changed}
-use Rattle.simulation_delivery.specs.Delivered as delivered
-use Rattle.simulation_delivery.specs.Delivered.{Arrives, Takes, AreInner}
+use Rattle.simulation_delivery.specs.Delivered.{Arrives, Takes}
 use Rattle.simulation_delivery.proofs.Arriving.{unchanged_stands}
 use Rattle.simulation_delivery.proofs.Lifted.{IsAnswer, side_now}
 use Rattle.simulation_requests.specs.Taken.{AreTakenWhere, asked}
-use Rattle.simulation_requests.proofs.Requests.{IsRequestAt, asker, asking, request_at_end}
+use Rattle.simulation_requests.proofs.Requests.{IsRequestAt, asking, request_at_end}
+use Rattle.simulation_requests.proofs.Scenes.{scene}
 use Rattle.simulation_requests.proofs.Replies.{IsTowards}
 use Rattle.simulation_requests.proofs.Opcodes.{read_is}
 use Rattle.simulation_requests.proofs.Due.{request_first, piece_first, mtu_small}
@@ -68,26 +67,7 @@ use Rattle.simulation_rereads.proofs.RereadSteps.{end_again, reread_is, none_gra
 
 module _ (w : World) (m : Machine) (o : ObjName) (l : Link) (number : Option ℕ) (bytes : List ℕ) (d : Packet) (a : Arrives w m o l number bytes d) (is : class_of d ≡ IsRequest) (paused : is_paused l.moving.phase ≡ false) (before : (request_at_end w m o l number bytes d a is).0 < l.receiver.expected)
     (read : kinds.is_read (kind_of (asked m o (request_at_end w m o l number bytes d a is).0)) ≡ true) where
-  abbrev q : ObjName
-  q = asker m o
-
-  abbrev g : End
-  g = machine.end_of m q
-
-  abbrev x : End
-  x = machine.end_of m o
-
-  abbrev n : ℕ
-  n = (request_at_end w m o l number bytes d a is).0
-
-  abbrev c : state.Context
-  c = delivered.context_there w o
-
-  abbrev e : state.End
-  e = delivered.end_there w o
-
-  abbrev regions : List Region
-  regions = regions_of m o.context
+  open scene w m o l number bytes d a is use {n, q, g, x, regions, c, e}
 
   abbrev req : IsRequestAt w m o l n d
   req = (request_at_end w m o l number bytes d a is).2

@@ -49,11 +49,13 @@ use Rattle.simulation_responses.proofs.ResponseAdvance.{end_heard, end_then, hea
 use Rattle.simulation_responses.proofs.ResponseArrives.{live_end}
 use Rattle.simulation_responses.proofs.ResponseFound.{found_here, found_lands, landing_control, landing_is}
 use Rattle.simulation_responses.proofs.ResponseGoals.{IsTaken, nothing_taken, taken_takes, una_barrier}
-use Rattle.simulation_responses.proofs.ResponseLanding.{LearnedAt, entries_more, landing_stands, word_length, word_said}
+use Rattle.simulation_responses.proofs.ResponseLanding.{LearnedAt, entries_more, landing_stands}
+use Rattle.simulation_delivery.proofs.Words.{word_length, word_said}
 use Rattle.simulation_responses.proofs.ResponseLast.{after_then, front_of, front_there, inner_then, run_then, untold_then}
 use Rattle.simulation_responses.proofs.ResponseLearns.{first_next}
 use Rattle.simulation_responses.proofs.ResponseOld.{lands_atomic, learned_at_then, learned_old, learned_regions, old_acted, old_regions, request_begins}
-use Rattle.simulation_responses.proofs.ResponseRegions.{landed_put, put_like, put_said, put_whole}
+use Rattle.simulation_responses.proofs.ResponseRegions.{landed_put}
+use Rattle.simulation_delivery.proofs.Regions.{put_like, put_said, put_whole}
 use Rattle.simulation_responses.proofs.ResponseTelling.{Advances, stays_here}
 use Rattle.simulation_responses.proofs.ResponseTold.{Stays, entries_by, known_by, learned_stays, told_by}
 

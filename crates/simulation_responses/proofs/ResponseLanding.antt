@@ -1,15 +1,12 @@
 -- Bytes land at an end in Rts, and what is told then is completed: the relation is kept.
 use Rattle.std.proofs.Common.{arith, ◌≡◌, ◌≤◌, ◌<◌, ◌+◌, ℕ, zero, suc, List, ◌++◌, length, map, filter, true, false, refl, sym, ap, ◌∙◌, subst}
 use Rattle.std.specs.Prelude.{Some, All, drop, take}
-use Rattle.std.specs.Int.{byte_at, bytes_high_first}
 use Rattle.std.proofs.Math.Seq.{drop-cons}
 use Rattle.std.proofs.lemmas.List.{append-nil, append_assoc, drop-drop}
-use Rattle.std.proofs.lemmas.List.Elements.{All-nil, All-cons}
 use Rattle.rdma_types.specs.declared.names.ObjName.{ObjName}
 use Rattle.rdma_types.specs.declared.answers.Answer.{Answer}
 use Rattle.rdma_types.specs.declared.requests.Completion.{Completion}
 use Rattle.rdma_types.specs.Lists.{has_name, store_named}
-use Rattle.rdma_types.specs.Memory.{word_bytes}
 use Rattle.rdma_types.specs.Objects.{IsWhole, Region, no_posted}
 use Rattle.protocol.specs.State as state
 use Rattle.protocol.specs.State.{World, Link, Sender}
@@ -30,27 +27,9 @@ use Rattle.simulation.proofs.Sounds.{queue_there, queues_like}
 use Rattle.simulation_sending.proofs.GoEnd.{Goes_on, gone_end}
 use Rattle.simulation_sending.proofs.GoLive.{LiveEnd, ContextGoes, both, connected_here, ended_here, goes_on_here, name_here, name_there, owned_gone, sound_here, untold_here}
 use Rattle.simulation_sending.proofs.GoSound.{MayKnow, gone_sound}
-use Rattle.simulation_responses.proofs.ResponseRegions.{AreLike, like_progress, like_sound}
+use Rattle.simulation_delivery.proofs.Regions.{AreLike, like_progress, like_sound}
 use Rattle.simulation_responses.proofs.ResponseTold.{entries_by, learned_context, told_by}
 use Rattle.simulation_responses.proofs.ResponseTelling.{Advances, done_first, learned_there}
-
--- ---- words
-
-pub word_length : (n : ℕ) → length (word_bytes n) ≡ 8
-unfolding word_bytes
-word_length n = refl
-
-byte_said : (i n : ℕ) → byte_at i n < 256
-byte_said zero n = omega arith
-byte_said (suc i) n = omega arith
-
-bytes_said : (k n : ℕ) → All (λ b. b < 256) (bytes_high_first k n)
-bytes_said zero n = All-nil _
-bytes_said (suc k) n = All-cons (λ b. b < 256) (byte_at k n) (bytes_high_first k n) (byte_said k n) (bytes_said k n)
-
-pub word_said : (n : ℕ) → All (λ b. b < 256) (word_bytes n)
-unfolding word_bytes
-word_said n = bytes_said 8 n
 
 -- ---- completions
 

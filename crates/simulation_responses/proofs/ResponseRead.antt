@@ -61,7 +61,8 @@ use Rattle.simulation_responses.proofs.ResponseLast.{after_then, front_of, front
 use Rattle.simulation_responses.proofs.ResponseLearns.{first_next}
 use Rattle.simulation_responses.proofs.ResponseNumbers.{bytes_inside, pieces_back, request_high, whole_bytes}
 use Rattle.simulation_responses.proofs.ResponseOld.{learned_at_then, learned_regions, request_begins}
-use Rattle.simulation_responses.proofs.ResponseRegions.{landed_put, put_like, put_nothing, put_said, put_whole}
+use Rattle.simulation_responses.proofs.ResponseRegions.{landed_put}
+use Rattle.simulation_delivery.proofs.Regions.{put_like, put_nothing, put_said, put_whole}
 use Rattle.simulation_responses.proofs.ResponseTelling.{Advances, stays_here}
 use Rattle.simulation_responses.proofs.ResponseTold.{Learned, Stays, entries_by, known_by, learned_none, learned_stays, learned_told, told_by, untold_there}
 

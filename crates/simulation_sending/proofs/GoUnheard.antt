@@ -1,7 +1,6 @@
 -- How the machine follows an event of a context that no application hears of.
 use Rattle.std.proofs.Common.{◌≡◌, [], true, false, Bool, refl, sym, ap, ◌∙◌, subst}
-use Rattle.std.specs.Prelude.{Option, Some, None, not, ◌&&◌, ◌||◌, if◌then◌else◌}
-use Rattle.rdma_types.specs.declared.names.Name.{Name}
+use Rattle.std.specs.Prelude.{Option, Some, None, not, ◌||◌, if◌then◌else◌}
 use Rattle.rdma_types.specs.declared.answers.Answer.{Answer}
 use Rattle.rdma_types.specs.declared.answers.Answer.TheVariants as answers
 use Rattle.rdma_types.specs.declared.answers.Refusal.{Refusal}
@@ -14,14 +13,14 @@ use Rattle.protocol.specs.Refusals as refusing
 use Rattle.protocol.specs.DeviceStep as device
 use Rattle.protocol.specs.DeviceStep.{device_step, done_by}
 use Rattle.protocol.specs.WorldStep as step
-use Rattle.protocol.specs.WorldStep.{world_step, is_live, is_carried, home, ran, runs, context_causes, context_of_event}
+use Rattle.protocol.specs.WorldStep.{is_live, is_carried, home, ran, runs, context_causes, context_of_event}
 use Rattle.ideal_model.specs.Machine.{Machine, has_context}
 use Rattle.simulation.specs.Kept.{kept_of, kept_verb, verb_of, verb_in}
 use Rattle.simulation.specs.Carries.{CarriesAt}
 use Rattle.simulation.specs.Stands.{Stands}
 use Rattle.simulation.specs.Law.{Reaches, Follows}
 use Rattle.simulation.proofs.Worlds.{is_there}
-use Rattle.simulation.proofs.Verbs.{ran_same, unheard_reached}
+use Rattle.simulation.proofs.Verbs.{ran_same, unheard_reached, causes_are, stepped_at}
 
 -- an event of a context that no application hears of: where it is refused nothing happens, and where it is not, what
 -- its home does is reached
@@ -54,19 +53,6 @@ at_live : (w : World) (m : Machine) (e : Event) → Stands w m → IsUnheard w m
     Reaches w m (world_events.At e) (runs w (home w (context_of_event e)) e).world (runs w (home w (context_of_event e)) e).answer
 unfolding device_step
 at_live w m e s u live there = by_device w m e _ s u live there refl
-
-stepped_at : (w : World) (e : Event) (r : Option Refusal) → first_cause (context_causes w (context_of_event e) []) ≡ r → world_step w (world_events.At e) ≡ step.by_refusal w r (runs w (home w (context_of_event e)) e)
-unfolding world_step step.steps_at
-stepped_at w e r h = ap (λ x. step.by_refusal w x (runs w (home w (context_of_event e)) e)) h
-
-causes_are : (w : World) (c : Name) → first_cause (context_causes w c []) ≡ (if is_live w c then None else if is_carried w c then Some refusals.Stopped else Some refusals.NoSuch)
-unfolding first_cause
-causes_are w c = by_tests (is_live w c) (is_carried w c)
-  where
-    by_tests : (l k : Bool) → (if not l && not k then Some refusals.NoSuch else if not l then Some refusals.Stopped else None) ≡ (if l then None else if k then Some refusals.Stopped else Some refusals.NoSuch)
-    by_tests true k = refl
-    by_tests false true = refl
-    by_tests false false = refl
 
 refused_at : (w : World) (m : Machine) (e : Event) (r : Refusal) → Stands w m → IsUnheard w m e → first_cause (context_causes w (context_of_event e) []) ≡ Some r → Follows w m (world_events.At e)
 refused_at w m e r s u h = rw (stepped_at w e (Some r) h) (unheard_reached w m (world_events.At e) w (answers.Refused r) (nothing_heard w e (answers.Refused r) u.silent) (u.refused r) s)

@@ -7,7 +7,8 @@ use Rattle.protocol.specs.Responder.{read_response}
 use Rattle.protocol.specs.Wire.{wire_of}
 use Rattle.endpoint_core.specs.Due.{telling}
 use Rattle.endpoint_core.specs.Ends.{link_in}
-use Rattle.context_core.proofs.Fitting.{few_bytes, wire-addressed}
+use Rattle.roce_headers.proofs.Fitting.{few_bytes}
+use Rattle.context_core.proofs.Fitting.{wire-addressed}
 use Rattle.context_core.proofs.Sends.{mtu-small}
 use Rattle.context_core.proofs.arriving.response.Goals as goal
 
