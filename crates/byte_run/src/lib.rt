@@ -8,6 +8,3 @@ pub use run::ByteRun;
 
 /// How many bytes a page has.
 pub const PAGE: usize = 4096;
-
-#[cfg(test)]
-mod tests;

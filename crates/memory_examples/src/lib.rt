@@ -2,10 +2,14 @@
 //! and tests of the calls that take memory.
 //!
 //! The functions do nothing. Each promises the equations that it names over the definitions that `memory_keys` keeps to.
-//! That crate is tested here, so that its proof is not made twice.
+//! That crate, `page_pool` and `byte_run` are tested here, so that their proofs are not made twice.
 #![tactic(auto)]
 
 mod examples;
+#[cfg(test)]
+mod pages;
+#[cfg(test)]
+mod runs;
 #[cfg(test)]
 mod tests;
 

@@ -65,6 +65,3 @@ pub struct Unlowered {
     pub bytes: ByteRun,
     pub why: PoolFault,
 }
-
-#[cfg(test)]
-mod tests;

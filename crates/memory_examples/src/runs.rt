@@ -1,6 +1,6 @@
 //! Runs over the seam of two pages.
 
-use super::*;
+use byte_run::ByteRun;
 use std::test::Fail;
 
 #[test]

@@ -1,8 +1,8 @@
-//! The worked examples.
+//! A pool, and the pages of lists, where memory is ample.
 
 ghost use Rattle.page_pool.specs.Pool.{IsIn};
 
-use super::*;
+use page_pool::{ByteRun, PageList, PagePool, PoolFault};
 use std::test::Fail;
 
 /// The two bytes of a list from `at` on; None where it has fewer.
