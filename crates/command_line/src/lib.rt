@@ -9,6 +9,3 @@ mod rule;
 mod splitting;
 
 pub use command::Command;
-
-#[cfg(test)]
-mod tests;

@@ -176,6 +176,3 @@ impl Cq {
         self.reserved
     }
 }
-
-#[cfg(test)]
-mod tests;

@@ -21,6 +21,3 @@ pub use answers::{BadState, DueRead, EndReply, EndSend, EndTook};
 pub use end::{EndLink, Endpoint};
 pub use laws::{an_end_stays, reservations_are_the_protocols};
 pub use memory::EndMemory;
-
-#[cfg(test)]
-mod tests;

@@ -188,6 +188,3 @@ fn unsettled_from(ring: &VecDeque<Flight>, from: usize) -> usize
     }
     place
 }
-
-#[cfg(test)]
-mod tests;

@@ -9,8 +9,6 @@ mod mem_depot;
 mod mem_sink;
 mod mem_source;
 mod reading;
-#[cfg(test)]
-mod tests;
 mod writing;
 
 pub use depot::{Depot, DepotFault};

@@ -40,6 +40,3 @@ impl Model for Requester {
 
     ghost invariant = { λ r. IsHeld r.terms (sender_with (bares r.queue.items) r.numbers) r.caches };
 }
-
-#[cfg(test)]
-mod tests;

@@ -39,6 +39,3 @@ impl Model for Responder {
 
     ghost invariant = { λ r. IsHeld r.terms (receiver_of r.parts r.kept) };
 }
-
-#[cfg(test)]
-mod tests;

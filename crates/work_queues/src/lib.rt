@@ -17,6 +17,3 @@ pub type SendQueue = WorkQueue<Posted>;
 
 /// The unused receives of a queue pair.
 pub type RecvQueue = WorkQueue<Receive>;
-
-#[cfg(test)]
-mod tests;

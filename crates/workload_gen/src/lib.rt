@@ -13,6 +13,3 @@ mod writing;
 pub use laws::{messages_lie_in_their_regions, moves_stand_in_order};
 pub use plan::{Mix, plan_of};
 pub use summary::summary_of;
-
-#[cfg(test)]
-mod tests;

@@ -1,4 +1,6 @@
-use crate::Command;
+//! Commands that words spell.
+
+use command_line::Command;
 use std::test::Fail;
 
 /// The command of words that are written out.

@@ -1,4 +1,6 @@
-use super::*;
+//! An end of a connection, where memory is ample.
+
+use endpoint_core::{BadState, EndSend, Endpoint};
 use rdma_types::{Address, Name, Terms};
 use requester::Transmit;
 use std::test::Fail;

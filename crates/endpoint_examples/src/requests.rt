@@ -2,9 +2,9 @@
 
 ghost use Rattle.std.specs.Prelude.{◌≡◌, ◌^◌, ◌<◌};
 
-use crate::{Expiry, Requester, RequesterParts, Taken, Transmit};
 use page_pool::{PagePool, Payload, PoolFault};
 use rdma_types::{Kind, Request, Shape, Terms, WcStatus};
+use requester::{Expiry, Requester, RequesterParts, Taken, Transmit};
 use roce_headers::{Aeth, Datagram, Syndrome};
 use segmenter::span_of;
 use work_queues::{Posted, SendQueue};

@@ -1,9 +1,9 @@
 //! Queues on values from outside.
 
-use crate::{Posted, RecvQueue, SendQueue};
 use page_pool::{PageList, PagePool, Payload, PoolFault};
 use rdma_types::{Kind, Receive, Request, Shape};
 use std::alloc::AllocError;
+use work_queues::{Posted, RecvQueue, SendQueue};
 
 fn receive(id: u64) -> Receive {
     Receive {

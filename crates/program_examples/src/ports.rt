@@ -2,8 +2,11 @@
 
 ghost use Rattle.std.specs.Prelude.{◌<◌, None};
 
-use super::*;
 use indexmap::IndexMap;
+use mig_ports::{
+    Depot, DepotFault, EmptyDepot, Failed, MemDepot, MemSink, MemSource, ReadAllFault, Sink,
+    Source, WriteFault, read_all, write_all_of,
+};
 use rdma_types::Name;
 use std::alloc::{AllocError, Global};
 use std::test::Fail;

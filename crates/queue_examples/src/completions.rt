@@ -1,6 +1,6 @@
 //! Queues shared by queue pairs, on values from outside.
 
-use crate::{Cq, CqFull};
+use completion_queue::{Cq, CqFull};
 use rdma_types::{Completion, WcKind, WcStatus};
 use std::alloc::AllocError;
 

@@ -6,11 +6,11 @@ ghost use Rattle.protocol.specs.Wire as wire;
 ghost use Rattle.responder.specs.Receiving.{waiting};
 ghost use Rattle.responder.specs.Sound.{IsSound};
 
-use super::*;
 use completion_queue::Cq;
 use memory_keys::{RegionHead, Regions};
 use page_pool::PagePool;
-use rdma_types::{Keys, Name, Rights};
+use rdma_types::{Keys, Name, Rights, SilentWhy, Terms};
+use responder::{Reply, Responder, soundness_stays};
 use roce_headers::decode;
 use std::alloc::Global;
 use std::test::Fail;

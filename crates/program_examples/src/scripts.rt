@@ -1,10 +1,10 @@
 //! Scripts, first words and summaries, on values from outside: the lines are those of another program, written from the
 //! rules in another language, and the words those of another implementation of the generator.
 
-use crate::{Mix, plan_of, summary_of};
 use rand_core::Rng;
 use rand_pcg::Lcg64Xsh32;
 use std::alloc::{AllocError, Global};
+use workload_gen::{Mix, plan_of, summary_of};
 
 /// A seed and the first eight words of its generator.
 const FIRST_WORDS: [(u64, [u32; 8]); 5] = [

@@ -1,6 +1,6 @@
 //! The store on values from outside.
 
-use crate::{Fabric, Look};
+use fabric::{Fabric, Look};
 use rdma_types::{Address, Items, Sent};
 use std::alloc::{AllocError, Global};
 

@@ -1,7 +1,7 @@
 //! Each public call once, on values from outside.
 
-use crate::{Items, Name, Rights};
 use bitflags::Flags;
+use rdma_types::{Items, Name, Rights};
 use std::alloc::AllocError;
 
 #[test]
