@@ -2,7 +2,7 @@
 
 ghost use Rattle.std.specs.Prelude.{◌≡◌, map, None, Ok, IfOk, IfSome};
 ghost use Rattle.std.specs.String.{string_bytes};
-ghost use Rattle.script_rules.specs.Commands.{command_of};
+ghost use Rattle.law_headline.specs.Commands.{command_of};
 ghost use Rattle.command_line.specs.Commands.{IsInRange, known_if};
 
 use crate::rule::is_lawful;

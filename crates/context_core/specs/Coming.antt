@@ -12,7 +12,7 @@ use Rattle.memory_keys.specs.declared.RegionHead.{RegionHead}
 use Rattle.memory_keys.specs.Regions.{AreHeld}
 use Rattle.completion_queue.specs.Queue.{Queue as CompletionQueue, unreserved, used_places}
 use Rattle.work_queues.specs.Queue.{Queue}
-use Rattle.work_queues.specs.declared.posted.Posted.{Posted}
+use Rattle.work_queues.specs.declared.posted.QueuedRequest.{QueuedRequest}
 use Rattle.work_queues.specs.Untold.{untold_in}
 use Rattle.protocol.specs.declared.images.ContextImage.{ContextImage}
 use Rattle.protocol.specs.declared.images.CqImage.{CqImage}
@@ -41,7 +41,7 @@ pub record IsAlike (old new : Pool) : Type 0 where
   pub free : free_pages new ≡ free_pages old
 
 -- these requests' payloads were put into new lists, apart from each other; all other lists stay
-pub record AreTaken (old new : Pool) (ps : List Posted) : Type 0 where
+pub record AreTaken (old new : Pool) (ps : List QueuedRequest) : Type 0 where
   pub pages : new.pages ≡ old.pages
   pub others : (list : ℕ) → All (λ x. x ≢ list) (payload_lists ps) → bytes_of new list ≡ bytes_of old list
   pub fresh : All (λ p. bytes_of old p.payload.list ≡ None) ps
@@ -68,7 +68,7 @@ pub record MayCome (held : List Held) (domain : Name) (p : PostedImage) : Type 0
   pub placed : IsPlaced held domain p.request
 
 -- posted requests that come of images
-pub record Come (old new : Pool) (held : List Held) (domain : Name) (images : List PostedImage) (ps : List Posted) : Type 0 where
+pub record Come (old new : Pool) (held : List Held) (domain : Name) (images : List PostedImage) (ps : List QueuedRequest) : Type 0 where
   pub taken : AreTaken old new ps
   pub posted : All (IsPosted new held domain) ps
   pub paged : All (IsPaged new held) ps
@@ -85,7 +85,7 @@ abbrev pub moves_after : LinkImage → MoveState
 moves_after l = record { phase = if l.ended then phase.Running else phase.Resuming; own = if l.ended then l.moves else l.moves + 1; recorded = l.partner_moves; partner = l.partner }
 
 -- a connection that comes of an image, with these requests
-abbrev pub link_after : List RegionImage → LinkImage → Queue Posted → EndLink
+abbrev pub link_after : List RegionImage → LinkImage → Queue QueuedRequest → EndLink
 link_after regions l queue = record {
   peer = l.peer;
   terms = l.terms;
@@ -96,12 +96,12 @@ link_after regions l queue = record {
 }
 
 -- an end in Init keeps its send queue
-abbrev pub unlinked_after : Option LinkImage → Queue Posted → Option (Queue Posted)
+abbrev pub unlinked_after : Option LinkImage → Queue QueuedRequest → Option (Queue QueuedRequest)
 unlinked_after None queue = Some queue
 unlinked_after (Some l) queue = None
 
 -- an end that comes of an image, with these requests
-abbrev pub end_after : ContextImage → EndImage → Queue Posted → Endpoint
+abbrev pub end_after : ContextImage → EndImage → Queue QueuedRequest → Endpoint
 end_after c e queue = record {
   number = e.number;
   domain = name_at c.domains e.domain;
@@ -114,7 +114,7 @@ end_after c e queue = record {
 
 -- an end that comes of an image, with its requests' payloads in new lists
 pub record IsEndAfter (old new : Pool) (held : List Held) (c : ContextImage) (e : EndImage) (x : Endpoint) : Type 0 where
-  pub queue : Queue Posted
+  pub queue : Queue QueuedRequest
   pub is : x ≡ end_after c e queue
   pub depth : queue.depth ≡ e.send_depth
   pub come : Come old new held (name_at c.domains e.domain) e.untold queue.items

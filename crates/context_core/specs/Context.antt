@@ -10,12 +10,12 @@ use Rattle.page_pool.specs.Pool.{Pool, IsIn, bytes_of, pages_of, free_pages}
 use Rattle.completion_queue.specs.Queue.{Queue}
 use Rattle.memory_keys.specs.declared.Held.{Held}
 use Rattle.memory_keys.specs.Regions.{AreHeld, AreKeyed, regions_of}
-use Rattle.work_queues.specs.declared.posted.Posted.{Posted}
+use Rattle.work_queues.specs.declared.posted.QueuedRequest.{QueuedRequest}
 use Rattle.protocol.specs.State.{Context, End, no_context}
 use Rattle.protocol.specs.Memory.{pages_of_context, pages_of_request}
 use Rattle.endpoint_core.specs.Ends.{Names, end_in, untold_by}
 use Rattle.endpoint_core.specs.Queues.{nothing, promised, queues_of, reserved_in}
-use Rattle.endpoint_core.specs.Sites.{Site}
+use Rattle.endpoint_core.specs.Sites.{EndWithMemory}
 use Rattle.endpoint_core.specs.Sound.{IsEnd, payload_lists}
 use Rattle.context_core.specs.declared.state.EndSlot.{EndSlot}
 
@@ -55,7 +55,7 @@ context_in pool n h = record {
 }
 
 -- a queue pair with what it is lent
-abbrev pub site_in : Pool → Holding → Name × EndSlot → Site
+abbrev pub site_in : Pool → Holding → Name × EndSlot → EndWithMemory
 site_in pool h e = record { pool = pool; held = h.regions; queues = h.queues; send = e.1.send; recv = e.1.recv; end = e.1.endpoint }
 
 -- a region has one of these keys
@@ -65,11 +65,11 @@ meets keys x = (x.keys.local == keys.local || x.keys.remote == keys.local) || (x
 -- ---- page lists
 
 -- the untold requests of a queue pair
-abbrev pub untold_at : Name × EndSlot → List Posted
+abbrev pub untold_at : Name × EndSlot → List QueuedRequest
 untold_at e = untold_by e.1.endpoint.link
 
 -- .. of some queue pairs
-abbrev pub posted_of : List (Name × EndSlot) → List Posted
+abbrev pub posted_of : List (Name × EndSlot) → List QueuedRequest
 posted_of ends = flat_map untold_at ends
 
 -- the page lists of the payloads of queue pairs
@@ -87,7 +87,7 @@ abbrev pub HasQueues : List (Name × Queue) → Name × EndSlot → Type 0
 HasQueues queues e = (e.1.send < length queues) × (e.1.recv < length queues)
 
 -- a payload has the pages that its request takes, counted from its region's base
-abbrev pub IsPaged : Pool → List Held → Posted → Type 0
+abbrev pub IsPaged : Pool → List Held → QueuedRequest → Type 0
 IsPaged pool held p = pages_of (bytes_of pool p.payload.list) ≡ pages_of_request (record no_context { regions = regions_of pool held }) p.request
 
 -- each queue pair is sound, no two have a payload's list, and each completion queue has as many places reserved as their

@@ -13,14 +13,14 @@ use Rattle.protocol.specs.Requester.{Transmission, Sends, SendsResume, IsIdle, W
 use Rattle.protocol.specs.Segments.{packet_of_piece}
 use Rattle.protocol.specs.State.{Link}
 use Rattle.protocol.specs.Wire.{Packet}
-use Rattle.context_core.specs.declared.datagrams.Room.{Room}
+use Rattle.context_core.specs.declared.datagrams.DatagramBuffer.{DatagramBuffer}
 
 -- the packet under a destination of 24 bits, as it is written
 abbrev pub addressed : Packet → Packet
 addressed p = record p { dest = p.dest % 16777216 }
 
 -- memory for one datagram of at most so many bytes
-pub record IsRoom (r : Room) (most : ℕ) : Type 0 where
+pub record IsDatagramBuffer (r : DatagramBuffer) (most : ℕ) : Type 0 where
   pub none : r.sent.items ≡ []
   pub one : 0 < vec_capacity r.sent
   pub empty : r.bytes.items ≡ []

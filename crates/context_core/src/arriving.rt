@@ -23,10 +23,10 @@ ghost use Rattle.endpoint_core.specs.Ends.{link_in};
 ghost use Rattle.context_core.specs.Arriving.{AreReady, HasNoBytes, IsSentFor, aeth_at, opcode_at};
 ghost use Rattle.context_core.specs.Context.{IsContext, Moves, context_in};
 ghost use Rattle.context_core.specs.Heads.{link_at};
-ghost use Rattle.context_core.specs.Sending.{IsRoom, addressed};
+ghost use Rattle.context_core.specs.Sending.{IsDatagramBuffer, addressed};
 
 use crate::ContextState;
-use crate::datagrams::{Room, answer, encoded, moving};
+use crate::datagrams::{DatagramBuffer, answer, encoded, moving};
 use crate::sending::MOST_HEADERS;
 use endpoint_core::{DueRead, EndLink, EndMemory, EndReply, Endpoint};
 use memory_keys::Regions;
@@ -50,7 +50,7 @@ const MIDDLE: u8 = 0x0E;
 
 /// What a datagram did, and what is sent for it.
 #[derive(Drop)]
-pub struct Taken {
+pub struct ArrivalOutcome {
     pub took: Took,
     pub sent: Items<Sent>,
 }
@@ -58,7 +58,7 @@ pub struct Taken {
 /// What a datagram may be answered with: memory for one datagram, and the READ responses that are due.
 #[derive(Drop)]
 struct Replies {
-    room: Room,
+    room: DatagramBuffer,
     read: Option<Items<Sent>>,
 }
 
@@ -101,7 +101,7 @@ fn read_datagram<'a>(
     requires number { n < 2 ^ 63 }
     requires msn { msn < 2 ^ 24 }
     requires inside { k < count }
-    requires few { length payload.now ≤ 4096 }
+    requires bounded { length payload.now ≤ 4096 }
     ensures says { (pool : Pool) → packet result ≡ addressed (read_response (telling (link_in pool link.now) msn) n k count payload.now) }
     ensures fits { Fits (packet result) }
 {
@@ -124,7 +124,7 @@ fn response(
     requires number { due.now.first < 2 ^ 62 }
     requires msn { due.now.msn < 2 ^ 24 }
     requires all { count ≡ pieces due.now.spot.length link.now.terms.mtu }
-    requires few { count ≤ 2 ^ 32 }
+    requires bounded { count ≤ 2 ^ 32 }
     requires inside { k < count }
     requires bytes { length bytes.now ≡ due.now.spot.length }
     ensures { (pool : Pool) (r : Region) → bytes_at (k * link.now.terms.mtu) (piece_length due.now.spot.length k link.now.terms.mtu) bytes.now ≡ cut (due.now.spot.off + k * link.now.terms.mtu) (piece_length due.now.spot.length k link.now.terms.mtu) r.bytes
@@ -155,7 +155,7 @@ fn part_of(bytes: &[u8], from: usize, count: usize) -> &[u8]
 fn count_of(length: u32, mtu: u32) -> u64
     requires { 0 < mtu }
     ensures rule { result ≡ pieces length mtu }
-    ensures few { result ≤ 2 ^ 32 }
+    ensures bounded { result ≤ 2 ^ 32 }
 {
     pieces_of(length, mtu)
 }
@@ -174,7 +174,7 @@ fn responses(
     requires number { due.now.first < 2 ^ 62 }
     requires msn { due.now.msn < 2 ^ 24 }
     ensures all { IfOk result (λ list. list ≡ responses pool.now (regions_of pool.now regions.now) link.now due.now (pieces due.now.spot.length link.now.terms.mtu)) }
-    ensures few { IfOk result (λ list. length list ≤ 2 ^ 32) }
+    ensures bounded { IfOk result (λ list. length list ≤ 2 ^ 32) }
 {
     regions.are_keyed();
     let mut bytes = vec![in alloc; 0; due.spot.length as usize]?;
@@ -200,12 +200,12 @@ impl Replies {
         requires held { AreHeld pool.now regions.now }
         requires terms { AreTerms link.now.terms }
         requires fits { Fits (packet d.now) }
-        ensures room { IfOk result (λ r. IsRoom r.room 92) }
-        ensures few { IfOk result (λ r. IfSome r.read (λ list. length list ≤ 2 ^ 32)) }
+        ensures room { IfOk result (λ r. IsDatagramBuffer r.room 92) }
+        ensures bounded { IfOk result (λ r. IfSome r.read (λ list. length list ≤ 2 ^ 32)) }
         ensures read { (due : DueRead) → due_in link.now (regions_of pool.now regions.now) domain (packet d.now) ≡ Some due
             → IfOk result (λ r. r.read ≡ Some (responses pool.now (regions_of pool.now regions.now) link.now due (pieces due.spot.length link.now.terms.mtu))) }
     {
-        let room = Room::make(alloc, MOST_HEADERS)?;
+        let room = DatagramBuffer::make(alloc, MOST_HEADERS)?;
         let Some(due) = link.due(regions, domain, d) else {
             return Ok(Replies { room, read: None });
         };
@@ -215,7 +215,7 @@ impl Replies {
 
     /// What is sent for a reply of an end. It takes no memory.
     fn sent(self, alloc: Global, endpoint: &Endpoint, reply: EndReply) -> Items<Sent>
-        requires room { IsRoom self.room 92 }
+        requires room { IsDatagramBuffer self.room 92 }
         requires ready { AreReady reply self.read }
         requires reply { (held : List Held) × IfSome endpoint.now.link (λ l. IsReply held l reply) }
         ensures { (pool : Pool) (regions : List Region)
@@ -233,8 +233,8 @@ impl Replies {
 }
 
 /// What is sent for a reply without bytes, to the recorded place of the partner.
-fn reply_sent(alloc: Global, room: Room, link: &EndLink, reply: EndReply) -> Items<Sent>
-    requires room { IsRoom room 92 }
+fn reply_sent(alloc: Global, room: DatagramBuffer, link: &EndLink, reply: EndReply) -> Items<Sent>
+    requires room { IsDatagramBuffer room 92 }
     requires reply { (held : List Held) × IsReply held link.now reply }
     requires bare { HasNoBytes reply }
     ensures { (pool : Pool) (regions : List Region) → result ≡ sent_by regions (link_in pool link.now) reply }
@@ -272,7 +272,7 @@ impl ContextState {
         pool: &mut PagePool,
         place: usize,
         d: &Datagram<'_>,
-    ) -> Result<Option<Taken>, AllocError>
+    ) -> Result<Option<ArrivalOutcome>, AllocError>
         requires is { IsContext pool.old self.old }
         requires fits { Fits (packet d.now) }
         ensures none { (n : Name) → IfOk result (λ r. is_none r ≡ is_none (link_at (context_in pool.old n self.old) place)) }
@@ -280,7 +280,7 @@ impl ContextState {
             → IfOk result (λ r. IfSome r (λ t. takes (context_in pool.old n self.old) e l (packet d.now) ≡ record { context = context_in pool.new n self.new; took = t.took; sent = t.sent })) }
         ensures nothing { IfOk result (λ r. IfNone r (self.new ≡ self.old)) }
         ensures nothing_pool { IfOk result (λ r. IfNone r (pool.new ≡ pool.old)) }
-        ensures few { IfOk result (λ r. IfSome r (λ t. length t.sent ≤ 2 ^ 32)) }
+        ensures bounded { IfOk result (λ r. IfSome r (λ t. length t.sent ≤ 2 ^ 32)) }
         ensures is { IsContext pool.new self.new }
         ensures moves { Moves pool.old pool.new self.old self.new }
         ensures numbers { (n : Name) → map (λ e. e.number) (context_in pool.new n self.new).ends ≡ map (λ e. e.number) (context_in pool.old n self.old).ends }
@@ -306,6 +306,6 @@ impl ContextState {
         let done = slot.endpoint.take(memory, d);
         let sent = replies.sent(alloc, &slot.endpoint, done.reply);
         let took = done.took;
-        Ok(Some(Taken { took, sent }))
+        Ok(Some(ArrivalOutcome { took, sent }))
     }
 }

@@ -7,7 +7,7 @@ ghost use Rattle.protocol.specs.Numbers.{wire_number};
 ghost use Rattle.protocol.specs.Wire.{Fits, fits_syndrome, plain, wire_of};
 ghost use Rattle.roce_headers.specs.Packets.{packet};
 ghost use Rattle.segmenter.specs.Heads.{has_atomic, has_reth, packet_with};
-ghost use Rattle.context_core.specs.Sending.{IsRoom};
+ghost use Rattle.context_core.specs.Sending.{IsDatagramBuffer};
 
 use protocol::{Aeth, AtomicEth, ResumeBody, Reth};
 use psn_math::wire_of;
@@ -21,19 +21,19 @@ const BITS_24: u32 = 16_777_216;
 
 /// Memory for one datagram.
 #[derive(Drop)]
-pub struct Room {
+pub struct DatagramBuffer {
     sent: Vec<Sent>,
     bytes: Vec<u8>,
 }
 
-impl Room {
+impl DatagramBuffer {
     /// Memory for a datagram of at most so many bytes. Errors: `AllocError` when out of memory.
-    pub fn make(alloc: Global, most: usize) -> Result<Room, AllocError>
-        ensures { IfOk result (λ r. IsRoom r most) }
+    pub fn make(alloc: Global, most: usize) -> Result<DatagramBuffer, AllocError>
+        ensures { IfOk result (λ r. IsDatagramBuffer r most) }
     {
         let sent = Vec::with_capacity(alloc, 1)?;
         let bytes = Vec::with_capacity(alloc, most)?;
-        Ok(Room { sent, bytes })
+        Ok(DatagramBuffer { sent, bytes })
     }
 
     /// A datagram in this memory. It takes no other.
@@ -44,12 +44,12 @@ impl Room {
         number: Option<u64>,
         d: &Datagram<'_>,
     ) -> Items<Sent>
-        requires room { IsRoom self most }
+        requires room { IsDatagramBuffer self most }
         requires fits { Fits (packet d.now) }
         requires short { length (wire_of (packet d.now)) ≤ most }
         ensures { result ≡ record { to = to; number = number; bytes = wire_of (packet d.now) } ∷ [] }
     {
-        let Room { mut sent, bytes } = self;
+        let DatagramBuffer { mut sent, bytes } = self;
         let mut bytes = zeros_in(bytes, encoded_len(d));
         bytes.shrink_to_fit();
         encode(d, &mut bytes);

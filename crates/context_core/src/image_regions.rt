@@ -55,7 +55,7 @@ fn region_image(
 ) -> Result<RegionImage, AllocError>
     requires held { AreHeld pool.now regions.now }
     requires there { place < length regions.now }
-    requires few { length domains.now.keys < 2 ^ 16 }
+    requires bounded { length domains.now.keys < 2 ^ 16 }
     ensures { IfOk result (λ image. IfSome (slice_get regions.now place) (λ h. image ≡ image_of_region domains.now.keys (region_of pool.now h))) }
 {
     let head = regions.at(place).unwrap();
@@ -79,7 +79,7 @@ pub fn region_images(
     regions: &Regions,
 ) -> Result<Items<RegionImage>, AllocError>
     requires held { AreHeld pool.now regions.now }
-    requires few { length domains.now.keys < 2 ^ 16 }
+    requires bounded { length domains.now.keys < 2 ^ 16 }
     ensures { IfOk result (λ images. images ≡ map (image_of_region domains.now.keys) (regions_of pool.now regions.now)) }
 {
     let mut images = Vec::new(alloc);

@@ -13,7 +13,7 @@ use protocol::PostedImage;
 use rdma_types::{Items, Receive};
 use requester::Requester;
 use std::alloc::{AllocError, Global};
-use work_queues::{Posted, RecvQueue};
+use work_queues::{QueuedRequest, RecvQueue};
 
 /// A copy of the receives of a queue, oldest first. Errors: `AllocError` when out of memory.
 pub fn receives(alloc: Global, queue: &RecvQueue) -> Result<Items<Receive>, AllocError>
@@ -27,7 +27,11 @@ pub fn receives(alloc: Global, queue: &RecvQueue) -> Result<Items<Receive>, Allo
 }
 
 /// The image of a posted request, with a copy of its bytes.
-fn posted_image(alloc: Global, pool: &PagePool, posted: &Posted) -> Result<PostedImage, AllocError>
+fn posted_image(
+    alloc: Global,
+    pool: &PagePool,
+    posted: &QueuedRequest,
+) -> Result<PostedImage, AllocError>
     requires { HoldsPayload pool.now posted.now.payload }
     ensures { IfOk result (λ image. image ≡ image_of_posted (posted_in pool.now posted.now)) }
 {

@@ -39,7 +39,7 @@ mod sending;
 mod state;
 mod timers;
 
-pub use arriving::Taken;
+pub use arriving::ArrivalOutcome;
 pub use heads::{EndHead, LinkHead};
 pub use laws::a_context_looks_at_its_own_lists;
 pub use lives::{LinkView, LiveEnd};

@@ -36,7 +36,7 @@ fn recv_queue(alloc: Global, depth: u32, images: &[Receive]) -> Result<RecvQueue
 
 /// The kept replies of a responder.
 fn kept_of(images: &[KeptReply]) -> Kept
-    requires few { length images.now ≤ most_kept }
+    requires bounded { length images.now ≤ most_kept }
     requires rise { AllPairs (λ a b. a.number < b.number) images.now }
     ensures { result ≡ images.now }
 {
@@ -82,7 +82,7 @@ fn local_key(regions: &[RegionImage], place: u16) -> u32
 /// How many receives the message in progress uses.
 pub fn used(linked: &Option<LinkImage>) -> u32
     ensures value { result ≡ used_of_image linked.now }
-    ensures few { result ≤ 1 }
+    ensures bounded { result ≤ 1 }
 {
     match linked {
         Some(link) if matches!(link.progress, Progress::Send { .. }) => 1,

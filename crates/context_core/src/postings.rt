@@ -30,7 +30,7 @@ use page_pool::PagePool;
 use rdma_types::{Kind, Name, Refusal, Request, Shape};
 use segmenter::span_of;
 use std::alloc::Global;
-use work_queues::Posted;
+use work_queues::QueuedRequest;
 
 /// Packet numbers stay below this (this project's choice).
 const NUMBER_LIMIT: u64 = 1 << 62;
@@ -206,7 +206,7 @@ impl ContextState {
             send: slot.send,
             recv: slot.recv,
         };
-        let posted = Posted {
+        let posted = QueuedRequest {
             request: *request,
             payload,
         };

@@ -40,7 +40,7 @@ pub fn make(
 ) -> Result<(), ContextFault>
     ensures refused { (c : Context) → c.queues ≡ queues_of queues.old.entries → refusal_of result ≡ first_cause (queue_causes c name) }
     ensures made { OnOk result (queues.new.entries ≡ queues.old.entries ++ (name, unreserved capacity []) ∷ []) }
-    ensures few { OnOk result (length queues.old.entries < 64) }
+    ensures bounded { OnOk result (length queues.old.entries < 64) }
     ensures absent { OnOk result (has_name (λ q. q.name) name (queues_of queues.old.entries) ≡ false) }
     ensures err { OnErr result (queues.new.entries ≡ queues.old.entries) }
 {

@@ -15,13 +15,13 @@ use page_pool::{ByteRun, PagePool};
 use protocol::PostedImage;
 use rdma_types::Name;
 use std::alloc::{AllocError, Global};
-use work_queues::{Posted, SendQueue};
+use work_queues::{QueuedRequest, SendQueue};
 
 /// Where the bytes of a request were taken from.
 fn source_of(regions: &Regions, domain: Name, image: &PostedImage) -> Spot
     requires { MayCome regions.now domain image.now }
     ensures length { result.length ≡ length image.now.payload }
-    ensures few { result.length ≤ most_bytes }
+    ensures bounded { result.length ≤ most_bytes }
     ensures pages { (pool : Pool) → pages_touched result ≡ pages_of_request (record no_context { regions = regions_of pool regions.now }) image.now.request }
 {
     let request = &image.request;
@@ -60,7 +60,7 @@ fn payload_of(
     bytes: &ByteRun,
 ) -> Result<Payload, AllocError>
     requires whole { length bytes.now ≡ spot.length }
-    requires few { spot.length ≤ most_bytes }
+    requires bounded { spot.length ≤ most_bytes }
     ensures new { IfOk result (λ p. bytes_of pool.old p.list ≡ None) }
     ensures puts { IfOk result (λ p. Puts pool.old pool.new p.list (bytes_of pool.new p.list)) }
     ensures holds { IfOk result (λ p. HoldsPayload pool.new p) }
@@ -91,7 +91,7 @@ fn posted_of(
     regions: &Regions,
     domain: Name,
     image: &PostedImage,
-) -> Result<Posted, AllocError>
+) -> Result<QueuedRequest, AllocError>
     requires may { MayCome regions.now domain image.now }
     requires held { AreHeld pool.old regions.now }
     ensures come { IfOk result (λ p. Come pool.old pool.new regions.now domain (image.now ∷ []) (p ∷ [])) }
@@ -99,7 +99,7 @@ fn posted_of(
 {
     let spot = source_of(regions, domain, image);
     let payload = payload_of(pool, alloc, spot, &image.payload)?;
-    Ok(Posted {
+    Ok(QueuedRequest {
         request: image.request,
         payload,
     })

@@ -18,10 +18,10 @@ ghost use Rattle.endpoint_core.specs.Ends.{link_in, untold_by};
 ghost use Rattle.requester.specs.declared.answers.Transmit.TheVariants as transmission;
 ghost use Rattle.context_core.specs.Context.{IsContext, context_in, lists_of};
 ghost use Rattle.context_core.specs.Faults.{refusal_of};
-ghost use Rattle.context_core.specs.Sending.{IsInRange, IsRoom, row_answer, row_sent};
-ghost use Rattle.context_core.specs.Transmitting.{IsSending, IsWay};
+ghost use Rattle.context_core.specs.Sending.{IsInRange, IsDatagramBuffer, row_answer, row_sent};
+ghost use Rattle.context_core.specs.Transmitting.{IsSending, IsRoute};
 
-use crate::datagrams::{Room, moving, request, zeros_in};
+use crate::datagrams::{DatagramBuffer, moving, request, zeros_in};
 use crate::{ContextFault, ContextState, EndSlot, ends};
 use endpoint_core::{EndSend, Endpoint};
 use indexmap::IndexMap;
@@ -32,7 +32,7 @@ use rdma_types::{Address, Answer, Items, Name, Sent, Shape};
 use requester::Transmit;
 use segmenter::PacketHead;
 use std::alloc::{AllocError, Global};
-use work_queues::Posted;
+use work_queues::QueuedRequest;
 
 /// More bytes than a datagram has besides its payload.
 pub const MOST_HEADERS: usize = 92;
@@ -49,7 +49,7 @@ pub struct Answered {
 
 /// Where the requests of a connected end go.
 #[derive(Clone, Copy)]
-struct Way {
+struct Route {
     peer: u32,
     to: Address,
     mtu: u32,
@@ -57,17 +57,17 @@ struct Way {
 }
 
 /// The way to the partner of the connected end at a place.
-fn way_at(ends: &IndexMap<Name, EndSlot>, place: usize) -> Way
+fn way_at(ends: &IndexMap<Name, EndSlot>, place: usize) -> Route
     requires there { place < length ends.now.entries }
     requires linked { IfSome (slice_get ends.now.entries place) (λ e. IsSome e.1.endpoint.link) }
-    ensures { IfSome (slice_get ends.now.entries place) (λ e. IfSome e.1.endpoint.link (IsWay result)) }
+    ensures { IfSome (slice_get ends.now.entries place) (λ e. IfSome e.1.endpoint.link (IsRoute result)) }
 {
     let (_, slot) = ends.get_index(place).unwrap();
     let Some(link) = &slot.endpoint.link else {
         unreachable!()
     };
     let _numbers = link.requester.parts();
-    Way {
+    Route {
         peer: link.peer,
         to: link.moves.partner,
         mtu: link.terms.mtu,
@@ -79,7 +79,7 @@ fn way_at(ends: &IndexMap<Name, EndSlot>, place: usize) -> Way
 #[derive(Drop)]
 struct Store {
     payload: Vec<u8>,
-    room: Room,
+    room: DatagramBuffer,
 }
 
 /// Memory for a packet with at most so many bytes.
@@ -87,10 +87,10 @@ fn store_for(alloc: Global, most: usize) -> Result<Store, AllocError>
     requires { most ≤ 4096 }
     ensures empty { IfOk result (λ s. s.payload.items ≡ []) }
     ensures payload { IfOk result (λ s. most ≤ vec_capacity s.payload) }
-    ensures room { IfOk result (λ s. IsRoom s.room (most + 92)) }
+    ensures room { IfOk result (λ s. IsDatagramBuffer s.room (most + 92)) }
 {
     let payload = Vec::with_capacity(alloc, most)?;
-    let room = Room::make(alloc, most + MOST_HEADERS)?;
+    let room = DatagramBuffer::make(alloc, most + MOST_HEADERS)?;
     Ok(Store { payload, room })
 }
 
@@ -117,7 +117,7 @@ fn answer_of(send: EndSend) -> Answer
 }
 
 /// A request that is not told.
-fn posted_at(endpoint: &Endpoint, index: usize) -> &Posted
+fn posted_at(endpoint: &Endpoint, index: usize) -> &QueuedRequest
     requires { index < length (untold_by endpoint.now.link) }
     ensures { slice_get (untold_by endpoint.now.link) index ≡ Some result.now }
 {
@@ -146,7 +146,7 @@ fn payload_in(pool: &PagePool, payload: &Payload, head: &PacketHead, memory: Vec
 fn request_sent(
     pool: &PagePool,
     endpoint: &Endpoint,
-    way: &Way,
+    way: &Route,
     store: Store,
     number: u64,
     index: usize,
@@ -155,7 +155,7 @@ fn request_sent(
     requires sending { (l : EndLink) × IsSending pool.now endpoint.now way.now (send.Transmit (transmission.Sent number index head.now)) l }
     requires empty { store.payload.items ≡ [] }
     requires payload { way.now.mtu ≤ vec_capacity store.payload }
-    requires room { IsRoom store.room (way.now.mtu + 92) }
+    requires room { IsDatagramBuffer store.room (way.now.mtu + 92) }
     ensures { (l : EndLink) (own : Address) → IsSending pool.now endpoint.now way.now (send.Transmit (transmission.Sent number index head.now)) l
         → result ≡ row_sent (link_in pool.now l) own (row_in pool.now (Some l) (send.Transmit (transmission.Sent number index head.now))) }
 {
@@ -173,7 +173,7 @@ fn sent_for(
     alloc: Global,
     pool: &PagePool,
     endpoint: &Endpoint,
-    way: &Way,
+    way: &Route,
     own: Address,
     store: Store,
     send: EndSend,
@@ -181,7 +181,7 @@ fn sent_for(
     requires sending { (l : EndLink) × IsSending pool.now endpoint.now way.now send l }
     requires empty { store.payload.items ≡ [] }
     requires payload { way.now.mtu ≤ vec_capacity store.payload }
-    requires room { IsRoom store.room (way.now.mtu + 92) }
+    requires room { IsDatagramBuffer store.room (way.now.mtu + 92) }
     ensures { (l : EndLink) → IsSending pool.now endpoint.now way.now send l
         → result ≡ row_sent (link_in pool.now l) own (row_in pool.now (Some l) send) }
 {

@@ -6,19 +6,19 @@ use Rattle.protocol.specs.declared.dumps.DumpWhy.{DumpWhy}
 use Rattle.protocol.specs.declared.images.ContextImage.{ContextImage}
 use Rattle.protocol.specs.Dumps.{Reading, Good, Bad, after, raw, read_dump}
 use Rattle.dump_reader.specs.Faults.{fault_of}
-use Rattle.dump_laws.specs.Later.{is_short}
+use Rattle.law_dump_round_trip.specs.Later.{is_short}
 use Rattle.dump_reader.specs.declared.fault.DumpFault.{DumpFault}
 use Rattle.dump_reader.specs.declared.fault.DumpFault.TheVariants.{BadDump, OutOfMemory}
-use Rattle.dump_reader.specs.declared.way.Way.{Way}
+use Rattle.dump_reader.specs.declared.read_progress.ReadProgress.{ReadProgress}
 use Rattle.dump_reader.specs.Ahead.{ahead}
 use Rattle.dump_reader.specs.Steps.{IsFault, is_wanting}
-use Rattle.dump_reader.specs.Way.{Stands, IsWhole, image_at}
+use Rattle.dump_reader.specs.ReadProgress.{Stands, IsWhole, image_at}
 use Rattle.context_dump.specs.Pieces.{is_bad, goes_on, Feeds, Keeps, IsTaken, IsRefused, IsAsBefore, unless_short, fault_in}
-use Rattle.dump_laws.proofs.Steady.{faults_stay}
+use Rattle.law_dump_round_trip.proofs.Steady.{faults_stay}
 use Rattle.dump_reader.specs.declared.cursor.Offence.{Offence}
 
 -- a reading stands where it stood
-stands_more : (way : Way) (bs piece : List ℕ) → Stands way bs → Stands way (bs ++ piece)
+stands_more : (way : ReadProgress) (bs piece : List ℕ) → Stands way bs → Stands way (bs ++ piece)
 stands_more way bs piece h =
     let within = h.within in
     record {
@@ -31,7 +31,7 @@ stands_more way bs piece h =
     }
 
 -- the same, if there is one
-pub some_stands_more : (held : Option Way) (bs piece : List ℕ) → IfSome held (λ way. Stands way bs) → IfSome held (λ way. Stands way (bs ++ piece))
+pub some_stands_more : (held : Option ReadProgress) (bs piece : List ℕ) → IfSome held (λ way. Stands way bs) → IfSome held (λ way. Stands way (bs ++ piece))
 some_stands_more (Some way) bs piece h = stands_more way bs piece h
 some_stands_more None bs piece h = h
 
@@ -39,7 +39,7 @@ sound_by : (r : Reading ContextImage) (c : ContextImage) (n : ℕ) (rest : List 
 sound_by r c n rest e = rw e refl
 
 -- a whole dump is not at fault
-pub whole_sound : (way : Way) (bs : List ℕ) → IsWhole way bs → is_bad (read_dump bs) ≡ false
+pub whole_sound : (way : ReadProgress) (bs : List ℕ) → IsWhole way bs → is_bad (read_dump bs) ≡ false
 whole_sound way bs h = sound_by (read_dump bs) (image_at way) (length bs) [] h.dump
 
 short_by : (r : Reading ContextImage) (at : ℕ) (why : DumpWhy) → r ≡ Bad at why → is_short why ≡ true → is_bad r ≡ false
@@ -50,7 +50,7 @@ pub short_sound : (bs : List ℕ) (at : ℕ) (why : DumpWhy) → read_dump bs �
 short_sound bs at why e short = short_by (read_dump bs) at why e short
 
 -- after a reading that can go on, it stands
-pub stands_after : (r : Result (Unit {0}) DumpFault) (way : Way) (bs : List ℕ) → IfOk r (λ u. IsWhole way bs) → IfErr r (λ e. is_wanting e ≡ true → Stands way bs) → goes_on r ≡ true → Stands way bs
+pub stands_after : (r : Result (Unit {0}) DumpFault) (way : ReadProgress) (bs : List ℕ) → IfOk r (λ u. IsWhole way bs) → IfErr r (λ e. is_wanting e ≡ true → Stands way bs) → goes_on r ≡ true → Stands way bs
 stands_after (Ok u) way bs whole short e = whole.stands
 stands_after (Err (BadDump at why)) way bs whole short e = short e
 stands_after (Err OutOfMemory) way bs whole short e = absurd cc
@@ -75,12 +75,12 @@ keeps_found old piece new (Err (BadDump place why)) h = (h.ever, h.bad)
 keeps_found old piece new (Err OutOfMemory) h = rw h.bytes h.sound
 
 -- a reading that can go on stands
-pub kept_stands : (o : Option Way) (way : Way) (bs : List ℕ) (r : Result (Unit {0}) DumpFault) → IfSome o (λ w. (w ≡ way) × (goes_on r ≡ true)) → IfOk r (λ u. IsWhole way bs) → IfErr r (λ e. is_wanting e ≡ true → Stands way bs) → IfSome o (λ w. Stands w bs)
+pub kept_stands : (o : Option ReadProgress) (way : ReadProgress) (bs : List ℕ) (r : Result (Unit {0}) DumpFault) → IfSome o (λ w. (w ≡ way) × (goes_on r ≡ true)) → IfOk r (λ u. IsWhole way bs) → IfErr r (λ e. is_wanting e ≡ true → Stands way bs) → IfSome o (λ w. Stands w bs)
 kept_stands None way bs r kept whole short = tt
-kept_stands (Some w) way bs r kept whole short = subst (λ (x : Way). Stands x bs) (sym kept.0) (stands_after r way bs whole short kept.1)
+kept_stands (Some w) way bs r kept whole short = subst (λ (x : ReadProgress). Stands x bs) (sym kept.0) (stands_after r way bs whole short kept.1)
 
 -- what is whole is not at fault
-pub whole_ok : (way : Way) (bs : List ℕ) (r : Result (Unit {0}) DumpFault) → IfOk r (λ u. IsWhole way bs) → IfOk r (λ u. is_bad (read_dump bs) ≡ false)
+pub whole_ok : (way : ReadProgress) (bs : List ℕ) (r : Result (Unit {0}) DumpFault) → IfOk r (λ u. IsWhole way bs) → IfOk r (λ u. is_bad (read_dump bs) ≡ false)
 whole_ok way bs (Ok u) whole = whole_sound way bs whole
 whole_ok way bs (Err e) whole = tt
 

@@ -2,8 +2,8 @@
 use Rattle.std.proofs.Common.{◌≡◌, ℕ, List, []}
 use Rattle.protocol.specs.declared.images.ContextImage.{ContextImage}
 use Rattle.protocol.specs.Dumps.{Reading, Good, Dumps, read_dump}
-use Rattle.dump_laws.specs.Fits.{FitsFields}
-use Rattle.dump_laws.proofs.BackWhole.{written_back}
+use Rattle.law_dump_round_trip.specs.Fits.{FitsFields}
+use Rattle.law_dump_round_trip.proofs.BackWhole.{written_back}
 
 one_image : (r : Reading ContextImage) (c d : ContextImage) (p q : ℕ) (bs cs : List ℕ) → r ≡ Good c p bs → r ≡ Good d q cs → d ≡ c
 one_image r c d p q bs cs e f = cc

@@ -2,7 +2,7 @@
 use Rattle.std.specs.Prelude.{ℕ, ◌≡◌, List, ◌++◌, Bool, true, false, not, Result, Ok, Err, Option, Some, None, if◌then◌else◌}
 use Rattle.protocol.specs.declared.dumps.DumpWhy.{DumpWhy}
 use Rattle.protocol.specs.Dumps.{Reading, Good, Bad, read_dump}
-use Rattle.dump_laws.specs.Later.{is_short}
+use Rattle.law_dump_round_trip.specs.Later.{is_short}
 use Rattle.dump_reader.specs.declared.fault.DumpFault.{DumpFault}
 use Rattle.dump_reader.specs.declared.fault.DumpFault.TheVariants.{BadDump, OutOfMemory}
 use Rattle.dump_reader.specs.declared.cursor.Offence.{Offence}

@@ -4,10 +4,10 @@ ghost use Rattle.std.specs.Prelude.{◌≡◌, ◌++◌, [], length, IfOk, IfErr
 ghost use Rattle.protocol.specs.Dumps.{Dumps, Good, read_dump};
 ghost use Rattle.protocol.specs.Lawful.{IsLawful};
 ghost use Rattle.dump_reader.specs.Steps.{IsFault};
-ghost use Rattle.dump_reader.specs.Way.{Stands};
+ghost use Rattle.dump_reader.specs.ReadProgress.{Stands};
 ghost use Rattle.context_dump.specs.Pieces.{Feeds, fault_in, goes_on, is_bad, unless_short};
 
-use dump_reader::{DumpFault, Offence, Way};
+use dump_reader::{DumpFault, Offence, ReadProgress};
 use protocol::{ContextImage, DumpWhy};
 use std::alloc::Global;
 use std::marker::Model;
@@ -22,13 +22,13 @@ pub struct DumpReader {
     /// All bytes so far, up to those of the piece that has a fault.
     bytes: Vec<u8>,
     /// What was read of them; where it is nothing, they are to be read from the first.
-    way: Option<Way>,
+    way: Option<ReadProgress>,
     fault: Option<Offence>,
 }
 
 impl Model for DumpReader {
     ghost use Rattle.std.specs.Prelude.{ℕ, List, IfSome};
-    ghost use Rattle.dump_reader.specs.Way.{Stands};
+    ghost use Rattle.dump_reader.specs.ReadProgress.{Stands};
     ghost use Rattle.context_dump.specs.Pieces.{Keeps};
 
     ghost Value = { List ℕ };
@@ -50,26 +50,30 @@ fn may_go_on(read: &Result<(), DumpFault>) -> bool
 }
 
 /// A reading that can go on.
-fn if_it_may_go_on(way: Way, read: &Result<(), DumpFault>) -> Option<Way>
+fn if_it_may_go_on(way: ReadProgress, read: &Result<(), DumpFault>) -> Option<ReadProgress>
     ensures { IfSome result (λ w. (w ≡ way) × (goes_on read.now ≡ true)) }
 {
     if may_go_on(read) { Some(way) } else { None }
 }
 
 /// What was read of bytes, or else their first fields.
-fn take_up(alloc: Global, bytes: &[u8], held: Option<Way>) -> Result<Way, DumpFault>
+fn take_up(
+    alloc: Global,
+    bytes: &[u8],
+    held: Option<ReadProgress>,
+) -> Result<ReadProgress, DumpFault>
     requires { IfSome held (λ way. Stands way bytes.now) }
     ensures stands { IfOk result (λ way. Stands way bytes.now) }
     ensures fault { IfErr result (IsFault (read_dump bytes.now)) }
 {
     match held {
         Some(way) => Ok(way),
-        None => Ok(Way::begin(alloc, bytes)?),
+        None => Ok(ReadProgress::begin(alloc, bytes)?),
     }
 }
 
 /// Reads on as far as the bytes go.
-fn read_on(alloc: Global, bytes: &[u8], held: &mut Option<Way>) -> Result<(), DumpFault>
+fn read_on(alloc: Global, bytes: &[u8], held: &mut Option<ReadProgress>) -> Result<(), DumpFault>
     requires { IfSome held.old (λ way. Stands way bytes.now) }
     ensures way { IfSome held.new (λ way. Stands way bytes.now) }
     ensures whole { IfOk result (λ u. is_bad (read_dump bytes.now) ≡ false) }
@@ -95,7 +99,7 @@ fn bad_unless_short(place: usize, why: DumpWhy) -> Result<(), DumpFault>
 fn read_piece(
     alloc: Global,
     bytes: &mut Vec<u8>,
-    way: &mut Option<Way>,
+    way: &mut Option<ReadProgress>,
     piece: &[u8],
 ) -> Result<(), DumpFault>
     requires stands { IfSome way.old (λ w. Stands w bytes.old.items) }
@@ -130,7 +134,11 @@ fn lasting_fault(read: &Result<(), DumpFault>) -> Option<Offence>
 }
 
 /// The image that bytes are a dump of, as far as they were not read.
-fn read_rest(alloc: Global, bytes: &[u8], held: Option<Way>) -> Result<ContextImage, DumpFault>
+fn read_rest(
+    alloc: Global,
+    bytes: &[u8],
+    held: Option<ReadProgress>,
+) -> Result<ContextImage, DumpFault>
     requires { IfSome held (λ way. Stands way bytes.now) }
     ensures image { IfOk result (λ image. read_dump bytes.now ≡ Good image (length bytes.now) []) }
     ensures fault { IfErr result (IsFault (read_dump bytes.now)) }
@@ -141,7 +149,11 @@ fn read_rest(alloc: Global, bytes: &[u8], held: Option<Way>) -> Result<ContextIm
 }
 
 /// The same, and what is known of an image that was read.
-fn read_image(alloc: Global, bytes: &[u8], held: Option<Way>) -> Result<ContextImage, DumpFault>
+fn read_image(
+    alloc: Global,
+    bytes: &[u8],
+    held: Option<ReadProgress>,
+) -> Result<ContextImage, DumpFault>
     requires { IfSome held (λ way. Stands way bytes.now) }
     ensures image { IfOk result (λ image. read_dump bytes.now ≡ Good image (length bytes.now) []) }
     ensures dumps { IfOk result (λ image. Dumps image bytes.now) }

@@ -13,10 +13,10 @@ use Rattle.protocol.specs.Memory.{pages_of_context}
 use Rattle.protocol.specs.Refusals.{has_context, has_husk}
 use Rattle.protocol.specs.State.{Context}
 use Rattle.context_core.specs.Context.{Holding, IsContext, Moves, context_in, lists_of, no_holding}
-use Rattle.device_laws.specs.Sound.{IsSoundDevice}
-use Rattle.device_laws.proofs.Tables.{has_name-push, name_tells}
+use Rattle.law_device_sound.specs.Sound.{IsSoundDevice}
+use Rattle.law_device_sound.proofs.Tables.{has_name-push, name_tells}
 use Rattle.device_core.specs.declared.husks.HuskEntry.{HuskEntry}
-use Rattle.device_core.specs.declared.index.Spot.{Spot}
+use Rattle.device_core.specs.declared.index.EndLocation.{EndLocation}
 use Rattle.device_core.specs.Held.{AreApart, IsHeld}
 use Rattle.device_core.specs.Index.{IsIndex}
 use Rattle.device_core.specs.Parts.{contexts_in, device_of, held_in, husk_in}
@@ -61,7 +61,7 @@ pushed-view old new n s es m each =
     map-append (held_in new) es ((n, s) ∷ [])
     ∙ ap (λ cs. cs ++ context_in new n s ∷ []) (kept-all old new es (all-keep old new s es m each))
 
-module _ (id : ℕ) (address : Address) (qp key : ℕ) (pool : Pool) (es : List (Name × Holding)) (husks : List (Name × List HuskEntry)) (index : ℕ → Option Spot) (held : IsHeld pool es index (device_of id address qp key pool es husks))
+module _ (id : ℕ) (address : Address) (qp key : ℕ) (pool : Pool) (es : List (Name × Holding)) (husks : List (Name × List HuskEntry)) (index : ℕ → Option EndLocation) (held : IsHeld pool es index (device_of id address qp key pool es husks))
     (n : Name) (absent : has_context (device_of id address qp key pool es husks) n ≡ false) (no_husk : has_husk (device_of id address qp key pool es husks) n ≡ false)
     (pool' : Pool) (s : Holding) (moves : Moves pool pool' no_holding s) (is : IsContext pool' s) (qp' key' : ℕ) where
   pub view-pushed : device_of id address qp' key' pool' (es ++ (n, s) ∷ []) husks ≡ record (device_of id address qp key pool es husks) { qp_count = qp'; key_count = key'; contexts = contexts_in pool es ++ context_in pool' n s ∷ [] }
@@ -74,7 +74,7 @@ module _ (id : ℕ) (address : Address) (qp key : ℕ) (pool : Pool) (es : List 
     husks = map husk_in husks;
   }
 
-  pub held-pushed : (index' : ℕ → Option Spot) → qp ≤ qp' → IsIndex index' (device_of id address qp' key' pool' (es ++ (n, s) ∷ []) husks) → IsSoundDevice (device_of id address qp' key' pool' (es ++ (n, s) ∷ []) husks) → IsHeld pool' (es ++ (n, s) ∷ []) index' (device_of id address qp' key' pool' (es ++ (n, s) ∷ []) husks)
+  pub held-pushed : (index' : ℕ → Option EndLocation) → qp ≤ qp' → IsIndex index' (device_of id address qp' key' pool' (es ++ (n, s) ∷ []) husks) → IsSoundDevice (device_of id address qp' key' pool' (es ++ (n, s) ∷ []) husks) → IsHeld pool' (es ++ (n, s) ∷ []) index' (device_of id address qp' key' pool' (es ++ (n, s) ∷ []) husks)
   held-pushed index' more indexed sound =
       let view = pushed-view pool pool' n s es moves held.each in
       record {

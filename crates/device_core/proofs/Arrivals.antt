@@ -17,12 +17,12 @@ use Rattle.protocol.specs.EndStep.{takes}
 use Rattle.protocol.specs.Refusals.{has_context, has_husk}
 use Rattle.protocol.specs.State.{Context, Device, End, HuskEntry as Entry, Link, context_at}
 use Rattle.protocol.specs.Wire.{Packet, packet_of}
-use Rattle.context_core.specs.declared.arriving.Taken.{Taken}
+use Rattle.context_core.specs.declared.arriving.ArrivalOutcome.{ArrivalOutcome}
 use Rattle.context_core.specs.declared.ContextFault.{ContextFault}
 use Rattle.context_core.specs.Context.{Holding, context_in}
 use Rattle.context_core.specs.Heads.{link_at, link_by}
 use Rattle.device_core.specs.declared.husks.HuskEntry.{HuskEntry}
-use Rattle.device_core.specs.declared.index.Spot.{Spot}
+use Rattle.device_core.specs.declared.index.EndLocation.{EndLocation}
 use Rattle.device_core.specs.Done.{IsDone, silent, taking, told_memory, told_taken}
 use Rattle.device_core.specs.Held.{IsHeld}
 use Rattle.device_core.specs.Index.{IsEndAt, IsEntryAt, IsIndex, husk_at}
@@ -55,7 +55,7 @@ stays-there d n place k gone (inl e) = absurd (true≢false (sym e.lives ∙ gon
 stays-there d n place k gone (inr e) = e
 
 -- a datagram reaches an entry of a husk
-pub husk-arrived : (index : ℕ → Option Spot) (d : Device) → IsIndex index d → AllPairs (λ a b. a ≢ b) (map (λ c. c.name) d.contexts) → AllPairs (λ a b. a ≢ b) (map (λ h. h.name) d.husks)
+pub husk-arrived : (index : ℕ → Option EndLocation) (d : Device) → IsIndex index d → AllPairs (λ a b. a ≢ b) (map (λ c. c.name) d.contexts) → AllPairs (λ a b. a ≢ b) (map (λ h. h.name) d.husks)
     → (n : Name) (place : ℕ) (from : Address) (bytes : List ℕ) (p : Packet) → packet_of bytes ≡ Some p → IsEntryAt d n place p.dest → has_context d n ≡ false
     → (r : Result Outcome AllocError) (told : Result Outcome ContextFault) → told ≡ told_memory r → IfOk r (λ o. (h : Entry) → slice_get (husk_at d n).entries place ≡ Some h → at_husk d from p (h ∷ []) ≡ record { device = d; outcome = o })
     → IsDone d (event.Arrive from bytes) d told
@@ -69,18 +69,18 @@ husk-arrived index d i names husk_names n place from bytes p is entry gone r tol
         ∙ (ap (at_husk d from p) (left-one index d i names husk_names p.dest n place entry) ∙ h entry.entry entry.there))
 
 -- .. of a device that is the same
-pub husk-arrived-at : (index : ℕ → Option Spot) (d d' : Device) → d ≡ d' → IsIndex index d → AllPairs (λ a b. a ≢ b) (map (λ c. c.name) d.contexts) → AllPairs (λ a b. a ≢ b) (map (λ h. h.name) d.husks)
+pub husk-arrived-at : (index : ℕ → Option EndLocation) (d d' : Device) → d ≡ d' → IsIndex index d → AllPairs (λ a b. a ≢ b) (map (λ c. c.name) d.contexts) → AllPairs (λ a b. a ≢ b) (map (λ h. h.name) d.husks)
     → (n : Name) (place : ℕ) (from : Address) (bytes : List ℕ) (p : Packet) → packet_of bytes ≡ Some p → IsEntryAt d' n place p.dest → has_context d' n ≡ false
     → (r : Result Outcome AllocError) (told : Result Outcome ContextFault) → told ≡ told_memory r → IfOk r (λ o. (h : Entry) → slice_get (husk_at d' n).entries place ≡ Some h → at_husk d' from p (h ∷ []) ≡ record { device = d'; outcome = o })
     → IsDone d' (event.Arrive from bytes) d' told
 husk-arrived-at index d d' same i names husk_names n place from bytes p is entry gone r told tells done =
     husk-arrived index d' (subst (IsIndex index) same i) (subst (λ (x : Device). AllPairs (λ a b. a ≢ b) (map (λ c. c.name) x.contexts)) same names) (subst (λ (x : Device). AllPairs (λ a b. a ≢ b) (map (λ h. h.name) x.husks)) same husk_names) n place from bytes p is entry gone r told tells done
 
-module _ (id : ℕ) (address : Address) (qp key : ℕ) (pool : Pool) (es : List (Name × Holding)) (husks : List (Name × List HuskEntry)) (index : ℕ → Option Spot) (held : IsHeld pool es index (device_of id address qp key pool es husks))
+module _ (id : ℕ) (address : Address) (qp key : ℕ) (pool : Pool) (es : List (Name × Holding)) (husks : List (Name × List HuskEntry)) (index : ℕ → Option EndLocation) (held : IsHeld pool es index (device_of id address qp key pool es husks))
     (n : Name) (s : Holding) (found : lookup (bytes_eq n) es ≡ Some s) (pool' : Pool) (s' : Holding) (turn : Turn pool pool' n s s') (es' : List (Name × Holding)) (set : es' ≡ set_value (bytes_eq n) es s') (from : Address) (bytes : List ℕ) (p : Packet) (is : packet_of bytes ≡ Some p)
     (place : ℕ) (end : IsEndAt (device_of id address qp key pool es husks) n place p.dest) where
   -- it does what the end does, or nothing where the end is not connected
-  taken-step : (told : Result Outcome ContextFault) (r : Result (Option Taken) AllocError) → told ≡ told_taken r
+  taken-step : (told : Result Outcome ContextFault) (r : Result (Option ArrivalOutcome) AllocError) → told ≡ told_taken r
       → IfOk r (λ o. is_none o ≡ is_none (link_at (context_in pool n s) place))
       → ((e : End) (l : Link) → slice_get (context_in pool n s).ends place ≡ Some e → e.link ≡ Some l → IfOk r (λ o. IfSome o (λ t. takes (context_in pool n s) e l p ≡ record { context = context_in pool' n s'; took = t.took; sent = t.sent })))
       → IfOk r (λ o. IfNone o (s' ≡ s)) → IfOk r (λ o. IfNone o (pool' ≡ pool)) → OnErr r (s' ≡ s) → OnErr r (pool' ≡ pool)
@@ -103,14 +103,14 @@ module _ (id : ℕ) (address : Address) (qp key : ℕ) (pool : Pool) (es : List 
       unlinked none' = found-nowhere (device_of id address qp key pool es husks) from p (ends ∙ ap (λ l. found_link (context_at (device_of id address qp key pool es husks) n) end.end l []) none')
           (left-none index (device_of id address qp key pool es husks) held.indexed held.names held.husk_names p.dest n place end (held.either n end.lives))
 
-      linked : (l : Link) (t : Taken) → end.end.link ≡ Some l → takes (context_in pool n s) end.end l p ≡ record { context = context_in pool' n s'; took = t.took; sent = t.sent } → at_found (device_of id address qp key pool es husks) from p (found_in p.dest (device_of id address qp key pool es husks).contexts) ≡ record { device = device_of id address qp key pool' es' husks; outcome = taking t }
+      linked : (l : Link) (t : ArrivalOutcome) → end.end.link ≡ Some l → takes (context_in pool n s) end.end l p ≡ record { context = context_in pool' n s'; took = t.took; sent = t.sent } → at_found (device_of id address qp key pool es husks) from p (found_in p.dest (device_of id address qp key pool es husks).contexts) ≡ record { device = device_of id address qp key pool' es' husks; outcome = taking t }
       linked l t some took' =
           ap (at_found (device_of id address qp key pool es husks) from p) (ends ∙ ap (λ k. found_link (context_at (device_of id address qp key pool es husks) n) end.end k []) some)
           ∙ (ap (λ c. ended_step (device_of id address qp key pool es husks) (takes c end.end l p)) (context-is id address qp key pool es husks index held n s found)
           ∙ (ap (ended_step (device_of id address qp key pool es husks)) took'
           ∙ ap (λ k. record { device = k; outcome = taking t }) (sym new)))
 
-      by_result : (x : Result (Option Taken) AllocError)
+      by_result : (x : Result (Option ArrivalOutcome) AllocError)
           → IfOk x (λ o. is_none o ≡ is_none (link_at (context_in pool n s) place))
           → ((e : End) (l : Link) → slice_get (context_in pool n s).ends place ≡ Some e → e.link ≡ Some l → IfOk x (λ o. IfSome o (λ t. takes (context_in pool n s) e l p ≡ record { context = context_in pool' n s'; took = t.took; sent = t.sent })))
           → IfOk x (λ o. IfNone o (s' ≡ s)) → IfOk x (λ o. IfNone o (pool' ≡ pool)) → OnErr x (s' ≡ s) → OnErr x (pool' ≡ pool)
@@ -121,7 +121,7 @@ module _ (id : ℕ) (address : Address) (qp key : ℕ) (pool : Pool) (es : List 
       by_result (Ok (Some t)) agree tk nt ntp er erp None at = absurd (cc (agree, ap (λ e. is_none (link_by e)) here, ap is_none at))
       by_result (Ok (Some t)) agree tk nt ntp er erp (Some l) at = arrives-packet (device_of id address qp key pool es husks) from bytes p is _ (linked l t at (tk end.end l here at))
 
-  pub arrived : (told : Result Outcome ContextFault) (r : Result (Option Taken) AllocError) → told ≡ told_taken r
+  pub arrived : (told : Result Outcome ContextFault) (r : Result (Option ArrivalOutcome) AllocError) → told ≡ told_taken r
       → IfOk r (λ o. is_none o ≡ is_none (link_at (context_in pool n s) place))
       → ((e : End) (l : Link) → slice_get (context_in pool n s).ends place ≡ Some e → e.link ≡ Some l → IfOk r (λ o. IfSome o (λ t. takes (context_in pool n s) e l p ≡ record { context = context_in pool' n s'; took = t.took; sent = t.sent })))
       → IfOk r (λ o. IfNone o (s' ≡ s)) → IfOk r (λ o. IfNone o (pool' ≡ pool)) → OnErr r (s' ≡ s) → OnErr r (pool' ≡ pool)

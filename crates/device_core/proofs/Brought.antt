@@ -17,8 +17,8 @@ use Rattle.protocol.specs.DeviceStep.{highest}
 use Rattle.protocol.specs.Images.{context_of, end_of_image, link_of_image, region_of_image}
 use Rattle.protocol.specs.Refusals.{has_context, has_husk, has_moved_out, keys_are_taken, links_of, number_is_taken}
 use Rattle.protocol.specs.State.{Context, Device, End, Husk, HuskEntry, context_at, no_context, no_husk}
-use Rattle.device_laws.proofs.Restoring.{map-map}
-use Rattle.device_core.specs.declared.index.Spot.{Spot}
+use Rattle.law_device_sound.proofs.Restoring.{map-map}
+use Rattle.device_core.specs.declared.index.EndLocation.{EndLocation}
 use Rattle.device_core.specs.Coming.{brings_taken, has_moved_image, higher, numbers_of_ends, pair_is_taken, pairs_of}
 use Rattle.device_core.specs.Index.{IsEndAt, IsEntryAt, IsIndex, husk_at, spot}
 use Rattle.device_core.specs.Leaving.{placed}
@@ -55,7 +55,7 @@ highest-above id size (x ∷ xs) n = by_test (x / size == id) (λ m. highest-abo
 -- ---- numbers that are noted
 
 -- one number more
-pub placed-more : {A : Type 0} (f : A → ℕ) (n : Name) (es : List A) (i : ℕ) → i < length es → (d : A) (k : ℕ) (o now after : Option Spot) → now ≡ placed n 0 (map f (take i es)) k o → after ≡ (if f (get_or es i d) == k then Some (spot n i) else now) → after ≡ placed n 0 (map f (take (i + 1) es)) k o
+pub placed-more : {A : Type 0} (f : A → ℕ) (n : Name) (es : List A) (i : ℕ) → i < length es → (d : A) (k : ℕ) (o now after : Option EndLocation) → now ≡ placed n 0 (map f (take i es)) k o → after ≡ (if f (get_or es i d) == k then Some (spot n i) else now) → after ≡ placed n 0 (map f (take (i + 1) es)) k o
 placed-more {A} f n es i l d k o now after was step =
     let more : map f (take (i + 1) es) ≡ map f (take i es) ++ f (get_or es i d) ∷ [] = ap (map f) (take_more es i d l) ∙ map-append f (take i es) (get_or es i d ∷ []) in
     let at : 0 + length (map f (take i es)) ≡ i = length_taken es i l in
@@ -146,7 +146,7 @@ number_same a k e = elim (eqb_tells a k) [ inl t ↦ t.1 | inr t ↦ absurd (tru
 -- ---- what the index has
 
 -- the index has the numbers that are taken
-pub noted-taken : (index : ℕ → Option Spot) (d : Device) → IsIndex index d → AllPairs (λ a b. a ≢ b) (map (λ c. c.name) d.contexts) → AllPairs (λ a b. a ≢ b) (map (λ h. h.name) d.husks) → (k : ℕ) → is_some (index k) ≡ number_is_taken d k
+pub noted-taken : (index : ℕ → Option EndLocation) (d : Device) → IsIndex index d → AllPairs (λ a b. a ≢ b) (map (λ c. c.name) d.contexts) → AllPairs (λ a b. a ≢ b) (map (λ h. h.name) d.husks) → (k : ℕ) → is_some (index k) ≡ number_is_taken d k
 noted-taken index d i names husk_names k = by_found (index k) refl
   where
     live : Context → Bool
@@ -171,7 +171,7 @@ noted-taken index d i names husk_names k = by_found (index k) refl
     taken n place (inl e) = sym (ap (λ b. b || some (λ h. has (λ x. x.number) k h.entries) d.husks) (end_live n place e))
     taken n place (inr e) = sym (or_true (some (λ c. has (λ e. e.number) k c.ends) d.contexts) _ (entry_stays n place e))
 
-    none_some : (s : Spot) → index k ≡ None → index k ≡ Some s → ⊥
+    none_some : (s : EndLocation) → index k ≡ None → index k ≡ Some s → ⊥
     none_some s a b = absurd (cc)
 
     not_live : index k ≡ None → (b : Bool) → some (λ c. has (λ e. e.number) k c.ends) d.contexts ≡ b → b ≡ false
@@ -200,7 +200,7 @@ noted-taken index d i names husk_names k = by_found (index k) refl
           same = number_same q.thing.number k q.passes;
         })))
 
-    by_found : (o : Option Spot) → index k ≡ o → is_some o ≡ number_is_taken d k
+    by_found : (o : Option EndLocation) → index k ≡ o → is_some o ≡ number_is_taken d k
     by_found (Some s) e = taken s.context s.place (i.exact s.context s.place k e)
     by_found None e = sym (ap (λ b. b || some (λ h. has (λ x. x.number) k h.entries) d.husks) (not_live e _ refl) ∙ not_left e _ refl)
 

@@ -9,7 +9,7 @@ use Rattle.context_core.specs.Context.{Holding}
 use Rattle.device_core.specs.Held.{IsHeld}
 use Rattle.device_core.specs.Parts.{device_of}
 use Rattle.device_core.specs.declared.husks.HuskEntry.{HuskEntry}
-use Rattle.device_core.specs.declared.index.Spot.{Spot}
+use Rattle.device_core.specs.declared.index.EndLocation.{EndLocation}
 
 module _ (id : ℕ) (address : Address) (qp key : ℕ) (pool pool' : Pool) (cs cs' : List (Name × Holding)) (hs hs' : List (Name × List HuskEntry)) (same_pool : pool' ≡ pool) (same_contexts : cs' ≡ cs) (same_husks : hs' ≡ hs) where
   -- equal parts are an equal device
@@ -20,7 +20,7 @@ module _ (id : ℕ) (address : Address) (qp key : ℕ) (pool pool' : Pool) (cs c
       ∙ ap (λ x. device_of id address qp key pool cs x) same_husks)
 
   -- .. and keep what a device keeps
-  pub held-copied : (es es' : List (ℕ × Spot)) → es' ≡ es → IsHeld pool cs (λ k. lookup (nat_eq k) es) (device_of id address qp key pool cs hs) → IsHeld pool' cs' (λ k. lookup (nat_eq k) es') (device_of id address qp key pool' cs' hs')
+  pub held-copied : (es es' : List (ℕ × EndLocation)) → es' ≡ es → IsHeld pool cs (λ k. lookup (nat_eq k) es) (device_of id address qp key pool cs hs) → IsHeld pool' cs' (λ k. lookup (nat_eq k) es') (device_of id address qp key pool' cs' hs')
   held-copied es es' same_index held =
       let index = subst (λ x. IsHeld pool cs (λ k. lookup (nat_eq k) x) (device_of id address qp key pool cs hs)) (sym same_index) held in
       let pages = subst (λ x. IsHeld x cs (λ k. lookup (nat_eq k) es') (device_of id address qp key x cs hs)) (sym same_pool) index in

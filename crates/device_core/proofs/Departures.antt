@@ -33,11 +33,11 @@ use Rattle.protocol.specs.State.{Context, Device, End, Husk, Link, context_at, n
 use Rattle.context_core.specs.Context.{Holding, IsContext, Moves, context_in, no_holding}
 use Rattle.context_core.specs.Fits.{FitsImage, HasNarrowDepths}
 use Rattle.context_core.specs.declared.ContextFault.{ContextFault}
-use Rattle.device_laws.specs.Sound.{AreCounted, IsCounted, IsSoundContext, IsSoundDevice, IsSoundEnd, IsSoundState, names_of_queues, plans}
-use Rattle.device_laws.proofs.Stopping.{image-lawful}
-use Rattle.device_laws.proofs.Tables.{All-named, has_name-push, name_tells}
+use Rattle.law_device_sound.specs.Sound.{AreCounted, IsCounted, IsSoundContext, IsSoundDevice, IsSoundEnd, IsSoundState, names_of_queues, plans}
+use Rattle.law_device_sound.proofs.Stopping.{image-lawful}
+use Rattle.law_device_sound.proofs.Tables.{All-named, has_name-push, name_tells}
 use Rattle.device_core.specs.declared.husks.HuskEntry.{HuskEntry}
-use Rattle.device_core.specs.declared.index.Spot.{Spot}
+use Rattle.device_core.specs.declared.index.EndLocation.{EndLocation}
 use Rattle.device_core.specs.Done.{IsDone}
 use Rattle.device_core.specs.Held.{AreApart, IsHeld, IsLeft}
 use Rattle.device_core.specs.Index.{IsIndex, numbers_in, numbers_of, without_numbers}
@@ -153,11 +153,11 @@ fits-image d n sound lives =
 pub stop-lawful : (d : Device) (n : Name) (alone : Bool) → IsSoundDevice d → first_cause (causes_of d (event.Stop n alone)) ≡ None → IsLawful (image_of (context_at d n))
 stop-lawful d n alone sound none = image-lawful (context_at d n) (All-named IsSoundContext (λ c. c.name) no_context n d.contexts sound.contexts (may-stop d n alone none).0)
 
-module _ (id : ℕ) (address : Address) (qp key : ℕ) (pool : Pool) (es : List (Name × Holding)) (husks : List (Name × List HuskEntry)) (index : ℕ → Option Spot) (held : IsHeld pool es index (device_of id address qp key pool es husks))
+module _ (id : ℕ) (address : Address) (qp key : ℕ) (pool : Pool) (es : List (Name × Holding)) (husks : List (Name × List HuskEntry)) (index : ℕ → Option EndLocation) (held : IsHeld pool es index (device_of id address qp key pool es husks))
     (n : Name) (alone : Bool) (s : Holding) (found : lookup (bytes_eq n) es ≡ Some s) (none : first_cause (causes_of (device_of id address qp key pool es husks) (event.Stop n alone)) ≡ None)
     (pool' : Pool) (moves : Moves pool pool' s no_holding) (es' : List (Name × Holding)) (removed : es' ≡ remove_entry (bytes_eq n) es)
     (entries : List HuskEntry) (left : map entry_of entries ≡ (husk_of (context_in pool n s)).entries) (husks' : List (Name × List HuskEntry)) (more : husks' ≡ husks ++ (n, entries) ∷ [])
-    (index' : ℕ → Option Spot) (said : (k : ℕ) → index' k ≡ without_numbers (gone_in (context_in pool n s).ends) k (placed n 0 (numbers_in entries) k (index k)))
+    (index' : ℕ → Option EndLocation) (said : (k : ℕ) → index' k ≡ without_numbers (gone_in (context_in pool n s).ends) k (placed n 0 (numbers_in entries) k (index k)))
     (image : ContextImage) (is_image : image ≡ image_of (context_in pool n s)) (told : Result Outcome ContextFault) (tells : told ≡ Ok (record { answer = answer.Stopped; sent = []; image = Some image })) where
   keep : OthersKeep pool pool' n es
   keep = others-keep pool pool' n s no_holding es moves held.each held.apart found
@@ -280,7 +280,7 @@ each-number P (e ∷ es) all =
     or_true false = refl
 
 -- each entry that is left was noted as an end's number
-pub left-noted : (index : ℕ → Option Spot) (d : Device) (n : Name) (es : List HuskEntry) → IsIndex index d → has_context d n ≡ true → map entry_of es ≡ flat_map left_by (context_at d n).ends → All (λ e. is_some (index e.number) ≡ true) es
+pub left-noted : (index : ℕ → Option EndLocation) (d : Device) (n : Name) (es : List HuskEntry) → IsIndex index d → has_context d n ≡ true → map entry_of es ≡ flat_map left_by (context_at d n).ends → All (λ e. is_some (index e.number) ≡ true) es
 left-noted index d n es i lives left = each-number (λ k. is_some (index k) ≡ true) es (λ k h. noted_one k h (has (λ x. x) k (numbers_of (context_at d n))) refl)
   where
     same_left : left_numbers (context_at d n).ends ≡ numbers_in es

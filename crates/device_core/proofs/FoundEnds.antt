@@ -9,8 +9,8 @@ use Rattle.rdma_types.specs.Lists.{has_name, named}
 use Rattle.protocol.specs.DeviceStep.{ends_with, found_in, found_link, husk_entries}
 use Rattle.protocol.specs.Refusals.{has_context, has_husk}
 use Rattle.protocol.specs.State.{Context, Device, End, Husk, HuskEntry, context_at, no_context, no_husk}
-use Rattle.device_laws.proofs.Tables.{name_tells}
-use Rattle.device_core.specs.declared.index.Spot.{Spot}
+use Rattle.law_device_sound.proofs.Tables.{name_tells}
+use Rattle.device_core.specs.declared.index.EndLocation.{EndLocation}
 use Rattle.device_core.specs.Index.{IsEndAt, IsEntryAt, IsIndex, husk_at}
 use Rattle.device_core.proofs.IndexAdds.{same_spot}
 use Rattle.device_core.proofs.Pairs.{pairs-head, pairs-tail}
@@ -170,7 +170,7 @@ entry-of d k j i h e names here there number =
     let at = named_here (λ x. x.name) no_husk d.husks j h names here in
     record { stays = at.0; entry = e; there = ap (λ (z : Husk). slice_get z.entries i) at.1 ∙ there; same = number }
 
-module _ (index : ℕ → Option Spot) (d : Device) (i : IsIndex index d) (names : AllPairs (λ a b. a ≢ b) (map (λ c. c.name) d.contexts)) (husk_names : AllPairs (λ a b. a ≢ b) (map (λ h. h.name) d.husks)) (k : ℕ) where
+module _ (index : ℕ → Option EndLocation) (d : Device) (i : IsIndex index d) (names : AllPairs (λ a b. a ≢ b) (map (λ c. c.name) d.contexts)) (husk_names : AllPairs (λ a b. a ≢ b) (map (λ h. h.name) d.husks)) (k : ℕ) where
   -- the end at a place is the only one with its number
   pub found-live : (n : Name) (place : ℕ) (e : IsEndAt d n place k) → found_in k d.contexts ≡ found_link (context_at d n) e.end e.end.link []
   found-live n place e =

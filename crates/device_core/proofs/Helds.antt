@@ -14,12 +14,12 @@ use Rattle.protocol.specs.Memory.{pages_of_context}
 use Rattle.protocol.specs.Refusals.{has_context}
 use Rattle.protocol.specs.State.{Context, Device, Husk, context_at, no_context}
 use Rattle.context_core.specs.Context.{Holding, IsContext, Moves, context_in, lists_of}
-use Rattle.device_laws.specs.Sound.{IsSoundDevice}
-use Rattle.device_laws.proofs.Tables.{map-store, name-named_there, name_tells, sum_by-store}
+use Rattle.law_device_sound.specs.Sound.{IsSoundDevice}
+use Rattle.law_device_sound.proofs.Tables.{map-store, name-named_there, name_tells, sum_by-store}
 use Rattle.rdma_types.proofs.Tables.{has_name-store}
 use Rattle.device_core.specs.Index.{IsIndex, numbers_of}
 use Rattle.device_core.specs.declared.husks.HuskEntry.{HuskEntry}
-use Rattle.device_core.specs.declared.index.Spot.{Spot}
+use Rattle.device_core.specs.declared.index.EndLocation.{EndLocation}
 use Rattle.device_core.specs.Held.{IsHeld, IsLeft}
 use Rattle.device_core.specs.Parts.{contexts_in, device_of, husk_in}
 use Rattle.device_core.proofs.Laws as laws
@@ -48,7 +48,7 @@ left-more id qp qp' hs more all k d l j e m = let was = all k d l j e m in recor
     more_counted : {a : ℕ} → a ≤ qp → a ≤ qp'
     more_counted h = omega (arith, h, more)
 
-module _ (id : ℕ) (address : Address) (qp key : ℕ) (pool : Pool) (es : List (Name × Holding)) (husks : List (Name × List HuskEntry)) (index : ℕ → Option Spot) (held : IsHeld pool es index (device_of id address qp key pool es husks)) where
+module _ (id : ℕ) (address : Address) (qp key : ℕ) (pool : Pool) (es : List (Name × Holding)) (husks : List (Name × List HuskEntry)) (index : ℕ → Option EndLocation) (held : IsHeld pool es index (device_of id address qp key pool es husks)) where
   abbrev before_step : Device
   before_step = device_of id address qp key pool es husks
 
@@ -81,7 +81,7 @@ module _ (id : ℕ) (address : Address) (qp key : ℕ) (pool : Pool) (es : List 
         husks = map husk_in husks;
       }
 
-      pub held-stored : (index' : ℕ → Option Spot) → qp ≤ qp' → IsContext pool' s' → IsIndex index' (device_of id address qp' key' pool' (set_value (bytes_eq n) es s') husks) → IsSoundDevice (device_of id address qp' key' pool' (set_value (bytes_eq n) es s') husks) → IsHeld pool' (set_value (bytes_eq n) es s') index' (device_of id address qp' key' pool' (set_value (bytes_eq n) es s') husks)
+      pub held-stored : (index' : ℕ → Option EndLocation) → qp ≤ qp' → IsContext pool' s' → IsIndex index' (device_of id address qp' key' pool' (set_value (bytes_eq n) es s') husks) → IsSoundDevice (device_of id address qp' key' pool' (set_value (bytes_eq n) es s') husks) → IsHeld pool' (set_value (bytes_eq n) es s') index' (device_of id address qp' key' pool' (set_value (bytes_eq n) es s') husks)
       held-stored index' more is indexed sound =
           let keep = others-keep pool pool' n s s' es moves held.each held.apart found in
           let stored = stored-view pool pool' n s s' es found keep in

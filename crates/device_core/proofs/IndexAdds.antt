@@ -8,8 +8,8 @@ use Rattle.rdma_types.specs.Lists.{has}
 use Rattle.protocol.specs.Refusals.{has_context}
 use Rattle.protocol.specs.State.{Device, End, context_at}
 use Rattle.context_core.specs.Context.{}
-use Rattle.device_laws.proofs.Tables.{name_tells}
-use Rattle.device_core.specs.declared.index.Spot.{Spot}
+use Rattle.law_device_sound.proofs.Tables.{name_tells}
+use Rattle.device_core.specs.declared.index.EndLocation.{EndLocation}
 use Rattle.device_core.specs.Index.{IsEndAt, IsIndex, numbers_of, spot}
 use Rattle.device_core.proofs.Indexes.{same_entry}
 
@@ -82,32 +82,32 @@ pub record Adds (old new : Device) (n : Name) (numbers : List ℕ) : Type 0 wher
   pub none : has_context old n ≡ false → numbers_of (context_at old n) ≡ []
 
 -- the index notes these numbers from a place on, and none of them was noted
-pub record Notes (index index' : ℕ → Option Spot) (n : Name) (from : ℕ) (numbers : List ℕ) : Type 0 where
+pub record Notes (index index' : ℕ → Option EndLocation) (n : Name) (from : ℕ) (numbers : List ℕ) : Type 0 where
   pub here : (i k : ℕ) → slice_get numbers i ≡ Some k → index' k ≡ Some (spot n (from + i))
   pub others : (k : ℕ) → has (λ x. x) k numbers ≡ false → index' k ≡ index k
   pub fresh : (k : ℕ) → has (λ x. x) k numbers ≡ true → index k ≡ None
 
-some_spot : (o : Option Spot) (s : Spot) → o ≡ Some s → o ≡ None → ⊥
+some_spot : (o : Option EndLocation) (s : EndLocation) → o ≡ Some s → o ≡ None → ⊥
 some_spot o s a b = absurd (cc)
 
 pub same_spot : (m n : Name) (p q : ℕ) → Some (spot m p) ≡ Some (spot n q) → (m ≡ n) × (p ≡ q)
 same_spot m n p q h = (ap name_of h, ap place_of h)
   where
-    name_of : Option Spot → Name
+    name_of : Option EndLocation → Name
     name_of None = []
     name_of (Some s) = s.context
 
-    place_of : Option Spot → ℕ
+    place_of : Option EndLocation → ℕ
     place_of None = 0
     place_of (Some s) = s.place
 
-not_noted : (index index' : ℕ → Option Spot) (n : Name) (from : ℕ) (numbers : List ℕ) (k : ℕ) (s : Spot) → Notes index index' n from numbers → index k ≡ Some s → index' k ≡ Some s
+not_noted : (index index' : ℕ → Option EndLocation) (n : Name) (from : ℕ) (numbers : List ℕ) (k : ℕ) (s : EndLocation) → Notes index index' n from numbers → index k ≡ Some s → index' k ≡ Some s
 not_noted index index' n from numbers k s notes h = elim (cases_Bool (has (λ x. x) k numbers)) [
   | inl t ↦ absurd (some_spot (index k) s h (notes.fresh k t))
   | inr t ↦ notes.others k t ∙ h
 ]
 
-pub index-adds : (index index' : ℕ → Option Spot) (old new : Device) (n : Name) (numbers : List ℕ) → Adds old new n numbers → Notes index index' n (length (numbers_of (context_at old n))) numbers → IsIndex index old → IsIndex index' new
+pub index-adds : (index index' : ℕ → Option EndLocation) (old new : Device) (n : Name) (numbers : List ℕ) → Adds old new n numbers → Notes index index' n (length (numbers_of (context_at old n))) numbers → IsIndex index old → IsIndex index' new
 index-adds index index' old new n numbers adds notes i = record {
   ends = λ m place k e. by_name m place k e (name_tells m n);
   entries = λ m place k e. not_noted index index' n (length (numbers_of (context_at old n))) numbers k (spot m place) notes (i.entries m place k (same_entry old new m place k adds.husks e));

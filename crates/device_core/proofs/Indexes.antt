@@ -7,8 +7,8 @@ use Rattle.rdma_types.proofs.Tables.{has_name-store, named-store_other, named-st
 use Rattle.protocol.specs.Refusals.{has_context}
 use Rattle.protocol.specs.State.{Context, Device, End, Husk, context_at, no_context, no_husk}
 use Rattle.context_core.specs.Context.{}
-use Rattle.device_laws.proofs.Tables.{name_tells}
-use Rattle.device_core.specs.declared.index.Spot.{Spot}
+use Rattle.law_device_sound.proofs.Tables.{name_tells}
+use Rattle.device_core.specs.declared.index.EndLocation.{EndLocation}
 use Rattle.device_core.specs.Index.{IsEndAt, IsEntryAt, IsIndex, numbers_of}
 
 -- ---- ends with the same numbers
@@ -45,7 +45,7 @@ same_entry old new n place number same e = record {
   same = e.same;
 }
 
-pub index-same : (index : ℕ → Option Spot) (old new : Device) → SameEnds old new → IsIndex index old → IsIndex index new
+pub index-same : (index : ℕ → Option EndLocation) (old new : Device) → SameEnds old new → IsIndex index old → IsIndex index new
 index-same index old new s i = record {
   ends = λ n place number e. i.ends n place number (moved_end old new n place number (sym (s.live n) ∙ e.lives) e.lives (s.numbers n (sym (s.live n) ∙ e.lives)) e);
   entries = λ n place number e. i.entries n place number (same_entry old new n place number s.husks e);

@@ -5,7 +5,7 @@ use Rattle.rdma_types.specs.declared.names.Name.{Name}
 use Rattle.page_pool.specs.Pool.{Pool, IsIn, bytes_of}
 use Rattle.protocol.specs.Memory.{pages_of_context, pages_of_request, region_of_key}
 use Rattle.context_core.specs.Context.{Holding, IsContext, context_in, lists_of, no_holding}
-use Rattle.context_core.proofs.Agreeing.{context-same, holding-same, list-lives}
+use Rattle.context_core.proofs.PoolAgreement.{context-same, holding-same, list-lives}
 
 pub same : (old new : Pool) (h : Holding) (n : Name) → ((list : ℕ) → Contains (lists_of h) list → bytes_of new list ≡ bytes_of old list) → context_in new n h ≡ context_in old n h
 same old new h n eq = context-same old new h n eq

@@ -12,7 +12,7 @@ use Rattle.protocol.specs.State.{End}
 use Rattle.context_core.specs.Heads.{head_of}
 use Rattle.context_core.specs.declared.heads.EndHead.{EndHead}
 use Rattle.device_core.specs.declared.husks.HuskEntry.{HuskEntry}
-use Rattle.device_core.specs.declared.index.Spot.{Spot}
+use Rattle.device_core.specs.declared.index.EndLocation.{EndLocation}
 use Rattle.device_core.specs.Index.{numbers_in, spot, without_numbers}
 use Rattle.device_core.specs.Leaving.{gone_in, in_list, left_by, placed, unless_left}
 use Rattle.device_core.specs.Parts.{entry_of}
@@ -34,7 +34,7 @@ has-append k (x ∷ xs) ys = ap (λ b. x == k || b) (has-append k xs ys) ∙ gro
     group true b c = refl
     group false b c = refl
 
-pub forgets-one : (x k : ℕ) (o : Option Spot) → without_numbers (x ∷ []) k o ≡ (if x == k then None else o)
+pub forgets-one : (x k : ℕ) (o : Option EndLocation) → without_numbers (x ∷ []) k o ≡ (if x == k then None else o)
 unfolding has
 forgets-one x k o = ap (λ b. if b then None else o) (or_false (x == k))
   where
@@ -42,11 +42,11 @@ forgets-one x k o = ap (λ b. if b then None else o) (or_false (x == k))
     or_false true = refl
     or_false false = refl
 
-pub forgets-nothing : (k : ℕ) (o : Option Spot) → without_numbers [] k o ≡ o
+pub forgets-nothing : (k : ℕ) (o : Option EndLocation) → without_numbers [] k o ≡ o
 unfolding has
 forgets-nothing k o = refl
 
-pub forgets-more : (xs ys : List ℕ) (k : ℕ) (o : Option Spot) → without_numbers ys k (without_numbers xs k o) ≡ without_numbers (xs ++ ys) k o
+pub forgets-more : (xs ys : List ℕ) (k : ℕ) (o : Option EndLocation) → without_numbers ys k (without_numbers xs k o) ≡ without_numbers (xs ++ ys) k o
 forgets-more xs ys k o = both (has (λ z. z) k xs) (has (λ z. z) k ys) ∙ ap (λ b. if b then None else o) (sym (has-append k xs ys))
   where
     both : (a b : Bool) → (if b then None else if a then None else o) ≡ (if a || b then None else o)
@@ -55,7 +55,7 @@ forgets-more xs ys k o = both (has (λ z. z) k xs) (has (λ z. z) k ys) ∙ ap (
     both false b = refl
 
 -- the next end
-pub gone-next : (es : List End) (i : ℕ) → i < length es → (k : ℕ) (o now after : Option Spot) → now ≡ without_numbers (gone_in (take i es)) k o → ((e : End) → slice_get es i ≡ Some e → after ≡ without_numbers (gone_in (e ∷ [])) k now) → after ≡ without_numbers (gone_in (take (i + 1) es)) k o
+pub gone-next : (es : List End) (i : ℕ) → i < length es → (k : ℕ) (o now after : Option EndLocation) → now ≡ without_numbers (gone_in (take i es)) k o → ((e : End) → slice_get es i ≡ Some e → after ≡ without_numbers (gone_in (e ∷ [])) k now) → after ≡ without_numbers (gone_in (take (i + 1) es)) k o
 gone-next es i l k o now after was step =
     let next = taken-next es i l in
     step next.0 next.1
@@ -101,16 +101,16 @@ gone-none e (Some x) left some = ap (λ xs. unless_left xs e.number ++ []) (sym 
 
 -- ---- numbers that are noted
 
-pub placed-none : (n : Name) (from k : ℕ) (o : Option Spot) → placed n from [] k o ≡ o
+pub placed-none : (n : Name) (from k : ℕ) (o : Option EndLocation) → placed n from [] k o ≡ o
 unfolding placed
 placed-none n from k o = refl
 
-pub placed-push : (n : Name) (from : ℕ) (xs : List ℕ) (x k : ℕ) (o : Option Spot) → placed n from (xs ++ x ∷ []) k o ≡ (if x == k then Some (spot n (from + length xs)) else placed n from xs k o)
+pub placed-push : (n : Name) (from : ℕ) (xs : List ℕ) (x k : ℕ) (o : Option EndLocation) → placed n from (xs ++ x ∷ []) k o ≡ (if x == k then Some (spot n (from + length xs)) else placed n from xs k o)
 unfolding placed
 placed-push n from [] x k o = ap (λ p. if x == k then Some (spot n p) else o) (omega arith)
 placed-push n from (y ∷ xs) x k o = placed-push n (from + 1) xs x k (if y == k then Some (spot n from) else o) ∙ ap (λ p. if x == k then Some (spot n p) else placed n (from + 1) xs k (if y == k then Some (spot n from) else o)) (omega arith)
 
-pub placed-next : (n : Name) (es : List HuskEntry) (i : ℕ) → i < length es → (d : HuskEntry) (k : ℕ) (o now after : Option Spot) → now ≡ placed n 0 (numbers_in (take i es)) k o → after ≡ (if (get_or es i d).number == k then Some (spot n i) else now) → after ≡ placed n 0 (numbers_in (take (i + 1) es)) k o
+pub placed-next : (n : Name) (es : List HuskEntry) (i : ℕ) → i < length es → (d : HuskEntry) (k : ℕ) (o now after : Option EndLocation) → now ≡ placed n 0 (numbers_in (take i es)) k o → after ≡ (if (get_or es i d).number == k then Some (spot n i) else now) → after ≡ placed n 0 (numbers_in (take (i + 1) es)) k o
 placed-next n es i l d k o now after was step =
     let more : numbers_in (take (i + 1) es) ≡ numbers_in (take i es) ++ (get_or es i d).number ∷ [] = ap (λ j. numbers_in (take j es)) (omega arith) ∙ (ap numbers_in (take_more es i d l) ∙ map-append (λ (e : HuskEntry). e.number) (take i es) (get_or es i d ∷ [])) in
     let at : 0 + length (numbers_in (take i es)) ≡ i = length_taken es i l in
@@ -124,7 +124,7 @@ placed-next n es i l d k o now after was step =
     length_taken (x ∷ xs) (suc j) h = let later = length_taken xs j (omega (arith, h)) in omega (arith, later)
 
 -- what was noted stays noted
-pub placed-some : (n : Name) (from : ℕ) (xs : List ℕ) (k : ℕ) (o : Option Spot) → IsSome o → IsSome (placed n from xs k o)
+pub placed-some : (n : Name) (from : ℕ) (xs : List ℕ) (k : ℕ) (o : Option EndLocation) → IsSome o → IsSome (placed n from xs k o)
 unfolding placed
 placed-some n from [] k o some = some
 placed-some n from (x ∷ xs) k o some = placed-some n (from + 1) xs k (if x == k then Some (spot n from) else o) (by_test (x == k))

@@ -11,8 +11,8 @@ use Rattle.protocol.specs.State.{Context, Device, End, Link, context_at, end_at,
 use Rattle.context_core.specs.declared.lives.LinkView.{LinkView}
 use Rattle.context_core.specs.declared.lives.LiveEnd.{LiveEnd}
 use Rattle.context_core.specs.Links.{link_view, live_end}
-use Rattle.context_core.proofs.Fronts.{taken_on}
-use Rattle.device_laws.specs.Sound.{IsSoundContext, IsSoundDevice, IsSoundState, plans}
+use Rattle.context_core.proofs.ListPrefixes.{taken_on}
+use Rattle.law_device_sound.specs.Sound.{IsSoundContext, IsSoundDevice, IsSoundState, plans}
 use Rattle.device_core.specs.Readings.{link_named}
 use Rattle.device_core.proofs.Withouts.{named-absent}
 

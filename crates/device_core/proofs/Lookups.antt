@@ -15,7 +15,7 @@ use Rattle.protocol.specs.State.{Context, Device}
 use Rattle.context_core.specs.Context.{Holding}
 use Rattle.context_core.specs.declared.ContextFault.TheVariants.{Refused}
 use Rattle.device_core.specs.declared.husks.HuskEntry.{HuskEntry}
-use Rattle.device_core.specs.declared.index.Spot.{Spot}
+use Rattle.device_core.specs.declared.index.EndLocation.{EndLocation}
 use Rattle.device_core.specs.Done.{IsDone}
 use Rattle.device_core.specs.Held.{IsHeld}
 use Rattle.device_core.specs.Parts.{device_of}
@@ -33,7 +33,7 @@ none-ref {A} r o is value = ap is_some (sym value) ∙ ap (λ (x : Option (Bor A
 pub same-kept : (id : ℕ) (address : Address) (qp key : ℕ) (pool : Pool) (es es' : List (Name × Holding)) (husks : List (Name × List HuskEntry)) → es' ≡ es → (d : Device) → device_of id address qp key pool es husks ≡ d → device_of id address qp key pool es' husks ≡ d
 same-kept id address qp key pool es es' husks kept d is = ap (λ xs. device_of id address qp key pool xs husks) kept ∙ is
 
-pub held-kept : (id : ℕ) (address : Address) (qp key : ℕ) (pool : Pool) (es es' : List (Name × Holding)) (husks : List (Name × List HuskEntry)) (index : ℕ → Option Spot) → es' ≡ es → IsHeld pool es index (device_of id address qp key pool es husks) → IsHeld pool es' index (device_of id address qp key pool es' husks)
+pub held-kept : (id : ℕ) (address : Address) (qp key : ℕ) (pool : Pool) (es es' : List (Name × Holding)) (husks : List (Name × List HuskEntry)) (index : ℕ → Option EndLocation) → es' ≡ es → IsHeld pool es index (device_of id address qp key pool es husks) → IsHeld pool es' index (device_of id address qp key pool es' husks)
 held-kept id address qp key pool es es' husks index kept held = subst (λ xs. IsHeld pool xs index (device_of id address qp key pool xs husks)) (sym kept) held
 
 -- a context that is not found does not live there

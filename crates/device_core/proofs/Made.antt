@@ -25,10 +25,10 @@ use Rattle.protocol.specs.State.{Context, Device, no_context}
 use Rattle.context_core.specs.Faults.{refusal_of}
 use Rattle.context_core.specs.declared.ContextFault.{ContextFault}
 use Rattle.context_core.specs.Context.{Holding, context_in}
-use Rattle.device_laws.specs.Sound.{AreCounted, IsCounted}
-use Rattle.device_laws.proofs.Tables.{All-named}
+use Rattle.law_device_sound.specs.Sound.{AreCounted, IsCounted}
+use Rattle.law_device_sound.proofs.Tables.{All-named}
 use Rattle.device_core.specs.declared.husks.HuskEntry.{HuskEntry}
-use Rattle.device_core.specs.declared.index.Spot.{Spot}
+use Rattle.device_core.specs.declared.index.EndLocation.{EndLocation}
 use Rattle.device_core.specs.Held.{IsHeld}
 use Rattle.device_core.specs.Parts.{contexts_in, device_of}
 use Rattle.device_core.proofs.Contexts.{lookup-found, lookup-there}
@@ -84,7 +84,7 @@ counted-err (Ok x) n count h = tt
 counted-err (Err f) n count h = h
 
 -- the next keys are of no region of the device
-pub own-keys : (id : ℕ) (address : Address) (qp key : ℕ) (pool : Pool) (es : List (Name × Holding)) (husks : List (Name × List HuskEntry)) (index : ℕ → Option Spot) (held : IsHeld pool es index (device_of id address qp key pool es husks))
+pub own-keys : (id : ℕ) (address : Address) (qp key : ℕ) (pool : Pool) (es : List (Name × Holding)) (husks : List (Name × List HuskEntry)) (index : ℕ → Option EndLocation) (held : IsHeld pool es index (device_of id address qp key pool es husks))
     (n : Name) (s : Holding) (found : lookup (bytes_eq n) es ≡ Some s) (m : Name) (keys : Option Keys)
     → is_none keys ≡ nat_le most_keys key → IfSome keys (λ k. k ≡ keys_of (device_of id address qp key pool es husks))
     → IfSome keys (λ k. has local_key k.local (context_in pool m s).regions ≡ false)

@@ -25,11 +25,11 @@ use Rattle.context_core.specs.Context.{Holding, IsContext, Moves, context_in}
 use Rattle.context_core.specs.Faults.{refusal_of}
 use Rattle.context_core.specs.declared.ContextFault.{ContextFault}
 use Rattle.context_core.specs.declared.making.NewEnd.{NewEnd}
-use Rattle.device_laws.specs.Sound.{AreCounted, GivesNames, IsSoundDevice}
-use Rattle.device_laws.proofs.Regions.{All-at}
-use Rattle.device_laws.proofs.Tables.{All-named, name_tells}
+use Rattle.law_device_sound.specs.Sound.{AreCounted, GivesNames, IsSoundDevice}
+use Rattle.law_device_sound.proofs.Regions.{All-at}
+use Rattle.law_device_sound.proofs.Tables.{All-named, name_tells}
 use Rattle.device_core.specs.declared.husks.HuskEntry.{HuskEntry}
-use Rattle.device_core.specs.declared.index.Spot.{Spot}
+use Rattle.device_core.specs.declared.index.EndLocation.{EndLocation}
 use Rattle.device_core.specs.Done.{IsDone, number_answer, plain, qp_event, told_by}
 use Rattle.device_core.specs.Held.{IsHeld, IsLeft}
 use Rattle.device_core.specs.Index.{IsEndAt, IsEntryAt, IsIndex, husk_at, noted, numbers_of, spot}
@@ -62,7 +62,7 @@ only-context c new n domain send recv send_depth recv_depth d e rule made = firs
     first a b h = cc
 
 -- a number past the count is nowhere
-fresh-number : (index : ℕ → Option Spot) (d : Device) → IsIndex index d → All (AreCounted d) d.contexts → All (λ h. All (IsLeft d.id d.qp_count) h.entries) d.husks → d.qp_count + 1 ≤ 65535 → index (number_of d) ≡ None
+fresh-number : (index : ℕ → Option EndLocation) (d : Device) → IsIndex index d → All (AreCounted d) d.contexts → All (λ h. All (IsLeft d.id d.qp_count) h.entries) d.husks → d.qp_count + 1 ≤ 65535 → index (number_of d) ≡ None
 fresh-number index d i counted left few = by_found (index (number_of d)) refl
   where
     past : (k : ℕ) → k ≡ d.id * 65536 + (d.qp_count + 1) → (k / 65536 ≡ d.id → k % 65536 ≤ d.qp_count) → ⊥
@@ -70,7 +70,7 @@ fresh-number index d i counted left few = by_found (index (number_of d)) refl
         let quotient : k / 65536 ≡ d.id = omega (arith, e, few) in
         omega (arith, e, few, h quotient, quotient)
 
-    by_spot : (s : Spot) → index (number_of d) ≡ Some s → IsEndAt d s.context s.place (number_of d) ⊎ IsEntryAt d s.context s.place (number_of d) → ⊥
+    by_spot : (s : EndLocation) → index (number_of d) ≡ Some s → IsEndAt d s.context s.place (number_of d) ⊎ IsEntryAt d s.context s.place (number_of d) → ⊥
     by_spot s h (inl e) =
         let here = All-named (AreCounted d) (λ c. c.name) no_context s.context d.contexts counted e.lives in
         let mine = All-at (λ x. x.number / 65536 ≡ d.id → x.number % 65536 ≤ d.qp_count) (context_at d s.context).ends s.place e.end here.ends e.there in
@@ -80,19 +80,19 @@ fresh-number index d i counted left few = by_found (index (number_of d)) refl
         let mine = All-at (IsLeft d.id d.qp_count) (husk_at d s.context).entries s.place e.entry here e.there in
         past e.entry.number e.same mine.counted
 
-    by_found : (o : Option Spot) → index (number_of d) ≡ o → index (number_of d) ≡ None
+    by_found : (o : Option EndLocation) → index (number_of d) ≡ o → index (number_of d) ≡ None
     by_found None h = h
     by_found (Some s) h = absurd (by_spot s h (i.exact s.context s.place (number_of d) h))
 
 -- what the index says after the making
-pub record Noted (index index' : ℕ → Option Spot) (made : Bool) (number : Option ℕ) (n : Name) (place : ℕ) : Type 0 where
+pub record Noted (index index' : ℕ → Option EndLocation) (made : Bool) (number : Option ℕ) (n : Name) (place : ℕ) : Type 0 where
   pub said : (k : ℕ) → index' k ≡ noted made number (spot n place) k (index k)
 
-noted-not : (index index' : ℕ → Option Spot) (number : Option ℕ) (n : Name) (place : ℕ) → Noted index index' false number n place → index' ≡ index
+noted-not : (index index' : ℕ → Option EndLocation) (number : Option ℕ) (n : Name) (place : ℕ) → Noted index index' false number n place → index' ≡ index
 noted-not index index' None n place h = λ i k. h.said k i
 noted-not index index' (Some m) n place h = λ i k. h.said k i
 
-noted-one : (index index' : ℕ → Option Spot) (m : ℕ) (n : Name) (place : ℕ) → Noted index index' true (Some m) n place → index m ≡ None → Notes index index' n place (m ∷ [])
+noted-one : (index index' : ℕ → Option EndLocation) (m : ℕ) (n : Name) (place : ℕ) → Noted index index' true (Some m) n place → index m ≡ None → Notes index index' n place (m ∷ [])
 unfolding has
 noted-one index index' m n place h free = record {
   here = λ i k at. first i k at;
@@ -141,8 +141,8 @@ one-more old new n c numbers husks contexts name there more = record {
 below-most : (qp : ℕ) → false ≡ nat_le most_numbers qp → qp + 1 ≤ 65535
 below-most qp h = grind (arith, nat_tests, h)
 
-module _ (id : ℕ) (address : Address) (qp key : ℕ) (pool : Pool) (es : List (Name × Holding)) (husks : List (Name × List HuskEntry)) (index : ℕ → Option Spot) (held : IsHeld pool es index (device_of id address qp key pool es husks))
-    (n : Name) (s : Holding) (found : lookup (bytes_eq n) es ≡ Some s) (s' : Holding) (moves : Moves pool pool s s') (is : IsContext pool s') (es' : List (Name × Holding)) (set : es' ≡ set_value (bytes_eq n) es s') (index' : ℕ → Option Spot) (qp' : ℕ) (asked : NewEnd) where
+module _ (id : ℕ) (address : Address) (qp key : ℕ) (pool : Pool) (es : List (Name × Holding)) (husks : List (Name × List HuskEntry)) (index : ℕ → Option EndLocation) (held : IsHeld pool es index (device_of id address qp key pool es husks))
+    (n : Name) (s : Holding) (found : lookup (bytes_eq n) es ≡ Some s) (s' : Holding) (moves : Moves pool pool s s') (is : IsContext pool s') (es' : List (Name × Holding)) (set : es' ≡ set_value (bytes_eq n) es s') (index' : ℕ → Option EndLocation) (qp' : ℕ) (asked : NewEnd) where
   abbrev before_making : Device
   before_making = device_of id address qp key pool es husks
 

@@ -18,11 +18,11 @@ use Rattle.protocol.specs.State.{Context, Device, context_at, no_context}
 use Rattle.context_core.specs.Context.{Holding, IsContext, Moves, context_in, no_holding}
 use Rattle.context_core.specs.declared.ContextFault.{ContextFault}
 use Rattle.context_core.specs.declared.ContextFault.TheVariants.{OutOfMemory}
-use Rattle.device_laws.specs.Sound.{AreCounted, GivesNames, IsSoundContext}
+use Rattle.law_device_sound.specs.Sound.{AreCounted, GivesNames, IsSoundContext}
 use Rattle.device_core.proofs.Withouts.{named-absent, named-push_other}
-use Rattle.device_laws.proofs.Tables.{has_name-push, named-push_has, named-push_lacks, name_tells}
+use Rattle.law_device_sound.proofs.Tables.{has_name-push, named-push_has, named-push_lacks, name_tells}
 use Rattle.device_core.specs.declared.husks.HuskEntry.{HuskEntry}
-use Rattle.device_core.specs.declared.index.Spot.{Spot}
+use Rattle.device_core.specs.declared.index.EndLocation.{EndLocation}
 use Rattle.device_core.specs.Done.{IsDone, plain, told_by}
 use Rattle.device_core.specs.Held.{AreApart, IsHeld, IsLeft}
 use Rattle.device_core.specs.Index.{numbers_of}
@@ -52,7 +52,7 @@ unfolding has_name
 no-name_false name n = refl
 
 -- a new device keeps what a device keeps
-pub held-new : (id : ℕ) (address : Address) (pool : Pool) (es : List (Name × Holding)) (husks : List (Name × List HuskEntry)) (index : ℕ → Option Spot) → es ≡ [] → husks ≡ [] → ((k : ℕ) → index k ≡ None) → pool ≡ record { pages = 8192; lists = [] } → 1 ≤ id → id ≤ 255 → IsHeld pool es index (device_of id address 0 0 pool es husks)
+pub held-new : (id : ℕ) (address : Address) (pool : Pool) (es : List (Name × Holding)) (husks : List (Name × List HuskEntry)) (index : ℕ → Option EndLocation) → es ≡ [] → husks ≡ [] → ((k : ℕ) → index k ≡ None) → pool ≡ record { pages = 8192; lists = [] } → 1 ≤ id → id ≤ 255 → IsHeld pool es index (device_of id address 0 0 pool es husks)
 held-new id address pool es husks index none no_husks empty free some few =
     subst (λ xs. IsHeld pool xs index (device_of id address 0 0 pool xs husks)) (sym none)
     (subst (λ hs. IsHeld pool [] index (device_of id address 0 0 pool [] hs)) (sym no_husks)
@@ -124,7 +124,7 @@ pushed-adds old new n c husks contexts name absent = record {
     found_other m other false h = named-push_other (λ x. x.name) no_context m old.contexts c h (λ e. other (sym e ∙ name)) ∙ sym (named-absent (λ x. x.name) no_context m old.contexts h)
 
 -- a context without things comes
-pub made-context : (id : ℕ) (address : Address) (qp key : ℕ) (pool : Pool) (es : List (Name × Holding)) (husks : List (Name × List HuskEntry)) (index : ℕ → Option Spot) (held : IsHeld pool es index (device_of id address qp key pool es husks))
+pub made-context : (id : ℕ) (address : Address) (qp key : ℕ) (pool : Pool) (es : List (Name × Holding)) (husks : List (Name × List HuskEntry)) (index : ℕ → Option EndLocation) (held : IsHeld pool es index (device_of id address qp key pool es husks))
     (n : Name) (none : first_cause (causes_of (device_of id address qp key pool es husks) (event.MakeContext n)) ≡ None)
     (s : Holding) (empty : s ≡ no_holding) (view : context_in pool n s ≡ new_context n) (is : IsContext pool s)
     (r : Result (Unit {0}) ContextFault) (told : Result Outcome ContextFault) (es' : List (Name × Holding))

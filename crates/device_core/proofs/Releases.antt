@@ -21,9 +21,9 @@ use Rattle.protocol.specs.State.{Device, Husk, context_at, no_context, no_husk}
 use Rattle.context_core.specs.Context.{Holding}
 use Rattle.context_core.specs.declared.ContextFault.{ContextFault}
 use Rattle.context_core.specs.declared.ContextFault.TheVariants.{Refused}
-use Rattle.device_laws.proofs.Tables.{All-without, name_tells}
+use Rattle.law_device_sound.proofs.Tables.{All-without, name_tells}
 use Rattle.device_core.specs.declared.husks.HuskEntry.{HuskEntry}
-use Rattle.device_core.specs.declared.index.Spot.{Spot}
+use Rattle.device_core.specs.declared.index.EndLocation.{EndLocation}
 use Rattle.device_core.specs.Done.{IsDone, plain}
 use Rattle.device_core.specs.Held.{IsHeld, IsLeft}
 use Rattle.device_core.specs.Index.{IsEndAt, IsEntryAt, IsIndex, husk_at, numbers_in, spot, without_numbers}
@@ -46,18 +46,18 @@ has-push k x (y ∷ xs) = ap (λ b. y == k || b) (has-push k x xs) ∙ swap (y =
     swap true false c = refl
     swap false b c = refl
 
-pub forgets-none : (k : ℕ) (o : Option Spot) → without_numbers [] k o ≡ o
+pub forgets-none : (k : ℕ) (o : Option EndLocation) → without_numbers [] k o ≡ o
 unfolding has
 forgets-none k o = refl
 
-pub forgets : (es : List HuskEntry) (i : ℕ) → i < length es → (k : ℕ) (o now : Option Spot) → now ≡ without_numbers (numbers_in (take i es)) k o → (d : HuskEntry) → (if (get_or es i d).number == k then None else now) ≡ without_numbers (numbers_in (take (i + 1) es)) k o
+pub forgets : (es : List HuskEntry) (i : ℕ) → i < length es → (k : ℕ) (o now : Option EndLocation) → now ≡ without_numbers (numbers_in (take i es)) k o → (d : HuskEntry) → (if (get_or es i d).number == k then None else now) ≡ without_numbers (numbers_in (take (i + 1) es)) k o
 forgets es i l k o now was d =
     let more : numbers_in (take (i + 1) es) ≡ numbers_in (take i es) ++ (get_or es i d).number ∷ [] = ap (λ j. numbers_in (take j es)) (omega arith) ∙ (ap numbers_in (take_more es i d l) ∙ map-append (λ (e : HuskEntry). e.number) (take i es) (get_or es i d ∷ [])) in
     ap (λ x. if (get_or es i d).number == k then None else x) was
     ∙ (both ((get_or es i d).number == k) (has (λ z. z) k (numbers_in (take i es))) o
     ∙ ap (λ b. if b then None else o) (sym (ap (has (λ z. z) k) more ∙ has-push k (get_or es i d).number (numbers_in (take i es)))))
   where
-    both : (a b : Bool) (o : Option Spot) → (if a then None else if b then None else o) ≡ (if a || b then None else o)
+    both : (a b : Bool) (o : Option EndLocation) → (if a then None else if b then None else o) ≡ (if a || b then None else o)
     both true b o = refl
     both false b o = refl
 
@@ -85,7 +85,7 @@ entry_of_number (x ∷ es) zero k h = (entry_of x, refl, cc)
 entry_of_number (x ∷ es) (suc i) k h = entry_of_number es i k h
 
 -- the index without the numbers of a husk is that of the device without the husk
-pub index-released : (index index' : ℕ → Option Spot) (old new : Device) (n : Name) (es : List HuskEntry) → new.contexts ≡ old.contexts → new.husks ≡ without (λ h. h.name) n old.husks
+pub index-released : (index index' : ℕ → Option EndLocation) (old new : Device) (n : Name) (es : List HuskEntry) → new.contexts ≡ old.contexts → new.husks ≡ without (λ h. h.name) n old.husks
     → AllPairs (λ a b. a ≢ b) (map (λ h. h.name) old.husks) → ((m : Name) → has_context old m ≡ true → has_husk old m ≡ false)
     → has_husk old n ≡ true → (husk_at old n).entries ≡ map entry_of es → ((k : ℕ) → index' k ≡ without_numbers (numbers_in es) k (index k)) → IsIndex index old → IsIndex index' new
 index-released index index' old new n es contexts husks names either there entries forgot i = record {
@@ -100,7 +100,7 @@ index-released index index' old new n es contexts husks names either there entri
   ];
 }
   where
-    none_some : (s : Spot) → None ≡ Some s → ⊥
+    none_some : (s : EndLocation) → None ≡ Some s → ⊥
     none_some s h = absurd (cc)
 
     live : (m : Name) → has_context new m ≡ has_context old m
@@ -149,7 +149,7 @@ index-released index index' old new n es contexts husks names either there entri
     entry_stays : (m : Name) (place k : ℕ) → IsEntryAt new m place k → has (λ x. x) k (numbers_in es) ≡ false
     entry_stays m place k e = not_in m place k (other m e.stays) (entry_old m place k e) (has (λ x. x) k (numbers_in es)) refl
 
-    left : (k : ℕ) (s : Spot) → index k ≡ Some s → has (λ x. x) k (numbers_in es) ≡ false → without_numbers (numbers_in es) k (index k) ≡ Some s
+    left : (k : ℕ) (s : EndLocation) → index k ≡ Some s → has (λ x. x) k (numbers_in es) ≡ false → without_numbers (numbers_in es) k (index k) ≡ Some s
     left k s at gone = ap (λ b. if b then None else index k) gone ∙ at
 
     entry_new : (m : Name) (place k : ℕ) → has (λ x. x) k (numbers_in es) ≡ false → IsEntryAt old m place k → IsEntryAt new m place k
@@ -172,7 +172,7 @@ index-released index index' old new n es contexts husks names either there entri
 
 -- ---- the event
 
-module _ (id : ℕ) (address : Address) (qp key : ℕ) (pool : Pool) (es : List (Name × Holding)) (husks : List (Name × List HuskEntry)) (index : ℕ → Option Spot) (held : IsHeld pool es index (device_of id address qp key pool es husks)) (n : Name) where
+module _ (id : ℕ) (address : Address) (qp key : ℕ) (pool : Pool) (es : List (Name × Holding)) (husks : List (Name × List HuskEntry)) (index : ℕ → Option EndLocation) (held : IsHeld pool es index (device_of id address qp key pool es husks)) (n : Name) where
   -- no husk has the name
   pub release-nothing : (husks' : List (Name × List HuskEntry)) → lookup (bytes_eq n) husks ≡ None → husks' ≡ husks → (told : Result Outcome ContextFault) → told ≡ Err (Refused NoSuch) → Stepped (device_of id address qp key pool es husks) (event.Release n) pool es index (device_of id address qp key pool es husks') told
   unfolding first_cause
@@ -184,7 +184,7 @@ module _ (id : ℕ) (address : Address) (qp key : ℕ) (pool : Pool) (es : List 
         held = λ lawful spelled. held;
       })
 
-  pub released : (index' : ℕ → Option Spot) (husks' : List (Name × List HuskEntry)) (entries : List HuskEntry) → lookup (bytes_eq n) husks ≡ Some entries → husks' ≡ remove_entry (bytes_eq n) husks → ((k : ℕ) → index' k ≡ without_numbers (numbers_in entries) k (index k)) → (told : Result Outcome ContextFault) → told ≡ Ok (plain answer.Done) → Stepped (device_of id address qp key pool es husks) (event.Release n) pool es index' (device_of id address qp key pool es husks') told
+  pub released : (index' : ℕ → Option EndLocation) (husks' : List (Name × List HuskEntry)) (entries : List HuskEntry) → lookup (bytes_eq n) husks ≡ Some entries → husks' ≡ remove_entry (bytes_eq n) husks → ((k : ℕ) → index' k ≡ without_numbers (numbers_in entries) k (index k)) → (told : Result Outcome ContextFault) → told ≡ Ok (plain answer.Done) → Stepped (device_of id address qp key pool es husks) (event.Release n) pool es index' (device_of id address qp key pool es husks') told
   unfolding first_cause releases
   released index' husks' entries found removed forgot told tells = record {
     done = the_done;

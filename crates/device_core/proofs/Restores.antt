@@ -28,9 +28,9 @@ use Rattle.context_core.specs.Context.{Holding, IsContext, Moves, context_in, no
 use Rattle.context_core.specs.Faults.{told_as}
 use Rattle.context_core.specs.declared.ContextFault.{ContextFault}
 use Rattle.context_core.specs.declared.ContextFault.TheVariants.{Refused, OutOfMemory}
-use Rattle.device_laws.proofs.Restoring.{moved-end-numbers, pairs-mapped}
+use Rattle.law_device_sound.proofs.Restoring.{moved-end-numbers, pairs-mapped}
 use Rattle.device_core.specs.declared.husks.HuskEntry.{HuskEntry}
-use Rattle.device_core.specs.declared.index.Spot.{Spot}
+use Rattle.device_core.specs.declared.index.EndLocation.{EndLocation}
 use Rattle.device_core.specs.Coming.{brings_taken, has_moved_image, numbers_of_ends, pairs_of}
 use Rattle.device_core.specs.Done.{IsDone, plain}
 use Rattle.device_core.specs.Held.{IsHeld}
@@ -109,19 +109,19 @@ zero-plus p = omega arith
 
 -- ---- the event
 
-module _ (id : ℕ) (address : Address) (qp key : ℕ) (pool : Pool) (es : List (Name × Holding)) (husks : List (Name × List HuskEntry)) (index : ℕ → Option Spot) (held : IsHeld pool es index (device_of id address qp key pool es husks)) (image : ContextImage) where
+module _ (id : ℕ) (address : Address) (qp key : ℕ) (pool : Pool) (es : List (Name × Holding)) (husks : List (Name × List HuskEntry)) (index : ℕ → Option EndLocation) (held : IsHeld pool es index (device_of id address qp key pool es husks)) (image : ContextImage) where
   abbrev before_restore : Device
   before_restore = device_of id address qp key pool es husks
 
   -- room for more changes nothing
-  pub held-reserved : (es' : List (Name × Holding)) (index' : ℕ → Option Spot) → es' ≡ es → index' ≡ index → IsHeld pool es' index' (device_of id address qp key pool es' husks)
+  pub held-reserved : (es' : List (Name × Holding)) (index' : ℕ → Option EndLocation) → es' ≡ es → index' ≡ index → IsHeld pool es' index' (device_of id address qp key pool es' husks)
   held-reserved es' index' same noted =
       subst (λ xs. IsHeld pool xs index' (device_of id address qp key pool xs husks)) (sym same) (subst (λ ix. IsHeld pool es ix (device_of id address qp key pool es husks)) (sym noted) held)
 
   module _ (causes : first_cause (causes_of (device_of id address qp key pool es husks) (event.Restore image)) ≡ (if nat_lt (rule.free_pages (device_of id address qp key pool es husks)) (pages_of_context (context_of image)) then Some NoPage else None)) (pool' : Pool) where
     -- the context was not made
     pub not-restored : (fault : ContextFault) → told_as fault ≡ (if nat_lt (free_pages pool) (pages_of_context (context_of image)) then Some NoPage else None) → Moves pool pool' no_holding no_holding
-        → (es' : List (Name × Holding)) (index' : ℕ → Option Spot) → es' ≡ es → index' ≡ index → Stepped (device_of id address qp key pool es husks) (event.Restore image) pool' es' index' (device_of id address qp key pool' es' husks) (Err fault)
+        → (es' : List (Name × Holding)) (index' : ℕ → Option EndLocation) → es' ≡ es → index' ≡ index → Stepped (device_of id address qp key pool es husks) (event.Restore image) pool' es' index' (device_of id address qp key pool' es' husks) (Err fault)
     not-restored fault told moves es' index' same noted = record {
       done = the_done fault told;
       held = λ lawful spelled. subst (λ xs. IsHeld pool' xs index' (device_of id address qp key pool' xs husks)) (sym same) (subst (λ ix. IsHeld pool' es ix (device_of id address qp key pool' es husks)) (sym noted) the_held);
@@ -158,7 +158,7 @@ module _ (id : ℕ) (address : Address) (qp key : ℕ) (pool : Pool) (es : List 
 
     module _ (lawful : IsLawful image) (nothing : brings_taken (device_of id address qp key pool es husks) image ≡ false) (s : Holding) (enough : None ≡ (if nat_lt (free_pages pool) (pages_of_context (context_of image)) then Some NoPage else None))
         (made : context_in pool' image.name s ≡ moved (context_of image)) (is : IsContext pool' s) (moves : Moves pool pool' no_holding s)
-        (es' : List (Name × Holding)) (pushed : es' ≡ es ++ (image.name, s) ∷ []) (index' : ℕ → Option Spot) (said : (k : ℕ) → index' k ≡ placed image.name 0 (numbers_of_ends image.ends) k (index k))
+        (es' : List (Name × Holding)) (pushed : es' ≡ es ++ (image.name, s) ∷ []) (index' : ℕ → Option EndLocation) (said : (k : ℕ) → index' k ≡ placed image.name 0 (numbers_of_ends image.ends) k (index k))
         (qp' key' : ℕ) (qp_is : qp' ≡ highest id 65536 (numbers_of_ends image.ends) qp) (key_is : key' ≡ highest id 8388608 (pairs_of image.regions) key) (told : Result Outcome ContextFault) (tells : told ≡ Ok (plain answer.Done)) where
       names : (has_context before_restore image.name ≡ false) × (has_husk before_restore image.name ≡ false)
       names = or_false _ _ (or_false _ _ nothing).0

@@ -18,10 +18,10 @@ use Rattle.protocol.specs.Refusals.{has_context, has_end}
 use Rattle.protocol.specs.State.{Context, Device, End, Link, Paused, Phase, Resuming, Running, context_at, end_at, no_context, no_end}
 use Rattle.context_core.specs.Heads.{head_of, link_head}
 use Rattle.context_core.specs.declared.heads.EndHead.{EndHead}
-use Rattle.device_laws.specs.Sound.{IsSoundContext, IsSoundDevice, IsSoundEnd}
-use Rattle.device_laws.proofs.Regions.{All-at}
-use Rattle.device_laws.proofs.Tables.{All-named}
-use Rattle.device_core.specs.declared.index.Spot.{Spot}
+use Rattle.law_device_sound.specs.Sound.{IsSoundContext, IsSoundDevice, IsSoundEnd}
+use Rattle.law_device_sound.proofs.Regions.{All-at}
+use Rattle.law_device_sound.proofs.Tables.{All-named}
+use Rattle.device_core.specs.declared.index.EndLocation.{EndLocation}
 use Rattle.device_core.specs.Index.{IsEndAt, IsEntryAt, IsIndex}
 use Rattle.device_core.specs.Readings.{end_named, has_ended_end, has_resuming_end, head_ended, head_marks, head_resumes, head_view, link_ended, link_marks, link_resumes, mark_pair, marks_at}
 use Rattle.device_core.proofs.Brought.{number_same, same_number, some-at, some-place}
@@ -170,11 +170,11 @@ both true c h = (refl, h)
 both false c h = absurd (true≢false (sym h))
 
 -- a number that is not noted is of no end
-pub not-noted : (index : ℕ → Option Spot) (d : Device) → IsIndex index d → (k : ℕ) → index k ≡ None → (n : Name) (place : ℕ) → IsEndAt d n place k → ⊥
+pub not-noted : (index : ℕ → Option EndLocation) (d : Device) → IsIndex index d → (k : ℕ) → index k ≡ None → (n : Name) (place : ℕ) → IsEndAt d n place k → ⊥
 not-noted index d i k none n place e = absurd (cc (i.ends n place k e, none))
 
 -- nor is one that a husk has
-pub not-live : (index : ℕ → Option Spot) (d : Device) → IsIndex index d → (k : ℕ) (m : Name) (p : ℕ) → IsEntryAt d m p k → has_context d m ≡ false → (n : Name) (place : ℕ) → IsEndAt d n place k → ⊥
+pub not-live : (index : ℕ → Option EndLocation) (d : Device) → IsIndex index d → (k : ℕ) (m : Name) (p : ℕ) → IsEntryAt d m p k → has_context d m ≡ false → (n : Name) (place : ℕ) → IsEndAt d n place k → ⊥
 not-live index d i k m p entry gone n place e =
     let is = same_spot n m place p (sym (i.ends n place k e) ∙ i.entries m p k entry) in
     true≢false (sym e.lives ∙ (ap (has_context d) is.0 ∙ gone))
@@ -201,7 +201,7 @@ pub ended-nowhere : (d : Device) (k : ℕ) → AllPairs (λ a b. a ≢ b) (map (
 ended-nowhere d k names lacks = that-nowhere is_in_error d k names lacks
 
 -- one live end has it
-that-one : (test : Option Link → Bool) (index : ℕ → Option Spot) (d : Device) → IsIndex index d → AllPairs (λ a b. a ≢ b) (map (λ c. c.name) d.contexts) → (k : ℕ) (n : Name) (place : ℕ) (e : IsEndAt d n place k) → has_end_that test d k ≡ test e.end.link
+that-one : (test : Option Link → Bool) (index : ℕ → Option EndLocation) (d : Device) → IsIndex index d → AllPairs (λ a b. a ≢ b) (map (λ c. c.name) d.contexts) → (k : ℕ) (n : Name) (place : ℕ) (e : IsEndAt d n place k) → has_end_that test d k ≡ test e.end.link
 that-one test index d i names k n place e = by_link (test e.end.link) refl
   where
     found : test e.end.link ≡ true → has_end_that test d k ≡ true
@@ -232,8 +232,8 @@ that-one test index d i names k n place e = by_link (test e.end.link) refl
     by_link true h = found h ∙ sym h
     by_link false h = lost h (has_end_that test d k) refl ∙ sym h
 
-pub resumes-one : (index : ℕ → Option Spot) (d : Device) → IsIndex index d → AllPairs (λ a b. a ≢ b) (map (λ c. c.name) d.contexts) → (k : ℕ) (n : Name) (place : ℕ) (e : IsEndAt d n place k) → has_resuming_end d k ≡ head_resumes (Some (head_of e.end))
+pub resumes-one : (index : ℕ → Option EndLocation) (d : Device) → IsIndex index d → AllPairs (λ a b. a ≢ b) (map (λ c. c.name) d.contexts) → (k : ℕ) (n : Name) (place : ℕ) (e : IsEndAt d n place k) → has_resuming_end d k ≡ head_resumes (Some (head_of e.end))
 resumes-one index d i names k n place e = that-one is_resuming_link index d i names k n place e ∙ sym (same_resumes e.end.link)
 
-pub ended-one : (index : ℕ → Option Spot) (d : Device) → IsIndex index d → AllPairs (λ a b. a ≢ b) (map (λ c. c.name) d.contexts) → (k : ℕ) (n : Name) (place : ℕ) (e : IsEndAt d n place k) → has_ended_end d k ≡ head_ended (Some (head_of e.end))
+pub ended-one : (index : ℕ → Option EndLocation) (d : Device) → IsIndex index d → AllPairs (λ a b. a ≢ b) (map (λ c. c.name) d.contexts) → (k : ℕ) (n : Name) (place : ℕ) (e : IsEndAt d n place k) → has_ended_end d k ≡ head_ended (Some (head_of e.end))
 ended-one index d i names k n place e = that-one is_in_error index d i names k n place e ∙ sym (same_ended e.end.link)

@@ -21,9 +21,9 @@ use Rattle.context_core.specs.Context.{Holding, IsContext, Moves, context_in}
 use Rattle.device_core.specs.Index.{numbers_of}
 use Rattle.context_core.specs.Faults.{refusal_of}
 use Rattle.context_core.specs.declared.ContextFault.{ContextFault}
-use Rattle.device_laws.specs.Sound.{GivesNames, IsSoundDevice}
+use Rattle.law_device_sound.specs.Sound.{GivesNames, IsSoundDevice}
 use Rattle.device_core.specs.declared.husks.HuskEntry.{HuskEntry}
-use Rattle.device_core.specs.declared.index.Spot.{Spot}
+use Rattle.device_core.specs.declared.index.EndLocation.{EndLocation}
 use Rattle.device_core.specs.Done.{IsDone, told_by, told_plainly}
 use Rattle.device_core.specs.Held.{IsHeld}
 use Rattle.device_core.specs.Parts.{device_of}
@@ -35,12 +35,12 @@ pub found-mut : {A : Type 0} (r : Option (MutBor A)) (b : MutBor A) (o : Option 
 found-mut r b o is value = sym value ∙ ap option_copied_mut is
 
 -- the event is done, and what the device keeps is kept
-pub record Stepped (d : Device) (e : Event) (pool : Pool) (es : List (Name × Holding)) (index : ℕ → Option Spot) (new : Device) (told : Result Outcome ContextFault) : Type 0 where
+pub record Stepped (d : Device) (e : Event) (pool : Pool) (es : List (Name × Holding)) (index : ℕ → Option EndLocation) (new : Device) (told : Result Outcome ContextFault) : Type 0 where
   pub done : IsDone d e new told
   pub held : IsLawfulEvent e → GivesNames e → IsHeld pool es index new
 
 -- .. of a device that is the same
-pub done-at : {d d' new : Device} {e : Event} {pool : Pool} {es : List (Name × Holding)} {index : ℕ → Option Spot} {told : Result Outcome ContextFault} → d ≡ d' → Stepped d e pool es index new told → IsDone d' e new told
+pub done-at : {d d' new : Device} {e : Event} {pool : Pool} {es : List (Name × Holding)} {index : ℕ → Option EndLocation} {told : Result Outcome ContextFault} → d ≡ d' → Stepped d e pool es index new told → IsDone d' e new told
 done-at {d} {d'} {new} {e} {pool} {es} {index} {told} same st = subst (λ x. IsDone x e new told) same st.done
 
 -- a context of the device makes a step
@@ -56,7 +56,7 @@ pub record Unchanged (pool pool' : Pool) (s s' : Holding) (qp qp' key key' : ℕ
   pub numbers : qp' ≡ qp
   pub keys : key' ≡ key
 
-module _ (id : ℕ) (address : Address) (qp key : ℕ) (pool : Pool) (es : List (Name × Holding)) (husks : List (Name × List HuskEntry)) (index : ℕ → Option Spot) (held : IsHeld pool es index (device_of id address qp key pool es husks))
+module _ (id : ℕ) (address : Address) (qp key : ℕ) (pool : Pool) (es : List (Name × Holding)) (husks : List (Name × List HuskEntry)) (index : ℕ → Option EndLocation) (held : IsHeld pool es index (device_of id address qp key pool es husks))
     (n : Name) (s : Holding) (found : lookup (bytes_eq n) es ≡ Some s) (pool' : Pool) (s' : Holding) (turn : Turn pool pool' n s s') (es' : List (Name × Holding)) (set : es' ≡ set_value (bytes_eq n) es s') (qp' key' : ℕ) (more : qp ≤ qp') where
   new-is : device_of id address qp' key' pool' es' husks ≡ with_context (record (device_of id address qp key pool es husks) { qp_count = qp'; key_count = key' }) (context_in pool' n s')
   new-is = ap (λ xs. device_of id address qp' key' pool' xs husks) set ∙ view-is id address qp key pool es husks index held n s found pool' s' turn.moves qp' key'
@@ -131,7 +131,7 @@ pub found-ref : {A : Type 0} (r : Option (Bor A)) (b : Bor A) (o : Option A) →
 found-ref r b o is value = sym value ∙ ap option_copied is
 
 -- an event that reads
-pub read : (id : ℕ) (address : Address) (qp key : ℕ) (pool : Pool) (es : List (Name × Holding)) (husks : List (Name × List HuskEntry)) (index : ℕ → Option Spot) (held : IsHeld pool es index (device_of id address qp key pool es husks))
+pub read : (id : ℕ) (address : Address) (qp key : ℕ) (pool : Pool) (es : List (Name × Holding)) (husks : List (Name × List HuskEntry)) (index : ℕ → Option EndLocation) (held : IsHeld pool es index (device_of id address qp key pool es husks))
     (n : Name) (s : Holding) (found : lookup (bytes_eq n) es ≡ Some s) (e : Event) (causes : Context → List Cause) (same : first_cause (causes_of (device_of id address qp key pool es husks) e) ≡ first_cause (within (device_of id address qp key pool es husks) n causes))
     (act : Context → Step) (acts : done_by (device_of id address qp key pool es husks) e ≡ act (context_at (device_of id address qp key pool es husks) n)) {T : Type 0} (tell : T → Outcome) (told : Result Outcome ContextFault)
     (r : Result T ContextFault) → told ≡ told_by tell r → refusal_of r ≡ first_cause (causes (context_in pool n s))

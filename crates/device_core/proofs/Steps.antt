@@ -20,7 +20,7 @@ use Rattle.protocol.specs.State.{Context, Device, End, HuskEntry, Link}
 use Rattle.protocol.specs.Wire.{Packet, is_control, packet_of}
 use Rattle.context_core.specs.declared.ContextFault.{ContextFault}
 use Rattle.context_core.specs.declared.ContextFault.TheVariants.{Refused, OutOfMemory}
-use Rattle.device_core.specs.Done.{AreFew, AreLawful, IsDone, IsSure, told_step}
+use Rattle.device_core.specs.Done.{AreFew, AreLawful, IsDone, IsNotOutOfMemory, told_step}
 
 -- an event that is no arrival
 abbrev pub IsQuiet : Event → Type 0
@@ -147,10 +147,10 @@ told d new e r t tells done few = subst (Told d new e) (sym tells) (by_result r 
       err = h;
     }
 
-pub sure-told : (r : Result Outcome ContextFault) (t : Result Outcome AllocError) → t ≡ told_step r → IsSure r → IsOk t
-sure-told r t tells sure = subst IsOk (sym tells) (by_result r sure)
+pub told-not_out_of_memory : (r : Result Outcome ContextFault) (t : Result Outcome AllocError) → t ≡ told_step r → IsNotOutOfMemory r → IsOk t
+told-not_out_of_memory r t tells sure = subst IsOk (sym tells) (by_result r sure)
   where
-    by_result : (x : Result Outcome ContextFault) → IsSure x → IsOk (told_step x)
+    by_result : (x : Result Outcome ContextFault) → IsNotOutOfMemory x → IsOk (told_step x)
     by_result (Ok o) s = refl
     by_result (Err (Refused w)) s = refl
     by_result (Err OutOfMemory) s = absurd s

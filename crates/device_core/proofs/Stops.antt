@@ -14,9 +14,9 @@ use Rattle.protocol.specs.Refusals.{has_context, has_husk}
 use Rattle.protocol.specs.State as state
 use Rattle.protocol.specs.State.{Device, End, Husk, Link, context_at, no_context, no_husk}
 use Rattle.context_core.specs.Context.{}
-use Rattle.device_laws.proofs.Tables.{has_name-push, named-push_has, named-push_lacks, name_tells}
+use Rattle.law_device_sound.proofs.Tables.{has_name-push, named-push_has, named-push_lacks, name_tells}
 use Rattle.device_core.specs.declared.husks.HuskEntry.{HuskEntry}
-use Rattle.device_core.specs.declared.index.Spot.{Spot}
+use Rattle.device_core.specs.declared.index.EndLocation.{EndLocation}
 use Rattle.device_core.specs.Index.{IsEndAt, IsEntryAt, IsIndex, husk_at, numbers_in, numbers_of, spot, without_numbers}
 use Rattle.device_core.specs.Leaving.{gone_in, left_by, placed, unless_left}
 use Rattle.device_core.specs.Parts.{entry_of}
@@ -139,16 +139,16 @@ left-stays (e ∷ es) k pairs left = by_one (gone-cons e es) (eqb_tells e.number
 
 -- ---- noted numbers
 
-pub placed-absent : (n : Name) (from : ℕ) (xs : List ℕ) (k : ℕ) (o : Option Spot) → has (λ z. z) k xs ≡ false → placed n from xs k o ≡ o
+pub placed-absent : (n : Name) (from : ℕ) (xs : List ℕ) (k : ℕ) (o : Option EndLocation) → has (λ z. z) k xs ≡ false → placed n from xs k o ≡ o
 unfolding placed
 placed-absent n from [] k o none = refl
 placed-absent n from (x ∷ xs) k o none = by_test (eqb_tells x k) (λ p. placed-absent n (from + 1) xs k p)
   where
-    by_test : (((x == k) ≡ true) × (x ≡ k)) ⊎ (((x == k) ≡ false) × (x ≢ k)) → ((p : Option Spot) → has (λ z. z) k xs ≡ false → placed n (from + 1) xs k p ≡ p) → placed n (from + 1) xs k (if x == k then Some (spot n from) else o) ≡ o
+    by_test : (((x == k) ≡ true) × (x ≡ k)) ⊎ (((x == k) ≡ false) × (x ≢ k)) → ((p : Option EndLocation) → has (λ z. z) k xs ≡ false → placed n (from + 1) xs k p ≡ p) → placed n (from + 1) xs k (if x == k then Some (spot n from) else o) ≡ o
     by_test (inl t) later = absurd (true≢false (sym (has-cons k x xs ∙ ap (λ b. b || has (λ z. z) k xs) t.0) ∙ none))
     by_test (inr t) later = ap (λ b. placed n (from + 1) xs k (if b then Some (spot n from) else o)) t.0 ∙ later o (sym (has-cons k x xs ∙ ap (λ b. b || has (λ z. z) k xs) t.0) ∙ none)
 
-pub placed-at : (n : Name) (from : ℕ) (xs : List ℕ) (i k : ℕ) (o : Option Spot) → AllPairs (λ a b. a ≢ b) xs → slice_get xs i ≡ Some k → placed n from xs k o ≡ Some (spot n (from + i))
+pub placed-at : (n : Name) (from : ℕ) (xs : List ℕ) (i k : ℕ) (o : Option EndLocation) → AllPairs (λ a b. a ≢ b) xs → slice_get xs i ≡ Some k → placed n from xs k o ≡ Some (spot n (from + i))
 unfolding placed
 placed-at n from [] i k o pairs at = absurd (cc)
 placed-at n from (x ∷ xs) zero k o pairs at =
@@ -168,7 +168,7 @@ placed-at n from (x ∷ xs) (suc i) k o pairs at = let where' : from + 1 + i ≡
 zero-plus : (p : ℕ) → 0 + p ≡ p
 zero-plus p = omega arith
 
-pub index-stopped : (index index' : ℕ → Option Spot) (old new : Device) (n : Name) (husk : Husk) (es : List HuskEntry) → new.contexts ≡ without (λ c. c.name) n old.contexts → new.husks ≡ old.husks ++ husk ∷ []
+pub index-stopped : (index index' : ℕ → Option EndLocation) (old new : Device) (n : Name) (husk : Husk) (es : List HuskEntry) → new.contexts ≡ without (λ c. c.name) n old.contexts → new.husks ≡ old.husks ++ husk ∷ []
     → husk.name ≡ n → husk.entries ≡ map entry_of es → map entry_of es ≡ flat_map left_by (context_at old n).ends
     → AllPairs (λ a b. a ≢ b) (map (λ c. c.name) old.contexts) → has_context old n ≡ true → has_husk old n ≡ false → AllPairs (λ a b. a ≢ b) (numbers_of (context_at old n))
     → ((k : ℕ) → index' k ≡ without_numbers (gone_in (context_at old n).ends) k (placed n 0 (numbers_in es) k (index k))) → IsIndex index old → IsIndex index' new
@@ -197,7 +197,7 @@ index-stopped index index' old new n husk es contexts husks name entries left na
     same_left : left_numbers (context_at old n).ends ≡ numbers_in es
     same_left = ap (map (λ (e : state.HuskEntry). e.number)) (sym left) ∙ same-numbers es
 
-    none_some : (s : Spot) → None ≡ Some s → ⊥
+    none_some : (s : EndLocation) → None ≡ Some s → ⊥
     none_some s h = absurd (cc)
 
     gone_now : has_context new n ≡ false
@@ -230,7 +230,7 @@ index-stopped index index' old new n husk es contexts husks name entries left na
     not_in m place k other at true h = let t = noted_there k h in absurd (other (sym (same_spot m n place t.0 (sym at ∙ t.1)).0))
     not_in m place k other at false h = h
 
-    stays : (k : ℕ) (s : Spot) → index k ≡ Some s → has (λ x. x) k numbers ≡ false → index' k ≡ Some s
+    stays : (k : ℕ) (s : EndLocation) → index k ≡ Some s → has (λ x. x) k numbers ≡ false → index' k ≡ Some s
     stays k s at lacks =
         let both = both-lack (context_at old n).ends k lacks in
         said k ∙ (ap (λ b. if b then None else placed n 0 (numbers_in es) k (index k)) both.0

@@ -8,7 +8,7 @@ use Rattle.rdma_types.specs.declared.answers.Sent.{Sent}
 use Rattle.rdma_types.specs.declared.answers.SilentWhy.{SilentWhy}
 use Rattle.rdma_types.specs.declared.answers.SilentWhy.TheVariants as why
 use Rattle.rdma_types.specs.declared.answers.Took.TheVariants as took
-use Rattle.context_core.specs.declared.arriving.Taken.{Taken}
+use Rattle.context_core.specs.declared.arriving.ArrivalOutcome.{ArrivalOutcome}
 use Rattle.rdma_types.specs.declared.requests.Keys.{Keys}
 use Rattle.rdma_types.specs.declared.names.Name.{Name}
 use Rattle.context_core.specs.declared.making.NewEnd.{NewEnd}
@@ -60,11 +60,11 @@ abbrev pub silent : SilentWhy → Outcome
 silent why = plain (answer.Took (took.Silent why) 0 0)
 
 -- what an end did with a datagram
-abbrev pub taking : Taken → Outcome
+abbrev pub taking : ArrivalOutcome → Outcome
 taking t = giving (answer.Took t.took 0 (length t.sent)) t.sent
 
 -- .. where it may have taken none
-abbrev pub told_taken : Result (Option Taken) AllocError → Result Outcome ContextFault
+abbrev pub told_taken : Result (Option ArrivalOutcome) AllocError → Result Outcome ContextFault
 told_taken (Ok None) = Ok (silent why.Unknown)
 told_taken (Ok (Some t)) = Ok (taking t)
 told_taken (Err e) = Err OutOfMemory
@@ -75,10 +75,10 @@ told_memory (Ok o) = Ok o
 told_memory (Err e) = Err OutOfMemory
 
 -- it was not out of memory
-abbrev pub IsSure : Result Outcome ContextFault → Type 0
-IsSure (Ok o) = Unit {0}
-IsSure (Err (Refused r)) = Unit {0}
-IsSure (Err OutOfMemory) = ⊥
+abbrev pub IsNotOutOfMemory : Result Outcome ContextFault → Type 0
+IsNotOutOfMemory (Ok o) = Unit {0}
+IsNotOutOfMemory (Err (Refused r)) = Unit {0}
+IsNotOutOfMemory (Err OutOfMemory) = ⊥
 
 -- few datagrams are sent
 abbrev pub AreFew : Result Outcome ContextFault → Type 0

@@ -7,8 +7,8 @@ use Rattle.protocol.specs.Memory.{pages_of_context}
 use Rattle.protocol.specs.Refusals.{has_context, has_husk}
 use Rattle.protocol.specs.State.{Device, HuskEntry}
 use Rattle.context_core.specs.Context.{Holding, IsContext, lists_of}
-use Rattle.device_laws.specs.Sound.{IsCounted, IsSoundDevice}
-use Rattle.device_core.specs.declared.index.Spot.{Spot}
+use Rattle.law_device_sound.specs.Sound.{IsCounted, IsSoundDevice}
+use Rattle.device_core.specs.declared.index.EndLocation.{EndLocation}
 use Rattle.device_core.specs.Index.{IsIndex}
 
 -- no page list is in both
@@ -22,7 +22,7 @@ pub record IsLeft (id count : ℕ) (e : HuskEntry) : Type 0 where
   pub moves : e.moves < 2 ^ 16
 
 -- the page lists of contexts are apart, all pages are counted, the index is exact, and the device is sound
-pub record IsHeld (pool : Pool) (contexts : List (Name × Holding)) (index : ℕ → Option Spot) (d : Device) : Type 0 where
+pub record IsHeld (pool : Pool) (contexts : List (Name × Holding)) (index : ℕ → Option EndLocation) (d : Device) : Type 0 where
   pub each : All (λ e. IsContext pool e.1) contexts
   pub apart : AllPairs (λ a b. AreApart a.1 b.1) contexts
   pub counted : free_pages pool + sum (map pages_of_context d.contexts) ≡ pages

@@ -4,7 +4,7 @@ use Rattle.std.specs.List.{flat_map}
 use Rattle.rdma_types.specs.declared.names.Name.{Name}
 use Rattle.protocol.specs.DeviceStep.{husk_entry}
 use Rattle.protocol.specs.State.{End, HuskEntry}
-use Rattle.device_core.specs.declared.index.Spot.{Spot}
+use Rattle.device_core.specs.declared.index.EndLocation.{EndLocation}
 use Rattle.device_core.specs.Index.{spot}
 
 -- none or one
@@ -26,6 +26,6 @@ abbrev pub gone_in : List End → List ℕ
 gone_in es = flat_map (λ e. unless_left (left_by e) e.number) es
 
 -- what the index says of a number where numbers are noted one after another from a place on
-unfoldable pub placed : Name → ℕ → List ℕ → ℕ → Option Spot → Option Spot
+unfoldable pub placed : Name → ℕ → List ℕ → ℕ → Option EndLocation → Option EndLocation
 placed n from [] k old = old
 placed n from (x ∷ xs) k old = placed n (from + 1) xs k (if x == k then Some (spot n from) else old)

@@ -13,8 +13,8 @@ ghost use Rattle.device_core.specs.Parts.{entry_of};
 use crate::Device;
 use crate::device::answered;
 use crate::husks::HuskEntry;
-use crate::index::Spot;
-use context_core::{ContextFault, Taken};
+use crate::index::EndLocation;
+use context_core::{ArrivalOutcome, ContextFault};
 use protocol::{Aeth, Event, Outcome, Syndrome};
 use rdma_types::{Address, Answer, Items, Sent, SilentWhy, Took};
 use roce_headers::{Datagram, decode, encode, encoded_len};
@@ -43,14 +43,14 @@ fn silent(alloc: Global, why: SilentWhy) -> Outcome
 /// What is told where an end may have taken a datagram.
 fn told_taken(
     alloc: Global,
-    taken: Result<Option<Taken>, AllocError>,
+    taken: Result<Option<ArrivalOutcome>, AllocError>,
 ) -> Result<Outcome, ContextFault>
     requires { IfOk taken (λ r. IfSome r (λ t. length t.sent ≤ 2 ^ 32)) }
     ensures told { result ≡ taken_told taken }
-    ensures few { AreFew result }
+    ensures bounded { AreFew result }
 {
     match taken {
-        Ok(Some(Taken { took, sent })) => Ok(Outcome {
+        Ok(Some(ArrivalOutcome { took, sent })) => Ok(Outcome {
             answer: Answer::Took {
                 took,
                 first: 0,
@@ -93,7 +93,7 @@ fn stopped_datagram(entry: &HuskEntry, psn: u32) -> Datagram<'static>
 /// A step that may run out of memory.
 fn told_memory(done: Result<Outcome, AllocError>) -> Result<Outcome, ContextFault>
     ensures told { result ≡ memory_told done }
-    ensures few { IfOk done (λ o. length o.sent ≤ 2 ^ 32) → AreFew result }
+    ensures bounded { IfOk done (λ o. length o.sent ≤ 2 ^ 32) → AreFew result }
 {
     match done {
         Ok(outcome) => Ok(outcome),
@@ -140,19 +140,19 @@ fn sent_to(alloc: Global, to: Address, datagram: &Datagram<'_>) -> Result<Items<
 
 impl Device {
     /// Where a queue pair number lives, or in which husk it is left.
-    fn spot_of(&self, number: u32) -> Option<Spot>
+    fn location_of(&self, number: u32) -> Option<EndLocation>
         ensures nowhere { IfNone result ((found_in number self.now.contexts ≡ []) × (husk_entries number self.now.husks ≡ [])) }
         ensures there { IfSome result (λ s. IsEndAt self.now s.context s.place number ⊎ IsEntryAt self.now s.context s.place number) }
     {
         let spot = self.index.get(&number)?;
-        Some(Spot {
+        Some(EndLocation {
             context: spot.context,
             place: spot.place,
         })
     }
 
     /// The entry of a husk.
-    fn entry_at(&self, spot: &Spot) -> HuskEntry
+    fn entry_at(&self, spot: &EndLocation) -> HuskEntry
         requires { (number : ℕ) × IsEntryAt self.now spot.now.context spot.now.place number }
         ensures entry { slice_get (husk_at self.now spot.now.context).entries spot.now.place ≡ Some (entry_of result) }
         ensures peer { result.peer < 2 ^ 24 }
@@ -173,11 +173,11 @@ impl Device {
         alloc: Global,
         from: Address,
         d: &Datagram<'_>,
-        spot: &Spot,
+        spot: &EndLocation,
     ) -> Result<Outcome, AllocError>
         requires entry { IsEntryAt self.now spot.now.context spot.now.place d.now.dest }
         requires psn { d.now.psn < 2 ^ 24 }
-        ensures few { IfOk result (λ o. length o.sent ≤ 2 ^ 32) }
+        ensures bounded { IfOk result (λ o. length o.sent ≤ 2 ^ 32) }
         ensures done { IfOk result (λ o. (h : Entry) → slice_get (husk_at self.now spot.now.context).entries spot.now.place ≡ Some h → at_husk self.now from (packet d.now) (h ∷ []) ≡ record { device = self.now; outcome = o }) }
     {
         if is_control(d) {
@@ -205,12 +205,12 @@ impl Device {
         bytes: &[u8],
     ) -> Result<Outcome, ContextFault>
         ensures done { IsDone self.old (Event.Arrive from bytes.now) self.new result }
-        ensures few { AreFew result }
+        ensures bounded { AreFew result }
     {
         let Ok(d) = decode(bytes) else {
             return Ok(silent(alloc, SilentWhy::Malformed));
         };
-        let Some(spot) = self.spot_of(d.dest) else {
+        let Some(spot) = self.location_of(d.dest) else {
             return Ok(silent(alloc, SilentWhy::Unknown));
         };
         let Some(state) = self.contexts.get_mut(&spot.context) else {

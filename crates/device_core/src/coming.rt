@@ -15,7 +15,7 @@ ghost use Rattle.device_core.specs.Leaving.{placed};
 
 use crate::Device;
 use crate::device::answered;
-use crate::index::{Spot, put_spot};
+use crate::index::{EndLocation, put_location};
 use context_core::{ContextFault, ContextState};
 use indexmap::IndexMap;
 use protocol::{ContextImage, EndImage, Event, Outcome, RegionImage};
@@ -77,15 +77,15 @@ fn highest_pair(id: u8, regions: &[RegionImage], count: u32) -> u32
 }
 
 /// Notes each end at its place in the context.
-fn put_ends(index: &mut IndexMap<u32, Spot>, name: Name, ends: &[EndImage])
+fn put_ends(index: &mut IndexMap<u32, EndLocation>, name: Name, ends: &[EndImage])
     requires { length ends.now ≤ spare index.old }
     ensures { (k : ℕ) → get nat_eq index.new k ≡ placed name 0 (numbers_of_ends ends.now) k (get nat_eq index.old k) }
 {
     for place in 0..ends.len() {
-        put_spot(
+        put_location(
             index,
             ends[place].number,
-            Spot {
+            EndLocation {
                 context: name,
                 place,
             },

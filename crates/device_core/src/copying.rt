@@ -4,7 +4,7 @@ ghost use Rattle.std.specs.Prelude.{◌≡◌, IfOk};
 
 use crate::Device;
 use crate::husks::HuskEntry;
-use crate::index::Spot;
+use crate::index::EndLocation;
 use context_core::ContextState;
 use indexmap::IndexMap;
 use rdma_types::{Items, Name};
@@ -42,7 +42,10 @@ fn copy_husks(
 }
 
 /// An equal index.
-fn copy_index(alloc: Global, index: &IndexMap<u32, Spot>) -> Result<IndexMap<u32, Spot>, AllocError>
+fn copy_index(
+    alloc: Global,
+    index: &IndexMap<u32, EndLocation>,
+) -> Result<IndexMap<u32, EndLocation>, AllocError>
     ensures { IfOk result (λ copy. copy.entries ≡ index.now.entries) }
 {
     let mut copy = IndexMap::new(alloc);

@@ -13,7 +13,7 @@ ghost use Rattle.device_core.specs.Done.{IsDone};
 ghost use Rattle.device_core.specs.Readings.{new_device};
 
 use crate::husks::HuskEntry;
-use crate::index::Spot;
+use crate::index::EndLocation;
 use context_core::{ContextFault, ContextState};
 use indexmap::IndexMap;
 use page_pool::PagePool;
@@ -41,7 +41,7 @@ pub struct Device {
     pub(crate) pool: PagePool,
     pub(crate) contexts: IndexMap<Name, ContextState>,
     pub(crate) husks: IndexMap<Name, Items<HuskEntry>>,
-    pub(crate) index: IndexMap<u32, Spot>,
+    pub(crate) index: IndexMap<u32, EndLocation>,
 }
 
 impl Model for Device {

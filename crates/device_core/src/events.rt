@@ -4,11 +4,11 @@ ghost use Rattle.std.specs.Prelude.{◌≡◌, ◌<◌, ◌≤◌, ◌^◌};
 ghost use Rattle.rdma_types.specs.Limits.{AreTerms, most_capacity, most_region_bytes};
 ghost use Rattle.rdma_types.specs.Shapes.{IsLawfulShape};
 ghost use Rattle.protocol.specs.Events.{IsDepth, IsLawfulEvent};
-ghost use Rattle.device_core.specs.Done.{IsDone, IsSure};
+ghost use Rattle.device_core.specs.Done.{IsDone, IsNotOutOfMemory};
 
 use crate::Device;
 use crate::telling::{
-    counted, told, told_answer, told_bytes, told_done, told_keys, told_polled, told_sent,
+    counted, outcome_of_done, told, told_answer, told_bytes, told_keys, told_polled, told_sent,
 };
 use context_core::{ContextFault, NewRegion};
 use protocol::{Event, Outcome};
@@ -92,13 +92,13 @@ impl Device {
     ) -> Result<Outcome, ContextFault>
         requires { IsLawfulEvent (Event.Connect o.now peer partner terms.now) }
         ensures done { IsDone self.old (Event.Connect o.now peer partner terms.now) self.new result }
-        ensures sure { IsSure result }
+        ensures never_out_of_memory { IsNotOutOfMemory result }
     {
         let Some(state) = self.contexts.get_mut(&o.context) else {
             return Err(ContextFault::Refused(self.missing(o.context)));
         };
         let made = state.connect(o.name, peer, partner, terms);
-        told_done(alloc, made)
+        outcome_of_done(alloc, made)
     }
 
     /// A memory region is dropped.
@@ -113,7 +113,7 @@ impl Device {
             return Err(ContextFault::Refused(self.missing(o.context)));
         };
         let made = state.drop_region(&mut self.pool, o.name);
-        told_done(alloc, made)
+        outcome_of_done(alloc, made)
     }
 
     /// The owner writes its region.
@@ -130,7 +130,7 @@ impl Device {
             return Err(ContextFault::Refused(self.missing(o.context)));
         };
         let made = state.store(&mut self.pool, o.name, at, bytes);
-        told_done(alloc, made)
+        outcome_of_done(alloc, made)
     }
 
     /// The owner reads its region.
@@ -180,7 +180,7 @@ impl Device {
             return Err(ContextFault::Refused(self.missing(o.context)));
         };
         let made = state.post_recv(&mut self.pool, o.name, receive);
-        told_done(alloc, made)
+        outcome_of_done(alloc, made)
     }
 
     /// The oldest completions, at most so many.

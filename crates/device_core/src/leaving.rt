@@ -19,7 +19,7 @@ ghost use Rattle.device_core.specs.Parts.{entry_of};
 
 use crate::Device;
 use crate::husks::HuskEntry;
-use crate::index::{Spot, drop_spot, move_spot};
+use crate::index::{EndLocation, drop_location, move_location};
 use context_core::{ContextFault, ContextState};
 use indexmap::IndexMap;
 use protocol::{ContextImage, Event, Outcome};
@@ -68,15 +68,15 @@ fn entries_left(alloc: Global, state: &ContextState) -> Result<Items<HuskEntry>,
 }
 
 /// Notes each entry at its place in the husk.
-fn move_entries(index: &mut IndexMap<u32, Spot>, name: Name, entries: &[HuskEntry])
+fn move_entries(index: &mut IndexMap<u32, EndLocation>, name: Name, entries: &[HuskEntry])
     requires { All (λ e. IsSome (get nat_eq index.old e.number)) entries.now }
     ensures { (k : ℕ) → get nat_eq index.new k ≡ placed name 0 (numbers_in entries.now) k (get nat_eq index.old k) }
 {
     for place in 0..entries.len() {
-        move_spot(
+        move_location(
             index,
             entries[place].number,
-            Spot {
+            EndLocation {
                 context: name,
                 place,
             },
@@ -85,19 +85,19 @@ fn move_entries(index: &mut IndexMap<u32, Spot>, name: Name, entries: &[HuskEntr
 }
 
 /// Forgets the number of the end at a place, where it leaves nothing.
-fn drop_end(index: &mut IndexMap<u32, Spot>, state: &ContextState, place: usize)
+fn drop_end(index: &mut IndexMap<u32, EndLocation>, state: &ContextState, place: usize)
     ensures { (pool : Pool) (n : Name) (e : End) → slice_get (context_in pool n state.now).ends place ≡ Some e → (k : ℕ) → get nat_eq index.new k ≡ without_numbers (gone_in (e ∷ [])) k (get nat_eq index.old k) }
 {
     let Some(end) = state.end_at(place) else {
         return;
     };
     if entry_left(state, place).is_none() {
-        drop_spot(index, end.number);
+        drop_location(index, end.number);
     }
 }
 
 /// Forgets the numbers of the ends that leave nothing.
-fn drop_ends(index: &mut IndexMap<u32, Spot>, state: &ContextState)
+fn drop_ends(index: &mut IndexMap<u32, EndLocation>, state: &ContextState)
     ensures { (pool : Pool) (n : Name) (k : ℕ) → get nat_eq index.new k ≡ without_numbers (gone_in (context_in pool n state.now).ends) k (get nat_eq index.old k) }
 {
     for place in 0..state.end_count() {

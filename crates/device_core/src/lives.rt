@@ -24,7 +24,7 @@ impl Device {
     /// The connection of the end that a word names; None where it is in Init or does not live here.
     pub fn link_named(&self, end: &ObjName) -> Option<LinkView>
         ensures link { result ≡ readings.link_named self.now end.now }
-        ensures few { IfSome result (λ link. link.last < 2 ^ 62) }
+        ensures bounded { IfSome result (λ link. link.last < 2 ^ 62) }
     {
         match self.contexts.get(&end.context) {
             None => None,

@@ -10,7 +10,7 @@ ghost use Rattle.device_core.specs.Done.{IsDone, qp_event};
 ghost use Rattle.device_core.specs.Index.{noted};
 
 use crate::Device;
-use crate::index::{Spot, put_spot};
+use crate::index::{EndLocation, put_location};
 use crate::telling::{counted, told, told_number};
 use context_core::{ContextFault, ContextState, NewEnd};
 use indexmap::IndexMap;
@@ -40,16 +40,16 @@ pub(crate) fn add_context(
 
 /// Notes the place of a queue pair, where it was made.
 fn note_end(
-    index: &mut IndexMap<u32, Spot>,
+    index: &mut IndexMap<u32, EndLocation>,
     made: &Result<(), ContextFault>,
     number: Option<u32>,
-    spot: Spot,
+    spot: EndLocation,
 )
     requires { 0 < spare index.old }
     ensures { (k : ℕ) → get nat_eq index.new k ≡ noted (is_ok made.now) number spot k (get nat_eq index.old k) }
 {
     if let (true, Some(number)) = (made.is_ok(), number) {
-        put_spot(index, number, spot);
+        put_location(index, number, spot);
     }
 }
 
@@ -120,7 +120,7 @@ impl Device {
         let place = state.end_count();
         let made = state.make_qp(alloc, asked, number);
         self.qp_count = counted(self.qp_count, &made);
-        let spot = Spot { context, place };
+        let spot = EndLocation { context, place };
         note_end(&mut self.index, &made, number, spot);
         told(alloc, made, told_number(number))
     }

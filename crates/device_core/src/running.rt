@@ -4,7 +4,7 @@ ghost use Rattle.std.specs.Prelude.{◌≡◌, ◌≤◌, ◌^◌, length, IfOk,
 ghost use Rattle.protocol.specs.DeviceStep.{device_step};
 ghost use Rattle.protocol.specs.Events.{IsLawfulEvent};
 ghost use Rattle.protocol.specs.Lawful.{IsLawful};
-ghost use Rattle.device_core.specs.Done.{AreFew, AreLawful, IsDone, IsSure, told_step as step_told};
+ghost use Rattle.device_core.specs.Done.{AreFew, AreLawful, IsDone, IsNotOutOfMemory, told_step as step_told};
 ghost use Rattle.device_core.specs.Readings.{TakesNoMemory};
 
 use crate::Device;
@@ -30,9 +30,9 @@ impl Device {
     fn run(&mut self, alloc: Global, event: &Event) -> Result<Outcome, ContextFault>
         requires { IsLawfulEvent event.now }
         ensures done { IsDone self.old event.now self.new result }
-        ensures few { AreFew result }
+        ensures bounded { AreFew result }
         ensures image { AreLawful result }
-        ensures sure { TakesNoMemory event.now → IsSure result }
+        ensures never_out_of_memory { TakesNoMemory event.now → IsNotOutOfMemory result }
     {
         match event {
             Event::MakeContext { name } => self.make_context(alloc, *name),
@@ -90,11 +90,11 @@ impl Device {
     pub fn step(&mut self, alloc: Global, event: &Event) -> Result<Outcome, AllocError>
         requires { IsLawfulEvent event.now }
         ensures ok { IfOk result (λ o. device_step self.old event.now ≡ record { device = self.new; outcome = o }) }
-        ensures few { IfOk result (λ o. length o.sent ≤ 2 ^ 32) }
+        ensures bounded { IfOk result (λ o. length o.sent ≤ 2 ^ 32) }
         ensures image { IfOk result (λ o. IfSome o.image (λ i. IsLawful i)) }
         ensures id { self.new.id ≡ self.old.id }
         ensures address { self.new.address ≡ self.old.address }
-        ensures sure { TakesNoMemory event.now → IsOk result }
+        ensures never_out_of_memory { TakesNoMemory event.now → IsOk result }
         ensures err { OnErr result (self.new ≡ self.old) }
     {
         let done = self.run(alloc, event);
@@ -106,7 +106,7 @@ impl Device {
     pub fn restore(&mut self, alloc: Global, image: &ContextImage) -> Result<Outcome, AllocError>
         requires { IsLawful image.now }
         ensures ok { IfOk result (λ o. device_step self.old (Event.Restore image.now) ≡ record { device = self.new; outcome = o }) }
-        ensures few { IfOk result (λ o. length o.sent ≤ 2 ^ 32) }
+        ensures bounded { IfOk result (λ o. length o.sent ≤ 2 ^ 32) }
         ensures id { self.new.id ≡ self.old.id }
         ensures address { self.new.address ≡ self.old.address }
         ensures err { OnErr result (self.new ≡ self.old) }
@@ -124,7 +124,7 @@ impl Device {
         bytes: &[u8],
     ) -> Result<Outcome, AllocError>
         ensures ok { IfOk result (λ o. device_step self.old (Event.Arrive from bytes.now) ≡ record { device = self.new; outcome = o }) }
-        ensures few { IfOk result (λ o. length o.sent ≤ 2 ^ 32) }
+        ensures bounded { IfOk result (λ o. length o.sent ≤ 2 ^ 32) }
         ensures id { self.new.id ≡ self.old.id }
         ensures address { self.new.address ≡ self.old.address }
         ensures err { OnErr result (self.new ≡ self.old) }

@@ -1,7 +1,7 @@
 //! What is told of a call of a context.
 
 ghost use Rattle.std.specs.Prelude.{◌≡◌, ◌+◌, ◌<◌, ◌^◌, Some, None, is_ok, if◌then◌else◌};
-ghost use Rattle.device_core.specs.Done.{IsSure, giving, plain, region_answer, number_answer, told_by, told_plainly};
+ghost use Rattle.device_core.specs.Done.{IsNotOutOfMemory, giving, plain, region_answer, number_answer, told_by, told_plainly};
 
 use crate::device::answered;
 use context_core::{Answered, ContextFault};
@@ -52,9 +52,12 @@ pub(crate) fn told(
 }
 
 /// A call that hands nothing out and takes no memory.
-pub(crate) fn told_done(alloc: Global, made: Result<(), Refusal>) -> Result<Outcome, ContextFault>
+pub(crate) fn outcome_of_done(
+    alloc: Global,
+    made: Result<(), Refusal>,
+) -> Result<Outcome, ContextFault>
     ensures told { result ≡ told_plainly (λ x. plain Answer.Done) made }
-    ensures sure { IsSure result }
+    ensures never_out_of_memory { IsNotOutOfMemory result }
 {
     match made {
         Ok(()) => Ok(answered(alloc, Answer::Done)),

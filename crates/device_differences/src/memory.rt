@@ -52,7 +52,7 @@ fn spots(
     requires there { IsSpot regions.now spot }
     requires other_there { IsSpot other.now other_spot }
     requires same { other_spot.length ≡ spot.length }
-    requires few { spot.length ≤ 4096 }
+    requires bounded { spot.length ≤ 4096 }
     ensures { result ≡ between (spot_bytes pool.now regions.now spot) (spot_bytes other_pool.now other.now other_spot) }
 {
     let mut mine = [0; PAGE];

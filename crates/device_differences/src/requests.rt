@@ -11,10 +11,15 @@ use crate::memory::payloads;
 use crate::values::request_numbers;
 use page_pool::PagePool;
 use requester::Requester;
-use work_queues::Posted;
+use work_queues::QueuedRequest;
 
 /// Two posted requests, with the bytes of their payloads.
-fn posted(pool: &PagePool, x: &Posted, other_pool: &PagePool, y: &Posted) -> Option<(u64, u64)>
+fn posted(
+    pool: &PagePool,
+    x: &QueuedRequest,
+    other_pool: &PagePool,
+    y: &QueuedRequest,
+) -> Option<(u64, u64)>
     requires held { HoldsPayload pool.now x.now.payload }
     requires other_held { HoldsPayload other_pool.now y.now.payload }
     ensures { result ≡ posted_difference (posted_in pool.now x.now) (posted_in other_pool.now y.now) }

@@ -4,8 +4,8 @@ use Rattle.std.specs.Prelude.{Result, Ok, Err, IfOk, slice_index}
 use Rattle.protocol.specs.declared.images.ContextImage.{ContextImage}
 use Rattle.protocol.specs.Dumps.{Dumps, Good, read_dump}
 use Rattle.protocol.specs.Lawful.{IsLawful}
-use Rattle.dump_laws.proofs.Exact.{bytes_of}
-use Rattle.dump_laws.proofs.Whole.{read_dumps}
+use Rattle.law_dump_round_trip.proofs.Exact.{bytes_of}
+use Rattle.law_dump_round_trip.proofs.Whole.{read_dumps}
 use Rattle.dump_reader.specs.declared.fault.DumpFault.{DumpFault}
 
 module _ (bs : List ℕ) (small : (k : ℕ) → slice_index bs k < 256) (n : ℕ) where

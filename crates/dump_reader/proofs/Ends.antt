@@ -14,8 +14,8 @@ use Rattle.protocol.specs.declared.images.RegionImage.{RegionImage}
 use Rattle.protocol.specs.Images.{posted_of_image, name_at}
 use Rattle.protocol.specs.Dumps.{Reading, Reader, ReadQueue, after, then_read, gives, raw, items, link_field, request_field, end_so_far, shape_of_length, untold_items, count_by, is_untold_count, is_ended, receive_field}
 use Rattle.dump_reader.specs.declared.heads.Before.{Before}
-use Rattle.dump_reader.specs.declared.heads.EndHead.{EndHead}
-use Rattle.dump_reader.specs.declared.heads.LinkHead.{LinkHead}
+use Rattle.dump_reader.specs.declared.heads.EndImageHead.{EndImageHead}
+use Rattle.dump_reader.specs.declared.heads.LinkImageHead.{LinkImageHead}
 use Rattle.dump_reader.specs.declared.heads.Opened.{Opened}
 use Rattle.std.proofs.lemmas.List.{length-map}
 use Rattle.dump_reader.specs.declared.heads.PlacedQueue.{PlacedQueue}
@@ -70,7 +70,7 @@ first_before : (l : LinkImage) (k : ℕ) → before_of l k [] ≡ first_of l k
 unfolding end_number some
 first_before l k = λ i. record { count = k; low = add-zero l.first i; landing = false }
 
-module _ (o : Opened) (ds : List Name) (rs : List RegionImage) (qs : List ReadQueue) (es : List EndImage) (n : ℕ) (h : EndHead) where
+module _ (o : Opened) (ds : List Name) (rs : List RegionImage) (qs : List ReadQueue) (es : List EndImage) (n : ℕ) (h : EndImageHead) where
   -- from the count of untold requests on
   after_link : (linked : Option LinkImage) (p : ℕ) (bs : List ℕ) → after (then_read (count_by 2 h.send_depth (is_untold_count linked)) (λ untold_count. then_read (untold_items o.version (regions_of ds rs) (name_at ds h.domain) linked untold_count) λ untold. then_read (count_by 2 h.recv_depth λ i. i == 0 || not (is_ended linked)) λ unused_count. then_read (items unused_count (λ xs. receive_field (regions_of ds rs) (name_at ds h.domain) 0) []) λ unused. gives (end_of_head h linked untold unused)) p bs) (λ e. more_ends o ds rs qs n (es ++ e ∷ [])) ≡ untold_list o ds rs qs es n h linked p bs
   unfolding untold_list unused_list more_receives
@@ -125,22 +125,22 @@ placed_begin o ds rs qs es n p bs =
     ∙ ap (λ (k : ℕ). then_read (end_head_field (length ds) k es) (λ h. after_head o ds rs (map placed qs) es n h) p bs) (length-map qs placed)
 
 -- the count of untold requests, as far as the head of a link tells
-pub untold_opens : (o : Opened) (ds : List Name) (rs : List RegionImage) (qs : List ReadQueue) (es : List EndImage) (n : ℕ) (h : EndHead) (lo : Option LinkHead) (kept : List KeptReply) (p : ℕ) (bs : List ℕ) → untold_list o ds rs qs es n h (linked_of lo kept) p bs ≡ then_read (count_by 2 h.send_depth (may_be_untold lo)) (λ k. after_count o ds rs qs es n h (linked_of lo kept) k) p bs
+pub untold_opens : (o : Opened) (ds : List Name) (rs : List RegionImage) (qs : List ReadQueue) (es : List EndImage) (n : ℕ) (h : EndImageHead) (lo : Option LinkImageHead) (kept : List KeptReply) (p : ℕ) (bs : List ℕ) → untold_list o ds rs qs es n h (linked_of lo kept) p bs ≡ then_read (count_by 2 h.send_depth (may_be_untold lo)) (λ k. after_count o ds rs qs es n h (linked_of lo kept) k) p bs
 untold_opens o ds rs qs es n h None kept p bs = untold_begins o ds rs qs es n h None p bs
 untold_opens o ds rs qs es n h (Some l) kept p bs = untold_begins o ds rs qs es n h (Some (link_of_head l kept)) p bs
 
 -- the count of unused receives, as far as the head of a link tells
-pub unused_opens : (o : Opened) (ds : List Name) (rs : List RegionImage) (qs : List ReadQueue) (es : List EndImage) (n : ℕ) (h : EndHead) (untold : List PostedImage) (lo : Option LinkHead) (kept : List KeptReply) (p : ℕ) (bs : List ℕ) → unused_list o ds rs qs es n h (linked_of lo kept) untold p bs ≡ then_read (count_by 2 h.recv_depth (may_be_unused lo)) (λ k. more_receives o ds rs qs es n h (linked_of lo kept) untold k []) p bs
+pub unused_opens : (o : Opened) (ds : List Name) (rs : List RegionImage) (qs : List ReadQueue) (es : List EndImage) (n : ℕ) (h : EndImageHead) (untold : List PostedImage) (lo : Option LinkImageHead) (kept : List KeptReply) (p : ℕ) (bs : List ℕ) → unused_list o ds rs qs es n h (linked_of lo kept) untold p bs ≡ then_read (count_by 2 h.recv_depth (may_be_unused lo)) (λ k. more_receives o ds rs qs es n h (linked_of lo kept) untold k []) p bs
 unfolding unused_list
 unused_opens o ds rs qs es n h untold None kept p bs = refl
 unused_opens o ds rs qs es n h untold (Some l) kept p bs = refl
 
-same_head : (v : ℕ) (l : LinkHead) (kept : List KeptReply) (count i low : ℕ) (landing : Bool) → request_head_field v (link_of_head l kept) count i low landing ≡ request_head_field v (link_of_head l []) count i low landing
+same_head : (v : ℕ) (l : LinkImageHead) (kept : List KeptReply) (count i low : ℕ) (landing : Bool) → request_head_field v (link_of_head l kept) count i low landing ≡ request_head_field v (link_of_head l []) count i low landing
 unfolding request_head_field
 same_head v l kept count i low landing = refl
 
 -- one more request: its head, its places, its payload, and what follows
-pub request_begins : (o : Opened) (ds : List Name) (rs : List RegionImage) (qs : List ReadQueue) (es : List EndImage) (n : ℕ) (h : EndHead) (l : LinkHead) (kept : List KeptReply) (s : Before) (k : ℕ) (untold : List PostedImage) (p : ℕ) (bs : List ℕ) → more_untold o ds rs qs es n h (link_of_head l kept) s (suc k) untold p bs ≡ then_read (request_head_field o.version (link_of_head l []) s.count (s.count - suc k) s.low s.landing) (λ head. then_read (request_places_field (regions_of ds rs) (name_at ds h.domain) head) λ r. then_read (raw (payload_length r)) λ payload. more_untold o ds rs qs es n h (link_of_head l kept) (passed (link_of_head l kept) s r) k (untold ++ record { request = r; payload = payload } ∷ [])) p bs
+pub request_begins : (o : Opened) (ds : List Name) (rs : List RegionImage) (qs : List ReadQueue) (es : List EndImage) (n : ℕ) (h : EndImageHead) (l : LinkImageHead) (kept : List KeptReply) (s : Before) (k : ℕ) (untold : List PostedImage) (p : ℕ) (bs : List ℕ) → more_untold o ds rs qs es n h (link_of_head l kept) s (suc k) untold p bs ≡ then_read (request_head_field o.version (link_of_head l []) s.count (s.count - suc k) s.low s.landing) (λ head. then_read (request_places_field (regions_of ds rs) (name_at ds h.domain) head) λ r. then_read (raw (payload_length r)) λ payload. more_untold o ds rs qs es n h (link_of_head l kept) (passed (link_of_head l kept) s r) k (untold ++ record { request = r; payload = payload } ∷ [])) p bs
 unfolding more_untold more_requests
 request_begins o ds rs qs es n h l kept s k untold p bs =
     after_then _ _ _ _ (λ head p bs. after_then _ _ _ _ λ r p bs. after_then _ _ _ _ λ payload p bs. refl)

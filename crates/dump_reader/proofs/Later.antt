@@ -11,10 +11,10 @@ use Rattle.protocol.specs.declared.images.EndImage.{EndImage}
 use Rattle.protocol.specs.declared.images.LinkImage.{LinkImage}
 use Rattle.protocol.specs.declared.images.RegionImage.{RegionImage}
 use Rattle.protocol.specs.Dumps.{Reading, Reader, Good, ReadQueue, after, then_read, progress_by, count_field}
-use Rattle.dump_laws.proofs.Steady.{IsSteady, Stays, Goes, GoesOn, then_steady, gives_steady, raw_steady, magic_steady, number_steady, count_steady, name_steady, placed_steady, receive_steady, progress_steady, terms_steady}
+use Rattle.law_dump_round_trip.proofs.Steady.{IsSteady, Stays, Goes, GoesOn, then_steady, gives_steady, raw_steady, magic_steady, number_steady, count_steady, name_steady, placed_steady, receive_steady, progress_steady, terms_steady}
 use Rattle.dump_reader.specs.declared.fault.DumpFault.{DumpFault}
 use Rattle.dump_reader.specs.declared.heads.RequestHead.{RequestHead}
-use Rattle.dump_reader.specs.declared.lists.Place.{Place}
+use Rattle.dump_reader.specs.declared.lists.ReadState.{ReadState}
 use Rattle.dump_reader.specs.Ahead.{opening_field}
 use Rattle.dump_reader.specs.Groups.{region_head_field, queue_head_field, end_head_field, peer_field, numbers_field, waiting_field, message_field, link_head_field, request_head_field, request_places_field}
 use Rattle.dump_reader.specs.Steps.{Alike}
@@ -100,7 +100,7 @@ pub read_alike : {A : Type 0} {r : Reader A} {x : A} {p : ℕ} {bs : List ℕ} {
 read_alike {r = r} {p = p} {bs = bs} h e later = good_by later (r p bs) (r p (bs ++ later)) (h.stays p bs later) e
 
 -- what comes to the same as something that goes on alike
-pub alike_from : (a b : Reader ContextImage) (p : ℕ) (bs : List ℕ) (p' : ℕ) (bs' : List ℕ) (next : Place → Reader ContextImage) (p'' : ℕ) (bs'' : List ℕ) (r : Result Place DumpFault) → Alike a p bs b p' bs' → IfOk r (λ n. Alike b p' bs' (next n) p'' bs'') → IfOk r (λ n. Alike a p bs (next n) p'' bs'')
+pub alike_from : (a b : Reader ContextImage) (p : ℕ) (bs : List ℕ) (p' : ℕ) (bs' : List ℕ) (next : ReadState → Reader ContextImage) (p'' : ℕ) (bs'' : List ℕ) (r : Result ReadState DumpFault) → Alike a p bs b p' bs' → IfOk r (λ n. Alike b p' bs' (next n) p'' bs'') → IfOk r (λ n. Alike a p bs (next n) p'' bs'')
 alike_from a b p bs p' bs' next p'' bs'' (Ok n) h k = λ later. h later ∙ k later
 alike_from a b p bs p' bs' next p'' bs'' (Err e) h k = k
 
@@ -130,6 +130,6 @@ goes_twice {p = p} {bs = bs} {p' = p'} {bs' = bs'} {p'' = p''} h g =
     }
 
 -- what holds of whatever comes
-pub ok_any : {P : Type 0} (r : Result Place DumpFault) → P → IfOk r (λ n. P)
+pub ok_any : {P : Type 0} (r : Result ReadState DumpFault) → P → IfOk r (λ n. P)
 ok_any (Ok n) h = h
 ok_any (Err e) h = tt

@@ -6,4 +6,4 @@ pub mod Ends
 pub mod Whole
 pub mod Dumped
 pub mod Later
-pub mod Ways
+pub mod ReadSteps

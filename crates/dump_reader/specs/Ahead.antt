@@ -16,14 +16,14 @@ use Rattle.protocol.specs.declared.images.PostedImage.{PostedImage}
 use Rattle.protocol.specs.declared.images.RegionImage.{RegionImage}
 use Rattle.protocol.specs.Images.{name_at}
 use Rattle.protocol.specs.Dumps.{Reader, ReadQueue, then_read, gives, raw, items, count_field, count_by, name_field, number_by, region_field, queue_field, entry_field, end_field, link_field, kept_field, receive_field, state_field, is_untold_count, untold_items, is_ended, no_overfull, overfull, at_end, is_magic, shape_of_length}
-use Rattle.dump_reader.specs.declared.heads.EndHead.{EndHead}
-use Rattle.dump_reader.specs.declared.heads.LinkHead.{LinkHead}
+use Rattle.dump_reader.specs.declared.heads.EndImageHead.{EndImageHead}
+use Rattle.dump_reader.specs.declared.heads.LinkImageHead.{LinkImageHead}
 use Rattle.dump_reader.specs.declared.heads.QueueHead.{QueueHead}
 use Rattle.dump_reader.specs.declared.heads.Opened.{Opened}
 use Rattle.dump_reader.specs.declared.heads.Before.{Before}
 use Rattle.dump_reader.specs.declared.lists.Lists.{Lists}
-use Rattle.dump_reader.specs.declared.lists.Place.{Place}
-use Rattle.dump_reader.specs.declared.lists.Place.TheVariants as place
+use Rattle.dump_reader.specs.declared.lists.ReadState.{ReadState}
+use Rattle.dump_reader.specs.declared.lists.ReadState.TheVariants as place
 use Rattle.dump_reader.specs.Groups.{placed, region_of_head, queue_of_head, end_of_head, link_of_head, request_head_field, request_places_field, payload_length, regions_of}
 
 -- the first fields, up to the count of domains
@@ -93,44 +93,44 @@ abbrev pub next_ends : Opened → List Name → List RegionImage → List ReadQu
 next_ends o ds rs qs es n e = more_ends o ds rs qs n (es ++ e ∷ [])
 
 -- so many more unused receives of a queue pair
-unfoldable pub more_receives : Opened → List Name → List RegionImage → List ReadQueue → List EndImage → ℕ → EndHead → Option LinkImage → List PostedImage → ℕ → List Receive → Reader ContextImage
+unfoldable pub more_receives : Opened → List Name → List RegionImage → List ReadQueue → List EndImage → ℕ → EndImageHead → Option LinkImage → List PostedImage → ℕ → List Receive → Reader ContextImage
 more_receives o ds rs qs es n h linked untold k unused =
     then_read (items k (λ xs. receive_field (regions_of ds rs) (name_at ds h.domain) 0) unused) λ unused'.
     next_ends o ds rs qs es n (end_of_head h linked untold unused')
 
 -- the count of unused receives, and what follows it
-unfoldable pub unused_list : Opened → List Name → List RegionImage → List ReadQueue → List EndImage → ℕ → EndHead → Option LinkImage → List PostedImage → Reader ContextImage
+unfoldable pub unused_list : Opened → List Name → List RegionImage → List ReadQueue → List EndImage → ℕ → EndImageHead → Option LinkImage → List PostedImage → Reader ContextImage
 unused_list o ds rs qs es n h linked untold =
     then_read (count_by 2 h.recv_depth λ i. i == 0 || not (is_ended linked)) λ k.
     more_receives o ds rs qs es n h linked untold k []
 
 -- so many more untold requests of a queue pair
-unfoldable pub more_untold : Opened → List Name → List RegionImage → List ReadQueue → List EndImage → ℕ → EndHead → LinkImage → Before → ℕ → List PostedImage → Reader ContextImage
+unfoldable pub more_untold : Opened → List Name → List RegionImage → List ReadQueue → List EndImage → ℕ → EndImageHead → LinkImage → Before → ℕ → List PostedImage → Reader ContextImage
 more_untold o ds rs qs es n h l s k untold =
     then_read (more_requests o.version (regions_of ds rs) (name_at ds h.domain) l k s untold) λ untold'.
     unused_list o ds rs qs es n h (Some l) untold'
 
 -- the count of untold requests, and what follows it
-unfoldable pub untold_list : Opened → List Name → List RegionImage → List ReadQueue → List EndImage → ℕ → EndHead → Option LinkImage → Reader ContextImage
+unfoldable pub untold_list : Opened → List Name → List RegionImage → List ReadQueue → List EndImage → ℕ → EndImageHead → Option LinkImage → Reader ContextImage
 untold_list o ds rs qs es n h linked =
     then_read (count_by 2 h.send_depth (is_untold_count linked)) λ k.
     then_read (untold_items o.version (regions_of ds rs) (name_at ds h.domain) linked k) λ untold.
     unused_list o ds rs qs es n h linked untold
 
 -- so many more kept replies of a queue pair
-unfoldable pub more_kept : Opened → List Name → List RegionImage → List ReadQueue → List EndImage → ℕ → EndHead → LinkHead → ℕ → List KeptReply → Reader ContextImage
+unfoldable pub more_kept : Opened → List Name → List RegionImage → List ReadQueue → List EndImage → ℕ → EndImageHead → LinkImageHead → ℕ → List KeptReply → Reader ContextImage
 more_kept o ds rs qs es n h l k kept =
     then_read (items k (kept_field l.waiting.expected) kept) λ kept'.
     untold_list o ds rs qs es n h (Some (link_of_head l kept'))
 
 -- what a connected end has, and what follows it
-unfoldable pub linked_list : Opened → List Name → List RegionImage → List ReadQueue → List EndImage → ℕ → EndHead → Reader ContextImage
+unfoldable pub linked_list : Opened → List Name → List RegionImage → List ReadQueue → List EndImage → ℕ → EndImageHead → Reader ContextImage
 linked_list o ds rs qs es n h =
     then_read (link_field (regions_of ds rs) (name_at ds h.domain) (h.state == 2)) λ l.
     untold_list o ds rs qs es n h (Some l)
 
 -- a queue pair from its state on
-unfoldable pub end_rest : ℕ → List Name → List Region → EndHead → Reader EndImage
+unfoldable pub end_rest : ℕ → List Name → List Region → EndImageHead → Reader EndImage
 end_rest version ds regions h =
     then_read (state_field regions (name_at ds h.domain) h.state) λ linked.
     then_read (count_by 2 h.send_depth (is_untold_count linked)) λ untold_count.
@@ -146,12 +146,12 @@ abbrev pub queues_of : Lists → List ReadQueue
 queues_of s = map placed s.queues.items
 
 -- what a queue pair has of its link
-abbrev pub linked_of : Option LinkHead → List KeptReply → Option LinkImage
+abbrev pub linked_of : Option LinkImageHead → List KeptReply → Option LinkImage
 linked_of None kept = None
 linked_of (Some l) kept = Some (link_of_head l kept)
 
 -- what is still read at a place
-unfoldable pub ahead : Opened → Lists → Place → Reader ContextImage
+unfoldable pub ahead : Opened → Lists → ReadState → Reader ContextImage
 ahead o s (place.Domain m) = more_domains o (suc m) s.domains.items
 ahead o s place.RegionCount = then_read (count_field 2 most_regions) λ k. more_regions o s.domains.items k []
 ahead o s (place.Region m) = more_regions o s.domains.items (suc m) s.regions.items
@@ -176,31 +176,31 @@ ahead o s (place.Receive h l m n) =
 ahead o s place.Done = at_end (image_of o s.domains.items s.regions.items (queues_of s) s.ends.items)
 
 -- what follows the head of a queue pair
-abbrev pub after_head : Opened → List Name → List RegionImage → List ReadQueue → List EndImage → ℕ → EndHead → Reader ContextImage
+abbrev pub after_head : Opened → List Name → List RegionImage → List ReadQueue → List EndImage → ℕ → EndImageHead → Reader ContextImage
 after_head o ds rs qs es n h = if h.state == 0 then untold_list o ds rs qs es n h None else linked_list o ds rs qs es n h
 
 -- what follows the count of untold requests
-abbrev pub after_count : Opened → List Name → List RegionImage → List ReadQueue → List EndImage → ℕ → EndHead → Option LinkImage → ℕ → Reader ContextImage
+abbrev pub after_count : Opened → List Name → List RegionImage → List ReadQueue → List EndImage → ℕ → EndImageHead → Option LinkImage → ℕ → Reader ContextImage
 after_count o ds rs qs es n h None k = unused_list o ds rs qs es n h None []
 after_count o ds rs qs es n h (Some l) k = more_untold o ds rs qs es n h l (first_of l k) k []
 
 -- counts of untold requests that the link allows
-abbrev pub may_be_untold : Option LinkHead → ℕ → Bool
+abbrev pub may_be_untold : Option LinkImageHead → ℕ → Bool
 may_be_untold None n = n == 0
 may_be_untold (Some l) n = if n == 0 then l.numbers.top == l.numbers.first else not l.ended
 
 -- counts of unused receives that the link allows
-abbrev pub may_be_unused : Option LinkHead → ℕ → Bool
+abbrev pub may_be_unused : Option LinkImageHead → ℕ → Bool
 may_be_unused None n = n == 0 || not false
 may_be_unused (Some l) n = n == 0 || not l.ended
 
 -- 1 where bytes are read that may be none
-abbrev pub weight : Place → ℕ
+abbrev pub weight : ReadState → ℕ
 weight (place.Bytes h missing n) = 1
 weight (place.Payload h l before k n r missing) = 1
 weight _ = 0
 
 -- some fields are still to come
-abbrev pub IsOpen : Place → Type 0
+abbrev pub IsOpen : ReadState → Type 0
 IsOpen place.Done = ⊥
 IsOpen _ = ⊤

@@ -22,11 +22,11 @@ use Rattle.protocol.specs.Lawful.{is_number, is_local_key, is_whole_pieces}
 use Rattle.protocol.specs.Dumps.{Reading, Reader, Good, Bad, then_read, gives, number, any, count_field, name_field, within, is_24, is_bit, is_below_limit, follows, kind_of, has_flag, keeps_numbers, shape_of_length, ReadQueue, queue_names, region_names, terms_field, progress_by, receive_field, may_write_at, length_at}
 use Rattle.protocol.specs.declared.images.Progress.TheVariants as progress
 use Rattle.dump_reader.specs.declared.cursor.Offence.{Offence}
-use Rattle.dump_reader.specs.declared.heads.RegionHead.{RegionHead}
+use Rattle.dump_reader.specs.declared.heads.RegionImageHead.{RegionImageHead}
 use Rattle.dump_reader.specs.declared.heads.PlacedQueue.{PlacedQueue}
 use Rattle.dump_reader.specs.declared.heads.QueueHead.{QueueHead}
-use Rattle.dump_reader.specs.declared.heads.EndHead.{EndHead}
-use Rattle.dump_reader.specs.declared.heads.LinkHead.{LinkHead}
+use Rattle.dump_reader.specs.declared.heads.EndImageHead.{EndImageHead}
+use Rattle.dump_reader.specs.declared.heads.LinkImageHead.{LinkImageHead}
 use Rattle.dump_reader.specs.declared.heads.Peer.{Peer}
 use Rattle.dump_reader.specs.declared.heads.RequestHead.{RequestHead}
 use Rattle.protocol.specs.Images.{region_of_image}
@@ -41,7 +41,7 @@ came (Err e) place bytes = Bad e.place e.why
 -- ---- regions and queues
 
 -- a region without its bytes
-unfoldable pub region_head_field : ℕ → List RegionImage → Reader RegionHead
+unfoldable pub region_head_field : ℕ → List RegionImage → Reader RegionImageHead
 region_head_field domains seen =
     then_read (name_field (region_names seen)) λ name.
     then_read (number 2 λ n. nat_lt n domains) λ domain.
@@ -53,7 +53,7 @@ region_head_field domains seen =
     gives (record { name = name; domain = domain; base = base; length = length'; rights = record { 0 = rights }; keys = record { local = local; remote = remote } })
 
 -- a region of its head and its bytes
-abbrev pub region_of_head : RegionHead → List ℕ → RegionImage
+abbrev pub region_of_head : RegionImageHead → List ℕ → RegionImage
 region_of_head h bytes = record { name = h.name; domain = h.domain; base = h.base; length = h.length; rights = h.rights; keys = h.keys; bytes = bytes }
 
 -- a completion queue without its entries: its name, its capacity with the place of it, and how many entries follow
@@ -75,7 +75,7 @@ queue_of_head h entries = record { queue = record { name = h.name; capacity = h.
 -- ---- queue pairs
 
 -- a queue pair up to its state
-unfoldable pub end_head_field : ℕ → ℕ → List EndImage → Reader EndHead
+unfoldable pub end_head_field : ℕ → ℕ → List EndImage → Reader EndImageHead
 end_head_field domains queues seen =
     then_read (name_field (map (λ e. e.name) seen)) λ name.
     then_read (number 4 λ n. is_number n && not (some (λ e. e.number == n) seen)) λ n.
@@ -88,7 +88,7 @@ end_head_field domains queues seen =
     gives (record { name = name; number = n; domain = domain; send_cq = send_cq; recv_cq = recv_cq; send_depth = send_depth; recv_depth = recv_depth; state = state })
 
 -- a queue pair of its groups
-abbrev pub end_of_head : EndHead → Option LinkImage → List PostedImage → List Receive → EndImage
+abbrev pub end_of_head : EndImageHead → Option LinkImage → List PostedImage → List Receive → EndImage
 end_of_head h linked untold unused = record {
   name = h.name;
   number = h.number;
@@ -155,7 +155,7 @@ message_field regions domain mtu ended =
     then_read (number 1 λ n. nat_le n (if ended then 0 else 2)) λ code. progress_by regions domain mtu code
 
 -- what a connected end has, up to the count of its kept replies
-unfoldable pub link_head_field : List Region → Name → Bool → Reader LinkHead
+unfoldable pub link_head_field : List Region → Name → Bool → Reader LinkImageHead
 link_head_field regions domain ended =
     then_read (peer_field ended) λ peer.
     then_read terms_field λ terms.
@@ -166,7 +166,7 @@ link_head_field regions domain ended =
     gives (record { ended = ended; peer = peer; terms = terms; numbers = numbers; waiting = waiting; progress = progress'; count = count })
 
 -- what a connected end has, of its groups
-abbrev pub link_of_head : LinkHead → List KeptReply → LinkImage
+abbrev pub link_of_head : LinkImageHead → List KeptReply → LinkImage
 link_of_head h kept = record {
   ended = h.ended;
   peer = h.peer.peer;

@@ -4,4 +4,4 @@ pub mod Ahead
 pub mod Steps
 pub mod Faults
 pub mod Overfull
-pub mod Way
+pub mod ReadProgress

@@ -2,13 +2,13 @@
 use Rattle.std.specs.Prelude.{◌≡◌, ◌++◌, ℕ, List, Bool, false, Result, Ok, Err, ⊤}
 use Rattle.protocol.specs.declared.images.ContextImage.{ContextImage}
 use Rattle.protocol.specs.Dumps.{Reading, Reader, Bad}
-use Rattle.dump_laws.specs.Later.{is_short}
-use Rattle.dump_reader.specs.declared.lists.Place.{Place}
+use Rattle.law_dump_round_trip.specs.Later.{is_short}
+use Rattle.dump_reader.specs.declared.lists.ReadState.{ReadState}
 use Rattle.dump_reader.specs.declared.fault.DumpFault.{DumpFault}
 use Rattle.dump_reader.specs.declared.fault.DumpFault.TheVariants.{BadDump, OutOfMemory}
 
 -- what was still to be read is what is so at the next place, or the bytes are bad there, or it was out of memory
-abbrev pub Moves : Reading ContextImage → (Place → Reading ContextImage) → Result Place DumpFault → Type 0
+abbrev pub Moves : Reading ContextImage → (ReadState → Reading ContextImage) → Result ReadState DumpFault → Type 0
 Moves before next (Ok place) = before ≡ next place
 Moves before next (Err (BadDump place why)) = before ≡ Bad place why
 Moves before next (Err OutOfMemory) = ⊤

@@ -6,7 +6,7 @@ ghost use Rattle.protocol.specs.Lawful.{IsLawful};
 ghost use Rattle.dump_reader.specs.Steps.{IsFault};
 
 use crate::fault::DumpFault;
-use crate::way::Way;
+use crate::read_progress::ReadProgress;
 use protocol::ContextImage;
 use std::alloc::Global;
 
@@ -14,7 +14,7 @@ fn read_whole(alloc: Global, bytes: &[u8]) -> Result<ContextImage, DumpFault>
     ensures image { IfOk result (λ image. read_dump bytes.now ≡ Good image (length bytes.now) []) }
     ensures fault { IfErr result (IsFault (read_dump bytes.now)) }
 {
-    let mut way = Way::begin(alloc, bytes)?;
+    let mut way = ReadProgress::begin(alloc, bytes)?;
     way.go_on(bytes)?;
     Ok(way.into_image()?)
 }

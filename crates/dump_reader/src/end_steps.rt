@@ -11,8 +11,8 @@ ghost use Rattle.dump_reader.specs.Steps.{Alike, Moves, is_wanting};
 use crate::cursor::{Cursor, Offence};
 use crate::fault::DumpFault;
 use crate::groups;
-use crate::heads::{Before, EndHead, LinkHead, Opened, RequestHead, Standing};
-use crate::lists::{Lists, Place, push};
+use crate::heads::{Before, EndImageHead, LinkImageHead, Opened, RequestHead, Standing};
+use crate::lists::{Lists, ReadState, push};
 use crate::overfull::find_overfull;
 use crate::places::{self, Scope};
 use crate::requests::{self, lands_bytes, payload_len, span_of};
@@ -29,16 +29,16 @@ pub fn enter_ends(
     lists: &Lists,
     c: &Cursor<'_>,
     count: u16,
-) -> Result<Place, DumpFault>
+) -> Result<ReadState, DumpFault>
     ensures moves { Moves (more_ends opened.now lists.now.domains.items lists.now.regions.items (queues_of lists.now) count lists.now.ends.items c.now.place c.now.bytes.now) (λ next. ahead opened.now lists.now next c.now.place c.now.bytes.now) result }
-    ensures later { IfOk result (λ next. Alike (more_ends opened.now lists.now.domains.items lists.now.regions.items (queues_of lists.now) count lists.now.ends.items) c.now.place c.now.bytes.now (ahead opened.now lists.now next) c.now.place c.now.bytes.now) }
+    ensures with_more_bytes { IfOk result (λ next. Alike (more_ends opened.now lists.now.domains.items lists.now.regions.items (queues_of lists.now) count lists.now.ends.items) c.now.place c.now.bytes.now (ahead opened.now lists.now next) c.now.place c.now.bytes.now) }
     ensures never { IfErr result (λ e. is_wanting e ≡ false) }
 {
     if count > 0 {
-        return Ok(Place::End(count - 1));
+        return Ok(ReadState::End(count - 1));
     }
     match find_overfull(opened, lists, &lists.queues) {
-        None => Ok(Place::Done),
+        None => Ok(ReadState::Done),
         Some(place) => Err(DumpFault::BadDump {
             place,
             why: DumpWhy::Field,
@@ -53,10 +53,10 @@ pub fn end_count_step(
     opened: &Opened,
     lists: &mut Lists,
     c: &mut Cursor<'_>,
-) -> Result<Place, DumpFault>
+) -> Result<ReadState, DumpFault>
     requires { c.old.place + length c.old.bytes.now < 2 ^ 64 }
-    ensures moves { Moves (ahead opened.now lists.old Place.EndCount c.old.place c.old.bytes.now) (λ next. ahead opened.now lists.new next c.new.place c.new.bytes.now) result }
-    ensures later { IfOk result (λ next. Alike (ahead opened.now lists.old Place.EndCount) c.old.place c.old.bytes.now (ahead opened.now lists.new next) c.new.place c.new.bytes.now) }
+    ensures moves { Moves (ahead opened.now lists.old ReadState.EndCount c.old.place c.old.bytes.now) (λ next. ahead opened.now lists.new next c.new.place c.new.bytes.now) result }
+    ensures with_more_bytes { IfOk result (λ next. Alike (ahead opened.now lists.old ReadState.EndCount) c.old.place c.old.bytes.now (ahead opened.now lists.new next) c.new.place c.new.bytes.now) }
     ensures left { IfOk result (λ next. c.new.bytes.now ≡ drop (c.new.place - c.old.place) c.old.bytes.now) }
     ensures same { IfErr result (λ e. is_wanting e ≡ true → lists.new ≡ lists.old) }
     ensures passed { IfOk result (λ next. c.old.place < c.new.place) }
@@ -69,12 +69,12 @@ pub fn end_count_step(
 
 /// Behind the head of a queue pair.
 #[tactic(auto, unfolding(protocol::specs::Dumps::after, protocol::specs::Dumps::items, crate::specs::Ahead::ahead))]
-pub fn enter_end(opened: &Opened, lists: &Lists, head: &EndHead, after: u16) -> Place
+pub fn enter_end(opened: &Opened, lists: &Lists, head: &EndImageHead, after: u16) -> ReadState
     ensures { ahead opened.now lists.now result ≡ after_head opened.now lists.now.domains.items lists.now.regions.items (queues_of lists.now) lists.now.ends.items after head.now }
 {
     match head.state {
-        0 => Place::Untold(*head, None, after),
-        _ => Place::Link(*head, after),
+        0 => ReadState::Untold(*head, None, after),
+        _ => ReadState::Link(*head, after),
     }
 }
 
@@ -86,10 +86,10 @@ pub fn end_step(
     lists: &mut Lists,
     c: &mut Cursor<'_>,
     more: u16,
-) -> Result<Place, DumpFault>
+) -> Result<ReadState, DumpFault>
     requires { c.old.place + length c.old.bytes.now < 2 ^ 64 }
-    ensures moves { Moves (ahead opened.now lists.old (Place.End more) c.old.place c.old.bytes.now) (λ next. ahead opened.now lists.new next c.new.place c.new.bytes.now) result }
-    ensures later { IfOk result (λ next. Alike (ahead opened.now lists.old (Place.End more)) c.old.place c.old.bytes.now (ahead opened.now lists.new next) c.new.place c.new.bytes.now) }
+    ensures moves { Moves (ahead opened.now lists.old (ReadState.End more) c.old.place c.old.bytes.now) (λ next. ahead opened.now lists.new next c.new.place c.new.bytes.now) result }
+    ensures with_more_bytes { IfOk result (λ next. Alike (ahead opened.now lists.old (ReadState.End more)) c.old.place c.old.bytes.now (ahead opened.now lists.new next) c.new.place c.new.bytes.now) }
     ensures left { IfOk result (λ next. c.new.bytes.now ≡ drop (c.new.place - c.old.place) c.old.bytes.now) }
     ensures same { IfErr result (λ e. is_wanting e ≡ true → lists.new ≡ lists.old) }
     ensures passed { IfOk result (λ next. c.old.place < c.new.place) }
@@ -102,7 +102,7 @@ pub fn end_step(
 }
 
 /// The regions of the image, and the domain of a queue pair.
-fn scope_of<'a>(lists: &'a Lists, head: &EndHead) -> Scope<'a>
+fn scope_of<'a>(lists: &'a Lists, head: &EndImageHead) -> Scope<'a>
     ensures domains { result.domains.now ≡ lists.now.domains.items }
     ensures regions { result.regions.now ≡ lists.now.regions.items }
     ensures domain { result.domain.now ≡ name_at lists.now.domains.items head.now.domain }
@@ -122,16 +122,16 @@ fn scope_of<'a>(lists: &'a Lists, head: &EndHead) -> Scope<'a>
 pub fn enter_kept(
     opened: &Opened,
     lists: &Lists,
-    head: &EndHead,
-    link: &LinkHead,
+    head: &EndImageHead,
+    link: &LinkImageHead,
     count: u8,
     after: u16,
-) -> Place
+) -> ReadState
     ensures { ahead opened.now lists.now result ≡ more_kept opened.now lists.now.domains.items lists.now.regions.items (queues_of lists.now) lists.now.ends.items after head.now link.now count lists.now.kept.items }
 {
     match count {
-        0 => Place::Untold(*head, Some(*link), after),
-        _ => Place::Kept(*head, *link, count - 1, after),
+        0 => ReadState::Untold(*head, Some(*link), after),
+        _ => ReadState::Kept(*head, *link, count - 1, after),
     }
 }
 
@@ -142,14 +142,14 @@ pub fn kept_step(
     opened: &Opened,
     lists: &mut Lists,
     c: &mut Cursor<'_>,
-    head: &EndHead,
-    link: &LinkHead,
+    head: &EndImageHead,
+    link: &LinkImageHead,
     more: u8,
     after: u16,
-) -> Result<Place, DumpFault>
+) -> Result<ReadState, DumpFault>
     requires { c.old.place + length c.old.bytes.now < 2 ^ 64 }
-    ensures moves { Moves (ahead opened.now lists.old (Place.Kept head.now link.now more after) c.old.place c.old.bytes.now) (λ next. ahead opened.now lists.new next c.new.place c.new.bytes.now) result }
-    ensures later { IfOk result (λ next. Alike (ahead opened.now lists.old (Place.Kept head.now link.now more after)) c.old.place c.old.bytes.now (ahead opened.now lists.new next) c.new.place c.new.bytes.now) }
+    ensures moves { Moves (ahead opened.now lists.old (ReadState.Kept head.now link.now more after) c.old.place c.old.bytes.now) (λ next. ahead opened.now lists.new next c.new.place c.new.bytes.now) result }
+    ensures with_more_bytes { IfOk result (λ next. Alike (ahead opened.now lists.old (ReadState.Kept head.now link.now more after)) c.old.place c.old.bytes.now (ahead opened.now lists.new next) c.new.place c.new.bytes.now) }
     ensures left { IfOk result (λ next. c.new.bytes.now ≡ drop (c.new.place - c.old.place) c.old.bytes.now) }
     ensures same { IfErr result (λ e. is_wanting e ≡ true → lists.new ≡ lists.old) }
     ensures passed { IfOk result (λ next. c.old.place < c.new.place) }
@@ -165,22 +165,22 @@ pub fn kept_step(
 pub fn enter_requests(
     opened: &Opened,
     lists: &Lists,
-    head: &EndHead,
-    link: &LinkHead,
+    head: &EndImageHead,
+    link: &LinkImageHead,
     before: &Before,
     count: u16,
     after: u16,
-) -> Place
+) -> ReadState
     ensures ahead { ahead opened.now lists.now result ≡ more_untold opened.now lists.now.domains.items lists.now.regions.items (queues_of lists.now) lists.now.ends.items after head.now (link_of_head link.now lists.now.kept.items) before.now count lists.now.untold.items }
-    ensures light { weight result ≡ 0 }
+    ensures weightless { weight result ≡ 0 }
 {
     match count {
-        0 => Place::Unused(*head, Some(*link), after),
-        _ => Place::Request(*head, *link, *before, count - 1, after),
+        0 => ReadState::Unused(*head, Some(*link), after),
+        _ => ReadState::Request(*head, *link, *before, count - 1, after),
     }
 }
 
-fn untold_rule(link: &Option<LinkHead>, count: u16) -> bool
+fn untold_rule(link: &Option<LinkImageHead>, count: u16) -> bool
     ensures { result ≡ may_be_untold link.now count }
 {
     match link {
@@ -194,7 +194,7 @@ fn untold_rule(link: &Option<LinkHead>, count: u16) -> bool
 fn read_untold_count(
     c: &mut Cursor<'_>,
     depth: u16,
-    link: &Option<LinkHead>,
+    link: &Option<LinkImageHead>,
 ) -> Result<u16, Offence>
     requires { c.old.place + length c.old.bytes.now < 2 ^ 64 }
     ensures count { count_by 2 depth (may_be_untold link.now) c.old.place c.old.bytes.now ≡ came result c.new.place c.new.bytes.now }
@@ -207,7 +207,7 @@ fn read_untold_count(
     Ok(count)
 }
 
-fn unused_rule(link: &Option<LinkHead>, count: u16) -> bool
+fn unused_rule(link: &Option<LinkImageHead>, count: u16) -> bool
     ensures { result ≡ may_be_unused link.now count }
 {
     match link {
@@ -220,7 +220,7 @@ fn unused_rule(link: &Option<LinkHead>, count: u16) -> bool
 fn read_unused_count(
     c: &mut Cursor<'_>,
     depth: u16,
-    link: &Option<LinkHead>,
+    link: &Option<LinkImageHead>,
 ) -> Result<u16, Offence>
     requires { c.old.place + length c.old.bytes.now < 2 ^ 64 }
     ensures count { count_by 2 depth (may_be_unused link.now) c.old.place c.old.bytes.now ≡ came result c.new.place c.new.bytes.now }
@@ -240,12 +240,12 @@ pub fn link_step(
     opened: &Opened,
     lists: &mut Lists,
     c: &mut Cursor<'_>,
-    head: &EndHead,
+    head: &EndImageHead,
     after: u16,
-) -> Result<Place, DumpFault>
+) -> Result<ReadState, DumpFault>
     requires { c.old.place + length c.old.bytes.now < 2 ^ 64 }
-    ensures moves { Moves (ahead opened.now lists.old (Place.Link head.now after) c.old.place c.old.bytes.now) (λ next. ahead opened.now lists.new next c.new.place c.new.bytes.now) result }
-    ensures later { IfOk result (λ next. Alike (ahead opened.now lists.old (Place.Link head.now after)) c.old.place c.old.bytes.now (ahead opened.now lists.new next) c.new.place c.new.bytes.now) }
+    ensures moves { Moves (ahead opened.now lists.old (ReadState.Link head.now after) c.old.place c.old.bytes.now) (λ next. ahead opened.now lists.new next c.new.place c.new.bytes.now) result }
+    ensures with_more_bytes { IfOk result (λ next. Alike (ahead opened.now lists.old (ReadState.Link head.now after)) c.old.place c.old.bytes.now (ahead opened.now lists.new next) c.new.place c.new.bytes.now) }
     ensures left { IfOk result (λ next. c.new.bytes.now ≡ drop (c.new.place - c.old.place) c.old.bytes.now) }
     ensures same { IfErr result (λ e. is_wanting e ≡ true → lists.new ≡ lists.old) }
     ensures passed { IfOk result (λ next. c.old.place < c.new.place) }
@@ -263,13 +263,13 @@ pub fn untold_step(
     opened: &Opened,
     lists: &mut Lists,
     c: &mut Cursor<'_>,
-    head: &EndHead,
-    link: &Option<LinkHead>,
+    head: &EndImageHead,
+    link: &Option<LinkImageHead>,
     after: u16,
-) -> Result<Place, DumpFault>
+) -> Result<ReadState, DumpFault>
     requires { c.old.place + length c.old.bytes.now < 2 ^ 64 }
-    ensures moves { Moves (ahead opened.now lists.old (Place.Untold head.now link.now after) c.old.place c.old.bytes.now) (λ next. ahead opened.now lists.new next c.new.place c.new.bytes.now) result }
-    ensures later { IfOk result (λ next. Alike (ahead opened.now lists.old (Place.Untold head.now link.now after)) c.old.place c.old.bytes.now (ahead opened.now lists.new next) c.new.place c.new.bytes.now) }
+    ensures moves { Moves (ahead opened.now lists.old (ReadState.Untold head.now link.now after) c.old.place c.old.bytes.now) (λ next. ahead opened.now lists.new next c.new.place c.new.bytes.now) result }
+    ensures with_more_bytes { IfOk result (λ next. Alike (ahead opened.now lists.old (ReadState.Untold head.now link.now after)) c.old.place c.old.bytes.now (ahead opened.now lists.new next) c.new.place c.new.bytes.now) }
     ensures left { IfOk result (λ next. c.new.bytes.now ≡ drop (c.new.place - c.old.place) c.old.bytes.now) }
     ensures same { IfErr result (λ e. is_wanting e ≡ true → lists.new ≡ lists.old) }
     ensures passed { IfOk result (λ next. c.old.place < c.new.place) }
@@ -278,7 +278,7 @@ pub fn untold_step(
     let count = read_untold_count(c, head.send_depth, link)?;
     lists.untold = Vec::new(lists.alloc);
     match link {
-        None => Ok(Place::Unused(*head, None, after)),
+        None => Ok(ReadState::Unused(*head, None, after)),
         Some(link) => {
             let before = Before {
                 count,
@@ -291,7 +291,7 @@ pub fn untold_step(
 }
 
 /// What stands before the request after one.
-fn advanced(link: &LinkHead, before: &Before, head: &RequestHead) -> Before
+fn advanced(link: &LinkImageHead, before: &Before, head: &RequestHead) -> Before
     requires { before.now.low + shape_of_length head.now.kind head.now.length link.now.terms.mtu < 2 ^ 62 }
     ensures { result ≡ record before.now { low = before.now.low + shape_of_length head.now.kind head.now.length link.now.terms.mtu; landing = before.now.landing || lands head.now.kind } }
 {
@@ -321,16 +321,16 @@ pub fn take_request(
     opened: &Opened,
     lists: &mut Lists,
     c: &Cursor<'_>,
-    head: &EndHead,
-    link: &LinkHead,
+    head: &EndImageHead,
+    link: &LinkImageHead,
     before: &Before,
     count: u16,
     after: u16,
     request: Request,
-) -> Result<Place, DumpFault>
-    ensures light { IfOk result (λ next. weight next ≡ 0) }
+) -> Result<ReadState, DumpFault>
+    ensures weightless { IfOk result (λ next. weight next ≡ 0) }
     ensures moves { Moves (more_untold opened.now lists.old.domains.items lists.old.regions.items (queues_of lists.old) lists.old.ends.items after head.now (link_of_head link.now lists.old.kept.items) before.now count (lists.old.untold.items ++ record { request = request; payload = lists.old.run } ∷ []) c.now.place c.now.bytes.now) (λ next. ahead opened.now lists.new next c.now.place c.now.bytes.now) result }
-    ensures later { IfOk result (λ next. Alike (more_untold opened.now lists.old.domains.items lists.old.regions.items (queues_of lists.old) lists.old.ends.items after head.now (link_of_head link.now lists.old.kept.items) before.now count (lists.old.untold.items ++ record { request = request; payload = lists.old.run } ∷ [])) c.now.place c.now.bytes.now (ahead opened.now lists.new next) c.now.place c.now.bytes.now) }
+    ensures with_more_bytes { IfOk result (λ next. Alike (more_untold opened.now lists.old.domains.items lists.old.regions.items (queues_of lists.old) lists.old.ends.items after head.now (link_of_head link.now lists.old.kept.items) before.now count (lists.old.untold.items ++ record { request = request; payload = lists.old.run } ∷ [])) c.now.place c.now.bytes.now (ahead opened.now lists.new next) c.now.place c.now.bytes.now) }
     ensures never { IfErr result (λ e. is_wanting e ≡ false) }
 {
     let payload = mem::replace(&mut lists.run, ByteRun::make(lists.alloc));
@@ -345,21 +345,21 @@ pub fn enter_payload(
     opened: &Opened,
     lists: &mut Lists,
     c: &Cursor<'_>,
-    head: &EndHead,
-    link: &LinkHead,
+    head: &EndImageHead,
+    link: &LinkImageHead,
     before: &Before,
     count: u16,
     after: u16,
     request: Request,
-) -> Result<Place, DumpFault>
+) -> Result<ReadState, DumpFault>
     ensures moves { Moves (then_read (raw (payload_length request)) (λ payload. more_untold opened.now lists.old.domains.items lists.old.regions.items (queues_of lists.old) lists.old.ends.items after head.now (link_of_head link.now lists.old.kept.items) before.now count (lists.old.untold.items ++ record { request = request; payload = payload } ∷ [])) c.now.place c.now.bytes.now) (λ next. ahead opened.now lists.new next c.now.place c.now.bytes.now) result }
-    ensures later { IfOk result (λ next. Alike (then_read (raw (payload_length request)) (λ payload. more_untold opened.now lists.old.domains.items lists.old.regions.items (queues_of lists.old) lists.old.ends.items after head.now (link_of_head link.now lists.old.kept.items) before.now count (lists.old.untold.items ++ record { request = request; payload = payload } ∷ []))) c.now.place c.now.bytes.now (ahead opened.now lists.new next) c.now.place c.now.bytes.now) }
+    ensures with_more_bytes { IfOk result (λ next. Alike (then_read (raw (payload_length request)) (λ payload. more_untold opened.now lists.old.domains.items lists.old.regions.items (queues_of lists.old) lists.old.ends.items after head.now (link_of_head link.now lists.old.kept.items) before.now count (lists.old.untold.items ++ record { request = request; payload = payload } ∷ []))) c.now.place c.now.bytes.now (ahead opened.now lists.new next) c.now.place c.now.bytes.now) }
     ensures never { IfErr result (λ e. is_wanting e ≡ false) }
 {
     lists.run = ByteRun::make(lists.alloc);
     let missing = payload_len(&request);
     if missing > 0 {
-        return Ok(Place::Payload(*head, *link, *before, count, after, request, missing));
+        return Ok(ReadState::Payload(*head, *link, *before, count, after, request, missing));
     }
     take_request(opened, lists, c, head, link, before, count, after, request)
 }
@@ -371,15 +371,15 @@ pub fn request_step(
     opened: &Opened,
     lists: &mut Lists,
     c: &mut Cursor<'_>,
-    head: &EndHead,
-    link: &LinkHead,
+    head: &EndImageHead,
+    link: &LinkImageHead,
     before: &Before,
     more: u16,
     after: u16,
-) -> Result<Place, DumpFault>
+) -> Result<ReadState, DumpFault>
     requires { c.old.place + length c.old.bytes.now < 2 ^ 64 }
-    ensures moves { Moves (ahead opened.now lists.old (Place.Request head.now link.now before.now more after) c.old.place c.old.bytes.now) (λ next. ahead opened.now lists.new next c.new.place c.new.bytes.now) result }
-    ensures later { IfOk result (λ next. Alike (ahead opened.now lists.old (Place.Request head.now link.now before.now more after)) c.old.place c.old.bytes.now (ahead opened.now lists.new next) c.new.place c.new.bytes.now) }
+    ensures moves { Moves (ahead opened.now lists.old (ReadState.Request head.now link.now before.now more after) c.old.place c.old.bytes.now) (λ next. ahead opened.now lists.new next c.new.place c.new.bytes.now) result }
+    ensures with_more_bytes { IfOk result (λ next. Alike (ahead opened.now lists.old (ReadState.Request head.now link.now before.now more after)) c.old.place c.old.bytes.now (ahead opened.now lists.new next) c.new.place c.new.bytes.now) }
     ensures left { IfOk result (λ next. c.new.bytes.now ≡ drop (c.new.place - c.old.place) c.old.bytes.now) }
     ensures same { IfErr result (λ e. is_wanting e ≡ true → lists.new ≡ lists.old) }
     ensures passed { IfOk result (λ next. c.old.place < c.new.place) }
@@ -398,20 +398,20 @@ pub fn payload_step(
     opened: &Opened,
     lists: &mut Lists,
     c: &mut Cursor<'_>,
-    head: &EndHead,
-    link: &LinkHead,
+    head: &EndImageHead,
+    link: &LinkImageHead,
     before: &Before,
     count: u16,
     after: u16,
     request: Request,
     missing: u32,
-) -> Result<Place, DumpFault>
+) -> Result<ReadState, DumpFault>
     requires { c.old.place + length c.old.bytes.now < 2 ^ 64 }
-    ensures moves { Moves (ahead opened.now lists.old (Place.Payload head.now link.now before.now count after request missing) c.old.place c.old.bytes.now) (λ next. ahead opened.now lists.new next c.new.place c.new.bytes.now) result }
-    ensures later { IfOk result (λ next. Alike (ahead opened.now lists.old (Place.Payload head.now link.now before.now count after request missing)) c.old.place c.old.bytes.now (ahead opened.now lists.new next) c.new.place c.new.bytes.now) }
+    ensures moves { Moves (ahead opened.now lists.old (ReadState.Payload head.now link.now before.now count after request missing) c.old.place c.old.bytes.now) (λ next. ahead opened.now lists.new next c.new.place c.new.bytes.now) result }
+    ensures with_more_bytes { IfOk result (λ next. Alike (ahead opened.now lists.old (ReadState.Payload head.now link.now before.now count after request missing)) c.old.place c.old.bytes.now (ahead opened.now lists.new next) c.new.place c.new.bytes.now) }
     ensures left { IfOk result (λ next. c.new.bytes.now ≡ drop (c.new.place - c.old.place) c.old.bytes.now) }
     ensures same { IfErr result (λ e. is_wanting e ≡ true → lists.new ≡ lists.old) }
-    ensures light { IfOk result (λ next. weight next ≡ 0) }
+    ensures weightless { IfOk result (λ next. weight next ≡ 0) }
     ensures passed { IfOk result (λ next. c.old.place ≤ c.new.place) }
     ensures fits { c.new.place + length c.new.bytes.now ≡ c.old.place + length c.old.bytes.now }
 {
@@ -421,7 +421,7 @@ pub fn payload_step(
 }
 
 /// What a queue pair has of its link.
-fn link_image(link: &LinkHead, kept: Vec<KeptReply>) -> LinkImage
+fn link_image(link: &LinkImageHead, kept: Vec<KeptReply>) -> LinkImage
     ensures { result ≡ link_of_head link.now kept.items }
 {
     LinkImage {
@@ -448,7 +448,7 @@ fn link_image(link: &LinkHead, kept: Vec<KeptReply>) -> LinkImage
 }
 
 /// The same, unless it was never connected.
-fn linked_image(link: &Option<LinkHead>, kept: Vec<KeptReply>) -> Option<LinkImage>
+fn linked_image(link: &Option<LinkImageHead>, kept: Vec<KeptReply>) -> Option<LinkImage>
     ensures { result ≡ linked_of link.now kept.items }
 {
     match link {
@@ -458,7 +458,7 @@ fn linked_image(link: &Option<LinkHead>, kept: Vec<KeptReply>) -> Option<LinkIma
 }
 
 /// A queue pair of its groups; its lists move out of those that were read.
-fn end_image(lists: &mut Lists, head: &EndHead, link: &Option<LinkHead>) -> EndImage
+fn end_image(lists: &mut Lists, head: &EndImageHead, link: &Option<LinkImageHead>) -> EndImage
     ensures end { result ≡ end_of_head head.now (linked_of link.now lists.old.kept.items) lists.old.untold.items lists.old.unused.items }
     ensures domains { lists.new.domains ≡ lists.old.domains }
     ensures regions { lists.new.regions ≡ lists.old.regions }
@@ -489,17 +489,17 @@ pub fn enter_receives(
     opened: &Opened,
     lists: &mut Lists,
     c: &Cursor<'_>,
-    head: &EndHead,
-    link: &Option<LinkHead>,
+    head: &EndImageHead,
+    link: &Option<LinkImageHead>,
     count: u16,
     after: u16,
-) -> Result<Place, DumpFault>
+) -> Result<ReadState, DumpFault>
     ensures moves { Moves (more_receives opened.now lists.old.domains.items lists.old.regions.items (queues_of lists.old) lists.old.ends.items after head.now (linked_of link.now lists.old.kept.items) lists.old.untold.items count lists.old.unused.items c.now.place c.now.bytes.now) (λ next. ahead opened.now lists.new next c.now.place c.now.bytes.now) result }
-    ensures later { IfOk result (λ next. Alike (more_receives opened.now lists.old.domains.items lists.old.regions.items (queues_of lists.old) lists.old.ends.items after head.now (linked_of link.now lists.old.kept.items) lists.old.untold.items count lists.old.unused.items) c.now.place c.now.bytes.now (ahead opened.now lists.new next) c.now.place c.now.bytes.now) }
+    ensures with_more_bytes { IfOk result (λ next. Alike (more_receives opened.now lists.old.domains.items lists.old.regions.items (queues_of lists.old) lists.old.ends.items after head.now (linked_of link.now lists.old.kept.items) lists.old.untold.items count lists.old.unused.items) c.now.place c.now.bytes.now (ahead opened.now lists.new next) c.now.place c.now.bytes.now) }
     ensures never { IfErr result (λ e. is_wanting e ≡ false) }
 {
     if count > 0 {
-        return Ok(Place::Receive(*head, *link, count - 1, after));
+        return Ok(ReadState::Receive(*head, *link, count - 1, after));
     }
     let end = end_image(lists, head, link);
     push(&mut lists.ends, end)?;
@@ -513,13 +513,13 @@ pub fn unused_step(
     opened: &Opened,
     lists: &mut Lists,
     c: &mut Cursor<'_>,
-    head: &EndHead,
-    link: &Option<LinkHead>,
+    head: &EndImageHead,
+    link: &Option<LinkImageHead>,
     after: u16,
-) -> Result<Place, DumpFault>
+) -> Result<ReadState, DumpFault>
     requires { c.old.place + length c.old.bytes.now < 2 ^ 64 }
-    ensures moves { Moves (ahead opened.now lists.old (Place.Unused head.now link.now after) c.old.place c.old.bytes.now) (λ next. ahead opened.now lists.new next c.new.place c.new.bytes.now) result }
-    ensures later { IfOk result (λ next. Alike (ahead opened.now lists.old (Place.Unused head.now link.now after)) c.old.place c.old.bytes.now (ahead opened.now lists.new next) c.new.place c.new.bytes.now) }
+    ensures moves { Moves (ahead opened.now lists.old (ReadState.Unused head.now link.now after) c.old.place c.old.bytes.now) (λ next. ahead opened.now lists.new next c.new.place c.new.bytes.now) result }
+    ensures with_more_bytes { IfOk result (λ next. Alike (ahead opened.now lists.old (ReadState.Unused head.now link.now after)) c.old.place c.old.bytes.now (ahead opened.now lists.new next) c.new.place c.new.bytes.now) }
     ensures left { IfOk result (λ next. c.new.bytes.now ≡ drop (c.new.place - c.old.place) c.old.bytes.now) }
     ensures same { IfErr result (λ e. is_wanting e ≡ true → lists.new ≡ lists.old) }
     ensures passed { IfOk result (λ next. c.old.place < c.new.place) }
@@ -537,14 +537,14 @@ pub fn receive_step(
     opened: &Opened,
     lists: &mut Lists,
     c: &mut Cursor<'_>,
-    head: &EndHead,
-    link: &Option<LinkHead>,
+    head: &EndImageHead,
+    link: &Option<LinkImageHead>,
     more: u16,
     after: u16,
-) -> Result<Place, DumpFault>
+) -> Result<ReadState, DumpFault>
     requires { c.old.place + length c.old.bytes.now < 2 ^ 64 }
-    ensures moves { Moves (ahead opened.now lists.old (Place.Receive head.now link.now more after) c.old.place c.old.bytes.now) (λ next. ahead opened.now lists.new next c.new.place c.new.bytes.now) result }
-    ensures later { IfOk result (λ next. Alike (ahead opened.now lists.old (Place.Receive head.now link.now more after)) c.old.place c.old.bytes.now (ahead opened.now lists.new next) c.new.place c.new.bytes.now) }
+    ensures moves { Moves (ahead opened.now lists.old (ReadState.Receive head.now link.now more after) c.old.place c.old.bytes.now) (λ next. ahead opened.now lists.new next c.new.place c.new.bytes.now) result }
+    ensures with_more_bytes { IfOk result (λ next. Alike (ahead opened.now lists.old (ReadState.Receive head.now link.now more after)) c.old.place c.old.bytes.now (ahead opened.now lists.new next) c.new.place c.new.bytes.now) }
     ensures left { IfOk result (λ next. c.new.bytes.now ≡ drop (c.new.place - c.old.place) c.old.bytes.now) }
     ensures same { IfErr result (λ e. is_wanting e ≡ true → lists.new ≡ lists.old) }
     ensures passed { IfOk result (λ next. c.old.place < c.new.place) }

@@ -9,7 +9,7 @@ ghost use Rattle.dump_reader.specs.Groups.{came, region_head_field, queue_head_f
 ghost use Rattle.rdma_types.specs.declared.names.Name.{Name};
 
 use crate::cursor::{Cursor, Offence};
-use crate::heads::{EndHead, Numbers, Peer, PlacedQueue, QueueHead, RegionHead, Waiting};
+use crate::heads::{EndImageHead, Numbers, Peer, PlacedQueue, QueueHead, RegionImageHead, Waiting};
 use protocol::{EndImage, KeptReply, RegionImage};
 use rdma_types::{Address, Completion, Keys, Name, Rights, Terms, WcKind, WcStatus};
 
@@ -294,7 +294,7 @@ pub fn read_region(
     c: &mut Cursor<'_>,
     domains: usize,
     seen: &[RegionImage],
-) -> Result<RegionHead, Offence>
+) -> Result<RegionImageHead, Offence>
     requires { c.old.place + length c.old.bytes.now < 2 ^ 64 }
     ensures region { region_head_field domains seen.now c.old.place c.old.bytes.now ≡ came result c.new.place c.new.bytes.now }
     ensures passed { IfOk result (λ x. c.old.place < c.new.place) }
@@ -313,7 +313,7 @@ pub fn read_region(
     let local = read_key(c, seen)?;
     let remote = c.u32()?;
     c.keep(remote as u64 == local as u64 + 1)?;
-    Ok(RegionHead {
+    Ok(RegionImageHead {
         name,
         domain,
         base,
@@ -401,7 +401,7 @@ pub fn read_end(
     domains: usize,
     queues: usize,
     seen: &[EndImage],
-) -> Result<EndHead, Offence>
+) -> Result<EndImageHead, Offence>
     requires { c.old.place + length c.old.bytes.now < 2 ^ 64 }
     ensures end { end_head_field domains queues seen.now c.old.place c.old.bytes.now ≡ came result c.new.place c.new.bytes.now }
     ensures passed { IfOk result (λ x. c.old.place < c.new.place) }
@@ -422,7 +422,7 @@ pub fn read_end(
     c.keep((1..=256).contains(&recv_depth))?;
     let state = c.u8()?;
     c.keep(state <= 2)?;
-    Ok(EndHead {
+    Ok(EndImageHead {
         name,
         number,
         domain,

@@ -5,7 +5,7 @@ use rdma_types::{Address, Keys, Kind, Name, Rights, Terms};
 
 /// A region without its bytes.
 #[derive(Clone, Copy)]
-pub struct RegionHead {
+pub struct RegionImageHead {
     pub name: Name,
     pub domain: u16,
     pub base: u64,
@@ -27,7 +27,7 @@ pub struct QueueHead {
 
 /// A queue pair up to its state.
 #[derive(Clone, Copy)]
-pub struct EndHead {
+pub struct EndImageHead {
     pub name: Name,
     pub number: u32,
     pub domain: u16,
@@ -71,7 +71,7 @@ pub struct Waiting {
 
 /// What a connected end has, but for its kept replies.
 #[derive(Clone, Copy)]
-pub struct LinkHead {
+pub struct LinkImageHead {
     pub ended: bool,
     pub peer: Peer,
     pub terms: Terms,

@@ -11,11 +11,11 @@ mod lists;
 mod machine;
 mod overfull;
 mod places;
+mod read_progress;
 mod requests;
 mod steps;
-mod way;
 
 pub use cursor::Offence;
 pub use decode::decode_dump;
 pub use fault::DumpFault;
-pub use way::Way;
+pub use read_progress::ReadProgress;

@@ -2,7 +2,7 @@
 
 ghost use Rattle.std.specs.Prelude.{◌≡◌, ◌++◌, ◌∷◌, [], OnOk, OnErr};
 
-use crate::heads::{Before, EndHead, LinkHead, PlacedQueue, QueueHead, RegionHead};
+use crate::heads::{Before, EndImageHead, LinkImageHead, PlacedQueue, QueueHead, RegionImageHead};
 use byte_run::ByteRun;
 use protocol::{EndImage, KeptReply, PostedImage, RegionImage};
 use rdma_types::{Completion, Name, Receive, Request};
@@ -28,23 +28,23 @@ pub struct Lists {
 /// What is read next. A number says how many more things of a list follow the one that is next; in a queue pair the last
 /// one says how many queue pairs follow it. Of bytes, how many are missing.
 #[derive(Clone, Copy)]
-pub enum Place {
+pub enum ReadState {
     Domain(u16),
     RegionCount,
     Region(u16),
-    Bytes(RegionHead, u32, u16),
+    Bytes(RegionImageHead, u32, u16),
     QueueCount,
     Queue(u16),
     Entry(QueueHead, u32, u16),
     EndCount,
     End(u16),
-    Link(EndHead, u16),
-    Kept(EndHead, LinkHead, u8, u16),
-    Untold(EndHead, Option<LinkHead>, u16),
-    Request(EndHead, LinkHead, Before, u16, u16),
-    Payload(EndHead, LinkHead, Before, u16, u16, Request, u32),
-    Unused(EndHead, Option<LinkHead>, u16),
-    Receive(EndHead, Option<LinkHead>, u16, u16),
+    Link(EndImageHead, u16),
+    Kept(EndImageHead, LinkImageHead, u8, u16),
+    Untold(EndImageHead, Option<LinkImageHead>, u16),
+    Request(EndImageHead, LinkImageHead, Before, u16, u16),
+    Payload(EndImageHead, LinkImageHead, Before, u16, u16, Request, u32),
+    Unused(EndImageHead, Option<LinkImageHead>, u16),
+    Receive(EndImageHead, Option<LinkImageHead>, u16, u16),
     Done,
 }
 

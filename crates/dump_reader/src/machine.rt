@@ -10,7 +10,7 @@ ghost use Rattle.dump_reader.specs.Steps.{Alike, Moves, IsFault, is_wanting};
 use crate::cursor::{Cursor, Offence};
 use crate::fault::DumpFault;
 use crate::heads::Opened;
-use crate::lists::{Lists, Place};
+use crate::lists::{Lists, ReadState};
 use crate::{end_steps, groups, steps};
 use protocol::DumpWhy;
 
@@ -67,59 +67,61 @@ pub fn step(
     opened: &Opened,
     lists: &mut Lists,
     c: &mut Cursor<'_>,
-    place: &Place,
-) -> Result<Place, DumpFault>
+    place: &ReadState,
+) -> Result<ReadState, DumpFault>
     requires open { IsOpen place.now }
     requires place { c.old.place + length c.old.bytes.now < 2 ^ 64 }
     ensures moves { Moves (ahead opened.now lists.old place.now c.old.place c.old.bytes.now) (λ next. ahead opened.now lists.new next c.new.place c.new.bytes.now) result }
-    ensures later { IfOk result (λ next. Alike (ahead opened.now lists.old place.now) c.old.place c.old.bytes.now (ahead opened.now lists.new next) c.new.place c.new.bytes.now) }
+    ensures with_more_bytes { IfOk result (λ next. Alike (ahead opened.now lists.old place.now) c.old.place c.old.bytes.now (ahead opened.now lists.new next) c.new.place c.new.bytes.now) }
     ensures left { IfOk result (λ next. c.new.bytes.now ≡ drop (c.new.place - c.old.place) c.old.bytes.now) }
     ensures same { IfErr result (λ e. is_wanting e ≡ true → lists.new ≡ lists.old) }
     ensures less { IfOk result (λ next. 2 * length c.new.bytes.now + weight next < 2 * length c.old.bytes.now + weight place.now) }
     ensures fits { c.new.place + length c.new.bytes.now ≡ c.old.place + length c.old.bytes.now }
 {
     match place {
-        Place::Domain(more) => steps::domain_step(opened, lists, c, *more),
-        Place::RegionCount => steps::region_count_step(opened, lists, c),
-        Place::Region(more) => steps::region_step(opened, lists, c, *more),
-        Place::Bytes(head, missing, after) => steps::bytes_step(
+        ReadState::Domain(more) => steps::domain_step(opened, lists, c, *more),
+        ReadState::RegionCount => steps::region_count_step(opened, lists, c),
+        ReadState::Region(more) => steps::region_step(opened, lists, c, *more),
+        ReadState::Bytes(head, missing, after) => steps::bytes_step(
             opened, lists, c, head, *missing, *after,
         ),
-        Place::QueueCount => steps::queue_count_step(opened, lists, c),
-        Place::Queue(more) => steps::queue_step(opened, lists, c, *more),
-        Place::Entry(head, more, after) => steps::entry_step(opened, lists, c, head, *more, *after),
-        Place::EndCount => end_steps::end_count_step(opened, lists, c),
-        Place::End(more) => end_steps::end_step(opened, lists, c, *more),
-        Place::Link(head, after) => end_steps::link_step(opened, lists, c, head, *after),
-        Place::Kept(head, link, more, after) => {
+        ReadState::QueueCount => steps::queue_count_step(opened, lists, c),
+        ReadState::Queue(more) => steps::queue_step(opened, lists, c, *more),
+        ReadState::Entry(head, more, after) => steps::entry_step(
+            opened, lists, c, head, *more, *after,
+        ),
+        ReadState::EndCount => end_steps::end_count_step(opened, lists, c),
+        ReadState::End(more) => end_steps::end_step(opened, lists, c, *more),
+        ReadState::Link(head, after) => end_steps::link_step(opened, lists, c, head, *after),
+        ReadState::Kept(head, link, more, after) => {
             end_steps::kept_step(opened, lists, c, head, link, *more, *after)
         }
-        Place::Untold(head, link, after) => {
+        ReadState::Untold(head, link, after) => {
             end_steps::untold_step(opened, lists, c, head, link, *after)
         }
-        Place::Request(head, link, before, more, after) => {
+        ReadState::Request(head, link, before, more, after) => {
             end_steps::request_step(opened, lists, c, head, link, before, *more, *after)
         }
-        Place::Payload(head, link, before, count, after, request, missing) => {
+        ReadState::Payload(head, link, before, count, after, request, missing) => {
             end_steps::payload_step(
                 opened, lists, c, head, link, before, *count, *after, *request, *missing,
             )
         }
-        Place::Unused(head, link, after) => {
+        ReadState::Unused(head, link, after) => {
             end_steps::unused_step(opened, lists, c, head, link, *after)
         }
-        Place::Receive(head, link, more, after) => {
+        ReadState::Receive(head, link, more, after) => {
             end_steps::receive_step(opened, lists, c, head, link, *more, *after)
         }
-        Place::Done => unreachable!(),
+        ReadState::Done => unreachable!(),
     }
 }
 
 /// Whether all fields of the image were read: true at `Done` alone, and false where a group of fields is still to be
 /// read.
-pub fn is_done(place: &Place) -> bool
-    ensures done { result ≡ true → place.now ≡ Place.Done }
+pub fn is_done(place: &ReadState) -> bool
+    ensures done { result ≡ true → place.now ≡ ReadState.Done }
     ensures open { result ≡ false → IsOpen place.now }
 {
-    matches!(place, Place::Done)
+    matches!(place, ReadState::Done)
 }

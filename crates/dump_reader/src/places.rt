@@ -11,7 +11,7 @@ ghost use Rattle.rdma_types.specs.Limits.{most_kept};
 
 use crate::cursor::{Cursor, Offence};
 use crate::groups::{read_numbers, read_peer, read_terms, read_waiting};
-use crate::heads::LinkHead;
+use crate::heads::LinkImageHead;
 use protocol::{Progress, RegionImage};
 use rdma_types::{Name, Receive};
 
@@ -225,7 +225,11 @@ pub fn read_message(
 /// What a connected end has, up to the count of its kept replies. Errors: the first fault of its fields, with its
 /// place: `Short`, `Field` or `Count`.
 #[tactic(auto, unfolding(protocol::specs::Dumps::after, protocol::specs::Dumps::judged, crate::specs::Groups::link_head_field))]
-pub fn read_link(c: &mut Cursor<'_>, scope: &Scope<'_>, ended: bool) -> Result<LinkHead, Offence>
+pub fn read_link(
+    c: &mut Cursor<'_>,
+    scope: &Scope<'_>,
+    ended: bool,
+) -> Result<LinkImageHead, Offence>
     requires { c.old.place + length c.old.bytes.now < 2 ^ 64 }
     ensures link { link_head_field (regions_of scope.now.domains.now scope.now.regions.now) scope.now.domain.now ended c.old.place c.old.bytes.now ≡ came result c.new.place c.new.bytes.now }
     ensures mtu { IfOk result (λ h. 1 ≤ h.terms.mtu) }
@@ -239,7 +243,7 @@ pub fn read_link(c: &mut Cursor<'_>, scope: &Scope<'_>, ended: bool) -> Result<L
     let progress = read_message(c, scope, terms.mtu, ended)?;
     let count = c.u8()?;
     c.count(count <= 16)?;
-    Ok(LinkHead {
+    Ok(LinkImageHead {
         ended,
         peer,
         terms,

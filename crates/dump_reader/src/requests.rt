@@ -8,7 +8,7 @@ ghost use Rattle.protocol.specs.Dumps.{kind_of, has_flag, keeps_numbers, shape_o
 ghost use Rattle.dump_reader.specs.Groups.{came, regions_of, link_of_head, may_be_flags, may_be_length, request_head_field, request_places_field, payload_length};
 
 use crate::cursor::{Cursor, Offence};
-use crate::heads::{LinkHead, RequestHead, Standing};
+use crate::heads::{LinkImageHead, RequestHead, Standing};
 use crate::places::{Asked, Scope, is_place_granted};
 use rdma_types::{Kind, Request, Shape};
 
@@ -79,7 +79,7 @@ pub fn span_of(kind: Kind, length: u32, mtu: u32) -> u64
     1.max(pieces.unwrap_or(0))
 }
 
-fn keeps_order(link: &LinkHead, standing: &Standing, kind: Kind, high: u64) -> bool
+fn keeps_order(link: &LinkImageHead, standing: &Standing, kind: Kind, high: u64) -> bool
     ensures test { result ≡ keeps_numbers (link_of_head link.now []) standing.now.count standing.now.index kind standing.now.low high }
     ensures limit { result ≡ true → high < 2 ^ 62 }
 {
@@ -101,7 +101,7 @@ fn size_fits(kind: Kind, length: u32) -> bool
     }
 }
 
-fn length_fits(link: &LinkHead, standing: &Standing, kind: Kind, length: u32) -> bool
+fn length_fits(link: &LinkImageHead, standing: &Standing, kind: Kind, length: u32) -> bool
     ensures test { result ≡ may_be_length (link_of_head link.now []) standing.now.count standing.now.index standing.now.low kind length }
     ensures limit { result ≡ true → standing.now.low + shape_of_length kind length link.now.terms.mtu < 2 ^ 62 }
 {
@@ -116,7 +116,7 @@ fn length_fits(link: &LinkHead, standing: &Standing, kind: Kind, length: u32) ->
 #[tactic(auto, unfolding(protocol::specs::Dumps::after, protocol::specs::Dumps::judged, crate::specs::Groups::request_head_field))]
 pub fn read_request_head(
     c: &mut Cursor<'_>,
-    link: &LinkHead,
+    link: &LinkImageHead,
     standing: &Standing,
 ) -> Result<RequestHead, Offence>
     requires { c.old.place + length c.old.bytes.now < 2 ^ 64 }

@@ -9,8 +9,8 @@ ghost use Rattle.dump_reader.specs.Steps.{Alike, Moves, is_wanting};
 use crate::cursor::Cursor;
 use crate::fault::DumpFault;
 use crate::groups;
-use crate::heads::{Opened, PlacedQueue, QueueHead, RegionHead};
-use crate::lists::{Lists, Place, push};
+use crate::heads::{Opened, PlacedQueue, QueueHead, RegionImageHead};
+use crate::lists::{Lists, ReadState, push};
 use byte_run::ByteRun;
 use protocol::{CqImage, RegionImage};
 use rdma_types::Items;
@@ -18,12 +18,12 @@ use std::mem;
 
 /// So many domains are next.
 #[tactic(auto, unfolding(protocol::specs::Dumps::after, protocol::specs::Dumps::items, crate::specs::Ahead::ahead, crate::specs::Ahead::more_domains))]
-pub fn enter_domains(opened: &Opened, lists: &Lists, count: u16) -> Place
+pub fn enter_domains(opened: &Opened, lists: &Lists, count: u16) -> ReadState
     ensures { ahead opened.now lists.now result ≡ more_domains opened.now count lists.now.domains.items }
 {
     match count {
-        0 => Place::RegionCount,
-        _ => Place::Domain(count - 1),
+        0 => ReadState::RegionCount,
+        _ => ReadState::Domain(count - 1),
     }
 }
 
@@ -35,10 +35,10 @@ pub fn domain_step(
     lists: &mut Lists,
     c: &mut Cursor<'_>,
     more: u16,
-) -> Result<Place, DumpFault>
+) -> Result<ReadState, DumpFault>
     requires { c.old.place + length c.old.bytes.now < 2 ^ 64 }
-    ensures moves { Moves (ahead opened.now lists.old (Place.Domain more) c.old.place c.old.bytes.now) (λ next. ahead opened.now lists.new next c.new.place c.new.bytes.now) result }
-    ensures later { IfOk result (λ next. Alike (ahead opened.now lists.old (Place.Domain more)) c.old.place c.old.bytes.now (ahead opened.now lists.new next) c.new.place c.new.bytes.now) }
+    ensures moves { Moves (ahead opened.now lists.old (ReadState.Domain more) c.old.place c.old.bytes.now) (λ next. ahead opened.now lists.new next c.new.place c.new.bytes.now) result }
+    ensures with_more_bytes { IfOk result (λ next. Alike (ahead opened.now lists.old (ReadState.Domain more)) c.old.place c.old.bytes.now (ahead opened.now lists.new next) c.new.place c.new.bytes.now) }
     ensures left { IfOk result (λ next. c.new.bytes.now ≡ drop (c.new.place - c.old.place) c.old.bytes.now) }
     ensures same { IfErr result (λ e. is_wanting e ≡ true → lists.new ≡ lists.old) }
     ensures passed { IfOk result (λ next. c.old.place < c.new.place) }
@@ -51,13 +51,13 @@ pub fn domain_step(
 
 /// So many regions are next.
 #[tactic(auto, unfolding(protocol::specs::Dumps::after, protocol::specs::Dumps::items, crate::specs::Ahead::ahead, crate::specs::Ahead::more_regions))]
-pub fn enter_regions(opened: &Opened, lists: &Lists, count: u16) -> Place
+pub fn enter_regions(opened: &Opened, lists: &Lists, count: u16) -> ReadState
     ensures ahead { ahead opened.now lists.now result ≡ more_regions opened.now lists.now.domains.items count lists.now.regions.items }
-    ensures light { weight result ≡ 0 }
+    ensures weightless { weight result ≡ 0 }
 {
     match count {
-        0 => Place::QueueCount,
-        _ => Place::Region(count - 1),
+        0 => ReadState::QueueCount,
+        _ => ReadState::Region(count - 1),
     }
 }
 
@@ -68,10 +68,10 @@ pub fn region_count_step(
     opened: &Opened,
     lists: &mut Lists,
     c: &mut Cursor<'_>,
-) -> Result<Place, DumpFault>
+) -> Result<ReadState, DumpFault>
     requires { c.old.place + length c.old.bytes.now < 2 ^ 64 }
-    ensures moves { Moves (ahead opened.now lists.old Place.RegionCount c.old.place c.old.bytes.now) (λ next. ahead opened.now lists.new next c.new.place c.new.bytes.now) result }
-    ensures later { IfOk result (λ next. Alike (ahead opened.now lists.old Place.RegionCount) c.old.place c.old.bytes.now (ahead opened.now lists.new next) c.new.place c.new.bytes.now) }
+    ensures moves { Moves (ahead opened.now lists.old ReadState.RegionCount c.old.place c.old.bytes.now) (λ next. ahead opened.now lists.new next c.new.place c.new.bytes.now) result }
+    ensures with_more_bytes { IfOk result (λ next. Alike (ahead opened.now lists.old ReadState.RegionCount) c.old.place c.old.bytes.now (ahead opened.now lists.new next) c.new.place c.new.bytes.now) }
     ensures left { IfOk result (λ next. c.new.bytes.now ≡ drop (c.new.place - c.old.place) c.old.bytes.now) }
     ensures same { IfErr result (λ e. is_wanting e ≡ true → lists.new ≡ lists.old) }
     ensures passed { IfOk result (λ next. c.old.place < c.new.place) }
@@ -82,7 +82,7 @@ pub fn region_count_step(
     Ok(enter_regions(opened, lists, count))
 }
 
-fn region_image(head: &RegionHead, bytes: ByteRun) -> RegionImage
+fn region_image(head: &RegionImageHead, bytes: ByteRun) -> RegionImage
     ensures { result ≡ region_of_head head.now bytes }
 {
     RegionImage {
@@ -103,16 +103,16 @@ pub fn bytes_step(
     opened: &Opened,
     lists: &mut Lists,
     c: &mut Cursor<'_>,
-    head: &RegionHead,
+    head: &RegionImageHead,
     missing: u32,
     after: u16,
-) -> Result<Place, DumpFault>
+) -> Result<ReadState, DumpFault>
     requires { c.old.place + length c.old.bytes.now < 2 ^ 64 }
-    ensures moves { Moves (ahead opened.now lists.old (Place.Bytes head.now missing after) c.old.place c.old.bytes.now) (λ next. ahead opened.now lists.new next c.new.place c.new.bytes.now) result }
-    ensures later { IfOk result (λ next. Alike (ahead opened.now lists.old (Place.Bytes head.now missing after)) c.old.place c.old.bytes.now (ahead opened.now lists.new next) c.new.place c.new.bytes.now) }
+    ensures moves { Moves (ahead opened.now lists.old (ReadState.Bytes head.now missing after) c.old.place c.old.bytes.now) (λ next. ahead opened.now lists.new next c.new.place c.new.bytes.now) result }
+    ensures with_more_bytes { IfOk result (λ next. Alike (ahead opened.now lists.old (ReadState.Bytes head.now missing after)) c.old.place c.old.bytes.now (ahead opened.now lists.new next) c.new.place c.new.bytes.now) }
     ensures left { IfOk result (λ next. c.new.bytes.now ≡ drop (c.new.place - c.old.place) c.old.bytes.now) }
     ensures same { IfErr result (λ e. is_wanting e ≡ true → lists.new ≡ lists.old) }
-    ensures light { IfOk result (λ next. weight next ≡ 0) }
+    ensures weightless { IfOk result (λ next. weight next ≡ 0) }
     ensures passed { IfOk result (λ next. c.old.place ≤ c.new.place) }
     ensures fits { c.new.place + length c.new.bytes.now ≡ c.old.place + length c.old.bytes.now }
 {
@@ -131,10 +131,10 @@ pub fn region_step(
     lists: &mut Lists,
     c: &mut Cursor<'_>,
     more: u16,
-) -> Result<Place, DumpFault>
+) -> Result<ReadState, DumpFault>
     requires { c.old.place + length c.old.bytes.now < 2 ^ 64 }
-    ensures moves { Moves (ahead opened.now lists.old (Place.Region more) c.old.place c.old.bytes.now) (λ next. ahead opened.now lists.new next c.new.place c.new.bytes.now) result }
-    ensures later { IfOk result (λ next. Alike (ahead opened.now lists.old (Place.Region more)) c.old.place c.old.bytes.now (ahead opened.now lists.new next) c.new.place c.new.bytes.now) }
+    ensures moves { Moves (ahead opened.now lists.old (ReadState.Region more) c.old.place c.old.bytes.now) (λ next. ahead opened.now lists.new next c.new.place c.new.bytes.now) result }
+    ensures with_more_bytes { IfOk result (λ next. Alike (ahead opened.now lists.old (ReadState.Region more)) c.old.place c.old.bytes.now (ahead opened.now lists.new next) c.new.place c.new.bytes.now) }
     ensures left { IfOk result (λ next. c.new.bytes.now ≡ drop (c.new.place - c.old.place) c.old.bytes.now) }
     ensures same { IfErr result (λ e. is_wanting e ≡ true → lists.new ≡ lists.old) }
     ensures passed { IfOk result (λ next. c.old.place < c.new.place) }
@@ -143,17 +143,17 @@ pub fn region_step(
     let head = groups::read_region(c, lists.domains.len(), &lists.regions)?;
     lists.run = ByteRun::make(lists.alloc);
     let missing = head.length;
-    Ok(Place::Bytes(head, missing, more))
+    Ok(ReadState::Bytes(head, missing, more))
 }
 
 /// So many completion queues are next.
 #[tactic(auto, unfolding(protocol::specs::Dumps::after, protocol::specs::Dumps::items, crate::specs::Ahead::ahead, crate::specs::Ahead::more_queues))]
-pub fn enter_queues(opened: &Opened, lists: &Lists, count: u16) -> Place
+pub fn enter_queues(opened: &Opened, lists: &Lists, count: u16) -> ReadState
     ensures { ahead opened.now lists.now result ≡ more_queues opened.now lists.now.domains.items lists.now.regions.items count (queues_of lists.now) }
 {
     match count {
-        0 => Place::EndCount,
-        _ => Place::Queue(count - 1),
+        0 => ReadState::EndCount,
+        _ => ReadState::Queue(count - 1),
     }
 }
 
@@ -164,10 +164,10 @@ pub fn queue_count_step(
     opened: &Opened,
     lists: &mut Lists,
     c: &mut Cursor<'_>,
-) -> Result<Place, DumpFault>
+) -> Result<ReadState, DumpFault>
     requires { c.old.place + length c.old.bytes.now < 2 ^ 64 }
-    ensures moves { Moves (ahead opened.now lists.old Place.QueueCount c.old.place c.old.bytes.now) (λ next. ahead opened.now lists.new next c.new.place c.new.bytes.now) result }
-    ensures later { IfOk result (λ next. Alike (ahead opened.now lists.old Place.QueueCount) c.old.place c.old.bytes.now (ahead opened.now lists.new next) c.new.place c.new.bytes.now) }
+    ensures moves { Moves (ahead opened.now lists.old ReadState.QueueCount c.old.place c.old.bytes.now) (λ next. ahead opened.now lists.new next c.new.place c.new.bytes.now) result }
+    ensures with_more_bytes { IfOk result (λ next. Alike (ahead opened.now lists.old ReadState.QueueCount) c.old.place c.old.bytes.now (ahead opened.now lists.new next) c.new.place c.new.bytes.now) }
     ensures left { IfOk result (λ next. c.new.bytes.now ≡ drop (c.new.place - c.old.place) c.old.bytes.now) }
     ensures same { IfErr result (λ e. is_wanting e ≡ true → lists.new ≡ lists.old) }
     ensures passed { IfOk result (λ next. c.old.place < c.new.place) }
@@ -187,13 +187,13 @@ pub fn enter_entries(
     head: &QueueHead,
     count: u32,
     after: u16,
-) -> Result<Place, DumpFault>
+) -> Result<ReadState, DumpFault>
     ensures moves { Moves (more_entries opened.now lists.old.domains.items lists.old.regions.items (queues_of lists.old) after head.now count lists.old.entries.items c.now.place c.now.bytes.now) (λ next. ahead opened.now lists.new next c.now.place c.now.bytes.now) result }
-    ensures later { IfOk result (λ next. Alike (more_entries opened.now lists.old.domains.items lists.old.regions.items (queues_of lists.old) after head.now count lists.old.entries.items) c.now.place c.now.bytes.now (ahead opened.now lists.new next) c.now.place c.now.bytes.now) }
+    ensures with_more_bytes { IfOk result (λ next. Alike (more_entries opened.now lists.old.domains.items lists.old.regions.items (queues_of lists.old) after head.now count lists.old.entries.items) c.now.place c.now.bytes.now (ahead opened.now lists.new next) c.now.place c.now.bytes.now) }
     ensures never { IfErr result (λ e. is_wanting e ≡ false) }
 {
     if count > 0 {
-        return Ok(Place::Entry(*head, count - 1, after));
+        return Ok(ReadState::Entry(*head, count - 1, after));
     }
     let entries = mem::replace(&mut lists.entries, Vec::new(lists.alloc));
     let queue = CqImage {
@@ -214,10 +214,10 @@ pub fn queue_step(
     lists: &mut Lists,
     c: &mut Cursor<'_>,
     more: u16,
-) -> Result<Place, DumpFault>
+) -> Result<ReadState, DumpFault>
     requires { c.old.place + length c.old.bytes.now < 2 ^ 64 }
-    ensures moves { Moves (ahead opened.now lists.old (Place.Queue more) c.old.place c.old.bytes.now) (λ next. ahead opened.now lists.new next c.new.place c.new.bytes.now) result }
-    ensures later { IfOk result (λ next. Alike (ahead opened.now lists.old (Place.Queue more)) c.old.place c.old.bytes.now (ahead opened.now lists.new next) c.new.place c.new.bytes.now) }
+    ensures moves { Moves (ahead opened.now lists.old (ReadState.Queue more) c.old.place c.old.bytes.now) (λ next. ahead opened.now lists.new next c.new.place c.new.bytes.now) result }
+    ensures with_more_bytes { IfOk result (λ next. Alike (ahead opened.now lists.old (ReadState.Queue more)) c.old.place c.old.bytes.now (ahead opened.now lists.new next) c.new.place c.new.bytes.now) }
     ensures left { IfOk result (λ next. c.new.bytes.now ≡ drop (c.new.place - c.old.place) c.old.bytes.now) }
     ensures same { IfErr result (λ e. is_wanting e ≡ true → lists.new ≡ lists.old) }
     ensures passed { IfOk result (λ next. c.old.place < c.new.place) }
@@ -238,10 +238,10 @@ pub fn entry_step(
     head: &QueueHead,
     more: u32,
     after: u16,
-) -> Result<Place, DumpFault>
+) -> Result<ReadState, DumpFault>
     requires { c.old.place + length c.old.bytes.now < 2 ^ 64 }
-    ensures moves { Moves (ahead opened.now lists.old (Place.Entry head.now more after) c.old.place c.old.bytes.now) (λ next. ahead opened.now lists.new next c.new.place c.new.bytes.now) result }
-    ensures later { IfOk result (λ next. Alike (ahead opened.now lists.old (Place.Entry head.now more after)) c.old.place c.old.bytes.now (ahead opened.now lists.new next) c.new.place c.new.bytes.now) }
+    ensures moves { Moves (ahead opened.now lists.old (ReadState.Entry head.now more after) c.old.place c.old.bytes.now) (λ next. ahead opened.now lists.new next c.new.place c.new.bytes.now) result }
+    ensures with_more_bytes { IfOk result (λ next. Alike (ahead opened.now lists.old (ReadState.Entry head.now more after)) c.old.place c.old.bytes.now (ahead opened.now lists.new next) c.new.place c.new.bytes.now) }
     ensures left { IfOk result (λ next. c.new.bytes.now ≡ drop (c.new.place - c.old.place) c.old.bytes.now) }
     ensures same { IfErr result (λ e. is_wanting e ≡ true → lists.new ≡ lists.old) }
     ensures passed { IfOk result (λ next. c.old.place < c.new.place) }

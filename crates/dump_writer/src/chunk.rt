@@ -41,7 +41,7 @@ impl Chunk {
     /// The bytes.
     pub fn as_slice(&self) -> &[u8]
         ensures bytes { result.now ≡ self.now }
-        ensures few { length self.now ≤ 128 }
+        ensures bounded { length self.now ≤ 128 }
     {
         &self.bytes[..self.len]
     }
@@ -100,7 +100,7 @@ impl Chunk {
     pub fn put_text(&mut self, name: &Name)
         requires { length self.old + 17 ≤ 128 }
         ensures text { self.new ≡ self.old ++ text name.now }
-        ensures few { length self.new ≤ length self.old + 17 }
+        ensures bounded { length self.new ≤ length self.old + 17 }
         ensures some { length self.old < length self.new }
     {
         let bytes = name.as_bytes();

@@ -10,7 +10,7 @@ use Rattle.rdma_types.specs.Objects as objects
 use Rattle.rdma_types.specs.Spans.{end_number, first_number}
 use Rattle.page_pool.specs.Pool.{Pool}
 use Rattle.completion_queue.specs.Queue.{Queue}
-use Rattle.work_queues.specs.declared.posted.Posted.{Posted}
+use Rattle.work_queues.specs.declared.posted.QueuedRequest.{QueuedRequest}
 use Rattle.protocol.specs.EndWords.{failed_receive, failed_request}
 use Rattle.protocol.specs.Requester.{emptied_at, end_of_queue, failing}
 use Rattle.protocol.specs.State.{Sender}
@@ -50,7 +50,7 @@ pub record Failing (number : ℕ) (s s0 : WcStatus) (r r0 : Sending) (pool pool0
 pub failing-begins : (number : ℕ) (s : WcStatus) (r : Sending) (pool : Pool) (q : Queue) → AreApart pool r.items → length r.items ≤ q.reserved → Failing number s s r r pool pool q q
 failing-begins number s r pool q apart reserved = record { terms = refl; depth = refl; end = refl; queue = refl; given = λ new gives. gives; apart = apart; reserved = reserved }
 
-pub failing-goes_on : (number : ℕ) (s s0 : WcStatus) (r r' r0 : Sending) (pool pool' pool0 : Pool) (q q' q0 : Queue) (p : Posted)
+pub failing-goes_on : (number : ℕ) (s s0 : WcStatus) (r r' r0 : Sending) (pool pool' pool0 : Pool) (q q' q0 : Queue) (p : QueuedRequest)
     → slice_get r.items 0 ≡ Some p → LosesOldest r r' → sender_of r' ≡ failing_without_oldest r.terms (sender_of r)
     → q' ≡ settled 1 (failed_request number s (bare p) ∷ []) q → GivesBack pool pool' (p ∷ [])
     → Failing number s s0 r r0 pool pool0 q q0 → Failing number status.Flush s0 r' r0 pool' pool0 q' q0
@@ -101,7 +101,7 @@ failing-ends number s s0 r r' r0 pool pool0 q q0 at loses numbers held =
     left : slice_get r.items 0 ≡ None → r.items ≡ []
     left e = empty r.items e
       where
-        empty : (xs : List Posted) → slice_get xs 0 ≡ None → xs ≡ []
+        empty : (xs : List QueuedRequest) → slice_get xs 0 ≡ None → xs ≡ []
         empty [] h = refl
         empty (x ∷ xs) h = absurd (cc)
 

@@ -37,14 +37,14 @@ unfolding landed
 landed-at c key at bytes = refl
 
 -- the region of a granted place
-record Place (c : Context) (key at size : ℕ) (place : Spot) : Type 0 where
+record IsGrantedPlace (c : Context) (key at size : ℕ) (place : Spot) : Type 0 where
   same_key : place.region ≡ key
   low : (region_of_key c key).base ≤ at
   off : place.off ≡ at - (region_of_key c key).base
 
 place-is : (c : Context) (pool : Pool) (held : List Held) → c.regions ≡ regions_of pool held → AreKeyed held
     → (domain : Name) (key at size : ℕ) (right : Right) (place : Spot) → 0 < size
-    → granted_spot local_key c.regions domain key at size right ≡ Some place → Place c key at size place
+    → granted_spot local_key c.regions domain key at size right ≡ Some place → IsGrantedPlace c key at size place
 unfolding granted
 place-is c pool held is keyed domain key at size right place some found =
     let r : Region = region_of_key c place.region in

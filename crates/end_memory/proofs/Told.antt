@@ -9,7 +9,7 @@ use Rattle.rdma_types.specs.Objects as objects
 use Rattle.rdma_types.specs.Spans.{first_number, request_of, span_of}
 use Rattle.page_pool.specs.Pool.{Pool, bytes_of}
 use Rattle.completion_queue.specs.Queue.{Queue}
-use Rattle.work_queues.specs.declared.posted.Posted.{Posted}
+use Rattle.work_queues.specs.declared.posted.QueuedRequest.{QueuedRequest}
 use Rattle.protocol.specs.EndWords.{done_request}
 use Rattle.protocol.specs.Requester as rows
 use Rattle.protocol.specs.Requester.{after_telling, cut_by, told_completions}
@@ -73,7 +73,7 @@ after-behind t s b bs is some =
     ∙ (sym (ap (λ us. record s { untold = drop (suc k) us; first = s.first + first_number us t.mtu (suc k) }) is)
     ∙ ap (λ n. cut_by t s n) (sym count)))
 
-completions-behind : (number : ℕ) (t : Terms) (s : Sender) (p : Posted) (bs : List objects.Posted) → s.untold ≡ bare p ∷ bs → nat_lt 0 (rows.told_count t s) ≡ true
+completions-behind : (number : ℕ) (t : Terms) (s : Sender) (p : QueuedRequest) (bs : List objects.Posted) → s.untold ≡ bare p ∷ bs → nat_lt 0 (rows.told_count t s) ≡ true
     → told_completions number t s ≡ told_one number p ++ told_completions number t (without_oldest t s)
 unfolding told_completions
 completions-behind number t s p bs is some =
@@ -114,7 +114,7 @@ telling-begins number r pool q apart reserved = record {
 }
 
 -- the oldest request is told
-pub some-told : (v : Sending) (p : Posted) → next_to_tell v ≡ Some p → (nat_lt 0 (told_count v) ≡ true) × (slice_get v.items 0 ≡ Some p)
+pub some-told : (v : Sending) (p : QueuedRequest) → next_to_tell v ≡ Some p → (nat_lt 0 (told_count v) ≡ true) × (slice_get v.items 0 ≡ Some p)
 some-told v p is = by_test (nat_lt 0 (told_count v)) refl
   where
     by_test : (b : Bool) → nat_lt 0 (told_count v) ≡ b → (nat_lt 0 (told_count v) ≡ true) × (slice_get v.items 0 ≡ Some p)
@@ -125,7 +125,7 @@ pub front-of : {A : Type 0} (xs : List A) (x : A) → slice_get xs 0 ≡ Some x 
 front-of [] x e = absurd (cc)
 front-of (y ∷ ys) x e = let same : y ≡ x = cc in ap (λ z. z ∷ ys) same
 
-pub telling-goes_on : (number : ℕ) (r r' r0 : Sending) (pool pool' pool0 : Pool) (q q' q0 : Queue) (p : Posted)
+pub telling-goes_on : (number : ℕ) (r r' r0 : Sending) (pool pool' pool0 : Pool) (q q' q0 : Queue) (p : QueuedRequest)
     → next_to_tell r ≡ Some p → LosesOldest r r' → sender_of r' ≡ without_oldest r.terms (sender_of r)
     → q' ≡ settled 1 (told_one number p) q → GivesBack pool pool' (p ∷ [])
     → Telling number r r0 pool pool0 q q0 → Telling number r' r0 pool' pool0 q' q0

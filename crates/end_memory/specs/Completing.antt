@@ -2,7 +2,7 @@
 use Rattle.std.specs.Prelude.{ℕ, ◌-◌, List, [], ◌∷◌, ◌++◌, Option, Some, None, if◌then◌else◌}
 use Rattle.rdma_types.specs.declared.requests.Completion.{Completion}
 use Rattle.completion_queue.specs.Queue.{Queue}
-use Rattle.work_queues.specs.declared.posted.Posted.{Posted}
+use Rattle.work_queues.specs.declared.posted.QueuedRequest.{QueuedRequest}
 use Rattle.requester.specs.Sending.{Sending, bare, sender_of}
 use Rattle.protocol.specs.EndWords.{done_request}
 use Rattle.protocol.specs.Requester as rows
@@ -12,7 +12,7 @@ abbrev pub settled : ℕ → List Completion → Queue → Queue
 settled n more q = record q { reserved = q.reserved - n; entries = q.entries ++ more }
 
 -- a signaled request gives a completion
-abbrev pub told_one : ℕ → Posted → List Completion
+abbrev pub told_one : ℕ → QueuedRequest → List Completion
 told_one number p = if p.request.signaled then done_request number (bare p) ∷ [] else []
 
 -- how many requests are to be told

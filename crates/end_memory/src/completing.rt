@@ -5,7 +5,7 @@ ghost use Rattle.rdma_types.specs.Kinds.{completed_kind as kind_of_completion, r
 ghost use Rattle.requester.specs.Sending.{bare};
 
 use rdma_types::{Completion, Kind, Receive, WcKind, WcStatus};
-use work_queues::Posted;
+use work_queues::QueuedRequest;
 
 /// The kind of completion of a request.
 fn completed_kind(kind: Kind) -> WcKind
@@ -22,7 +22,7 @@ fn completed_kind(kind: Kind) -> WcKind
 
 /// The completion of a request of the queue pair with this number.
 #[tactic(auto, unfolding(rdma_types::specs::Kinds::request_done))]
-pub fn done(number: u32, p: &Posted, status: WcStatus, length: u32) -> Completion
+pub fn done(number: u32, p: &QueuedRequest, status: WcStatus, length: u32) -> Completion
     ensures { result ≡ request_done number (bare p.now) status length }
 {
     Completion {

@@ -13,10 +13,10 @@ use completion_queue::Cq;
 use page_pool::PagePool;
 use rdma_types::{Receive, WcStatus};
 use requester::Requester;
-use work_queues::{Posted, RecvQueue};
+use work_queues::{QueuedRequest, RecvQueue};
 
 /// Completes one request with a status other than success.
-pub fn fail_one(p: Posted, number: u32, status: WcStatus, pool: &mut PagePool, cq: &mut Cq)
+pub fn fail_one(p: QueuedRequest, number: u32, status: WcStatus, pool: &mut PagePool, cq: &mut Cq)
     requires lives { IsIn pool.old p.payload.list }
     requires reserved { 0 < cq.old.reserved }
     ensures queue { cq.new ≡ settled 1 (failed_request number status (bare p) ∷ []) cq.old }

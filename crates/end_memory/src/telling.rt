@@ -12,10 +12,10 @@ use completion_queue::Cq;
 use page_pool::PagePool;
 use rdma_types::WcStatus;
 use requester::Requester;
-use work_queues::Posted;
+use work_queues::QueuedRequest;
 
 /// Tells one request: a signaled one completes, an unsignaled one gives its reserved place back.
-fn tell_one(p: Posted, number: u32, pool: &mut PagePool, cq: &mut Cq)
+fn tell_one(p: QueuedRequest, number: u32, pool: &mut PagePool, cq: &mut Cq)
     requires lives { IsIn pool.old p.payload.list }
     requires reserved { 0 < cq.old.reserved }
     ensures queue { cq.new ≡ settled 1 (told_one number p) cq.old }

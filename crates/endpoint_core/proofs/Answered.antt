@@ -25,15 +25,15 @@ use Rattle.rdma_types.proofs.Tables.{same_name}
 use Rattle.page_pool.specs.Pool.{Pool, bytes_of}
 use Rattle.completion_queue.specs.Queue.{Queue}
 use Rattle.memory_keys.specs.Regions.{regions_of}
-use Rattle.work_queues.specs.declared.posted.Posted.{Posted}
+use Rattle.work_queues.specs.declared.posted.QueuedRequest.{QueuedRequest}
 use Rattle.work_queues.specs.Untold.{posted_in, untold_in}
 use Rattle.protocol.specs.EndWords.{completing, done_request, failed_receive, in_use_by, linked, with_end, with_link, with_sender, with_unused}
 use Rattle.protocol.specs.Requester as rows
 use Rattle.protocol.specs.Requester.{after_telling, cut_by, ended_link, ended_with, failing, takes_response, telling, told_completions}
 use Rattle.protocol.specs.State.{Context, End, Link, Sender}
 use Rattle.protocol.specs.Wire.{Packet}
-use Rattle.requester.specs.declared.answers.Taken.{Taken}
-use Rattle.requester.specs.declared.answers.Taken.TheVariants.{Acked, Ended, Landed, OldLanded, Rewound, Useless, Waits}
+use Rattle.requester.specs.declared.answers.ResponseEffect.{ResponseEffect}
+use Rattle.requester.specs.declared.answers.ResponseEffect.TheVariants.{Acked, Ended, Landed, OldLanded, Rewound, Useless, Waits}
 use Rattle.requester.specs.Sending.{KeepsQueue, Sending, bare, bares, numbers_of, sender_in, sender_of, sender_with}
 use Rattle.requester.specs.Taking.{Taking, step_by, step_of, taken_response}
 use Rattle.requester.proofs.Payloads.{place_same, response_in}
@@ -45,7 +45,7 @@ use Rattle.endpoint_core.specs.Ends.{Names, link_in, untold_by}
 use Rattle.endpoint_core.specs.Queues.{StandsAt, count_at, nothing, promised, queues_of, settle_at}
 use Rattle.endpoint_core.specs.Flushed.{all_receives}
 use Rattle.endpoint_core.specs.Responded.{HasAnswered, is_useless, landed_by, request_in, response_took}
-use Rattle.endpoint_core.specs.Sites.{IsHome, IsSound, Keeps, Site, end_at, home}
+use Rattle.endpoint_core.specs.Sites.{IsHome, IsSound, Keeps, EndWithMemory, end_at, home}
 use Rattle.endpoint_core.specs.Sound.{IsLinked, IsPosted}
 use Rattle.endpoint_core.proofs.Ended.{count-here, promised-is}
 use Rattle.endpoint_core.proofs.Frames.{all-posted-kept, link-of, none-of, untold-kept}
@@ -55,12 +55,12 @@ use Rattle.endpoint_core.proofs.Settled.{Settles, completing-settles, keeps-sett
 
 -- ---- words that look at no payload
 
-untold-drop : (pool : Pool) (ps : List Posted) (n : ℕ) → untold_in pool (drop n ps) ≡ drop n (untold_in pool ps)
+untold-drop : (pool : Pool) (ps : List QueuedRequest) (n : ℕ) → untold_in pool (drop n ps) ≡ drop n (untold_in pool ps)
 untold-drop pool ps zero = refl
 untold-drop pool [] (suc n) = refl
 untold-drop pool (p ∷ ps) (suc n) = untold-drop pool ps n
 
-completions-in : (number : ℕ) (pool : Pool) (ps : List Posted) (n : ℕ)
+completions-in : (number : ℕ) (pool : Pool) (ps : List QueuedRequest) (n : ℕ)
     → map (done_request number) (filter (λ p. p.request.signaled) (take n (untold_in pool ps))) ≡ map (done_request number) (filter (λ p. p.request.signaled) (take n (bares ps)))
 unfolding request_done
 completions-in number pool ps zero = refl
@@ -74,20 +74,20 @@ completions-in number pool (p ∷ ps) (suc n) = by_signal p.request.signaled (co
     by_signal false rest = rest
 
 -- the sender with the bytes that its requests have in a pool
-abbrev pub in_pool : Pool → List Posted → Sender → Sender
+abbrev pub in_pool : Pool → List QueuedRequest → Sender → Sender
 in_pool pool ps s = sender_with (untold_in pool ps) (numbers_of s)
 
-told-count : (t : Terms) (pool : Pool) (ps : List Posted) (s : Sender) → s.untold ≡ bares ps → rows.told_count t (in_pool pool ps s) ≡ rows.told_count t s
+told-count : (t : Terms) (pool : Pool) (ps : List QueuedRequest) (s : Sender) → s.untold ≡ bares ps → rows.told_count t (in_pool pool ps s) ≡ rows.told_count t s
 told-count t pool ps s is = place_same pool ps t.mtu (s.una - s.first) ∙ sym (ap (λ us. request_of us t.mtu (s.una - s.first)) is)
 
-told-completions : (number : ℕ) (t : Terms) (pool : Pool) (ps : List Posted) (s : Sender) → s.untold ≡ bares ps → told_completions number t (in_pool pool ps s) ≡ told_completions number t s
+told-completions : (number : ℕ) (t : Terms) (pool : Pool) (ps : List QueuedRequest) (s : Sender) → s.untold ≡ bares ps → told_completions number t (in_pool pool ps s) ≡ told_completions number t s
 unfolding told_completions
 told-completions number t pool ps s is =
     ap (λ n. map (done_request number) (filter (λ p. p.request.signaled) (take n (untold_in pool ps)))) (told-count t pool ps s is)
     ∙ (completions-in number pool ps (rows.told_count t s)
     ∙ sym (ap (λ us. map (done_request number) (filter (λ p. p.request.signaled) (take (rows.told_count t s) us))) is))
 
-after-telling : (t : Terms) (a b : Pool) (ps : List Posted) (s : Sender) (new : Sending) → s.untold ≡ bares ps → sender_of new ≡ after_telling t s → new.items ≡ drop (rows.told_count t s) ps
+after-telling : (t : Terms) (a b : Pool) (ps : List QueuedRequest) (s : Sender) (new : Sending) → s.untold ≡ bares ps → sender_of new ≡ after_telling t s → new.items ≡ drop (rows.told_count t s) ps
     → AreKept a b (drop (rows.told_count t s) ps) → sender_in b new ≡ after_telling t (in_pool a ps s)
 unfolding after_telling
 after-telling t a b ps s new is numbers items kept =
@@ -125,11 +125,11 @@ end-twice c a b same = ap (λ es. record c { ends = es }) (ap (λ n. store_named
 
 -- ---- the end after what landed and what was told
 
-module _ (s : Site) (l l' : EndLink) (S : Sender) (d : Packet) (T : Taken) (pool' : Pool) (qs' : List (Name × Queue))
+module _ (s : EndWithMemory) (l l' : EndLink) (S : Sender) (d : Packet) (T : ResponseEffect) (pool' : Pool) (qs' : List (Name × Queue))
     (sound : IsSound s nothing) (is : s.end.link ≡ Some l) (running : l.ended ≡ false)
     (answered : HasAnswered s.end.number s.send S d T l l' s.pool pool' s.held s.queues qs') where
   -- the site after it
-  abbrev pub told : Site
+  abbrev pub told : EndWithMemory
   told = record s { pool = pool'; queues = qs'; end = record s.end { link = Some l' } }
 
   linked-before : IsLinked s.pool s.held s.end l
@@ -291,12 +291,12 @@ response-step c e pool l d same old =
     ∙ (ap (λ t. step_of c e (link_in pool l) d (taken_response t (sender_in pool l.requester) d)) (sym same)
     ∙ ap (λ (r : Taking). step_by c e (link_in pool l) d r.taken r.sender) (response_in pool l.requester d))
 
-request-same : (pool : Pool) (ps : List Posted) (index : ℕ) → (request_in (untold_in pool ps) index).request ≡ (request_in (bares ps) index).request
+request-same : (pool : Pool) (ps : List QueuedRequest) (index : ℕ) → (request_in (untold_in pool ps) index).request ≡ (request_in (bares ps) index).request
 request-same pool [] index = refl
 request-same pool (p ∷ ps) zero = refl
 request-same pool (p ∷ ps) (suc index) = request-same pool ps index
 
-landed-same : (c : Context) (pool : Pool) (ps : List Posted) (d : Packet) (T : Taken) → landed_by c (untold_in pool ps) d T ≡ landed_by c (bares ps) d T
+landed-same : (c : Context) (pool : Pool) (ps : List QueuedRequest) (d : Packet) (T : ResponseEffect) → landed_by c (untold_in pool ps) d T ≡ landed_by c (bares ps) d T
 landed-same c pool ps d (Landed index off) = ap (λ (r : Request). landed c r.lkey (r.local + off) d.payload) (request-same pool ps index)
 landed-same c pool ps d (OldLanded index old) = ap (λ (r : Request). landed c r.lkey r.local (word_bytes old)) (request-same pool ps index)
 landed-same c pool ps d Acked = refl
@@ -306,7 +306,7 @@ landed-same c pool ps d (Ended why) = refl
 landed-same c pool ps d Useless = refl
 
 -- a step that is no end
-stays-by : (c : Context) (e : End) (pool : Pool) (l : EndLink) (d : Packet) (T : Taken) (S : Sender) → is_useless T ≡ false → ((why : WcStatus) → T ≡ Ended why → ⊥)
+stays-by : (c : Context) (e : End) (pool : Pool) (l : EndLink) (d : Packet) (T : ResponseEffect) (S : Sender) → is_useless T ≡ false → ((why : WcStatus) → T ≡ Ended why → ⊥)
     → step_by c e (link_in pool l) d T S ≡ record { context = telling (landed_by c (untold_in pool l.requester.items) d T) e (link_in pool l) S; took = response_took T; sent = [] }
 stays-by c e pool l d Acked S busy alive = refl
 stays-by c e pool l d (Landed index off) S busy alive = refl
@@ -316,7 +316,7 @@ stays-by c e pool l d Waits S busy alive = refl
 stays-by c e pool l d (Ended why) S busy alive = absurd (alive why refl)
 stays-by c e pool l d Useless S busy alive = absurd (cc)
 
-useless-is : (T : Taken) → is_useless T ≡ true → T ≡ Useless
+useless-is : (T : ResponseEffect) → is_useless T ≡ true → T ≡ Useless
 useless-is Acked u = absurd (cc)
 useless-is (Landed index off) u = absurd (cc)
 useless-is (OldLanded index old) u = absurd (cc)
@@ -325,11 +325,11 @@ useless-is Waits u = absurd (cc)
 useless-is (Ended why) u = absurd (cc)
 useless-is Useless u = refl
 
-pub useless-taken : (T : Taken) → is_useless T ≡ true → T ≡ Useless
+pub useless-taken : (T : ResponseEffect) → is_useless T ≡ true → T ≡ Useless
 useless-taken = useless-is
 
 -- a response at a site, by its answer
-module _ (s : Site) (l l' : EndLink) (d : Packet) (T : Taken) (pool' : Pool) (qs' : List (Name × Queue))
+module _ (s : EndWithMemory) (l l' : EndLink) (d : Packet) (T : ResponseEffect) (pool' : Pool) (qs' : List (Name × Queue))
     (sound : IsSound s nothing) (is : s.end.link ≡ Some l) (running : l.ended ≡ false) (old : d.opcode ≡ 0x12 → IsSome d.old)
     (taken : T ≡ (taken_response l.requester.terms (sender_of l.requester) d).taken) where
   before : IsLinked s.pool s.held s.end l
@@ -388,7 +388,7 @@ module _ (s : Site) (l l' : EndLink) (d : Packet) (T : Taken) (pool' : Pool) (qs
       }) (sym (end-twice x e1 (with_link (with_unused e1 []) (ended_link (link_in pool' l'))) refl)))))
 
 -- a context that holds the end of a site as it is there
-pub home-of : (c : Context) (names : Names) (s : Site) → StandsAt s.queues names.send_cq s.send → StandsAt s.queues names.recv_cq s.recv → IsHome (home c names s) names s
+pub home-of : (c : Context) (names : Names) (s : EndWithMemory) → StandsAt s.queues names.send_cq s.send → StandsAt s.queues names.recv_cq s.recv → IsHome (home c names s) names s
 unfolding with_end
 home-of c names s send recv = record {
   regions = refl;
@@ -398,7 +398,7 @@ home-of c names s send recv = record {
   recv = recv;
 }
 
-pub home-twice : (c : Context) (names : Names) (s s' : Site) → home (home c names s) names s' ≡ home c names s'
+pub home-twice : (c : Context) (names : Names) (s s' : EndWithMemory) → home (home c names s) names s' ≡ home c names s'
 unfolding with_end
 home-twice c names s s' = end-twice (record c { regions = regions_of s'.pool s'.held; queues = queues_of s'.queues }) (end_at names s) (end_at names s') refl
 

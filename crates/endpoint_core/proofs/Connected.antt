@@ -9,7 +9,7 @@ use Rattle.rdma_types.specs.Limits.{AreTerms}
 use Rattle.page_pool.specs.Pool.{Pool}
 use Rattle.memory_keys.specs.declared.Held.{Held}
 use Rattle.work_queues.specs.Queue.{Queue, empty_queue}
-use Rattle.work_queues.specs.declared.posted.Posted.{Posted}
+use Rattle.work_queues.specs.declared.posted.QueuedRequest.{QueuedRequest}
 use Rattle.move_core.specs.declared.MoveState.{MoveState}
 use Rattle.move_core.specs.declared.Phase.TheVariants as phase
 use Rattle.requester.specs.Sending.{Sending, no_numbers}
@@ -22,11 +22,11 @@ use Rattle.endpoint_core.specs.Ends.{link_in}
 use Rattle.endpoint_core.specs.Sound.{HoldsQueue, IsEnd, IsInState, IsPosted, payload_lists}
 
 -- the send queue of an end in Init
-pub record Fresh (e : Endpoint) (q : Queue Posted) : Type 0 where
+pub record Fresh (e : Endpoint) (q : Queue QueuedRequest) : Type 0 where
   pub queue : q ≡ empty_queue e.send_depth
   pub link : e.link ≡ None
 
-pub fresh-queue : (e : Endpoint) (q : Queue Posted) → HoldsQueue e.send_depth e.unlinked e.link → e.unlinked ≡ Some q → Fresh e q
+pub fresh-queue : (e : Endpoint) (q : Queue QueuedRequest) → HoldsQueue e.send_depth e.unlinked e.link → e.unlinked ≡ Some q → Fresh e q
 fresh-queue e q holds is = by_link e.link refl holds
   where
     by_link : (o : Option EndLink) → e.link ≡ o → HoldsQueue e.send_depth e.unlinked o → Fresh e q
@@ -47,7 +47,7 @@ fresh-link pool peer partner t r v m depth requester responder moves =
     ∙ (ap (λ x. link_in pool (record { peer = peer; terms = t; ended = false; requester = record { terms = t; depth = depth; items = []; numbers = no_numbers }; responder = x; moves = m })) responder
     ∙ ap (λ x. link_in pool (record { peer = peer; terms = t; ended = false; requester = record { terms = t; depth = depth; items = []; numbers = no_numbers }; responder = record { terms = t; receiver = fresh_receiver }; moves = x })) moves))
 
-pub connected : (pool : Pool) (held : List Held) (e : Endpoint) (q : Queue Posted) (gone' : Option (Queue Posted)) (peer : ℕ) (t : Terms) (r : Sending) (v : Receiving) (m : MoveState)
+pub connected : (pool : Pool) (held : List Held) (e : Endpoint) (q : Queue QueuedRequest) (gone' : Option (Queue QueuedRequest)) (peer : ℕ) (t : Terms) (r : Sending) (v : Receiving) (m : MoveState)
     → IsEnd pool held e → Fresh e q → gone' ≡ None → AreTerms t
     → r ≡ record { terms = t; depth = q.depth; items = []; numbers = no_numbers } → v ≡ record { terms = t; receiver = fresh_receiver }
     → (All (IsPlace held e.domain) e.recvs.items → IsServing held e.domain (record { terms = t; receiver = fresh_receiver }) e.recvs.items)

@@ -30,7 +30,7 @@ use Rattle.endpoint_core.specs.declared.answers.EndReply.{EndReply}
 use Rattle.endpoint_core.specs.declared.answers.EndReply.TheVariants as reply
 use Rattle.endpoint_core.specs.declared.end.EndLink.{EndLink}
 use Rattle.endpoint_core.specs.Answers.{IsAck}
-use Rattle.endpoint_core.specs.Sites.{Site}
+use Rattle.endpoint_core.specs.Sites.{EndWithMemory}
 use Rattle.endpoint_core.specs.Due.{WasDue, due_at, due_by, due_of, due_read, is_in_turn, told_msn}
 
 -- ---- the place that a READ is granted
@@ -233,13 +233,13 @@ responses-same l k r off length' n left to peer terms msn =
 
 -- ---- replies without bytes
 
-pub refused-due : (old new : Site) (l : EndLink) (d : Packet) (a : EndReply) (number : ℕ) (y : Syndrome) → a ≡ reply.Acknowledge number y → WasDue old new l d a
+pub refused-due : (old new : EndWithMemory) (l : EndLink) (d : Packet) (a : EndReply) (number : ℕ) (y : Syndrome) → a ≡ reply.Acknowledge number y → WasDue old new l d a
 refused-due old new l d a number y is = subst (WasDue old new l d) (sym is) tt
 
-pub none-due : (old new : Site) (l : EndLink) (d : Packet) (a : EndReply) → a ≡ reply.Nothing → WasDue old new l d a
+pub none-due : (old new : EndWithMemory) (l : EndLink) (d : Packet) (a : EndReply) → a ≡ reply.Nothing → WasDue old new l d a
 none-due old new l d a is = subst (WasDue old new l d) (sym is) tt
 
-pub ack-due : (old new : Site) (l : EndLink) (d : Packet) (a : EndReply) → IsAck a → WasDue old new l d a
+pub ack-due : (old new : EndWithMemory) (l : EndLink) (d : Packet) (a : EndReply) → IsAck a → WasDue old new l d a
 ack-due old new l d reply.Nothing ack = tt
 ack-due old new l d (reply.ResumeAck count address) ack = tt
 ack-due old new l d (reply.Acknowledge number syndrome) ack = absurd ack

@@ -16,7 +16,7 @@ use Rattle.page_pool.specs.Pool.{Pool, bytes_of}
 use Rattle.completion_queue.specs.Queue.{Queue}
 use Rattle.memory_keys.specs.Regions.{regions_of}
 use Rattle.work_queues.specs.Queue.{Queue as WorkQueue}
-use Rattle.work_queues.specs.declared.posted.Posted.{Posted}
+use Rattle.work_queues.specs.declared.posted.QueuedRequest.{QueuedRequest}
 use Rattle.work_queues.specs.Untold.{untold_in}
 use Rattle.move_core.specs.declared.Phase.TheVariants as phase
 use Rattle.requester.specs.Sending.{Sending, bare, bares, numbers_of, sender_in, sender_of, sender_with}
@@ -32,7 +32,7 @@ use Rattle.endpoint_core.specs.declared.end.EndLink.{EndLink}
 use Rattle.endpoint_core.specs.Ends.{Names, link_in, untold_by}
 use Rattle.endpoint_core.specs.Flushed.{IsFlushed, all_receives}
 use Rattle.endpoint_core.specs.Queues.{count_at, nothing, promised, queues_of, reserved_in, settle_at}
-use Rattle.endpoint_core.specs.Sites.{IsHome, IsSound, Keeps, Site, end_at, home}
+use Rattle.endpoint_core.specs.Sites.{IsHome, IsSound, Keeps, EndWithMemory, end_at, home}
 use Rattle.endpoint_core.specs.Sound.{IsLinked, IsPosted}
 use Rattle.endpoint_core.proofs.Frames.{link-of, none-of}
 use Rattle.endpoint_core.proofs.Given.{frame-free, frame-lists, given-held, given-regions, outside}
@@ -78,23 +78,23 @@ requests-fit qs send recv n m enough = let fits = enough send in let all = count
 
 -- ---- the step
 
-failing-in : (number : ℕ) (s : WcStatus) (pool : Pool) (ps : List Posted) → failing number s (untold_in pool ps) ≡ failing number s (bares ps)
+failing-in : (number : ℕ) (s : WcStatus) (pool : Pool) (ps : List QueuedRequest) → failing number s (untold_in pool ps) ≡ failing number s (bares ps)
 unfolding failing request_done
 failing-in number s pool [] = refl
 failing-in number s pool (p ∷ ps) = ap (λ l. failed_request number s (bare p) ∷ l) (rest ps)
   where
-    rest : (qs : List Posted) → map (failed_request number status.Flush) (untold_in pool qs) ≡ map (failed_request number status.Flush) (bares qs)
+    rest : (qs : List QueuedRequest) → map (failed_request number status.Flush) (untold_in pool qs) ≡ map (failed_request number status.Flush) (bares qs)
     rest [] = refl
     rest (q ∷ qs) = ap (λ l. failed_request number status.Flush (bare q) ∷ l) (rest qs)
 
 pub emptied-in : (pool : Pool) (r : Sending) (n : ℕ) → r.items ≡ [] → sender_of r ≡ emptied_at n → sender_in pool r ≡ emptied_at n
 emptied-in pool r n items is = ap (λ ps. sender_with (untold_in pool ps) r.numbers) items ∙ ap (λ s. sender_with [] (numbers_of s)) is
 
-module _ (s : Site) (status' : WcStatus) (l l' : EndLink) (rs' : WorkQueue Receive) (pool' : Pool) (qs' : List (Name × Queue))
+module _ (s : EndWithMemory) (status' : WcStatus) (l l' : EndLink) (rs' : WorkQueue Receive) (pool' : Pool) (qs' : List (Name × Queue))
     (sound : IsSound s nothing) (is : s.end.link ≡ Some l)
     (flushed : IsFlushed s.end.number status' s.send s.recv l l' s.end.recvs rs' s.pool pool' s.queues qs') where
   -- the site after it
-  abbrev pub ended : Site
+  abbrev pub ended : EndWithMemory
   ended = record s { pool = pool'; queues = qs'; end = record s.end { recvs = rs'; link = Some l' } }
 
   linked-before : IsLinked s.pool s.held s.end l
@@ -181,7 +181,7 @@ module _ (s : Site) (status' : WcStatus) (l l' : EndLink) (rs' : WorkQueue Recei
         queues = keeps-settled s.queues qs' s.send s.recv s.end ended.end nothing _ settles work;
       }
     where
-      none-kept : (ps : List Posted) → ps ≡ [] → All (λ p. bytes_of pool' p.payload.list ≡ bytes_of s.pool p.payload.list) ps
+      none-kept : (ps : List QueuedRequest) → ps ≡ [] → All (λ p. bytes_of pool' p.payload.list ≡ bytes_of s.pool p.payload.list) ps
       none-kept ps e = subst (λ xs. All (λ p. bytes_of pool' p.payload.list ≡ bytes_of s.pool p.payload.list) xs) (sym e) (All-nil (λ p. bytes_of pool' p.payload.list ≡ bytes_of s.pool p.payload.list))
 
   pub failed-sound : (IsServing s.held s.end.domain l.responder s.end.recvs.items → IsServing s.held s.end.domain (record l.responder { receiver = idled l.responder.receiver }) s.end.recvs.items)

@@ -10,7 +10,7 @@ use Rattle.page_pool.specs.Pool.{Pool, bytes_of, free_pages}
 use Rattle.page_pool.specs.Held.{payload_bytes}
 use Rattle.memory_keys.specs.declared.Held.{Held}
 use Rattle.memory_keys.specs.Regions.{regions_of}
-use Rattle.work_queues.specs.declared.posted.Posted.{Posted}
+use Rattle.work_queues.specs.declared.posted.QueuedRequest.{QueuedRequest}
 use Rattle.work_queues.specs.Untold.{posted_in, untold_in}
 use Rattle.responder.specs.Sound.{IsSound as IsServing}
 use Rattle.protocol.specs.State.{Context, Link}
@@ -20,7 +20,7 @@ use Rattle.endpoint_core.specs.declared.end.Endpoint.{Endpoint}
 use Rattle.endpoint_core.specs.declared.end.EndLink.{EndLink}
 use Rattle.endpoint_core.specs.Ends.{KeepsLink, Names, end_in, link_in, untold_by}
 use Rattle.endpoint_core.specs.Queues.{nothing, promised, queues_of}
-use Rattle.endpoint_core.specs.Sites.{IsHome, IsSound, Keeps, Site, end_at, home}
+use Rattle.endpoint_core.specs.Sites.{IsHome, IsSound, Keeps, EndWithMemory, end_at, home}
 use Rattle.endpoint_core.specs.Sound.{HoldsQueue, IsEnd, IsInState, IsLinked, IsPosted, payload_lists, payload_pages}
 use Rattle.endpoint_core.proofs.Settled.{keeps-settled, reserved-after, settles-none}
 
@@ -37,18 +37,18 @@ all-at P (y ∷ ys) (suc i) x all e = all-at P ys i x (All-tail P y ys all) e
 
 -- ---- requests over a pool in which their lists are as they were
 
-pub bytes-kept : (a b : Pool) (p : Posted) → bytes_of b p.payload.list ≡ bytes_of a p.payload.list → posted_in b p ≡ posted_in a p
+pub bytes-kept : (a b : Pool) (p : QueuedRequest) → bytes_of b p.payload.list ≡ bytes_of a p.payload.list → posted_in b p ≡ posted_in a p
 unfolding payload_bytes
 bytes-kept a b p same = ap (λ o. record { request = p.request; payload = cut p.payload.first p.payload.length (unwrap_or o []) }) same
 
-pub untold-kept : (a b : Pool) (ps : List Posted) → AreKept a b ps → untold_in b ps ≡ untold_in a ps
+pub untold-kept : (a b : Pool) (ps : List QueuedRequest) → AreKept a b ps → untold_in b ps ≡ untold_in a ps
 untold-kept a b [] kept = refl
 untold-kept a b (p ∷ ps) kept =
     let here : posted_in b p ≡ posted_in a p = bytes-kept a b p (All-head (λ p. bytes_of b p.payload.list ≡ bytes_of a p.payload.list) p ps kept) in
     let rest : untold_in b ps ≡ untold_in a ps = untold-kept a b ps (All-tail (λ p. bytes_of b p.payload.list ≡ bytes_of a p.payload.list) p ps kept) in
     ap (λ x. x ∷ untold_in b ps) here ∙ ap (λ l. posted_in a p ∷ l) rest
 
-pub posted-kept : (a b : Pool) (held : List Held) (domain : Name) (p : Posted) → bytes_of b p.payload.list ≡ bytes_of a p.payload.list → IsPosted a held domain p → IsPosted b held domain p
+pub posted-kept : (a b : Pool) (held : List Held) (domain : Name) (p : QueuedRequest) → bytes_of b p.payload.list ≡ bytes_of a p.payload.list → IsPosted a held domain p → IsPosted b held domain p
 posted-kept a b held domain p same h = record {
   shape = h.shape;
   payload = record {
@@ -62,7 +62,7 @@ posted-kept a b held domain p same h = record {
   placed = h.placed;
 }
 
-pub all-posted-kept : (a b : Pool) (held : List Held) (domain : Name) (ps : List Posted) → AreKept a b ps → All (IsPosted a held domain) ps → All (IsPosted b held domain) ps
+pub all-posted-kept : (a b : Pool) (held : List Held) (domain : Name) (ps : List QueuedRequest) → AreKept a b ps → All (IsPosted a held domain) ps → All (IsPosted b held domain) ps
 all-posted-kept a b held domain ps kept all = λ k d within. posted-kept a b held domain _ (kept k d within) (all k d within)
 
 -- ---- ends with another connection
@@ -111,14 +111,14 @@ promised-linked e l l' send recv place is k =
 -- ---- the protocol's contexts
 
 -- the context is as a site says
-pub as-home : (c : Context) (names : Names) (s : Site) → IsHome c names s → record c { regions = regions_of s.pool s.held; queues = queues_of s.queues } ≡ c
+pub as-home : (c : Context) (names : Names) (s : EndWithMemory) → IsHome c names s → record c { regions = regions_of s.pool s.held; queues = queues_of s.queues } ≡ c
 as-home c names s h = sym (ap (λ rs. record c { regions = rs }) h.regions ∙ ap (λ qs. record c { regions = regions_of s.pool s.held; queues = qs }) h.queues)
 
-pub home-same : (c : Context) (names : Names) (s : Site) → IsHome c names s → home c names s ≡ c
+pub home-same : (c : Context) (names : Names) (s : EndWithMemory) → IsHome c names s → home c names s ≡ c
 home-same c names s h = ap (λ x. with_end x (end_at names s)) (as-home c names s h) ∙ h.there
 
 -- the end has another connection, and all else is as it was
-pub home-linked : (c : Context) (names : Names) (s : Site) (l : EndLink) (new : Link) → IsHome c names s → new ≡ link_in s.pool l → linked c (end_at names s) new ≡ home c names (record s { end = record s.end { link = Some l } })
+pub home-linked : (c : Context) (names : Names) (s : EndWithMemory) (l : EndLink) (new : Link) → IsHome c names s → new ≡ link_in s.pool l → linked c (end_at names s) new ≡ home c names (record s { end = record s.end { link = Some l } })
 unfolding with_link
 home-linked c names s l new h is =
     ap (λ x. with_end c (record (end_at names s) { link = Some x })) is
@@ -156,29 +156,29 @@ sound-kept a b held e kept h = record { queue = h.queue; depth = h.depth; state 
 -- ---- a connection with other numbers, at a site
 
 -- the site with another connection
-abbrev pub with_link' : Site → EndLink → Site
+abbrev pub with_link' : EndWithMemory → EndLink → EndWithMemory
 with_link' s l = record s { end = record s.end { link = Some l } }
 
-pub same-site : (s : Site) (l l' : EndLink) → s.end.link ≡ Some l → l' ≡ l → s ≡ with_link' s l'
+pub same-site : (s : EndWithMemory) (l l' : EndLink) → s.end.link ≡ Some l → l' ≡ l → s ≡ with_link' s l'
 same-site s l l' is same = ap (λ o. record s { end = record s.end { link = o } }) (is ∙ ap (λ x. Some x) (sym same))
 
-pub linked-same : (c : Context) (names : Names) (s : Site) (l : EndLink) → IsHome c names s → s.end.link ≡ Some l → linked c (end_at names s) (link_in s.pool l) ≡ c
+pub linked-same : (c : Context) (names : Names) (s : EndWithMemory) (l : EndLink) → IsHome c names s → s.end.link ≡ Some l → linked c (end_at names s) (link_in s.pool l) ≡ c
 linked-same c names s l at is =
     home-linked c names s l (link_in s.pool l) at refl
     ∙ (ap (λ x. home c names x) (sym (same-site s l l is refl)) ∙ home-same c names s at)
 
-link-work : (s : Site) (l l' : EndLink) → s.end.link ≡ Some l → KeepsLink l l'
+link-work : (s : EndWithMemory) (l l' : EndLink) → s.end.link ≡ Some l → KeepsLink l l'
     → (place : ℕ) → promised s.send s.recv s.end place + nothing place ≡ promised s.send s.recv (with_link' s l').end place + nothing place
 link-work s l l' is k place = ap (λ n. n + nothing place) (sym (promised-linked s.end l l' s.send s.recv place is k))
 
-pub link-sound : (s : Site) (l l' : EndLink) → IsSound s nothing → s.end.link ≡ Some l → KeepsLink l l' → IsSound (with_link' s l') nothing
+pub link-sound : (s : EndWithMemory) (l l' : EndLink) → IsSound s nothing → s.end.link ≡ Some l → KeepsLink l l' → IsSound (with_link' s l') nothing
 link-sound s l l' sound is k = record {
   end = end-linked s.pool s.held s.end l l' sound.end is k;
   regions = sound.regions;
   reserved = reserved-after s.queues s.queues s.send s.recv s.end (with_link' s l').end nothing nothing (settles-none s.queues) (link-work s l l' is k) sound.reserved;
 }
 
-pub link-keeps : (s : Site) (l l' : EndLink) → s.end.link ≡ Some l → KeepsLink l l' → Keeps s (with_link' s l') [] nothing
+pub link-keeps : (s : EndWithMemory) (l l' : EndLink) → s.end.link ≡ Some l → KeepsLink l l' → Keeps s (with_link' s l') [] nothing
 link-keeps s l l' is k =
     let whole : untold_by s.end.link ++ [] ≡ l'.requester.items = append-none (untold_by s.end.link) ∙ (ap untold_by is ∙ sym k.items) in
     record {

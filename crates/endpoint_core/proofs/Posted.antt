@@ -16,7 +16,7 @@ use Rattle.completion_queue.specs.Queue.{Queue}
 use Rattle.memory_keys.specs.declared.Held.{Held}
 use Rattle.memory_keys.specs.Regions.{region_of, regions_of}
 use Rattle.work_queues.specs.Queue.{Queue as WorkQueue, posting as queueing}
-use Rattle.work_queues.specs.declared.posted.Posted.{Posted}
+use Rattle.work_queues.specs.declared.posted.QueuedRequest.{QueuedRequest}
 use Rattle.work_queues.specs.Untold.{posted_in, untold_in}
 use Rattle.requester.specs.Sending.{bare, posting, sender_in}
 use Rattle.responder.specs.Receiving.{Receiving}
@@ -30,7 +30,7 @@ use Rattle.endpoint_core.specs.declared.end.EndLink.{EndLink}
 use Rattle.endpoint_core.specs.Answers.{posted_by, received_at}
 use Rattle.endpoint_core.specs.Ends.{Names, end_in, is_ended_link, link_in, untold_by, used_by}
 use Rattle.endpoint_core.specs.Queues.{StandsAt, count_at, nothing, promised, queues_of, settle_at}
-use Rattle.endpoint_core.specs.Sites.{IsHome, IsSound, Keeps, Site, end_at, home}
+use Rattle.endpoint_core.specs.Sites.{IsHome, IsSound, Keeps, EndWithMemory, end_at, home}
 use Rattle.endpoint_core.specs.Sound.{IsInState, IsLinked, IsNew, IsPosted}
 use Rattle.endpoint_core.proofs.Ended.{count-here}
 use Rattle.endpoint_core.proofs.Frames.{as-home, end-kept, home-linked, link-of, none-of, sound-kept}
@@ -57,13 +57,13 @@ placed-any pool held domain key at count right given other = granted-any other p
 
 -- ---- lists
 
-distinct-push : (ps : List Posted) (p : Posted) → IsDistinct nat_eq (payload_lists ps) → All (λ list. list ≢ p.payload.list) (payload_lists ps) → IsDistinct nat_eq (payload_lists (ps ++ p ∷ []))
+distinct-push : (ps : List QueuedRequest) (p : QueuedRequest) → IsDistinct nat_eq (payload_lists ps) → All (λ list. list ≢ p.payload.list) (payload_lists ps) → IsDistinct nat_eq (payload_lists (ps ++ p ∷ []))
 unfolding IsDistinct
 distinct-push [] p apart own = (tt, tt)
 distinct-push (x ∷ xs) p apart own =
     (other-push x xs p apart.0 (All-head (λ list. list ≢ p.payload.list) x.payload.list (payload_lists xs) own), distinct-push xs p apart.1 (All-tail (λ list. list ≢ p.payload.list) x.payload.list (payload_lists xs) own))
   where
-    other-push : (x : Posted) (ys : List Posted) (p : Posted) → AllByRecursion (λ y. nat_eq x.payload.list y ≡ false) (payload_lists ys) → x.payload.list ≢ p.payload.list → AllByRecursion (λ y. nat_eq x.payload.list y ≡ false) (payload_lists (ys ++ p ∷ []))
+    other-push : (x : QueuedRequest) (ys : List QueuedRequest) (p : QueuedRequest) → AllByRecursion (λ y. nat_eq x.payload.list y ≡ false) (payload_lists ys) → x.payload.list ≢ p.payload.list → AllByRecursion (λ y. nat_eq x.payload.list y ≡ false) (payload_lists (ys ++ p ∷ []))
     other-push x [] p all differs = (by_test (nat_eq x.payload.list p.payload.list) refl, tt)
       where
         by_test : (b : Bool) → nat_eq x.payload.list p.payload.list ≡ b → nat_eq x.payload.list p.payload.list ≡ false
@@ -71,7 +71,7 @@ distinct-push (x ∷ xs) p apart own =
         by_test true e = absurd (differs (grind (arith, nat_tests, e)))
     other-push x (y ∷ ys) p all differs = (all.0, other-push x ys p all.1 differs)
 
-pub untold-push : (pool : Pool) (ps : List Posted) (p : Posted) → untold_in pool (ps ++ p ∷ []) ≡ untold_in pool ps ++ posted_in pool p ∷ []
+pub untold-push : (pool : Pool) (ps : List QueuedRequest) (p : QueuedRequest) → untold_in pool (ps ++ p ∷ []) ≡ untold_in pool ps ++ posted_in pool p ∷ []
 untold-push pool [] p = refl
 untold-push pool (x ∷ xs) p = ap (λ l. posted_in pool x ∷ l) (untold-push pool xs p)
 
@@ -84,13 +84,13 @@ count-more here n place = let none : ℕ = 0 in elim (here == place) as (λ b. (
 
 -- ---- a request, where the end is not in Error
 
-module _ (s : Site) (l : EndLink) (p : Posted) (sound : IsSound s (count_at s.send 1)) (new : IsNew s.pool s.held s.end p) (is : s.end.link ≡ Some l) (running : l.ended ≡ false) (room : length l.requester.items < s.end.send_depth) where
+module _ (s : EndWithMemory) (l : EndLink) (p : QueuedRequest) (sound : IsSound s (count_at s.send 1)) (new : IsNew s.pool s.held s.end p) (is : s.end.link ≡ Some l) (running : l.ended ≡ false) (room : length l.requester.items < s.end.send_depth) where
   -- the connection after it
   abbrev pub queued : EndLink
   queued = record l { requester = posting l.requester p }
 
   -- the site after it
-  abbrev pub posted : Site
+  abbrev pub posted : EndWithMemory
   posted = record s { end = record s.end { link = Some queued } }
 
   linked-before : IsLinked s.pool s.held s.end l
@@ -157,7 +157,7 @@ module _ (s : Site) (l : EndLink) (p : Posted) (sound : IsSound s (count_at s.se
 -- ---- work that completes at once, flushed
 
 -- one completion into a queue, and nothing of the end changes
-pub completes-once : (c : Context) (names : Names) (s : Site) (name : Name) (place : ℕ) (w : Completion) (pool' : Pool) (qs' : List (Name × Queue)) → IsHome c names s
+pub completes-once : (c : Context) (names : Names) (s : EndWithMemory) (name : Name) (place : ℕ) (w : Completion) (pool' : Pool) (qs' : List (Name × Queue)) → IsHome c names s
     → StandsAt s.queues name place → qs' ≡ settle_at s.queues place 1 (w ∷ []) → regions_of pool' s.held ≡ regions_of s.pool s.held
     → end_in pool' names s.end ≡ end_in s.pool names s.end → completing c name (w ∷ []) ≡ home c names (record s { pool = pool'; queues = qs' })
 unfolding with_end
@@ -168,11 +168,11 @@ completes-once c names s name place w pool' qs' at stands queues regions same =
     ∙ (ap (λ rs. with_end (record c { regions = rs; queues = queues_of qs' }) (end_in s.pool names s.end)) (at.regions ∙ sym regions)
     ∙ ap (λ e. with_end (record c { regions = regions_of pool' s.held; queues = queues_of qs' }) e) (sym same))))
 
-module _ (s : Site) (p : Posted) (l : EndLink) (pool' : Pool) (qs' : List (Name × Queue))
+module _ (s : EndWithMemory) (p : QueuedRequest) (l : EndLink) (pool' : Pool) (qs' : List (Name × Queue))
     (sound : IsSound s (count_at s.send 1)) (new : IsNew s.pool s.held s.end p) (is : s.end.link ≡ Some l) (failed : l.ended ≡ true)
     (queues : qs' ≡ settle_at s.queues s.send 1 (failed_request s.end.number status.Flush (bare p) ∷ [])) (gives : GivesBack s.pool pool' (p ∷ [])) where
   -- the site after it
-  abbrev pub refused : Site
+  abbrev pub refused : EndWithMemory
   refused = record s { pool = pool'; queues = qs' }
 
   none-left : untold_by s.end.link ≡ []
@@ -225,7 +225,7 @@ module _ (s : Site) (p : Posted) (l : EndLink) (pool' : Pool) (qs' : List (Name 
 
 -- ---- a receive
 
-module _ (s : Site) (r : Receive) (qs' : List (Name × Queue)) (sound : IsSound s (count_at s.recv 1)) (failed : is_ended_link s.end.link ≡ true)
+module _ (s : EndWithMemory) (r : Receive) (qs' : List (Name × Queue)) (sound : IsSound s (count_at s.recv 1)) (failed : is_ended_link s.end.link ≡ true)
     (queues : qs' ≡ settle_at s.queues s.recv 1 (failed_receive s.end.number status.Flush r ∷ [])) where
   in-error : is_in_error (option_map (link_in s.pool) s.end.link) ≡ true
   in-error = by_link s.end.link failed
@@ -264,11 +264,11 @@ module _ (s : Site) (r : Receive) (qs' : List (Name × Queue)) (sound : IsSound 
     queues = keeps-settled s.queues qs' s.send s.recv s.end s.end (count_at s.recv 1) (count_at s.recv 1) flushed-settles (λ place. refl);
   }
 
-module _ (s : Site) (r : Receive) (rs' : WorkQueue Receive) (sound : IsSound s (count_at s.recv 1)) (running : is_ended_link s.end.link ≡ false)
+module _ (s : EndWithMemory) (r : Receive) (rs' : WorkQueue Receive) (sound : IsSound s (count_at s.recv 1)) (running : is_ended_link s.end.link ≡ false)
     (place : IsPlace s.held s.end.domain r) (queued : rs' ≡ queueing s.end.recvs r)
     (serves : (v : Receiving) → IsServing s.held s.end.domain v s.end.recvs.items → IsServing s.held s.end.domain v (s.end.recvs.items ++ r ∷ [])) where
   -- the site after it
-  abbrev pub received : Site
+  abbrev pub received : EndWithMemory
   received = record s { end = record s.end { recvs = rs' } }
 
   items : rs'.items ≡ s.end.recvs.items ++ r ∷ []

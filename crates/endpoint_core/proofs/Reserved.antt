@@ -10,7 +10,7 @@ use Rattle.rdma_types.specs.declared.names.Name.{Name}
 use Rattle.rdma_types.proofs.Tables.{name_is, same_name}
 use Rattle.page_pool.specs.Pool.{Pool}
 use Rattle.completion_queue.specs.Queue.{Queue}
-use Rattle.work_queues.specs.declared.posted.Posted.{Posted}
+use Rattle.work_queues.specs.declared.posted.QueuedRequest.{QueuedRequest}
 use Rattle.work_queues.specs.Untold.{untold_in}
 use Rattle.protocol.specs.EndWords.{in_use}
 use Rattle.protocol.specs.Memory.{untold_of}
@@ -69,7 +69,7 @@ length-untold : (pool : Pool) (o : Option EndLink) → length (untold_of (option
 length-untold pool None = refl
 length-untold pool (Some l) = size l.requester.items
   where
-    size : (ps : List Posted) → length (untold_in pool ps) ≡ length ps
+    size : (ps : List QueuedRequest) → length (untold_in pool ps) ≡ length ps
     size [] = refl
     size (p ∷ ps) = ap suc (size ps)
 

@@ -11,7 +11,7 @@ use Rattle.rdma_types.specs.Spans.{Piece, end_number, first_number, next_landing
 use Rattle.page_pool.specs.Pool.{Pool, bytes_in}
 use Rattle.page_pool.specs.Held.{HoldsPayload, payload_bytes}
 use Rattle.memory_keys.specs.declared.Held.{Held}
-use Rattle.work_queues.specs.declared.posted.Posted.{Posted}
+use Rattle.work_queues.specs.declared.posted.QueuedRequest.{QueuedRequest}
 use Rattle.work_queues.specs.Untold.{posted_in, untold_in}
 use Rattle.protocol.specs.Requester as rows
 use Rattle.protocol.specs.Requester.{Transmission, Sends, SendsResume, IsIdle, WindowIsFull, ReadsAreFull, IsFenced, barrier, end_of_queue, going_to, next_transmission, overlap, packets_in_flight, packets_of, past, reads_in_flight}
@@ -33,23 +33,23 @@ use Rattle.requester.proofs.Places.{found_within, request_of_piece}
 
 -- ---- the words on lists of requests
 
-end_same : (pool : Pool) (ps : List Posted) (mtu : ℕ) → end_number (untold_in pool ps) mtu ≡ end_number (bares ps) mtu
+end_same : (pool : Pool) (ps : List QueuedRequest) (mtu : ℕ) → end_number (untold_in pool ps) mtu ≡ end_number (bares ps) mtu
 unfolding end_number
 end_same pool [] mtu = refl
 end_same pool (p ∷ ps) mtu = ap (λ n. span_of (bare p) mtu + n) (end_same pool ps mtu)
 
-pub first_same : (pool : Pool) (ps : List Posted) (mtu i : ℕ) → first_number (untold_in pool ps) mtu i ≡ first_number (bares ps) mtu i
+pub first_same : (pool : Pool) (ps : List QueuedRequest) (mtu i : ℕ) → first_number (untold_in pool ps) mtu i ≡ first_number (bares ps) mtu i
 unfolding first_number
 first_same pool [] mtu i = refl
 first_same pool (p ∷ ps) mtu zero = refl
 first_same pool (p ∷ ps) mtu (suc i) = ap (λ n. span_of (bare p) mtu + n) (first_same pool ps mtu i)
 
-packets_same : (pool : Pool) (ps : List Posted) (mtu low una next : ℕ) → packets_in_flight (untold_in pool ps) mtu low una next ≡ packets_in_flight (bares ps) mtu low una next
+packets_same : (pool : Pool) (ps : List QueuedRequest) (mtu low una next : ℕ) → packets_in_flight (untold_in pool ps) mtu low una next ≡ packets_in_flight (bares ps) mtu low una next
 unfolding packets_in_flight
 packets_same pool [] mtu low una next = refl
 packets_same pool (p ∷ ps) mtu low una next = ap (λ n. packets_of p.request.shape.kind (overlap low (low + span_of (bare p) mtu) una next) + n) (packets_same pool ps mtu (low + span_of (bare p) mtu) una next)
 
-reads_same : (pool : Pool) (ps : List Posted) (mtu low una next : ℕ) → reads_in_flight (untold_in pool ps) mtu low una next ≡ reads_in_flight (bares ps) mtu low una next
+reads_same : (pool : Pool) (ps : List QueuedRequest) (mtu low una next : ℕ) → reads_in_flight (untold_in pool ps) mtu low una next ≡ reads_in_flight (bares ps) mtu low una next
 unfolding reads_in_flight
 reads_same pool [] mtu low una next = refl
 reads_same pool (p ∷ ps) mtu low una next = ap (λ n. (if lands p.request.shape.kind then min 1 (overlap low (low + span_of (bare p) mtu) una next) else 0) + n) (reads_same pool ps mtu (low + span_of (bare p) mtu) una next)
@@ -223,12 +223,12 @@ after-row t pool v new is items =
 
 -- ---- the packet of the piece
 
-pub at-in : (pool : Pool) (ps : List Posted) (i : ℕ) (p : Posted) → slice_get ps i ≡ Some p → slice_get (untold_in pool ps) i ≡ Some (posted_in pool p)
+pub at-in : (pool : Pool) (ps : List QueuedRequest) (i : ℕ) (p : QueuedRequest) → slice_get ps i ≡ Some p → slice_get (untold_in pool ps) i ≡ Some (posted_in pool p)
 at-in pool [] i p e = absurd (cc)
 at-in pool (x ∷ xs) zero p e = let same : x ≡ p = cc in ap (λ y. Some (posted_in pool y)) same
 at-in pool (x ∷ xs) (suc i) p e = at-in pool xs i p e
 
-some-at : (ps : List Posted) (i : ℕ) → i < length ps → (p : Posted) × (slice_get ps i ≡ Some p)
+some-at : (ps : List QueuedRequest) (i : ℕ) → i < length ps → (p : QueuedRequest) × (slice_get ps i ≡ Some p)
 some-at [] i within = absurd (omega arith)
 some-at (x ∷ xs) zero within = (x, refl)
 some-at (x ∷ xs) (suc i) within = some-at xs i (omega arith)
@@ -240,7 +240,7 @@ index-within t v number index row at =
     let found : index < length (bares v.items) = found_within (bares v.items) index _ (ap (λ i. slice_get (bares v.items) i) at ∙ there) in
     omega (arith, length-bares v.items)
 
-asks : (pool : Pool) (p : Posted) → HoldsPayload pool p.payload → p.payload.length ≡ (if takes_bytes p.request.shape.kind then p.request.shape.length else 0) → Asks (posted_in pool p) p.request.shape
+asks : (pool : Pool) (p : QueuedRequest) → HoldsPayload pool p.payload → p.payload.length ≡ (if takes_bytes p.request.shape.kind then p.request.shape.length else 0) → Asks (posted_in pool p) p.request.shape
 unfolding payload_bytes
 asks pool p holds whole = record {
   same = refl;

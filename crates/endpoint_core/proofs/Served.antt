@@ -60,7 +60,7 @@ use Rattle.endpoint_core.specs.Ends.{KeepsPartner, Names, link_in, untold_by}
 use Rattle.endpoint_core.specs.Flushed.{all_receives}
 use Rattle.endpoint_core.specs.Queues.{StandsAt, count_at, nothing, promised, queues_of, settle_at}
 use Rattle.endpoint_core.specs.Served.{HasServed, request_answer}
-use Rattle.endpoint_core.specs.Sites.{IsHome, IsSound, Keeps, Site, end_at, home}
+use Rattle.endpoint_core.specs.Sites.{IsHome, IsSound, Keeps, EndWithMemory, end_at, home}
 use Rattle.endpoint_core.specs.Sound.{IsLinked, IsPosted}
 use Rattle.endpoint_core.proofs.Answered.{count-sum, end-twice}
 use Rattle.endpoint_core.proofs.Ended.{count-here, length-both, promised-is}
@@ -131,12 +131,12 @@ all-settles c qs name place (w ∷ ws) is at = completing-settles c qs name plac
 
 -- ---- a site where a request was served
 
-module _ (s : Site) (l l' : EndLink) (d : Packet) (pool' : Pool) (rs' : WorkQueue Receive) (qs' : List (Name × Queue)) (T : Taking)
+module _ (s : EndWithMemory) (l l' : EndLink) (d : Packet) (pool' : Pool) (rs' : WorkQueue Receive) (qs' : List (Name × Queue)) (T : Taking)
     (sound : IsSound s nothing) (is : s.end.link ≡ Some l) (running : l.ended ≡ false) (fits : Fits d)
     (row : T ≡ taken_request l.responder.terms s.end.domain s.end.number l.responder.receiver (regions_of s.pool s.held) s.end.recvs.items d)
     (did : HasServed s.recv s.end.domain T l l' s.end.recvs rs' s.pool pool' s.held s.queues qs') where
   -- the site after it
-  abbrev pub after : Site
+  abbrev pub after : EndWithMemory
   after = record s { pool = pool'; queues = qs'; end = record s.end { recvs = rs'; link = Some l' } }
 
   before : IsLinked s.pool s.held s.end l
@@ -231,7 +231,7 @@ module _ (s : Site) (l l' : EndLink) (d : Packet) (pool' : Pool) (rs' : WorkQueu
       (sym (ap (λ (x : EndLink). x.moves.partner) did.same)) (sym (ap (λ (x : EndLink). x.peer) did.same)) (sym (ap (λ (x : EndLink). x.terms.peer_start) did.same))
       (sym (ap (λ (x : EndLink). x.responder.receiver.msn) did.same ∙ msn))
 
-  sent-after : (s2 : Site) (w : Why) → T.receiver.msn ≡ l.responder.receiver.msn → KeepsPartner l' s2.end.link
+  sent-after : (s2 : EndWithMemory) (w : Why) → T.receiver.msn ≡ l.responder.receiver.msn → KeepsPartner l' s2.end.link
       → acknowledge (link_in s.pool l) l.responder.receiver.expected (Nak (nak_code w)) ∷ [] ≡ sent_of s2 (reply.Acknowledge l.responder.receiver.expected (Nak (nak_code w)))
   sent-after s2 w msn keeps =
       ap (λ a. a ∷ []) (acknowledge-after l.responder.receiver.expected (Nak (nak_code w)) msn
@@ -279,7 +279,7 @@ module _ (s : Site) (l l' : EndLink) (d : Packet) (pool' : Pool) (rs' : WorkQueu
   served-step c names at alive = protocol-step c names at ∙ row-step c names T.reply at refl leaves alive
 
   -- a refusal: what it completes, and then all work is flushed
-  pub refused-step : (c : Context) (names : Names) (w : Why) (s2 : Site) → IsHome c names s → T.reply ≡ served.Refused w → KeepsPartner l' s2.end.link
+  pub refused-step : (c : Context) (names : Names) (w : Why) (s2 : EndWithMemory) → IsHome c names s → T.reply ≡ served.Refused w → KeepsPartner l' s2.end.link
       → takes_request c (end_at names s) (link_in s.pool l) d
       ≡ record {
         context = ended_with (home c names after) (end_at names after) (link_in pool' l') status.Flush;

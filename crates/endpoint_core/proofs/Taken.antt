@@ -18,7 +18,7 @@ use Rattle.endpoint_core.specs.declared.end.EndLink.{EndLink}
 use Rattle.std.specs.Option.{option_map_or}
 use Rattle.memory_keys.specs.Regions.{regions_of}
 use Rattle.endpoint_core.specs.Ends.{link_in}
-use Rattle.endpoint_core.specs.Sites.{Site}
+use Rattle.endpoint_core.specs.Sites.{EndWithMemory}
 use Rattle.endpoint_core.specs.Answers.{IsAck, IsReply, sent_by, sent_of}
 
 pub taken-ended : (c : Context) (e : End) (l : Link) (d : Packet) → l.ended ≡ true → takes c e l d ≡ silent c why.Ended
@@ -67,7 +67,7 @@ ack-reply held l (reply.ReadBytes spot first count) ack = absurd ack
 ack-reply held l (reply.Old number old) ack = absurd ack
 
 -- no reply sends nothing
-pub none-sent : (s : Site) → [] ≡ sent_of s reply.Nothing
+pub none-sent : (s : EndWithMemory) → [] ≡ sent_of s reply.Nothing
 none-sent s = by_link s.end.link
   where
     by_link : (o : Option EndLink) → [] ≡ option_map_or (λ l. sent_by (regions_of s.pool s.held) (link_in s.pool l) reply.Nothing) o []

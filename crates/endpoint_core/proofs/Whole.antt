@@ -8,13 +8,13 @@ use Rattle.rdma_types.specs.declared.requests.WcStatus.{WcStatus}
 use Rattle.page_pool.specs.Pool.{Pool, bytes_of, free_pages}
 use Rattle.completion_queue.specs.Queue.{Queue}
 use Rattle.memory_keys.specs.declared.Held.{Held}
-use Rattle.work_queues.specs.declared.posted.Posted.{Posted}
+use Rattle.work_queues.specs.declared.posted.QueuedRequest.{QueuedRequest}
 use Rattle.protocol.specs.Requester.{takes_response}
 use Rattle.protocol.specs.State.{Context}
 use Rattle.protocol.specs.Wire.{Fits, Packet, has_old, layout_of}
 use Rattle.protocol.specs.declared.wire.Headers.TheVariants as headers
-use Rattle.requester.specs.declared.answers.Taken.{Taken}
-use Rattle.requester.specs.declared.answers.Taken.TheVariants.{Ended}
+use Rattle.requester.specs.declared.answers.ResponseEffect.{ResponseEffect}
+use Rattle.requester.specs.declared.answers.ResponseEffect.TheVariants.{Ended}
 use Rattle.requester.specs.Sending.{sender_of}
 use Rattle.requester.specs.Taking.{taken_response}
 use Rattle.end_memory.specs.Payloads.{payload_lists, payload_pages}
@@ -22,7 +22,7 @@ use Rattle.endpoint_core.specs.declared.end.EndLink.{EndLink}
 use Rattle.endpoint_core.specs.Ends.{Names, link_in, untold_by}
 use Rattle.endpoint_core.specs.Queues.{nothing, promised, reserved_in}
 use Rattle.endpoint_core.specs.Responded.{HasAnswered, is_useless, response_took}
-use Rattle.endpoint_core.specs.Sites.{IsHome, IsSound, Keeps, Site, end_at, home}
+use Rattle.endpoint_core.specs.Sites.{IsHome, IsSound, Keeps, EndWithMemory, end_at, home}
 use Rattle.endpoint_core.proofs.Answered.{alive-step, told-keeps, told-sound, useless-step}
 use Rattle.endpoint_core.proofs.Frames.{home-same, same-site}
 use Rattle.endpoint_core.proofs.Given.{append-none}
@@ -51,17 +51,17 @@ drop-twice (suc a) b (x ∷ xs) = drop-twice a b xs ∙ ap (λ n. drop n (x ∷ 
     suc-left : (m n : ℕ) → suc (m + n) ≡ suc m + n
     suc-left m n = omega arith
 
-lists-rest : (P : ℕ → Type 0) (n : ℕ) (ps : List Posted) → All P (payload_lists ps) → All P (payload_lists (drop n ps))
+lists-rest : (P : ℕ → Type 0) (n : ℕ) (ps : List QueuedRequest) → All P (payload_lists ps) → All P (payload_lists (drop n ps))
 lists-rest P zero ps all = all
 lists-rest P (suc n) [] all = all
 lists-rest P (suc n) (p ∷ ps) all = lists-rest P n ps (All-tail P p.payload.list (payload_lists ps) all)
 
-all-rest : (P : Posted → Type 0) (n : ℕ) (ps : List Posted) → All P ps → All P (drop n ps)
+all-rest : (P : QueuedRequest → Type 0) (n : ℕ) (ps : List QueuedRequest) → All P ps → All P (drop n ps)
 all-rest P zero ps all = all
 all-rest P (suc n) [] all = all
 all-rest P (suc n) (p ∷ ps) all = all-rest P n ps (All-tail P p ps all)
 
-pub keeps-both : (a b c : Site) → b.send ≡ a.send → b.recv ≡ a.recv → Keeps a b [] nothing → Keeps b c [] nothing → Keeps a c [] nothing
+pub keeps-both : (a b c : EndWithMemory) → b.send ≡ a.send → b.recv ≡ a.recv → Keeps a b [] nothing → Keeps b c [] nothing → Keeps a c [] nothing
 keeps-both a b c send recv one two =
     let mid : untold_by b.end.link ++ [] ≡ untold_by b.end.link = append-none (untold_by b.end.link) in
     record {
@@ -101,7 +101,7 @@ keeps-both a b c send recv one two =
       };
     }
 
-pub keeps-same : (s : Site) → Keeps s s [] nothing
+pub keeps-same : (s : EndWithMemory) → Keeps s s [] nothing
 keeps-same s = record {
   end = record { number = refl; domain = refl; send_depth = refl; recv_depth = refl };
   untold = record { gone = 0; left = sym (append-none (untold_by s.end.link)) };
@@ -115,18 +115,18 @@ keeps-same s = record {
 -- ---- a response that does not end the end
 
 -- what it does at a site
-pub record IsStep (s s' : Site) (l : EndLink) (d : Packet) (T : Taken) : Type 0 where
+pub record IsStep (s s' : EndWithMemory) (l : EndLink) (d : Packet) (T : ResponseEffect) : Type 0 where
   pub step : (c : Context) (names : Names) → IsHome c names s → takes_response c (end_at names s) (link_in s.pool l) d ≡ record { context = home c names s'; took = response_took T; sent = [] }
   pub sound : IsSound s' nothing
   pub keeps : Keeps s s' [] nothing
 
-module _ (s : Site) (l l' : EndLink) (d : Packet) (T : Taken) (pool' : Pool) (held' : List Held) (qs' : List (Name × Queue))
+module _ (s : EndWithMemory) (l l' : EndLink) (d : Packet) (T : ResponseEffect) (pool' : Pool) (held' : List Held) (qs' : List (Name × Queue))
     (sound : IsSound s nothing) (is : s.end.link ≡ Some l) (running : l.ended ≡ false) (old : d.opcode ≡ 0x12 → IsSome d.old)
     (taken : T ≡ (taken_response l.requester.terms (sender_of l.requester) d).taken) (regions : held' ≡ s.held)
     (link : is_useless T ≡ true → l' ≡ l) (pool : is_useless T ≡ true → pool' ≡ s.pool) (queues : is_useless T ≡ true → qs' ≡ s.queues)
     (answered : is_useless T ≡ false → HasAnswered s.end.number s.send (taken_response l.requester.terms (sender_of l.requester) d).sender d T l l' s.pool pool' s.held s.queues qs') where
   -- the site after it
-  abbrev pub after : Site
+  abbrev pub after : EndWithMemory
   after = record s { pool = pool'; held = held'; queues = qs'; end = record s.end { link = Some l' } }
 
   pub response-whole : ((why : WcStatus) → T ≡ Ended why → ⊥) → IsStep s after l d T

@@ -44,7 +44,7 @@ use Rattle.endpoint_core.specs.declared.answers.EndSend.{EndSend}
 use Rattle.endpoint_core.specs.declared.answers.EndSend.TheVariants as send
 use Rattle.endpoint_core.specs.declared.end.EndLink.{EndLink}
 use Rattle.endpoint_core.specs.Ends.{link_in}
-use Rattle.endpoint_core.specs.Sites.{Site}
+use Rattle.endpoint_core.specs.Sites.{EndWithMemory}
 
 -- ---- replies
 
@@ -57,7 +57,7 @@ sent_by regions l (reply.Old number old) = old_answer l number old ∷ []
 sent_by regions l (reply.ResumeAck count address) = to_partner l None (resume_packet 0x1F l.peer (record { count = count; address = address })) ∷ []
 
 -- the datagrams of a reply of the end of a site
-abbrev pub sent_of : Site → EndReply → List Sent
+abbrev pub sent_of : EndWithMemory → EndReply → List Sent
 sent_of s r = option_map_or (λ l. sent_by (regions_of s.pool s.held) (link_in s.pool l) r) s.end.link []
 
 -- the bytes of a read are there, and it has as many responses as they have pieces; an acknowledge or a NAK can be written

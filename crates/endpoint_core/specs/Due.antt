@@ -24,7 +24,7 @@ use Rattle.endpoint_core.specs.declared.answers.EndReply.TheVariants as reply
 use Rattle.endpoint_core.specs.declared.end.EndLink.{EndLink}
 use Rattle.endpoint_core.specs.Answers.{sent_of}
 use Rattle.endpoint_core.specs.Ends.{link_in}
-use Rattle.endpoint_core.specs.Sites.{Site}
+use Rattle.endpoint_core.specs.Sites.{EndWithMemory}
 
 -- a READ of so many numbers from n on is not ahead: all its numbers are before the expected one, or the first is the
 -- expected one, and its length is within the limit of a message
@@ -69,14 +69,14 @@ abbrev pub responses : Pool → List Region → EndLink → DueRead → ℕ → 
 responses pool regions l due count = read_pieces (telling (link_in pool l) due.msn) (at (λ r. r.keys.local) no_region due.spot.region regions) due.spot.off due.spot.length due.first count
 
 -- what is answered with bytes was due before, in as many responses as it has pieces
-pub record IsDue (old new : Site) (l : EndLink) (d : Packet) (spot : Spot) (first count : ℕ) : Type 0 where
+pub record IsDue (old new : EndWithMemory) (l : EndLink) (d : Packet) (spot : Spot) (first count : ℕ) : Type 0 where
   pub msn : ℕ
   pub all : count ≡ pieces spot.length l.terms.mtu
   pub due : due_in l (regions_of old.pool old.held) old.end.domain d ≡ Some (record { spot = spot; first = first; msn = msn })
   pub sent : sent_of new (reply.ReadBytes spot first count) ≡ responses old.pool (regions_of old.pool old.held) l (record { spot = spot; first = first; msn = msn }) count
 
 -- .. and no other reply was
-abbrev pub WasDue : Site → Site → EndLink → Packet → EndReply → Type 0
+abbrev pub WasDue : EndWithMemory → EndWithMemory → EndLink → Packet → EndReply → Type 0
 WasDue old new l d (reply.ReadBytes spot first count) = IsDue old new l d spot first count
 WasDue old new l d reply.Nothing = ⊤
 WasDue old new l d (reply.Acknowledge number syndrome) = ⊤

@@ -3,7 +3,7 @@ use Rattle.std.specs.Prelude.{◌≡◌, Bool, true, false, List, [], Option, So
 use Rattle.rdma_types.specs.declared.names.Name.{Name}
 use Rattle.rdma_types.specs.declared.requests.Receive.{Receive}
 use Rattle.page_pool.specs.Pool.{Pool}
-use Rattle.work_queues.specs.declared.posted.Posted.{Posted}
+use Rattle.work_queues.specs.declared.posted.QueuedRequest.{QueuedRequest}
 use Rattle.requester.specs.Sending.{sender_in}
 use Rattle.move_core.specs.Table.{moving_of}
 use Rattle.protocol.specs.EndWords.{in_use_by}
@@ -48,7 +48,7 @@ is_ended_link None = false
 is_ended_link (Some l) = l.ended
 
 -- the requests of a connection that are not told
-abbrev pub untold_by : Option EndLink → List Posted
+abbrev pub untold_by : Option EndLink → List QueuedRequest
 untold_by None = []
 untold_by (Some l) = l.requester.items
 

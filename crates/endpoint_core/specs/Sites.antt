@@ -5,7 +5,7 @@ use Rattle.page_pool.specs.Pool.{Pool, bytes_of, free_pages}
 use Rattle.completion_queue.specs.Queue.{Queue}
 use Rattle.memory_keys.specs.declared.Held.{Held}
 use Rattle.memory_keys.specs.Regions.{AreHeld, regions_of}
-use Rattle.work_queues.specs.declared.posted.Posted.{Posted}
+use Rattle.work_queues.specs.declared.posted.QueuedRequest.{QueuedRequest}
 use Rattle.protocol.specs.State.{Context, End}
 use Rattle.protocol.specs.EndWords.{with_end}
 use Rattle.endpoint_core.specs.declared.memory.EndMemory.{EndMemory}
@@ -15,7 +15,7 @@ use Rattle.endpoint_core.specs.Queues.{queues_of, StandsAt, AreReserved, KeepsRe
 use Rattle.endpoint_core.specs.Sound.{IsEnd, KeepsLists, payload_lists, payload_pages}
 
 -- an end, and the memory that it is lent: the pool, the regions, the queues, and the places of its two queues
-pub record Site : Type 0 where
+pub record EndWithMemory : Type 0 where
   pub pool : Pool
   pub held : List Held
   pub queues : List (Name × Queue)
@@ -24,25 +24,25 @@ pub record Site : Type 0 where
   pub end : Endpoint
 
 -- an end with what it is lent
-abbrev pub site_of : EndMemory → Endpoint → Site
+abbrev pub site_of : EndMemory → Endpoint → EndWithMemory
 site_of m e = record { pool = m.pool.now; held = m.regions.now; queues = m.queues.now.entries; send = m.send; recv = m.recv; end = e }
 
 -- .. and with what is there after a call
-abbrev pub site_at : EndMemory → Pool → List Held → List (Name × Queue) → Endpoint → Site
+abbrev pub site_at : EndMemory → Pool → List Held → List (Name × Queue) → Endpoint → EndWithMemory
 site_at m pool held queues e = record { pool = pool; held = held; queues = queues; send = m.send; recv = m.recv; end = e }
 
 -- the end in the words of the protocol, under these names
-abbrev pub end_at : Names → Site → End
+abbrev pub end_at : Names → EndWithMemory → End
 end_at names s = end_in s.pool names s.end
 
 -- what a step of an end needs and keeps; so many places more are reserved
-pub record IsSound (s : Site) (more : ℕ → ℕ) : Type 0 where
+pub record IsSound (s : EndWithMemory) (more : ℕ → ℕ) : Type 0 where
   pub end : IsEnd s.pool s.held s.end
   pub regions : AreHeld s.pool s.held
   pub reserved : AreReserved s.queues s.send s.recv s.end more
 
 -- a context of the protocol holds this end, these regions and these queues
-pub record IsHome (c : Context) (names : Names) (s : Site) : Type 0 where
+pub record IsHome (c : Context) (names : Names) (s : EndWithMemory) : Type 0 where
   pub regions : c.regions ≡ regions_of s.pool s.held
   pub queues : c.queues ≡ queues_of s.queues
   pub there : with_end c (end_at names s) ≡ c
@@ -50,7 +50,7 @@ pub record IsHome (c : Context) (names : Names) (s : Site) : Type 0 where
   pub recv : StandsAt s.queues names.recv_cq s.recv
 
 -- the context with the end, the regions and the queues as they are at a site
-abbrev pub home : Context → Names → Site → Context
+abbrev pub home : Context → Names → EndWithMemory → Context
 home c names s = with_end (record c { regions = regions_of s.pool s.held; queues = queues_of s.queues }) (end_at names s)
 
 -- all of an end but its work stays
@@ -61,13 +61,13 @@ pub record KeepsEnd (old new : Endpoint) : Type 0 where
   pub recv_depth : new.recv_depth ≡ old.recv_depth
 
 -- so many of the oldest of these requests are gone
-pub record LosesOldest (old new : List Posted) : Type 0 where
+pub record LosesOldest (old new : List QueuedRequest) : Type 0 where
   pub gone : ℕ
   pub left : new ≡ drop gone old
 
 -- what a step keeps where these requests are posted, and so many more places were reserved: the regions' heads and lists,
 -- the lists of others, the bytes of the requests that are left, the pages of all, since those of payloads that are told or flushed are free, and what is reserved
-pub record Keeps (old new : Site) (posted : List Posted) (more : ℕ → ℕ) : Type 0 where
+pub record Keeps (old new : EndWithMemory) (posted : List QueuedRequest) (more : ℕ → ℕ) : Type 0 where
   pub end : KeepsEnd old.end new.end
   pub untold : LosesOldest (untold_by old.end.link ++ posted) (untold_by new.end.link)
   pub regions : new.held ≡ old.held

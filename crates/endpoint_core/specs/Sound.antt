@@ -14,7 +14,7 @@ use Rattle.page_pool.specs.Held.{HoldsPayload}
 use Rattle.memory_keys.specs.declared.Held.{Held}
 use Rattle.memory_keys.specs.Regions.{regions_of}
 use Rattle.work_queues.specs.Queue.{empty_queue, Queue}
-use Rattle.work_queues.specs.declared.posted.Posted.{Posted}
+use Rattle.work_queues.specs.declared.posted.QueuedRequest.{QueuedRequest}
 use Rattle.requester.specs.Sending.{sender_of}
 use Rattle.protocol.specs.Requester.{end_of_queue}
 use Rattle.protocol.specs.State.{NoMessage}
@@ -29,13 +29,13 @@ abbrev pub IsPlaced : List Held → Name → Request → Type 0
 IsPlaced held domain r = (pool : Pool) → is_granted local_key (regions_of pool held) domain r.lkey r.local r.shape.length (landing_right r.shape.kind) ≡ true
 
 -- the payload of a request lies in the pool, apart from the regions, with the bytes that its kind takes
-pub record HasPayload (pool : Pool) (held : List Held) (p : Posted) : Type 0 where
+pub record HasPayload (pool : Pool) (held : List Held) (p : QueuedRequest) : Type 0 where
   pub holds : HoldsPayload pool p.payload
   pub whole : p.payload.length ≡ (if takes_bytes p.request.shape.kind then p.request.shape.length else 0)
   pub apart : All (λ h. h.list ≢ p.payload.list) held
 
 -- a posted request: its shape, its payload and its place
-pub record IsPosted (pool : Pool) (held : List Held) (domain : Name) (p : Posted) : Type 0 where
+pub record IsPosted (pool : Pool) (held : List Held) (domain : Name) (p : QueuedRequest) : Type 0 where
   pub shape : IsLawfulShape p.request.shape
   pub payload : HasPayload pool held p
   pub placed : IsPlaced held domain p.request
@@ -56,7 +56,7 @@ pub record IsLinked (pool : Pool) (held : List Held) (e : Endpoint) (l : EndLink
   pub running : l.ended ≡ true → l.moves.phase ≡ phase.Running
 
 -- an end in Init holds an empty send queue, and a connected one none
-abbrev pub HoldsQueue : ℕ → Option (Queue Posted) → Option EndLink → Type 0
+abbrev pub HoldsQueue : ℕ → Option (Queue QueuedRequest) → Option EndLink → Type 0
 HoldsQueue depth unlinked None = unlinked ≡ Some (empty_queue depth)
 HoldsQueue depth unlinked (Some l) = unlinked ≡ None
 
@@ -78,7 +78,7 @@ IsBelowLimit (Some l) r = l.ended ≡ false → end_of_queue l.terms (sender_of 
 
 -- a request that may be posted at an end: its payload is apart from the regions and from the end's others; it has the
 -- bytes of its request where the end is not in Error
-pub record IsNew (pool : Pool) (held : List Held) (e : Endpoint) (p : Posted) : Type 0 where
+pub record IsNew (pool : Pool) (held : List Held) (e : Endpoint) (p : QueuedRequest) : Type 0 where
   pub shape : IsLawfulShape p.request.shape
   pub holds : HoldsPayload pool p.payload
   pub whole : is_ended_link e.link ≡ false → p.payload.length ≡ (if takes_bytes p.request.shape.kind then p.request.shape.length else 0)

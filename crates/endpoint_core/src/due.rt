@@ -26,7 +26,7 @@ const MOST_BYTES: u32 = 1_048_576;
 /// Whether a READ of so many numbers and bytes from number `n` on is answered by its number.
 fn is_in_turn(expected: u64, n: u64, count: u64, length: u32) -> bool
     requires number { n < 2 ^ 63 }
-    requires few { count ≤ 2 ^ 32 }
+    requires bounded { count ≤ 2 ^ 32 }
     ensures rule { result ≡ is_in_turn expected n count length }
     ensures behind { OnTrue result (n ≤ expected) }
 {

@@ -9,7 +9,7 @@ ghost use Rattle.protocol.specs.EndWords.{linked};
 ghost use Rattle.protocol.specs.State.{Context, fresh_link};
 ghost use Rattle.endpoint_core.specs.Ends.{Names};
 ghost use Rattle.endpoint_core.specs.Queues.{promised};
-ghost use Rattle.endpoint_core.specs.Sites.{IsHome, KeepsEnd, Site, end_at, home};
+ghost use Rattle.endpoint_core.specs.Sites.{IsHome, KeepsEnd, EndWithMemory, end_at, home};
 ghost use Rattle.endpoint_core.specs.Sound.{HoldsQueue, IsEnd};
 
 use crate::answers::BadState;
@@ -51,7 +51,7 @@ impl Endpoint {
         ensures state { IsErr result ↔ IsSome self.old.link }
         ensures linked { OnOk result (IsSome self.new.link) }
         ensures queue { HoldsQueue self.new.send_depth self.new.unlinked self.new.link }
-        ensures step { OnOk result ((s : Site) → s.end ≡ self.old → (c : Context) (names : Names) → IsHome c names s
+        ensures step { OnOk result ((s : EndWithMemory) → s.end ≡ self.old → (c : Context) (names : Names) → IsHome c names s
             → linked c (end_at names s) (fresh_link peer partner terms.now) ≡ home c names (record s { end = self.new })) }
         ensures sound { OnOk result ((pool : Pool) (held : List Held) → IsEnd pool held self.old → IsEnd pool held self.new) }
         ensures end { KeepsEnd self.old self.new }

@@ -19,13 +19,17 @@ use crate::queues::{fail_at, push_at};
 use end_memory::received;
 use rdma_types::{Receive, WcStatus};
 use responder::soundness_stays;
-use work_queues::Posted;
+use work_queues::QueuedRequest;
 
 impl Endpoint {
     /// Posts a request, and reserves one more place for its completion. In Error it completes at once, flushed, and its
     /// payload's pages are free. Errors: the request itself, exactly where the send depth is reached; all then stays as
     /// it was.
-    pub fn post_send(&mut self, p: Posted, memory: EndMemory<'_>) -> Result<(), Posted>
+    pub fn post_send(
+        &mut self,
+        p: QueuedRequest,
+        memory: EndMemory<'_>,
+    ) -> Result<(), QueuedRequest>
         requires connected { IsSome self.old.link }
         requires sound { IsSound (site_of memory self.old) (count_at memory.send 1) }
         requires new { IsNew memory.pool.now memory.regions.now self.old p }
@@ -103,7 +107,7 @@ impl Endpoint {
 
 impl EndLink {
     /// Posts a request at an end that is not in Error.
-    fn post(&mut self, p: Posted) -> Result<(), Posted>
+    fn post(&mut self, p: QueuedRequest) -> Result<(), QueuedRequest>
         requires { end_of_queue self.old.requester.terms (sender_of self.old.requester) + span p.request.shape self.old.requester.terms.mtu < 2 ^ 62 }
         ensures ok { OnOk result (self.new ≡ record self.old { requester = posting self.old.requester p }) }
         ensures full { IsErr result ↔ (length self.old.requester.items ≡ self.old.requester.depth) }

@@ -16,7 +16,7 @@ use indexmap::IndexMap;
 use page_pool::PagePool;
 use rdma_types::{Completion, Name, Receive, WcStatus};
 use requester::Requester;
-use work_queues::{Posted, RecvQueue};
+use work_queues::{QueuedRequest, RecvQueue};
 
 /// Puts a completion into the queue at a place, where one is reserved.
 pub fn push_at(queues: &mut IndexMap<Name, Cq>, place: u32, completion: Completion)
@@ -97,7 +97,7 @@ pub fn flush_receives_at(
 pub fn fail_at(
     queues: &mut IndexMap<Name, Cq>,
     place: u32,
-    p: Posted,
+    p: QueuedRequest,
     number: u32,
     status: WcStatus,
     pool: &mut PagePool,

@@ -18,34 +18,34 @@ use indexmap::IndexMap;
 use memory_keys::Regions;
 use page_pool::PagePool;
 use rdma_types::{Name, SilentWhy, Took};
-use requester::{Requester, Taken};
+use requester::{Requester, ResponseEffect};
 use roce_headers::Datagram;
 
 /// What a response did, in the words of an end.
-pub fn took_of(taken: Taken) -> Took
+pub fn took_of(taken: ResponseEffect) -> Took
     ensures { result ≡ response_took taken }
 {
     match taken {
-        Taken::Acked => Took::Acked,
-        Taken::Landed { .. } | Taken::OldLanded { .. } => Took::Landed,
-        Taken::Rewound => Took::Rewound,
-        Taken::Waits => Took::Waits,
-        Taken::Ended(status) => Took::Ended(status),
-        Taken::Useless => Took::Silent(SilentWhy::Useless),
+        ResponseEffect::Acked => Took::Acked,
+        ResponseEffect::Landed { .. } | ResponseEffect::OldLanded { .. } => Took::Landed,
+        ResponseEffect::Rewound => Took::Rewound,
+        ResponseEffect::Waits => Took::Waits,
+        ResponseEffect::Ended(status) => Took::Ended(status),
+        ResponseEffect::Useless => Took::Silent(SilentWhy::Useless),
     }
 }
 
 /// Nothing happened.
-fn is_useless(taken: Taken) -> bool
+fn is_useless(taken: ResponseEffect) -> bool
     ensures { result ≡ is_useless_answer taken }
 {
-    matches!(taken, Taken::Useless)
+    matches!(taken, ResponseEffect::Useless)
 }
 
 /// Puts what lands into the place of its request.
 fn land_taken(
     requester: &Requester,
-    taken: Taken,
+    taken: ResponseEffect,
     domain: Name,
     pool: &mut PagePool,
     regions: &mut Regions,
@@ -58,15 +58,19 @@ fn land_taken(
     ensures same { regions.new ≡ regions.old }
 {
     match taken {
-        Taken::Landed { index, off } => {
+        ResponseEffect::Landed { index, off } => {
             let p = requester.posted(index).unwrap();
             land(regions, pool, domain, &p.request, off, d.payload);
         }
-        Taken::OldLanded { index, old } => {
+        ResponseEffect::OldLanded { index, old } => {
             let p = requester.posted(index).unwrap();
             land(regions, pool, domain, &p.request, 0, &old.to_be_bytes());
         }
-        Taken::Acked | Taken::Rewound | Taken::Waits | Taken::Ended(_) | Taken::Useless => {}
+        ResponseEffect::Acked
+        | ResponseEffect::Rewound
+        | ResponseEffect::Waits
+        | ResponseEffect::Ended(_)
+        | ResponseEffect::Useless => {}
     }
 }
 
@@ -82,7 +86,7 @@ impl EndLink {
         queues: &mut IndexMap<Name, Cq>,
         send: u32,
         d: &Datagram<'_>,
-    ) -> Taken
+    ) -> ResponseEffect
         requires psn { d.now.psn < 2 ^ 24 }
         requires mtu { 0 < self.old.requester.terms.mtu }
         requires held { AreHeld pool.old regions.old }

@@ -11,7 +11,7 @@ ghost use Rattle.rdma_types.specs.declared.names.Name.{Name};
 ghost use Rattle.endpoint_core.specs.Answers.{IsPacketOf, link_after_row, row_in, sent_at, transmission_at, waited_at};
 ghost use Rattle.endpoint_core.specs.Ends.{KeepsLink, Names, link_in, untold_by};
 ghost use Rattle.endpoint_core.specs.Queues.{promised};
-ghost use Rattle.endpoint_core.specs.Sites.{IsHome, KeepsEnd, Site, end_at, home};
+ghost use Rattle.endpoint_core.specs.Sites.{IsHome, KeepsEnd, EndWithMemory, end_at, home};
 ghost use Rattle.endpoint_core.specs.Sound.{IsEnd, IsPosted};
 
 use crate::answers::EndSend;
@@ -27,7 +27,7 @@ impl Endpoint {
             → transmission_at (option_map (link_in pool) self.old.link) ≡ row_in pool self.old.link result }
         ensures packet { (pool : Pool) (held : List Held) → IsEnd pool held self.old
             → IfSome self.old.link (λ l. IsPacketOf pool l result) }
-        ensures step { (s : Site) → s.end ≡ self.old → IsEnd s.pool s.held self.old → (c : Context) (names : Names) → IsHome c names s
+        ensures step { (s : EndWithMemory) → s.end ≡ self.old → IsEnd s.pool s.held self.old → (c : Context) (names : Names) → IsHome c names s
             → sent_at c (end_at names s) (end_at names s).link ≡ home c names (record s { end = self.new }) }
         ensures sound { (pool : Pool) (held : List Held) → IsEnd pool held self.old → IsEnd pool held self.new }
         ensures end { KeepsEnd self.old self.new }
@@ -44,7 +44,7 @@ impl Endpoint {
     pub fn rnr_over(&mut self) -> bool
         requires connected { IsSome self.old.link }
         ensures waited { IfSome self.old.link (λ l. result ≡ l.requester.numbers.rnr_wait) }
-        ensures step { (s : Site) → s.end ≡ self.old → (c : Context) (names : Names) → IsHome c names s
+        ensures step { (s : EndWithMemory) → s.end ≡ self.old → (c : Context) (names : Names) → IsHome c names s
             → waited_at c (end_at names s) (end_at names s).link ≡ home c names (record s { end = self.new }) }
         ensures sound { (pool : Pool) (held : List Held) → IsEnd pool held self.old → IsEnd pool held self.new }
         ensures end { KeepsEnd self.old self.new }

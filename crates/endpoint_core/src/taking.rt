@@ -22,7 +22,7 @@ use crate::moving::control_of;
 use crate::responding::took_of;
 use crate::serving::answer_of;
 use rdma_types::{SilentWhy, Took, WcStatus};
-use requester::Taken;
+use requester::ResponseEffect;
 use responder::Reply;
 use roce_headers::Datagram;
 
@@ -110,7 +110,7 @@ impl Endpoint {
             send,
             d,
         );
-        if let Taken::Ended(status) = taken {
+        if let ResponseEffect::Ended(status) = taken {
             let memory = EndMemory {
                 pool: &mut *pool,
                 regions: &mut *regions,

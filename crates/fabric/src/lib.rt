@@ -63,7 +63,7 @@ impl Fabric {
     /// The number that the next datagram gets.
     pub fn next(&self) -> u64
         ensures number { result ≡ length self.now + 1 }
-        ensures few { result ≤ 2 ^ 63 }
+        ensures bounded { result ≤ 2 ^ 63 }
         ensures kept { forgetting self.now ≡ self.now }
     {
         self.gone + self.ring.len() as u64 + 1

@@ -7,7 +7,7 @@ use Rattle.ideal_model.specs.declared.region.KeyKind.{KeyKind}
 use Rattle.ideal_model.specs.declared.region.KeyKind.TheVariants.{Local, Remote}
 use Rattle.ideal_model.specs.declared.region.Need.{Need}
 use Rattle.ideal_model.specs.declared.region.Need.TheVariants as needs
-use Rattle.ideal_model.specs.declared.region.Place.{Place}
+use Rattle.ideal_model.specs.declared.region.KeyedRange.{KeyedRange}
 use Rattle.ideal_model.specs.Machine.{Machine}
 use Rattle.ideal_model.specs.Steps.{putting}
 
@@ -25,6 +25,6 @@ right_of needs.RemoteRead = RemoteRead
 right_of needs.RemoteAtomic = RemoteAtomic
 
 -- bytes are put at a place of context c, if there is one
-abbrev pub put_maybe : Machine → Name → Option Place → List ℕ → Machine
+abbrev pub put_maybe : Machine → Name → Option KeyedRange → List ℕ → Machine
 put_maybe m c None new = m
 put_maybe m c (Some p) new = putting m c (key_by p.kind) p.key p.address new

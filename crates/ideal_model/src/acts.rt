@@ -10,9 +10,9 @@ ghost use Rattle.ideal_model.specs.Steps.{current, fills, next_bytes, arrivals, 
 use crate::end::End;
 use crate::ideal::Ideal;
 use crate::kinds::{is_send, receive_done};
-use crate::posted::{Offered, Posted};
+use crate::posted::{IdealRequest, Offered};
 use crate::queue::{Queue, complete, copied};
-use crate::region::{KeyKind, Place, bytes_at};
+use crate::region::{KeyKind, KeyedRange, bytes_at};
 use crate::reply::Reply;
 use crate::turns::remote_place;
 use rdma_types::{Completion, Kind, Name, ObjName, Receive, WcKind, WcStatus, Why};
@@ -43,7 +43,7 @@ fn word_of(bytes: &[u8]) -> u64
 }
 
 /// What an atomic makes of a word.
-fn changed_word(r: &Posted, old: u64) -> u64
+fn changed_word(r: &IdealRequest, old: u64) -> u64
     ensures { result ≡ changed_word r.now old }
 {
     let shape = r.request().shape;
@@ -61,7 +61,7 @@ fn changed_word(r: &Posted, old: u64) -> u64
 
 impl End {
     /// The receive that a request uses here.
-    fn used_by(&self, r: &Posted) -> Option<Receive>
+    fn used_by(&self, r: &IdealRequest) -> Option<Receive>
         ensures { result ≡ used_by r.now self.now }
     {
         if is_send(r.kind()) {
@@ -77,7 +77,7 @@ impl End {
     fn arrivals(
         &self,
         alloc: Global,
-        r: &Posted,
+        r: &IdealRequest,
         n: u32,
         x: &End,
     ) -> Result<Vec<Completion>, AllocError>
@@ -139,10 +139,10 @@ impl End {
 }
 
 /// The place of a receive, from an offset on.
-fn receive_place(v: Receive, offset: u32, count: usize) -> Place
+fn receive_place(v: Receive, offset: u32, count: usize) -> KeyedRange
     ensures { result ≡ record { kind = KeyKind.Local; key = v.lkey; address = v.local + offset; count = count } }
 {
-    Place {
+    KeyedRange {
         kind: KeyKind::Local,
         key: v.lkey,
         address: u128::from(v.local) + u128::from(offset),
@@ -151,7 +151,7 @@ fn receive_place(v: Receive, offset: u32, count: usize) -> Place
 }
 
 /// Where the next bytes of the current request r of an end go, at its peer x.
-fn target(end: &End, r: &Posted, x: &End, count: usize) -> Option<Place>
+fn target(end: &End, r: &IdealRequest, x: &End, count: usize) -> Option<KeyedRange>
     requires { r.now ≡ current end.now }
     ensures put { (m : MachineRecord) (c : List ℕ) (new : List ℕ) → put_maybe m c result new ≡ placing m c end.now x.now new }
     ensures count { IfSome result (λ p. p.count ≡ count) }
@@ -165,7 +165,7 @@ fn target(end: &End, r: &Posted, x: &End, count: usize) -> Option<Place>
 
 impl Ideal {
     /// Bytes are put at a place, if there is one.
-    fn put_maybe(&mut self, context: Name, place: Option<Place>, new: &[u8])
+    fn put_maybe(&mut self, context: Name, place: Option<KeyedRange>, new: &[u8])
         requires { IfSome place (λ p. p.count ≡ length new.now) }
         ensures { self.new ≡ put_maybe self.old context place new.now }
     {

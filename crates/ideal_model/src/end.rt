@@ -10,7 +10,7 @@ ghost use Rattle.ideal_model.specs.Verbs.{in_use_names, request_names, receive_n
 
 use crate::kinds::{is_read, is_send, lands};
 use crate::named::Named;
-use crate::posted::{Offered, Posted};
+use crate::posted::{IdealRequest, Offered};
 use crate::reply::Reply;
 use rdma_types::{Name, ObjName, Receive, Shape, Terms, Why};
 use std::alloc::{AllocError, Global};
@@ -31,7 +31,7 @@ pub struct End {
     pub(crate) mtu: u32,
     pub(crate) retry: u8,
     pub(crate) rnr: u8,
-    pub(crate) posted: Vec<Posted>,
+    pub(crate) posted: Vec<IdealRequest>,
     pub(crate) told: usize,
     pub(crate) known: u32,
     pub(crate) acted: usize,
@@ -146,7 +146,7 @@ impl End {
     }
 
     /// A request is posted. Errors: `AllocError` when out of memory; nothing has changed.
-    pub fn post(&mut self, r: Posted) -> Result<(), AllocError>
+    pub fn post(&mut self, r: IdealRequest) -> Result<(), AllocError>
         ensures ok { OnOk result (self.new ≡ with_request r self.old) }
         ensures err { OnErr result (self.new ≡ self.old) }
     {
@@ -164,7 +164,7 @@ impl End {
     }
 
     /// The request that acts next.
-    pub fn current(&self) -> Option<&Posted>
+    pub fn current(&self) -> Option<&IdealRequest>
         ensures some { IfSome result (λ r. (r.now ≡ current self.now) × (self.now.acted < length self.now.posted)) }
         ensures none { IfNone result (length self.now.posted ≤ self.now.acted) }
     {
@@ -172,7 +172,7 @@ impl End {
     }
 
     /// The first request that is not finished for its owner.
-    pub fn front(&self) -> Option<&Posted>
+    pub fn front(&self) -> Option<&IdealRequest>
         ensures some { IfSome result (λ r. (r.now ≡ front self.now) × (self.now.told < length self.now.posted)) }
         ensures none { IfNone result (length self.now.posted ≤ self.now.told) }
     {
@@ -180,7 +180,7 @@ impl End {
     }
 
     /// The requests that are not finished for their owner.
-    pub fn untold(&self) -> &[Posted]
+    pub fn untold(&self) -> &[IdealRequest]
         ensures { result.now ≡ untold self.now }
     {
         &self.posted[self.told.min(self.posted.len())..]
@@ -194,7 +194,7 @@ impl End {
     }
 
     /// The next n bytes make its current request r whole.
-    pub fn fills(&self, r: &Posted, n: u32) -> bool
+    pub fn fills(&self, r: &IdealRequest, n: u32) -> bool
         requires { r.now ≡ current self.now }
         ensures whole { result ≡ fills self.now n }
         ensures small { size_of (current self.now) < 2 ^ 32 }
@@ -203,7 +203,7 @@ impl End {
     }
 
     /// So many bytes of its current request r may come next.
-    pub fn may_add(&self, r: &Posted, n: u32) -> bool
+    pub fn may_add(&self, r: &IdealRequest, n: u32) -> bool
         requires { r.now ≡ current self.now }
         ensures { result ≡ may_add self.now n }
     {
@@ -221,7 +221,7 @@ impl End {
     }
 
     /// Request number i, where it is a Read that had its turn and has n bytes from an offset on.
-    pub fn read_part(&self, i: usize, off: u32, n: u32) -> Option<&Posted>
+    pub fn read_part(&self, i: usize, off: u32, n: u32) -> Option<&IdealRequest>
         ensures some { IfSome result (λ r. (r.now ≡ posted_at self.now.posted i) × (is_read_part self.now i off n ≡ true) × (off + n < 2 ^ 32)) }
         ensures none { IfNone result (is_read_part self.now i off n ≡ false) }
     {
@@ -237,7 +237,7 @@ impl End {
 
     /// A copy of the next n bytes of its current request r. Errors: `AllocError` when out of memory.
     #[tactic(auto, unfolding(rdma_types::specs::Memory::cut))]
-    pub fn next_bytes(&self, alloc: Global, r: &Posted, n: u32) -> Result<Vec<u8>, AllocError>
+    pub fn next_bytes(&self, alloc: Global, r: &IdealRequest, n: u32) -> Result<Vec<u8>, AllocError>
         requires { r.now ≡ current self.now }
         ensures { IfOk result (λ v. v.items ≡ next_bytes self.now n) }
     {

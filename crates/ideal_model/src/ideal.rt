@@ -13,7 +13,7 @@ use crate::context::Context;
 use crate::end::End;
 use crate::named::place_of;
 use crate::queue::Queue;
-use crate::region::{Place, Region, put_at};
+use crate::region::{KeyedRange, Region, put_at};
 use rdma_types::{Name, ObjName};
 use std::alloc::Global;
 use std::marker::Model;
@@ -124,7 +124,7 @@ impl Ideal {
     }
 
     /// Bytes are put at a place of a context.
-    pub(crate) fn put(&mut self, context: Name, place: &Place, new: &[u8])
+    pub(crate) fn put(&mut self, context: Name, place: &KeyedRange, new: &[u8])
         requires { place.now.count ≡ length new.now }
         ensures { self.new ≡ with_regions self.old context (put_at (key_by place.now.kind) place.now.key place.now.address new.now (regions_of self.old context)) }
     {

@@ -6,7 +6,7 @@ ghost use Rattle.rdma_types.specs.Kinds.{completed_kind, request_done, receive_d
 ghost use Rattle.ideal_model.specs.Steps.{right_for};
 ghost use Rattle.ideal_model.specs.Keyed.{right_of};
 
-use crate::posted::Posted;
+use crate::posted::IdealRequest;
 use crate::region::Need;
 use rdma_types::{Completion, Kind, Receive, WcKind, WcStatus};
 
@@ -85,7 +85,7 @@ fn completed_kind(kind: Kind) -> WcKind
 }
 
 /// The completion of a request of the end with that number.
-pub fn request_done(number: u32, r: &Posted, status: WcStatus, length: u32) -> Completion
+pub fn request_done(number: u32, r: &IdealRequest, status: WcStatus, length: u32) -> Completion
     ensures { result ≡ request_done number r.now status length }
 {
     let request = r.request();

@@ -9,11 +9,11 @@ ghost use Rattle.ideal_model.specs.Numbers.{due, oldest, barrier};
 use crate::end::End;
 use crate::ideal::Ideal;
 use crate::kinds::{is_atomic, lands};
-use crate::posted::Posted;
+use crate::posted::IdealRequest;
 use rdma_types::ObjName;
 
 /// How many packet numbers a request takes.
-fn span_of(r: &Posted, mtu: u32) -> u64
+fn span_of(r: &IdealRequest, mtu: u32) -> u64
     requires { 0 < mtu }
     ensures { result ≡ span_of r.now mtu }
 {
@@ -24,7 +24,7 @@ fn span_of(r: &Posted, mtu: u32) -> u64
 }
 
 /// The first number of request i.
-fn first_number(posted: &[Posted], mtu: u32, i: usize) -> u64
+fn first_number(posted: &[IdealRequest], mtu: u32, i: usize) -> u64
     requires mtu { 0 < mtu }
     requires fits { first_number posted.now mtu i < 2 ^ 64 }
     ensures { result ≡ first_number posted.now mtu i }
@@ -40,7 +40,7 @@ fn first_number(posted: &[Posted], mtu: u32, i: usize) -> u64
 }
 
 /// The first number from n on that belongs to a Read or atomic, or the end of the numbers.
-fn next_landing(posted: &[Posted], mtu: u32, n: u64) -> u64
+fn next_landing(posted: &[IdealRequest], mtu: u32, n: u64) -> u64
     requires mtu { 0 < mtu }
     requires fits { next_landing posted.now mtu n < 2 ^ 64 }
     ensures { result ≡ next_landing posted.now mtu n }

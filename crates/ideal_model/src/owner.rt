@@ -8,9 +8,9 @@ ghost use Rattle.ideal_model.specs.Steps.{has_untold, front, in_place, may_land,
 use crate::end::End;
 use crate::ideal::Ideal;
 use crate::kinds::{is_read, lands, request_done};
-use crate::posted::{Offered, Posted};
+use crate::posted::{IdealRequest, Offered};
 use crate::queue::{Queue, copied};
-use crate::region::{KeyKind, Place};
+use crate::region::{KeyKind, KeyedRange};
 use crate::reply::Reply;
 use rdma_types::{Completion, Name, ObjName, Request, WcStatus, Why};
 use std::alloc::{AllocError, Global};
@@ -35,7 +35,7 @@ impl End {
     }
 
     /// The completion of its first untold request, where that is signaled.
-    fn success(&self, alloc: Global, r: &Posted) -> Result<Vec<Completion>, AllocError>
+    fn success(&self, alloc: Global, r: &IdealRequest) -> Result<Vec<Completion>, AllocError>
         ensures { IfOk result (λ v. v.items ≡ success self.now r.now) }
     {
         let mut all = Vec::new(alloc);
@@ -47,11 +47,11 @@ impl End {
 }
 
 /// The local place of a request, from an offset on.
-fn local_place(r: &Posted, offset: u32, count: usize) -> Place
+fn local_place(r: &IdealRequest, offset: u32, count: usize) -> KeyedRange
     ensures { result ≡ record { kind = KeyKind.Local; key = r.now.request.lkey; address = r.now.request.local + offset; count = count } }
 {
     let request = r.request();
-    Place {
+    KeyedRange {
         kind: KeyKind::Local,
         key: request.lkey,
         address: u128::from(request.local) + u128::from(offset),
@@ -283,7 +283,7 @@ impl Ideal {
     {
         match reply {
             Some(Reply::OldValue(value)) => {
-                let place = Place {
+                let place = KeyedRange {
                     kind: KeyKind::Local,
                     key: request.lkey,
                     address: u128::from(request.local),

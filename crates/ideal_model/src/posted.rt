@@ -9,12 +9,12 @@ use std::marker::Model;
 
 /// A request, with the bytes that a Write or Send took as it was posted.
 #[derive(Drop)]
-pub struct Posted {
+pub struct IdealRequest {
     request: Request,
     payload: Vec<u8>,
 }
 
-impl Model for Posted {
+impl Model for IdealRequest {
     ghost use Rattle.rdma_types.specs.Objects.{Posted as PostedRecord};
 
     ghost Value = { PostedRecord };
@@ -22,12 +22,12 @@ impl Model for Posted {
     ghost view = { λ p. record { request = p.request; payload = p.payload.items } };
 }
 
-impl Posted {
+impl IdealRequest {
     /// A request with the bytes that it took as it was posted.
-    pub fn make(request: Request, payload: Vec<u8>) -> Posted
+    pub fn make(request: Request, payload: Vec<u8>) -> IdealRequest
         ensures { result ≡ record { request = request; payload = payload.items } }
     {
-        Posted { request, payload }
+        IdealRequest { request, payload }
     }
 
     /// The request.

@@ -12,7 +12,7 @@ use crate::context::Context;
 use crate::end::End;
 use crate::ideal::Ideal;
 use crate::kinds::{is_write, lands};
-use crate::region::{KeyKind, Need, Place, Region, is_granted};
+use crate::region::{KeyKind, KeyedRange, Need, Region, is_granted};
 use crate::work::reserved;
 use rdma_types::{Items, Name, ObjName, Receive, Refusal, Request, Rights, Terms, Verb};
 
@@ -29,7 +29,7 @@ fn is_local_granted(
 ) -> bool
     ensures { result ≡ is_granted local_key context.now.regions end.now.domain key address count (right_of need) }
 {
-    let place = Place {
+    let place = KeyedRange {
         kind: KeyKind::Local,
         key,
         address: u128::from(address),

@@ -33,7 +33,7 @@ pub enum Need {
 
 /// A place in memory, as a request names it.
 #[derive(Clone, Copy, Debug, PartialEq, Eq)]
-pub struct Place {
+pub struct KeyedRange {
     pub kind: KeyKind,
     pub key: u32,
     pub address: u128,
@@ -135,13 +135,13 @@ impl Region {
         }
     }
 
-    fn is_at(&self, place: &Place) -> bool
+    fn is_at(&self, place: &KeyedRange) -> bool
         ensures { result ≡ is_at (key_by place.now.kind) place.now.key place.now.address place.now.count self.now }
     {
         self.has_key(place.kind, place.key) && self.holds(place.address, place.count)
     }
 
-    fn grants(&self, domain: Name, place: &Place, need: Need) -> bool
+    fn grants(&self, domain: Name, place: &KeyedRange, need: Need) -> bool
         ensures { result ≡ grants (key_by place.now.kind) domain place.now.key place.now.address place.now.count (right_of need) self.now }
     {
         self.domain == domain
@@ -170,7 +170,7 @@ impl Region {
     }
 }
 
-fn place_at(regions: &[Region], place: &Place) -> usize
+fn place_at(regions: &[Region], place: &KeyedRange) -> usize
     ensures { result ≡ place_where (is_at (key_by place.now.kind) place.now.key place.now.address place.now.count) regions.now }
 {
     for (i, region) in regions.iter().enumerate() {
@@ -181,21 +181,21 @@ fn place_at(regions: &[Region], place: &Place) -> usize
     regions.len()
 }
 
-fn some_grants(regions: &[Region], domain: Name, place: &Place, need: Need) -> bool
+fn some_grants(regions: &[Region], domain: Name, place: &KeyedRange, need: Need) -> bool
     ensures { result ≡ list_any (grants (key_by place.now.kind) domain place.now.key place.now.address place.now.count (right_of need)) regions.now }
 {
     regions.iter().any(|r| r.grants(domain, place, need))
 }
 
 /// A place is granted in a domain.
-pub fn is_granted(regions: &[Region], domain: Name, place: &Place, need: Need) -> bool
+pub fn is_granted(regions: &[Region], domain: Name, place: &KeyedRange, need: Need) -> bool
     ensures { result ≡ is_granted (key_by place.now.kind) regions.now domain place.now.key place.now.address place.now.count (right_of need) }
 {
     place.count == 0 || some_grants(regions, domain, place, need)
 }
 
 /// Bytes are put at a place.
-pub fn put_at(regions: &mut Vec<Region>, place: &Place, new: &[u8])
+pub fn put_at(regions: &mut Vec<Region>, place: &KeyedRange, new: &[u8])
     requires { place.now.count ≡ length new.now }
     ensures { regions.new.items ≡ put_at (key_by place.now.kind) place.now.key place.now.address new.now regions.old.items }
 {
@@ -206,7 +206,11 @@ pub fn put_at(regions: &mut Vec<Region>, place: &Place, new: &[u8])
 }
 
 /// A copy of the bytes at a place. Errors: `AllocError` when out of memory.
-pub fn bytes_at(alloc: Global, regions: &[Region], place: &Place) -> Result<Vec<u8>, AllocError>
+pub fn bytes_at(
+    alloc: Global,
+    regions: &[Region],
+    place: &KeyedRange,
+) -> Result<Vec<u8>, AllocError>
     ensures bytes { IfOk result (λ v. v.items ≡ bytes_at (key_by place.now.kind) place.now.key place.now.address place.now.count regions.now) }
     ensures short { IfOk result (λ v. length v.items ≤ place.now.count) }
 {

@@ -11,16 +11,16 @@ use crate::context::Context;
 use crate::end::End;
 use crate::ideal::Ideal;
 use crate::kinds::{is_atomic, is_read, is_send, need_of};
-use crate::posted::Posted;
-use crate::region::{KeyKind, Need, Place, is_granted};
+use crate::posted::IdealRequest;
+use crate::region::{KeyKind, KeyedRange, Need, is_granted};
 use rdma_types::{Kind, ObjName, Receive, Why};
 
 /// The place at the peer that a request names, from an offset on.
-pub fn remote_place(r: &Posted, offset: u32, count: usize) -> Place
+pub fn remote_place(r: &IdealRequest, offset: u32, count: usize) -> KeyedRange
     ensures { result ≡ record { kind = KeyKind.Remote; key = r.now.request.shape.rkey; address = r.now.request.shape.remote + offset; count = count } }
 {
     let shape = r.request().shape;
-    Place {
+    KeyedRange {
         kind: KeyKind::Remote,
         key: shape.rkey,
         address: u128::from(shape.remote) + u128::from(offset),
@@ -29,7 +29,7 @@ pub fn remote_place(r: &Posted, offset: u32, count: usize) -> Place
 }
 
 /// The whole range of a request is granted at its peer.
-fn is_request_granted(r: &Posted, context: &Context, peer: &End) -> bool
+fn is_request_granted(r: &IdealRequest, context: &Context, peer: &End) -> bool
     ensures { result ≡ is_granted remote_key context.now.regions peer.now.domain r.now.request.shape.rkey r.now.request.shape.remote (size_of r.now) (right_for (kind_of r.now)) }
 {
     let place = remote_place(r, 0, r.length() as usize);
@@ -37,7 +37,7 @@ fn is_request_granted(r: &Posted, context: &Context, peer: &End) -> bool
 }
 
 /// The address of an atomic is not a multiple of 8.
-fn is_misaligned(r: &Posted) -> bool
+fn is_misaligned(r: &IdealRequest) -> bool
     ensures { result ≡ is_misaligned r.now }
 {
     is_atomic(r.kind()) && r.request().shape.remote % 8 != 0
@@ -78,7 +78,7 @@ impl Ideal {
     }
 
     /// .. where the end has a current request, and its peer has not ended.
-    pub(crate) fn turn(&self, q: &ObjName) -> Option<(&End, &Context, &End, &Posted)>
+    pub(crate) fn turn(&self, q: &ObjName) -> Option<(&End, &Context, &End, &IdealRequest)>
         ensures some { IfSome result (λ p. (p.0.now ≡ end_of self.now q.now) × (p.1.now ≡ context_of self.now (end_of self.now q.now).peer.context) × (p.2.now ≡ peer_of self.now q.now) × (p.3.now ≡ current (end_of self.now q.now)) × (has_current self.now q.now ≡ true) × ((end_of self.now q.now).acted < length (end_of self.now q.now).posted)) }
         ensures none { IfNone result (has_current self.now q.now ≡ false) }
     {

@@ -14,9 +14,9 @@ use crate::end::End;
 use crate::ideal::Ideal;
 use crate::kinds::{lands, receive_done, request_done};
 use crate::named::place_of;
-use crate::posted::Posted;
+use crate::posted::IdealRequest;
 use crate::queue::Queue;
-use crate::region::{KeyKind, Place, Region, bytes_at};
+use crate::region::{KeyKind, KeyedRange, Region, bytes_at};
 use rdma_types::{Completion, Name, ObjName, Receive, Request, Rights, Terms, WcKind, WcStatus};
 use std::alloc::{AllocError, Global};
 
@@ -47,20 +47,20 @@ fn with_one(alloc: Global, numbers: &[u32], given: u32) -> Result<Vec<u32>, Allo
 }
 
 /// A request with the bytes that a Write or Send takes as it is posted.
-fn take(alloc: Global, context: &Context, r: &Request) -> Result<Posted, AllocError>
+fn take(alloc: Global, context: &Context, r: &Request) -> Result<IdealRequest, AllocError>
     ensures { IfOk result (λ p. p ≡ record { request = r.now; payload = (if lands r.now.shape.kind then [] else bytes_at local_key r.now.lkey r.now.local r.now.shape.length context.now.regions) }) }
 {
     if lands(r.shape.kind) {
-        return Ok(Posted::make(*r, Vec::new(alloc)));
+        return Ok(IdealRequest::make(*r, Vec::new(alloc)));
     }
-    let place = Place {
+    let place = KeyedRange {
         kind: KeyKind::Local,
         key: r.lkey,
         address: u128::from(r.local),
         count: r.shape.length as usize,
     };
     let payload = bytes_at(alloc, &context.regions, &place)?;
-    Ok(Posted::make(*r, payload))
+    Ok(IdealRequest::make(*r, payload))
 }
 
 impl Ideal {

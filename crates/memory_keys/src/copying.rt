@@ -8,12 +8,12 @@ use std::alloc::{AllocError, Global};
 
 impl Held {
     /// The same region, for a copy of its pool.
-    fn twin(&self) -> Held
+    fn in_copied_pool(&self) -> Held
         ensures { result ≡ self.now }
     {
         Held {
             head: self.head,
-            list: self.list.twin(),
+            list: self.list.in_copied_pool(),
         }
     }
 }
@@ -26,7 +26,7 @@ impl Regions {
         let mut held = IndexMap::new(alloc);
         for i in 0..self.held.len() {
             let (key, region) = self.held.get_index(i).unwrap();
-            held.insert(*key, region.twin())?;
+            held.insert(*key, region.in_copied_pool())?;
         }
         Ok(Regions { held })
     }

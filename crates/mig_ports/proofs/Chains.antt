@@ -1,15 +1,15 @@
 use Rattle.std.proofs.Common.{◌≡◌, ℕ, ◌+◌, ◌≤◌, inl, inr, List, [], ◌++◌, length, take, drop, Option, None, Some, refl, ap, subst, sym, ◌∙◌, append_assoc, append-nil, length-append, length-take-le, take-add, arith}
 use Rattle.std.proofs.Math.Seq.{take-append_seam, drop-append_seam}
 use Rattle.std.proofs.lemmas.List.{take-append-drop, drop_at, take-append-le}
-use Rattle.mig_ports.specs.Streams.{Rose, Takes, TakesCount, Puts}
+use Rattle.mig_ports.specs.Streams.{FaultsCounted, Takes, TakesCount, Puts}
 
 -- a count that rose later rose
-pub Rose-before : (a b c : ℕ) → a ≤ b → Rose b c → Rose a c
-Rose-before a b c h r = elim r [ inl s ↦ inl (omega arith) | inr s ↦ inr s ]
+pub FaultsCounted-before : (a b c : ℕ) → a ≤ b → FaultsCounted b c → FaultsCounted a c
+FaultsCounted-before a b c h r = elim r [ inl s ↦ inl (omega arith) | inr s ↦ inr s ]
 
 -- a count that rose stays risen
-pub Rose-after : (a b c : ℕ) → Rose a b → b ≤ c → Rose a c
-Rose-after a b c r h = elim r [ inl s ↦ inl (omega arith) | inr s ↦ inr (omega arith) ]
+pub FaultsCounted-after : (a b c : ℕ) → FaultsCounted a b → b ≤ c → FaultsCounted a c
+FaultsCounted-after a b c r h = elim r [ inl s ↦ inl (omega arith) | inr s ↦ inr (omega arith) ]
 
 -- nothing taken
 pub Takes-none : (a : Option (List ℕ)) → Takes a a []

@@ -1,8 +1,8 @@
 use Rattle.std.specs.Prelude.{ℕ, ◌≡◌, ◌<◌, ◌≤◌, ◌⊎◌, ◌^◌, ◌-◌, List, [], ◌++◌, length, drop, Option, None, Some}
 
 -- a count of faults rose, or stands at the last value that a u64 has
-abbrev pub Rose : ℕ → ℕ → Type 0
-Rose old new = (old < new) ⊎ (2 ^ 64 - 1 ≤ new)
+abbrev pub FaultsCounted : ℕ → ℕ → Type 0
+FaultsCounted old new = (old < new) ⊎ (2 ^ 64 - 1 ≤ new)
 
 -- these bytes were taken from the start of what was left, where that is told
 abbrev pub Takes : Option (List ℕ) → Option (List ℕ) → List ℕ → Type 0

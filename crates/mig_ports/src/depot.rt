@@ -1,7 +1,7 @@
 //! A depot, where images of stopped contexts are left under names.
 
 ghost use Rattle.std.specs.Prelude.{◌≡◌, ℕ, ◌≤◌, List, Option, Some, None, IfOk, OnOk, OnErr, IsErrOf};
-ghost use Rattle.mig_ports.specs.Streams.{Rose};
+ghost use Rattle.mig_ports.specs.Streams.{FaultsCounted};
 ghost use Rattle.mig_ports.specs.Depots.{Holding, Has, IsThere, Sets, KeepsOthers};
 ghost use Rattle.mig_ports.specs.declared.depot.DepotFault.TheVariants.{Missing, Failed, OutOfMemory};
 
@@ -39,7 +39,7 @@ pub trait Depot {
     ghost faults: { Self → ℕ };
 
     // No call fails from here on.
-    ghost sure: { Self → Type 0 };
+    ghost never_fails: { Self → Type 0 };
 
     /// Holds these bytes under the name, in place of those that were there.
     ///
@@ -53,13 +53,13 @@ pub trait Depot {
         ensures found { IsErrOf result Missing → ⊥ }
 
         // The count of faults rises exactly at `Failed`.
-        ensures calm { OnOk result (faults self.new ≡ faults self.old) }
+        ensures faults_unchanged { OnOk result (faults self.new ≡ faults self.old) }
         ensures short { IsErrOf result OutOfMemory → faults self.new ≡ faults self.old }
-        ensures rose { IsErrOf result Failed → Rose (faults self.old) (faults self.new) }
-        ensures later { faults self.old ≤ faults self.new }
+        ensures faults_counted { IsErrOf result Failed → FaultsCounted (faults self.old) (faults self.new) }
+        ensures faults_monotone { faults self.old ≤ faults self.new }
 
-        ensures never { sure self.old → IsErrOf result Failed → ⊥ }
-        ensures stays { sure self.old → sure self.new };
+        ensures never { never_fails self.old → IsErrOf result Failed → ⊥ }
+        ensures stays { never_fails self.old → never_fails self.new };
 
     /// The bytes that are held under the name. What is held stays as it is.
     ///
@@ -73,14 +73,14 @@ pub trait Depot {
         ensures same { held self.new ≡ held self.old }
 
         // The count of faults rises exactly at `Failed`.
-        ensures calm { OnOk result (faults self.new ≡ faults self.old) }
+        ensures faults_unchanged { OnOk result (faults self.new ≡ faults self.old) }
         ensures short { IsErrOf result OutOfMemory → faults self.new ≡ faults self.old }
         ensures absent { IsErrOf result Missing → faults self.new ≡ faults self.old }
-        ensures rose { IsErrOf result Failed → Rose (faults self.old) (faults self.new) }
-        ensures later { faults self.old ≤ faults self.new }
+        ensures faults_counted { IsErrOf result Failed → FaultsCounted (faults self.old) (faults self.new) }
+        ensures faults_monotone { faults self.old ≤ faults self.new }
 
-        ensures never { sure self.old → IsErrOf result Failed → ⊥ }
-        ensures stays { sure self.old → sure self.new };
+        ensures never { never_fails self.old → IsErrOf result Failed → ⊥ }
+        ensures stays { never_fails self.old → never_fails self.new };
 
     /// Takes out the bytes that are held under the name.
     ///
@@ -95,12 +95,12 @@ pub trait Depot {
         ensures same { OnErr result (held self.new ≡ held self.old) }
 
         // The count of faults rises exactly at `Failed`.
-        ensures calm { OnOk result (faults self.new ≡ faults self.old) }
+        ensures faults_unchanged { OnOk result (faults self.new ≡ faults self.old) }
         ensures short { IsErrOf result OutOfMemory → faults self.new ≡ faults self.old }
         ensures absent { IsErrOf result Missing → faults self.new ≡ faults self.old }
-        ensures rose { IsErrOf result Failed → Rose (faults self.old) (faults self.new) }
-        ensures later { faults self.old ≤ faults self.new }
+        ensures faults_counted { IsErrOf result Failed → FaultsCounted (faults self.old) (faults self.new) }
+        ensures faults_monotone { faults self.old ≤ faults self.new }
 
-        ensures never { sure self.old → IsErrOf result Failed → ⊥ }
-        ensures stays { sure self.old → sure self.new };
+        ensures never { never_fails self.old → IsErrOf result Failed → ⊥ }
+        ensures stays { never_fails self.old → never_fails self.new };
 }

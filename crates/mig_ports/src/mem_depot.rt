@@ -1,7 +1,7 @@
 //! Depots in memory.
 
 ghost use Rattle.std.specs.Prelude.{◌≡◌, ◌≤◌, ◌↔◌, [], Some, None, IfOk, OnOk, OnErr, IsErr, IsErrOf, Contains};
-ghost use Rattle.mig_ports.specs.Streams.{Rose};
+ghost use Rattle.mig_ports.specs.Streams.{FaultsCounted};
 ghost use Rattle.mig_ports.specs.Memory.{counted};
 ghost use Rattle.mig_ports.specs.Depots.{Has, IsThere, Sets, KeepsOthers, holding, nothing, call_failed, called, put_under, taken_from};
 ghost use Rattle.mig_ports.specs.declared.depot.DepotFault.TheVariants.{Failed, Missing, OutOfMemory};
@@ -53,8 +53,8 @@ impl MemDepot {
     fn call(&mut self) -> Result<(), DepotFault>
         ensures fails { IsErr result ↔ Contains self.old.fails (counted self.old.calls) }
         ensures why { IsErr result → IsErrOf result Failed }
-        ensures calm { OnOk result (self.new ≡ called self.old) }
-        ensures later { self.old.faults ≤ self.new.faults }
+        ensures call_counted { OnOk result (self.new ≡ called self.old) }
+        ensures faults_monotone { self.old.faults ≤ self.new.faults }
         ensures failed { OnErr result (self.new ≡ call_failed self.old) }
     {
         self.calls = self.calls.saturating_add(1);
@@ -71,16 +71,16 @@ impl Depot for MemDepot {
 
     ghost faults = { λ d. d.faults };
 
-    ghost sure = { λ d. d.fails ≡ [] };
+    ghost never_fails = { λ d. d.fails ≡ [] };
 
     fn put(&mut self, alloc: Global, name: Name, bytes: &[u8]) -> Result<(), DepotFault>
         ensures put { OnOk result (Sets (Some (holding self.old)) (Some (holding self.new)) name (Some bytes.now)) }
         ensures others { OnErr result (KeepsOthers (Some (holding self.old)) (Some (holding self.new)) name) }
         ensures found { IsErrOf result Missing → ⊥ }
-        ensures calm { OnOk result (self.new.faults ≡ self.old.faults) }
+        ensures faults_unchanged { OnOk result (self.new.faults ≡ self.old.faults) }
         ensures short { IsErrOf result OutOfMemory → self.new.faults ≡ self.old.faults }
-        ensures rose { IsErrOf result Failed → Rose self.old.faults self.new.faults }
-        ensures later { self.old.faults ≤ self.new.faults }
+        ensures faults_counted { IsErrOf result Failed → FaultsCounted self.old.faults self.new.faults }
+        ensures faults_monotone { self.old.faults ≤ self.new.faults }
         ensures never { self.old.fails ≡ [] → IsErrOf result Failed → ⊥ }
         ensures stays { self.old.fails ≡ [] → self.new.fails ≡ [] }
 
@@ -103,11 +103,11 @@ impl Depot for MemDepot {
         ensures missing { IsErrOf result Missing → Has (Some (holding self.old)) name None }
         ensures wanted { IsErrOf result OutOfMemory → IsThere (Some (holding self.old)) name }
         ensures same { Some (holding self.new) ≡ Some (holding self.old) }
-        ensures calm { OnOk result (self.new.faults ≡ self.old.faults) }
+        ensures faults_unchanged { OnOk result (self.new.faults ≡ self.old.faults) }
         ensures short { IsErrOf result OutOfMemory → self.new.faults ≡ self.old.faults }
         ensures absent { IsErrOf result Missing → self.new.faults ≡ self.old.faults }
-        ensures rose { IsErrOf result Failed → Rose self.old.faults self.new.faults }
-        ensures later { self.old.faults ≤ self.new.faults }
+        ensures faults_counted { IsErrOf result Failed → FaultsCounted self.old.faults self.new.faults }
+        ensures faults_monotone { self.old.faults ≤ self.new.faults }
         ensures never { self.old.fails ≡ [] → IsErrOf result Failed → ⊥ }
         ensures stays { self.old.fails ≡ [] → self.new.fails ≡ [] }
 
@@ -131,11 +131,11 @@ impl Depot for MemDepot {
         ensures missing { IsErrOf result Missing → Has (Some (holding self.old)) name None }
         ensures wanted { IsErrOf result OutOfMemory → IsThere (Some (holding self.old)) name }
         ensures same { OnErr result (Some (holding self.new) ≡ Some (holding self.old)) }
-        ensures calm { OnOk result (self.new.faults ≡ self.old.faults) }
+        ensures faults_unchanged { OnOk result (self.new.faults ≡ self.old.faults) }
         ensures short { IsErrOf result OutOfMemory → self.new.faults ≡ self.old.faults }
         ensures absent { IsErrOf result Missing → self.new.faults ≡ self.old.faults }
-        ensures rose { IsErrOf result Failed → Rose self.old.faults self.new.faults }
-        ensures later { self.old.faults ≤ self.new.faults }
+        ensures faults_counted { IsErrOf result Failed → FaultsCounted self.old.faults self.new.faults }
+        ensures faults_monotone { self.old.faults ≤ self.new.faults }
         ensures never { self.old.fails ≡ [] → IsErrOf result Failed → ⊥ }
         ensures stays { self.old.fails ≡ [] → self.new.fails ≡ [] }
 
@@ -163,7 +163,7 @@ impl Depot for EmptyDepot {
 
     ghost faults = { λ _. 0 };
 
-    ghost sure = { λ _. Unit {0} };
+    ghost never_fails = { λ _. Unit {0} };
 
     fn put(&mut self, _alloc: Global, _name: Name, _bytes: &[u8]) -> Result<(), DepotFault> {
         Err(DepotFault::OutOfMemory)

@@ -1,7 +1,7 @@
 //! A sink in memory.
 
 ghost use Rattle.std.specs.Prelude.{◌≡◌, ◌≢◌, ℕ, ◌+◌, ◌<◌, ◌≤◌, ◌⊎◌, ◌↔◌, List, [], length, take, min, Option, Some, IsErr, IfOk, IsOkAnd, OnErr, Contains};
-ghost use Rattle.mig_ports.specs.Streams.{Rose, Puts};
+ghost use Rattle.mig_ports.specs.Streams.{FaultsCounted, Puts};
 ghost use Rattle.mig_ports.specs.Memory.{counted, write_failed, write_done, sure_room};
 
 use crate::{Failed, Sink};
@@ -97,11 +97,11 @@ impl Sink for MemSink {
     fn write(&mut self, bytes: &[u8]) -> Result<usize, Failed>
         ensures most { IfOk result (λ n. n ≤ length bytes.now) }
         ensures put { IfOk result (λ n. Puts (Some self.old.held) (Some self.new.held) (take n bytes.now)) }
-        ensures zero { IfOk result (λ n. n ≡ 0 → (bytes.now ≡ []) ⊎ Rose self.old.faults self.new.faults) }
+        ensures zero { IfOk result (λ n. n ≡ 0 → (bytes.now ≡ []) ⊎ FaultsCounted self.old.faults self.new.faults) }
         ensures err { OnErr result (Some self.new.held ≡ Some self.old.held) }
-        ensures calm { IfOk result (λ n. 0 < n → self.new.faults ≡ self.old.faults) }
-        ensures rose { OnErr result (Rose self.old.faults self.new.faults) }
-        ensures later { self.old.faults ≤ self.new.faults }
+        ensures faults_unchanged { IfOk result (λ n. 0 < n → self.new.faults ≡ self.old.faults) }
+        ensures faults_counted { OnErr result (FaultsCounted self.old.faults self.new.faults) }
+        ensures faults_monotone { self.old.faults ≤ self.new.faults }
         ensures fits { 0 < length bytes.now → length bytes.now ≤ sure_room self.old.fails self.old.room → IsOkAnd result (λ n. 0 < n) }
         ensures spends { IfOk result (λ n. sure_room self.old.fails self.old.room ≤ sure_room self.new.fails self.new.room + n) }
 

@@ -1,7 +1,7 @@
 //! A source in memory.
 
 ghost use Rattle.std.specs.Prelude.{◌≡◌, ℕ, ◌≤◌, ◌⊎◌, ◌↔◌, List, [], ◌++◌, length, take, drop, min, Option, Some, IsOk, IsErr, IfOk, OnOk, OnErr, Contains};
-ghost use Rattle.mig_ports.specs.Streams.{Rose, Takes, IsAtEnd};
+ghost use Rattle.mig_ports.specs.Streams.{FaultsCounted, Takes, IsAtEnd};
 ghost use Rattle.mig_ports.specs.Memory.{counted, read_failed, read_done};
 
 use crate::{Failed, Source};
@@ -63,7 +63,7 @@ impl Source for MemSource {
 
     ghost faults = { λ s. s.faults };
 
-    ghost sure = { λ s. s.fails ≡ [] };
+    ghost never_fails = { λ s. s.fails ≡ [] };
 
     /// Reads as many bytes as there are and `out` holds.
     ///
@@ -75,9 +75,9 @@ impl Source for MemSource {
         ensures taken { IfOk result (λ n. Takes (Some self.old.left) (Some self.new.left) (take n out.new)) }
         ensures end { IfOk result (λ n. n ≡ 0 → IsAtEnd (Some self.old.left) ⊎ (out.old ≡ [])) }
         ensures err { OnErr result (Some self.new.left ≡ Some self.old.left) }
-        ensures calm { OnOk result (self.new.faults ≡ self.old.faults) }
-        ensures rose { OnErr result (Rose self.old.faults self.new.faults) }
-        ensures later { self.old.faults ≤ self.new.faults }
+        ensures faults_unchanged { OnOk result (self.new.faults ≡ self.old.faults) }
+        ensures faults_counted { OnErr result (FaultsCounted self.old.faults self.new.faults) }
+        ensures faults_monotone { self.old.faults ≤ self.new.faults }
         ensures never { self.old.fails ≡ [] → IsOk result }
         ensures stays { self.old.fails ≡ [] → self.new.fails ≡ [] }
 

@@ -1,7 +1,7 @@
 //! A source of bytes, and how it is read to its end.
 
 ghost use Rattle.std.specs.Prelude.{◌≡◌, ℕ, ◌+◌, ◌<◌, ◌≤◌, ◌⊎◌, List, [], length, take, Option, Some, IsSome, IsOk, IfOk, OnOk, OnErr, IsErrOf};
-ghost use Rattle.mig_ports.specs.Streams.{Rose, Takes, TakesAll, TakesCount, IsAtEnd};
+ghost use Rattle.mig_ports.specs.Streams.{FaultsCounted, Takes, TakesAll, TakesCount, IsAtEnd};
 ghost use Rattle.mig_ports.specs.declared.reading.ReadAllFault.TheVariants.{ReadFault, OutOfMemory};
 
 use crate::Failed;
@@ -17,7 +17,7 @@ pub trait Source {
     ghost faults: { Self → ℕ };
 
     // No call fails from here on.
-    ghost sure: { Self → Type 0 };
+    ghost never_fails: { Self → Type 0 };
 
     /// Reads bytes into the first places of `out`, and says how many. 0 is the end, where `out` has room.
     ///
@@ -34,12 +34,12 @@ pub trait Source {
         ensures err { OnErr result (left self.new ≡ left self.old) }
 
         // The count of faults rises exactly with a fault.
-        ensures calm { OnOk result (faults self.new ≡ faults self.old) }
-        ensures rose { OnErr result (Rose (faults self.old) (faults self.new)) }
-        ensures later { faults self.old ≤ faults self.new }
+        ensures faults_unchanged { OnOk result (faults self.new ≡ faults self.old) }
+        ensures faults_counted { OnErr result (FaultsCounted (faults self.old) (faults self.new)) }
+        ensures faults_monotone { faults self.old ≤ faults self.new }
 
-        ensures never { sure self.old → IsOk result }
-        ensures stays { sure self.old → sure self.new };
+        ensures never { never_fails self.old → IsOk result }
+        ensures stays { never_fails self.old → never_fails self.new };
 }
 
 /// Why a source was not read to its end.
@@ -93,12 +93,12 @@ pub fn read_all<S: Source>(
     ensures memory { IsErrOf result ReadAllFault.OutOfMemory → (n : ℕ) × (n ≤ limit) × TakesCount (S.left source.old) (S.left source.new) n }
 
     // The count of faults rises exactly at `ReadFault`.
-    ensures rose { IsErrOf result ReadAllFault.ReadFault → Rose (S.faults source.old) (S.faults source.new) }
-    ensures calm { IsErrOf result ReadAllFault.ReadFault ⊎ (S.faults source.new ≡ S.faults source.old) }
-    ensures later { S.faults source.old ≤ S.faults source.new }
+    ensures faults_counted { IsErrOf result ReadAllFault.ReadFault → FaultsCounted (S.faults source.old) (S.faults source.new) }
+    ensures faults_unchanged { IsErrOf result ReadAllFault.ReadFault ⊎ (S.faults source.new ≡ S.faults source.old) }
+    ensures faults_monotone { S.faults source.old ≤ S.faults source.new }
 
-    ensures never { S.sure source.old → IsErrOf result ReadAllFault.ReadFault → ⊥ }
-    ensures stays { S.sure source.old → S.sure source.new }
+    ensures never { S.never_fails source.old → IsErrOf result ReadAllFault.ReadFault → ⊥ }
+    ensures stays { S.never_fails source.old → S.never_fails source.new }
 {
     let mut bytes = Vec::new(alloc);
     let mut piece = [0; PIECE];

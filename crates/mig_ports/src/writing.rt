@@ -1,7 +1,7 @@
 //! A sink of bytes, and how a text is written to it whole.
 
 ghost use Rattle.std.specs.Prelude.{◌≡◌, ℕ, ◌+◌, ◌<◌, ◌≤◌, ◌⊎◌, List, [], length, take, Option, IfOk, IsOkAnd, OnOk, OnErr};
-ghost use Rattle.mig_ports.specs.Streams.{Rose, Puts};
+ghost use Rattle.mig_ports.specs.Streams.{FaultsCounted, Puts};
 
 use crate::Failed;
 use thiserror::Error;
@@ -28,13 +28,13 @@ pub trait Sink {
     fn write(&mut self, bytes: &[u8]) -> Result<usize, Failed>
         ensures most { IfOk result (λ n. n ≤ length bytes.now) }
         ensures put { IfOk result (λ n. Puts (held self.old) (held self.new) (take n bytes.now)) }
-        ensures zero { IfOk result (λ n. n ≡ 0 → (bytes.now ≡ []) ⊎ Rose (faults self.old) (faults self.new)) }
+        ensures zero { IfOk result (λ n. n ≡ 0 → (bytes.now ≡ []) ⊎ FaultsCounted (faults self.old) (faults self.new)) }
         ensures err { OnErr result (held self.new ≡ held self.old) }
 
         // The count of faults rises exactly with a fault.
-        ensures calm { IfOk result (λ n. 0 < n → faults self.new ≡ faults self.old) }
-        ensures rose { OnErr result (Rose (faults self.old) (faults self.new)) }
-        ensures later { faults self.old ≤ faults self.new }
+        ensures faults_unchanged { IfOk result (λ n. 0 < n → faults self.new ≡ faults self.old) }
+        ensures faults_counted { OnErr result (FaultsCounted (faults self.old) (faults self.new)) }
+        ensures faults_monotone { faults self.old ≤ faults self.new }
 
         // A piece that fits the room is no fault, and takes no more of the room than was written.
         ensures fits { 0 < length bytes.now → length bytes.now ≤ room self.old → IsOkAnd result (λ n. 0 < n) }
@@ -56,9 +56,9 @@ pub fn write_all_of<K: Sink>(sink: &mut K, bytes: &[u8]) -> Result<(), WriteFaul
     ensures part { OnErr result ((n : ℕ) × (n < length bytes.now) × Puts (K.held sink.old) (K.held sink.new) (take n bytes.now)) }
 
     // The count of faults rises exactly at an error.
-    ensures calm { OnOk result (K.faults sink.new ≡ K.faults sink.old) }
-    ensures rose { OnErr result (Rose (K.faults sink.old) (K.faults sink.new)) }
-    ensures later { K.faults sink.old ≤ K.faults sink.new }
+    ensures faults_unchanged { OnOk result (K.faults sink.new ≡ K.faults sink.old) }
+    ensures faults_counted { OnErr result (FaultsCounted (K.faults sink.old) (K.faults sink.new)) }
+    ensures faults_monotone { K.faults sink.old ≤ K.faults sink.new }
 
     // It fails only where the bytes do not fit the room, and takes no more of it than their count.
     ensures full { OnErr result (K.room sink.old < length bytes.now) }

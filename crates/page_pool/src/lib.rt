@@ -48,11 +48,11 @@ pub struct Payload {
 
 impl Payload {
     /// The payload in the list of the same number, for a copy of its pool.
-    pub fn twin(&self) -> Payload
+    pub fn in_copied_pool(&self) -> Payload
         ensures { result ≡ self.now }
     {
         Payload {
-            list: self.list.twin(),
+            list: self.list.in_copied_pool(),
             first: self.first,
             length: self.length,
         }

@@ -30,7 +30,7 @@ impl Model for PageList {
 
 impl PageList {
     /// The list of the same number, for a copy of its pool.
-    pub fn twin(&self) -> PageList
+    pub fn in_copied_pool(&self) -> PageList
         ensures { result ≡ self.now }
     {
         PageList { list: self.list }

@@ -10,7 +10,7 @@ use std::cmp::Ordering;
 
 mod places;
 
-pub use places::Place;
+pub use places::PsnOrder;
 
 /// How many packet sequence numbers there are.
 const WIRE_NUMBERS: u32 = 16_777_216;
@@ -46,15 +46,15 @@ pub fn unwrap_near(psn: u32, start: u32, near: u64) -> Option<u64>
 }
 
 /// Where packet `n` stands beside the expected one (IBA 9.7).
-pub fn place(n: u64, expected: u64) -> Place
-    ensures before { (result ≡ Place.Before) ↔ (n < expected) }
-    ensures expected { (result ≡ Place.Expected) ↔ (n ≡ expected) }
-    ensures ahead { (result ≡ Place.Ahead) ↔ (expected < n) }
+pub fn place(n: u64, expected: u64) -> PsnOrder
+    ensures before { (result ≡ PsnOrder.Before) ↔ (n < expected) }
+    ensures expected { (result ≡ PsnOrder.Expected) ↔ (n ≡ expected) }
+    ensures ahead { (result ≡ PsnOrder.Ahead) ↔ (expected < n) }
 {
     match n.cmp(&expected) {
-        Ordering::Less => Place::Before,
-        Ordering::Equal => Place::Expected,
-        Ordering::Greater => Place::Ahead,
+        Ordering::Less => PsnOrder::Before,
+        Ordering::Equal => PsnOrder::Expected,
+        Ordering::Greater => PsnOrder::Ahead,
     }
 }
 

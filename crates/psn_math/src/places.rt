@@ -2,7 +2,7 @@
 
 /// Where a packet stands in the order that its receiver expects.
 #[derive(Clone, Copy, Debug, PartialEq, Eq)]
-pub enum Place {
+pub enum PsnOrder {
     /// It was executed.
     Before,
     /// It is the next to execute.

@@ -4,10 +4,10 @@ use Rattle.mig_ports.specs.Streams.{Puts}
 use Rattle.mig_ports.proofs.Chains.{Puts-none, Puts-then}
 use Rattle.rdma_types.specs.declared.names.Name.{Name}
 use Rattle.workload_gen.specs.declared.plan.Mix.{Mix}
-use Rattle.script_rules.specs.Commands as rules
-use Rattle.script_rules.specs.Headline.{Run, ImageText, IsCutOff, IsDone, IsDoneBy, IsMissing, IsOfNoCommand, IsShortOfMemory, IsStatus, IsStopped, IsStoppedBy, IsToWriteBy, IsTooLong, IsUnread, IsWithoutDepot, KeepsInput, KeepsUnused, command}
-use Rattle.script_rules.specs.Script.{BadLine, answers_text}
-use Rattle.script_rules.specs.Texts.{LastLine, last_text, BadDump, BadScript, DepotFault, Missing, OutOfMemory, TooLong, Usage, bad_line_line, missing_line, usage_line}
+use Rattle.law_headline.specs.Commands as rules
+use Rattle.law_headline.specs.Headline.{Run, ImageText, IsCutOff, IsDone, IsDoneBy, IsMissing, IsOfNoCommand, IsShortOfMemory, IsStatus, IsStopped, IsStoppedBy, IsToWriteBy, IsTooLong, IsUnread, IsWithoutDepot, KeepsInput, KeepsUnused, command}
+use Rattle.law_headline.specs.Script.{BadLine, answers_text}
+use Rattle.law_headline.specs.Texts.{LastLine, last_text, BadDump, BadScript, DepotFault, Missing, OutOfMemory, TooLong, Usage, bad_line_line, missing_line, usage_line}
 use Rattle.script_runner.specs.Playing.{PutsFront}
 use Rattle.rdma_cli.specs.declared.stop.Stop.{Stop}
 use Rattle.rdma_cli.specs.declared.stop.Stop.TheVariants as stop
@@ -97,11 +97,11 @@ front_by said r (Some (rules.ShowDump own)) (stop.Missing name) s = silent_front
 -- ---- after the last line
 
 -- the run once more was written
-abbrev pub later : Run → Option (List ℕ) → Run
-later r after = record r { held_after = after }
+abbrev pub with_held_after : Run → Option (List ℕ) → Run
+with_held_after r after = record r { held_after = after }
 
 -- what was to be written is not changed by what was
-to_write_later : (said : ImageText) (r : Run) (after : Option (List ℕ)) (c : Option rules.Command) (text : List ℕ) → IsToWriteBy said r c text → IsToWriteBy said (later r after) c text
+to_write_later : (said : ImageText) (r : Run) (after : Option (List ℕ)) (c : Option rules.Command) (text : List ℕ) → IsToWriteBy said r c text → IsToWriteBy said (with_held_after r after) c text
 to_write_later said r after None text h = h
 to_write_later said r after (Some rules.Play) text h = elim h [
   | inl e ↦ inl e
@@ -114,11 +114,11 @@ to_write_later said r after (Some (rules.ShowDump name)) text h = elim h [
 ]
 
 -- memory was wanting
-short : (said : ImageText) (r : Run) (after : Option (List ℕ)) → IsFront said r (command r) → Puts r.held_after after (last_text OutOfMemory) → IsShortOfMemory said (later r after)
+short : (said : ImageText) (r : Run) (after : Option (List ℕ)) → IsFront said r (command r) → Puts r.held_after after (last_text OutOfMemory) → IsShortOfMemory said (with_held_after r after)
 short said r after f p = record { front = f.front; rest = f.rest; to_write = to_write_later said r after (command r) (f.front ++ f.rest) f.holds; written = Puts-then r.held r.held_after after f.front (last_text OutOfMemory) f.written p }
 
 -- a last line was written in part
-cut : (said : ImageText) (r : Run) (after : Option (List ℕ)) (last : LastLine) → IsFront said r (command r) → PutsFront r.held_after after (last_text last) → IsCutOff said (later r after)
+cut : (said : ImageText) (r : Run) (after : Option (List ℕ)) (last : LastLine) → IsFront said r (command r) → PutsFront r.held_after after (last_text last) → IsCutOff said (with_held_after r after)
 cut said r after last f p = record {
   front = f.front;
   rest = f.rest;
@@ -131,14 +131,14 @@ cut said r after last f p = record {
 }
 
 -- no last line is written
-none_cut : (said : ImageText) (r : Run) (after : Option (List ℕ)) → IsFront said r (command r) → PutsFront r.held_after after [] → IsCutOff said (later r after)
+none_cut : (said : ImageText) (r : Run) (after : Option (List ℕ)) → IsFront said r (command r) → PutsFront r.held_after after [] → IsCutOff said (with_held_after r after)
 none_cut said r after f p = cut said r after Usage f (record { front = p.front; rest = usage_line; splits = ap (λ xs. xs ++ usage_line) (sym (front_of_nothing p.front p.rest p.splits)); put = p.put })
 
 -- the front of a last line
-pub stopped_cut_off : (said : ImageText) (r : Run) (after : Option (List ℕ)) (x : Stop) → StopsFor said r x → PutsFront r.held_after after (last_line x) → IsCutOff said (later r after)
+pub stopped_cut_off : (said : ImageText) (r : Run) (after : Option (List ℕ)) (x : Stop) → StopsFor said r x → PutsFront r.held_after after (last_line x) → IsCutOff said (with_held_after r after)
 stopped_cut_off said r after x s p = cut_by x (front_by said r (command r) x s) p
   where
-    cut_by : (x : Stop) → IsFront said r (command r) → PutsFront r.held_after after (last_line x) → IsCutOff said (later r after)
+    cut_by : (x : Stop) → IsFront said r (command r) → PutsFront r.held_after after (last_line x) → IsCutOff said (with_held_after r after)
     cut_by stop.Usage f p = cut said r after Usage f p
     cut_by (stop.BadLine line column why) f p = cut said r after (BadScript (record { number = line; offence = record { column = column; why = why } })) f p
     cut_by (stop.BadDump place why) f p = cut said r after (BadDump place why) f p
@@ -153,7 +153,7 @@ stopped_cut_off said r after x s p = cut_by x (front_by said r (command r) x s) 
 
 module _ (said : ImageText) (r : Run) (after : Option (List ℕ)) where
   -- the words are of no command
-  words_end : command r ≡ None → (x : Stop) → StopsBy said r None x → Puts r.held_after after (last_line x) → EndsFor said (later r after) x
+  words_end : command r ≡ None → (x : Stop) → StopsBy said r None x → Puts r.held_after after (last_line x) → EndsFor said (with_held_after r after) x
   words_end e stop.Usage s p = record { no_command = e; written = behind_nothing r after usage_line s p }
   words_end e (stop.BadLine line column why) s p = absurd s
   words_end e (stop.BadDump place why) s p = absurd s
@@ -169,13 +169,13 @@ module _ (said : ImageText) (r : Run) (after : Option (List ℕ)) where
   front_here c e f = subst (IsFront said r) (sym e) f
 
   -- a write failed, and no last line is written
-  cut_end : (c : Option rules.Command) → command r ≡ c → IsFront said r c → Puts r.held_after after [] → IsCutOff said (later r after)
+  cut_end : (c : Option rules.Command) → command r ≡ c → IsFront said r c → Puts r.held_after after [] → IsCutOff said (with_held_after r after)
   cut_end c e f p = none_cut said r after (front_here c e f) (record { front = []; rest = []; splits = refl; put = p })
 
   -- `play`
-  play_end : command r ≡ Some rules.Play → (x : Stop) → StopsBy said r (Some rules.Play) x → Puts r.held_after after (last_line x) → EndsFor said (later r after) x
+  play_end : command r ≡ Some rules.Play → (x : Stop) → StopsBy said r (Some rules.Play) x → Puts r.held_after after (last_line x) → EndsFor said (with_held_after r after) x
   play_end e stop.Usage s p = absurd s
-  play_end e (stop.BadLine line column why) s p = subst (IsStoppedBy (later r after)) (sym e) (record {
+  play_end e (stop.BadLine line column why) s p = subst (IsStoppedBy (with_held_after r after)) (sym e) (record {
     text = s.text;
     read = s.read;
     bad = record { number = line; offence = record { column = column; why = why } };
@@ -192,9 +192,9 @@ module _ (said : ImageText) (r : Run) (after : Option (List ℕ)) where
   play_end e (stop.Missing name) s p = absurd s
 
   -- `bulk`
-  bulk_end : (seed : ℕ) (mix : Mix) → command r ≡ Some (rules.Bulk seed mix) → (x : Stop) → StopsBy said r (Some (rules.Bulk seed mix)) x → Puts r.held_after after (last_line x) → EndsFor said (later r after) x
+  bulk_end : (seed : ℕ) (mix : Mix) → command r ≡ Some (rules.Bulk seed mix) → (x : Stop) → StopsBy said r (Some (rules.Bulk seed mix)) x → Puts r.held_after after (last_line x) → EndsFor said (with_held_after r after) x
   bulk_end seed mix e stop.Usage s p = absurd s
-  bulk_end seed mix e (stop.BadLine line column why) s p = subst (IsStoppedBy (later r after)) (sym e) (record {
+  bulk_end seed mix e (stop.BadLine line column why) s p = subst (IsStoppedBy (with_held_after r after)) (sym e) (record {
     bad = record { number = line; offence = record { column = column; why = why } };
     first = s.1;
     written = behind_nothing r after (bad_line_line (record { number = line; offence = record { column = column; why = why } })) s.0 p;
@@ -208,10 +208,10 @@ module _ (said : ImageText) (r : Run) (after : Option (List ℕ)) where
   bulk_end seed mix e (stop.Missing name) s p = absurd s
 
   -- `show-dump`
-  show_end : (own : Name) → command r ≡ Some (rules.ShowDump own) → (x : Stop) → StopsBy said r (Some (rules.ShowDump own)) x → Puts r.held_after after (last_line x) → EndsFor said (later r after) x
+  show_end : (own : Name) → command r ≡ Some (rules.ShowDump own) → (x : Stop) → StopsBy said r (Some (rules.ShowDump own)) x → Puts r.held_after after (last_line x) → EndsFor said (with_held_after r after) x
   show_end own e stop.Usage s p = absurd s
   show_end own e (stop.BadLine line column why) s p = absurd s
-  show_end own e (stop.BadDump place why) s p = subst (IsStoppedBy (later r after)) (sym e) (record {
+  show_end own e (stop.BadDump place why) s p = subst (IsStoppedBy (with_held_after r after)) (sym e) (record {
     bytes = s.1.bytes;
     found = s.1.found;
     place = place;
@@ -226,14 +226,14 @@ module _ (said : ImageText) (r : Run) (after : Option (List ℕ)) where
   show_end own e stop.TooLong s p = absurd s
   show_end own e (stop.Missing name) s p = record { name = own; shows = e; nothing = s.2; written = subst (λ n. Puts r.held after (missing_line n)) s.1 (behind_nothing r after (missing_line name) s.0 p) }
 
-  end_by : (c : Option rules.Command) → command r ≡ c → (x : Stop) → StopsBy said r c x → Puts r.held_after after (last_line x) → EndsFor said (later r after) x
+  end_by : (c : Option rules.Command) → command r ≡ c → (x : Stop) → StopsBy said r c x → Puts r.held_after after (last_line x) → EndsFor said (with_held_after r after) x
   end_by None e x s p = words_end e x s p
   end_by (Some rules.Play) e x s p = play_end e x s p
   end_by (Some (rules.Bulk seed mix)) e x s p = bulk_end seed mix e x s p
   end_by (Some (rules.ShowDump own)) e x s p = show_end own e x s p
 
   -- the command of the run
-  pub stopped : (x : Stop) → StopsFor said r x → Puts r.held_after after (last_line x) → EndsFor said (later r after) x
+  pub stopped : (x : Stop) → StopsFor said r x → Puts r.held_after after (last_line x) → EndsFor said (with_held_after r after) x
   stopped x s p = end_by (command r) refl x s p
 
 -- ---- by the status
@@ -395,13 +395,13 @@ pub words_not_done : (said : ImageText) (r : Run) → command r ≡ None → IsD
 words_not_done said r e d = subst (IsDoneBy said r) e d
 
 -- what is not used stays so, whatever is written
-keeps_input : (r : Run) (after : Option (List ℕ)) (c : Option rules.Command) → KeepsInput r c → KeepsInput (later r after) c
+keeps_input : (r : Run) (after : Option (List ℕ)) (c : Option rules.Command) → KeepsInput r c → KeepsInput (with_held_after r after) c
 keeps_input r after None k = k
 keeps_input r after (Some rules.Play) k = k
 keeps_input r after (Some (rules.Bulk seed mix)) k = k
 keeps_input r after (Some (rules.ShowDump name)) k = k
 
-pub keeps_unused : (r : Run) (after : Option (List ℕ)) → KeepsUnused r → KeepsUnused (later r after)
+pub keeps_unused : (r : Run) (after : Option (List ℕ)) → KeepsUnused r → KeepsUnused (with_held_after r after)
 keeps_unused r after k = record { input = keeps_input r after (command r) k.input; depot = k.depot }
 
 -- equal errors have one status

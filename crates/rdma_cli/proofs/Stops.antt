@@ -15,9 +15,9 @@ use Rattle.dump_reader.specs.declared.fault.DumpFault.TheVariants as dump
 use Rattle.dump_reader.specs.Steps.{IsFault}
 use Rattle.workload_gen.specs.declared.plan.Mix.{Mix}
 use Rattle.workload_gen.specs.Plan.{plan}
-use Rattle.script_rules.specs.Commands as rules
-use Rattle.script_rules.specs.Headline.{Run, AreAnswersRead, ImageText, IsAnswered, IsDumpRead, IsFollowed, IsShown, IsSummedUp, KeepsInput, bulk_text, input_limit}
-use Rattle.script_rules.specs.Script.{answers_text, bad_line}
+use Rattle.law_headline.specs.Commands as rules
+use Rattle.law_headline.specs.Headline.{Run, AreAnswersRead, ImageText, IsAnswered, IsDumpRead, IsFollowed, IsShown, IsSummedUp, KeepsInput, bulk_text, input_limit}
+use Rattle.law_headline.specs.Script.{answers_text, bad_line}
 use Rattle.script_runner.specs.Playing.{IfBadLine, IsStoppedAt, PutsFront}
 use Rattle.script_runner.specs.declared.fault.PlayFault.{PlayFault}
 use Rattle.script_runner.specs.declared.fault.PlayFault.TheVariants as play

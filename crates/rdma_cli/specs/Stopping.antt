@@ -13,9 +13,9 @@ use Rattle.dump_reader.specs.declared.fault.DumpFault.{DumpFault}
 use Rattle.dump_reader.specs.declared.fault.DumpFault.TheVariants as dump
 use Rattle.workload_gen.specs.declared.plan.Mix.{Mix}
 use Rattle.workload_gen.specs.Plan.{plan}
-use Rattle.script_rules.specs.Commands as rules
-use Rattle.script_rules.specs.Headline.{Run, AreAnswersRead, ImageText, IsCutOff, IsDumpRead, IsFollowed, IsMissing, IsOfNoCommand, IsShortOfMemory, IsStopped, IsTooLong, IsUnread, IsWithoutDepot, Writes, bulk_text, command, input_limit}
-use Rattle.script_rules.specs.Script.{BadLine, answers_text, bad_line}
+use Rattle.law_headline.specs.Commands as rules
+use Rattle.law_headline.specs.Headline.{Run, AreAnswersRead, ImageText, IsCutOff, IsDumpRead, IsFollowed, IsMissing, IsOfNoCommand, IsShortOfMemory, IsStopped, IsTooLong, IsUnread, IsWithoutDepot, Writes, bulk_text, command, input_limit}
+use Rattle.law_headline.specs.Script.{BadLine, answers_text, bad_line}
 use Rattle.script_runner.specs.declared.fault.PlayFault.{PlayFault}
 use Rattle.script_runner.specs.declared.fault.PlayFault.TheVariants as play
 use Rattle.rdma_cli.specs.declared.stop.Stop.{Stop}

@@ -2,10 +2,10 @@
 
 ghost use Rattle.std.specs.Prelude.{◌≡◌, ◌≤◌, ◌<◌, ◌+◌, ◌⊎◌, None, Some, Err, IsSome, OnOk, IfOk, IfErr};
 ghost use Rattle.mig_ports.specs.Depots.{Has};
-ghost use Rattle.mig_ports.specs.Streams.{Rose, TakesCount};
+ghost use Rattle.mig_ports.specs.Streams.{FaultsCounted, TakesCount};
 ghost use Rattle.dump_writer.specs.Text.{text_of};
-ghost use Rattle.script_rules.specs.Headline.{IsAnswered, IsFollowed, IsShown, IsSummedUp, Run, input_limit};
-ghost use Rattle.script_rules.specs.Script.{answers_text, bad_line};
+ghost use Rattle.law_headline.specs.Headline.{IsAnswered, IsFollowed, IsShown, IsSummedUp, Run, input_limit};
+ghost use Rattle.law_headline.specs.Script.{answers_text, bad_line};
 ghost use Rattle.rdma_cli.specs.Stopping.{AnswersStop, BulkStops, LookStops, PlayStops, ShowStops};
 
 use crate::stop::Stop;
@@ -32,10 +32,10 @@ pub(crate) fn play_input<S: Source, K: Sink>(
     ensures done { (r : Run) → OnOk result (IsAnswered (record r { left = S.left input.old; left_after = S.left input.new; held = K.held output.old; held_after = K.held output.new })) }
     ensures stops { (r : Run) → IfErr result (PlayStops (record r { left = S.left input.old; left_after = S.left input.new; held = K.held output.old; held_after = K.held output.new })) }
     ensures long { IsSome (S.left input.old) → TakesCount (S.left input.old) (S.left input.new) (input_limit + 1) → result ≡ Err Stop.TooLong }
-    ensures unread { result ≡ Err Stop.ReadFault → Rose (S.faults input.old) (S.faults input.new) }
-    ensures sure { S.sure input.old → result ≡ Err Stop.ReadFault → ⊥ }
-    ensures unwritten { result ≡ Err Stop.WriteFault → Rose (K.faults output.old) (K.faults output.new) }
-    ensures later { K.faults output.old ≤ K.faults output.new }
+    ensures unread { result ≡ Err Stop.ReadFault → FaultsCounted (S.faults input.old) (S.faults input.new) }
+    ensures never_fails { S.never_fails input.old → result ≡ Err Stop.ReadFault → ⊥ }
+    ensures unwritten { result ≡ Err Stop.WriteFault → FaultsCounted (K.faults output.old) (K.faults output.new) }
+    ensures faults_monotone { K.faults output.old ≤ K.faults output.new }
 {
     let text = read_all(alloc, input, LIMIT)?;
     play(alloc, text.as_slice(), &Rounds, output)?;
@@ -69,8 +69,8 @@ pub(crate) fn sum_up<K: Sink>(
     requires moves { mix.now.moves ≤ 16 }
     ensures done { (r : Run) → OnOk result (IsSummedUp (record r { held = K.held output.old; held_after = K.held output.new }) seed mix.now) }
     ensures stops { (r : Run) → IfErr result (BulkStops seed mix.now (record r { held = K.held output.old; held_after = K.held output.new })) }
-    ensures unwritten { result ≡ Err Stop.WriteFault → Rose (K.faults output.old) (K.faults output.new) }
-    ensures later { K.faults output.old ≤ K.faults output.new }
+    ensures unwritten { result ≡ Err Stop.WriteFault → FaultsCounted (K.faults output.old) (K.faults output.new) }
+    ensures faults_monotone { K.faults output.old ≤ K.faults output.new }
 {
     let script = plan_of(alloc, seed, mix)?;
     let answers = answers_to(alloc, script.as_slice())?;
@@ -84,9 +84,9 @@ fn look_up<D: Depot>(alloc: Global, name: Name, depot: &mut D) -> Result<Vec<u8>
     ensures found { IfOk result (λ bytes. Has (D.held depot.old) name (Some bytes.items)) }
     ensures stops { IfErr result (LookStops (D.held depot.old) name) }
     ensures same { D.held depot.new ≡ D.held depot.old }
-    ensures failed { result ≡ Err Stop.DepotFault → Rose (D.faults depot.old) (D.faults depot.new) }
-    ensures sure { D.sure depot.old → result ≡ Err Stop.DepotFault → ⊥ }
-    ensures later { D.faults depot.old ≤ D.faults depot.new }
+    ensures failed { result ≡ Err Stop.DepotFault → FaultsCounted (D.faults depot.old) (D.faults depot.new) }
+    ensures never_fails { D.never_fails depot.old → result ≡ Err Stop.DepotFault → ⊥ }
+    ensures faults_monotone { D.faults depot.old ≤ D.faults depot.new }
     ensures missing { IsSome (D.held depot.old) → Has (D.held depot.old) name None → (result ≡ Err (Stop.Missing name)) ⊎ (result ≡ Err Stop.DepotFault) }
 {
     match depot.look(alloc, name) {
@@ -108,10 +108,10 @@ pub(crate) fn show_dump<K: Sink, D: Depot>(
     ensures stops { (r : Run) → IfErr result (ShowStops text_of name (record r { held = K.held output.old; held_after = K.held output.new; stored = D.held depot.old; stored_after = D.held depot.new })) }
     ensures same { D.held depot.new ≡ D.held depot.old }
     ensures missing { IsSome (D.held depot.old) → Has (D.held depot.old) name None → (result ≡ Err (Stop.Missing name)) ⊎ (result ≡ Err Stop.DepotFault) }
-    ensures unwritten { result ≡ Err Stop.WriteFault → Rose (K.faults output.old) (K.faults output.new) }
-    ensures later { K.faults output.old ≤ K.faults output.new }
-    ensures failed { result ≡ Err Stop.DepotFault → Rose (D.faults depot.old) (D.faults depot.new) }
-    ensures sure { D.sure depot.old → result ≡ Err Stop.DepotFault → ⊥ }
+    ensures unwritten { result ≡ Err Stop.WriteFault → FaultsCounted (K.faults output.old) (K.faults output.new) }
+    ensures faults_monotone { K.faults output.old ≤ K.faults output.new }
+    ensures failed { result ≡ Err Stop.DepotFault → FaultsCounted (D.faults depot.old) (D.faults depot.new) }
+    ensures never_fails { D.never_fails depot.old → result ≡ Err Stop.DepotFault → ⊥ }
 {
     let bytes = look_up(alloc, name, depot)?;
     let image = decode_dump(alloc, bytes.as_slice())?;

@@ -3,7 +3,7 @@
 //! It counts its faults, and tells nothing of the bytes that come and go.
 
 ghost use Rattle.std.specs.Prelude.{◌≡◌, ◌≤◌, None, IsErrOf};
-ghost use Rattle.mig_ports.specs.Streams.{Rose};
+ghost use Rattle.mig_ports.specs.Streams.{FaultsCounted};
 ghost use Rattle.mig_ports.specs.declared.depot.DepotFault.TheVariants as fault;
 
 use mig_ports::{Depot, DepotFault};
@@ -70,9 +70,9 @@ impl<'a, R: Files> FolderDepot<'a, R> {
     /// Why a call failed; to be out of memory is no fault of the folder.
     fn failed(&mut self, error: &io::Error) -> DepotFault
         ensures short { result ≡ fault.OutOfMemory → self.new.fault_count ≡ self.old.fault_count }
-        ensures rose { result ≡ fault.Failed → Rose self.old.fault_count self.new.fault_count }
+        ensures faults_counted { result ≡ fault.Failed → FaultsCounted self.old.fault_count self.new.fault_count }
         ensures there { result ≡ fault.Missing → ⊥ }
-        ensures later { self.old.fault_count ≤ self.new.fault_count }
+        ensures faults_monotone { self.old.fault_count ≤ self.new.fault_count }
     {
         if error.kind() == ErrorKind::OutOfMemory {
             return DepotFault::OutOfMemory;
@@ -87,7 +87,7 @@ impl<'a, R: Files> Depot for FolderDepot<'a, R> {
 
     ghost faults = { λ d. d.fault_count };
 
-    ghost sure = { λ _. ⊥ };
+    ghost never_fails = { λ _. ⊥ };
 
     fn put(&mut self, alloc: Global, name: Name, bytes: &[u8]) -> Result<(), DepotFault> {
         match self.replace(alloc, &name, bytes) {

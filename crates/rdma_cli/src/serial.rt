@@ -6,13 +6,13 @@ ghost use Rattle.rdma_types.specs.declared.names.Name.{Name};
 ghost use Rattle.protocol.specs.Dumps.{Good, read_dump};
 ghost use Rattle.protocol.specs.declared.images.ContextImage.{ContextImage};
 ghost use Rattle.mig_ports.specs.Depots.{Has};
-ghost use Rattle.mig_ports.specs.Streams.{Puts, Rose, TakesCount};
+ghost use Rattle.mig_ports.specs.Streams.{Puts, FaultsCounted, TakesCount};
 ghost use Rattle.dump_writer.specs.Text.{text_of};
-ghost use Rattle.script_rules.specs.Commands as rules;
-ghost use Rattle.script_rules.specs.Commands.{command_of};
+ghost use Rattle.law_headline.specs.Commands as rules;
+ghost use Rattle.law_headline.specs.Commands.{command_of};
 ghost use Rattle.workload_gen.specs.declared.plan.Mix.{Mix};
-ghost use Rattle.script_rules.specs.Script.{bad_line};
-ghost use Rattle.script_rules.specs.Headline.{IsCutOff, IsDone, IsMissing, IsOfNoCommand, IsShortOfMemory, IsStatus, IsStopped, IsTooLong, IsUnread, IsWithoutDepot, KeepsUnused, input_limit};
+ghost use Rattle.law_headline.specs.Script.{bad_line};
+ghost use Rattle.law_headline.specs.Headline.{IsCutOff, IsDone, IsMissing, IsOfNoCommand, IsShortOfMemory, IsStatus, IsStopped, IsTooLong, IsUnread, IsWithoutDepot, KeepsUnused, input_limit};
 ghost use Rattle.std.specs.declared.alloc.Global.{Global};
 ghost use Rattle.command_line.specs.Commands.{IsInRange, known};
 ghost use Rattle.rdma_cli.specs.Stopping.{IsNotAsked, StopsFor, run_of};
@@ -23,7 +23,7 @@ mod tests;
 use crate::commands::{play_input, show_dump, sum_up};
 use crate::stop::Stop;
 use command_line::Command;
-use generated_scripts::no_generated_line_is_bad;
+use law_generated_scripts::no_generated_line_is_bad;
 use mig_ports::{Depot, Sink, Source, WriteFault};
 use std::alloc::{AllocError, Global};
 
@@ -54,12 +54,12 @@ fn carry_out<S: Source, K: Sink, D: Depot>(
     ensures unused { (words : List (String Global)) → command_of (map string_bytes words) ≡ Some (known command.now) → KeepsUnused (run_of words (S.left input.old) (S.left input.new) (K.held output.old) (K.held output.new) (D.held depot.old) (D.held depot.new)) }
     ensures long { known command.now ≡ rules.Play → IsSome (S.left input.old) → TakesCount (S.left input.old) (S.left input.new) (input_limit + 1) → result ≡ Err Stop.TooLong }
     ensures missing { (name : Name) → known command.now ≡ rules.ShowDump name → IsSome (D.held depot.old) → Has (D.held depot.old) name None → (result ≡ Err (Stop.Missing name)) ⊎ (result ≡ Err Stop.DepotFault) }
-    ensures unread { result ≡ Err Stop.ReadFault → Rose (S.faults input.old) (S.faults input.new) }
-    ensures sure { S.sure input.old → result ≡ Err Stop.ReadFault → ⊥ }
-    ensures unwritten { result ≡ Err Stop.WriteFault → Rose (K.faults output.old) (K.faults output.new) }
-    ensures later { K.faults output.old ≤ K.faults output.new }
-    ensures failed { result ≡ Err Stop.DepotFault → Rose (D.faults depot.old) (D.faults depot.new) }
-    ensures sure_depot { D.sure depot.old → result ≡ Err Stop.DepotFault → ⊥ }
+    ensures unread { result ≡ Err Stop.ReadFault → FaultsCounted (S.faults input.old) (S.faults input.new) }
+    ensures never_fails { S.never_fails input.old → result ≡ Err Stop.ReadFault → ⊥ }
+    ensures unwritten { result ≡ Err Stop.WriteFault → FaultsCounted (K.faults output.old) (K.faults output.new) }
+    ensures faults_monotone { K.faults output.old ≤ K.faults output.new }
+    ensures failed { result ≡ Err Stop.DepotFault → FaultsCounted (D.faults depot.old) (D.faults depot.new) }
+    ensures depot_never_fails { D.never_fails depot.old → result ≡ Err Stop.DepotFault → ⊥ }
 {
     match command {
         Command::Play => play_input(alloc, input, output),
@@ -81,12 +81,12 @@ fn perform<S: Source, K: Sink, D: Depot>(
     ensures unused { KeepsUnused (run_of words.now (S.left input.old) (S.left input.new) (K.held output.old) (K.held output.new) (D.held depot.old) (D.held depot.new)) }
     ensures long { command_of (map string_bytes words.now) ≡ Some rules.Play → IsSome (S.left input.old) → TakesCount (S.left input.old) (S.left input.new) (input_limit + 1) → result ≡ Err Stop.TooLong }
     ensures missing { (name : Name) → command_of (map string_bytes words.now) ≡ Some (rules.ShowDump name) → IsSome (D.held depot.old) → Has (D.held depot.old) name None → (result ≡ Err (Stop.Missing name)) ⊎ (result ≡ Err Stop.DepotFault) ⊎ (result ≡ Err Stop.OutOfMemory) }
-    ensures unread { result ≡ Err Stop.ReadFault → Rose (S.faults input.old) (S.faults input.new) }
-    ensures sure { S.sure input.old → result ≡ Err Stop.ReadFault → ⊥ }
-    ensures unwritten { result ≡ Err Stop.WriteFault → Rose (K.faults output.old) (K.faults output.new) }
-    ensures later { K.faults output.old ≤ K.faults output.new }
-    ensures failed { result ≡ Err Stop.DepotFault → Rose (D.faults depot.old) (D.faults depot.new) }
-    ensures sure_depot { D.sure depot.old → result ≡ Err Stop.DepotFault → ⊥ }
+    ensures unread { result ≡ Err Stop.ReadFault → FaultsCounted (S.faults input.old) (S.faults input.new) }
+    ensures never_fails { S.never_fails input.old → result ≡ Err Stop.ReadFault → ⊥ }
+    ensures unwritten { result ≡ Err Stop.WriteFault → FaultsCounted (K.faults output.old) (K.faults output.new) }
+    ensures faults_monotone { K.faults output.old ≤ K.faults output.new }
+    ensures failed { result ≡ Err Stop.DepotFault → FaultsCounted (D.faults depot.old) (D.faults depot.new) }
+    ensures depot_never_fails { D.never_fails depot.old → result ≡ Err Stop.DepotFault → ⊥ }
 {
     match asked(alloc, words) {
         Ok(command) => carry_out(alloc, &command, input, output, depot),
@@ -126,15 +126,15 @@ pub(crate) fn run_serial<S: Source, K: Sink, D: Depot>(
     ensures bad { result ≡ 3 → IsStopped (run_of words.now (S.left input.old) (S.left input.new) (K.held output.old) (K.held output.new) (D.held depot.old) (D.held depot.new)) }
 
     // Status 4: a read failed, and nothing is written.
-    ensures unread { result ≡ 4 → Rose (S.faults input.old) (S.faults input.new) × IsUnread (run_of words.now (S.left input.old) (S.left input.new) (K.held output.old) (K.held output.new) (D.held depot.old) (D.held depot.new)) }
-    ensures sure { S.sure input.old → result ≡ 4 → ⊥ }
+    ensures unread { result ≡ 4 → FaultsCounted (S.faults input.old) (S.faults input.new) × IsUnread (run_of words.now (S.left input.old) (S.left input.new) (K.held output.old) (K.held output.new) (D.held depot.old) (D.held depot.new)) }
+    ensures never_fails { S.never_fails input.old → result ≡ 4 → ⊥ }
 
     // Status 5: a write failed, and what was written is a prefix.
-    ensures unwritten { result ≡ 5 → Rose (K.faults output.old) (K.faults output.new) × IsCutOff text_of (run_of words.now (S.left input.old) (S.left input.new) (K.held output.old) (K.held output.new) (D.held depot.old) (D.held depot.new)) }
+    ensures unwritten { result ≡ 5 → FaultsCounted (K.faults output.old) (K.faults output.new) × IsCutOff text_of (run_of words.now (S.left input.old) (S.left input.new) (K.held output.old) (K.held output.new) (D.held depot.old) (D.held depot.new)) }
 
     // Status 7: the depot failed.
-    ensures no_depot { result ≡ 7 → Rose (D.faults depot.old) (D.faults depot.new) × IsWithoutDepot (run_of words.now (S.left input.old) (S.left input.new) (K.held output.old) (K.held output.new) (D.held depot.old) (D.held depot.new)) }
-    ensures sure_depot { D.sure depot.old → result ≡ 7 → ⊥ }
+    ensures no_depot { result ≡ 7 → FaultsCounted (D.faults depot.old) (D.faults depot.new) × IsWithoutDepot (run_of words.now (S.left input.old) (S.left input.new) (K.held output.old) (K.held output.new) (D.held depot.old) (D.held depot.new)) }
+    ensures depot_never_fails { D.never_fails depot.old → result ≡ 7 → ⊥ }
 
     // Status 8 is out of memory, which may come at any time: what was written is a prefix and the last line.
     ensures memory { result ≡ 8 → IsShortOfMemory text_of (run_of words.now (S.left input.old) (S.left input.new) (K.held output.old) (K.held output.new) (D.held depot.old) (D.held depot.new)) }
@@ -149,9 +149,9 @@ pub(crate) fn run_serial<S: Source, K: Sink, D: Depot>(
 
     // Where nothing fails, a script of good lines is answered whole, a generated one is summed up, and what the dump held under
     // the name says is written, unless memory runs out.
-    ensures play_is_done { (text : List ℕ) → command_of (map string_bytes words.now) ≡ Some rules.Play → S.left input.old ≡ Some text → length text ≤ input_limit → bad_line text ≡ None → (Rose (S.faults input.old) (S.faults input.new) → ⊥) → (Rose (K.faults output.old) (K.faults output.new) → ⊥) → (result ≡ 0) ⊎ (result ≡ 8) }
-    ensures bulk_is_done { (seed : ℕ) (mix : Mix) → command_of (map string_bytes words.now) ≡ Some (rules.Bulk seed mix) → (Rose (K.faults output.old) (K.faults output.new) → ⊥) → (result ≡ 0) ⊎ (result ≡ 8) }
-    ensures show_dump_is_done { (name : Name) (bytes : List ℕ) (image : ContextImage) (place : ℕ) (rest : List ℕ) → command_of (map string_bytes words.now) ≡ Some (rules.ShowDump name) → IsSome (D.held depot.old) → Has (D.held depot.old) name (Some bytes) → read_dump bytes ≡ Good image place rest → (Rose (D.faults depot.old) (D.faults depot.new) → ⊥) → (Rose (K.faults output.old) (K.faults output.new) → ⊥) → ((result ≡ 0) × Puts (K.held output.old) (K.held output.new) (text_of image)) ⊎ (result ≡ 8) }
+    ensures play_is_done { (text : List ℕ) → command_of (map string_bytes words.now) ≡ Some rules.Play → S.left input.old ≡ Some text → length text ≤ input_limit → bad_line text ≡ None → (FaultsCounted (S.faults input.old) (S.faults input.new) → ⊥) → (FaultsCounted (K.faults output.old) (K.faults output.new) → ⊥) → (result ≡ 0) ⊎ (result ≡ 8) }
+    ensures bulk_is_done { (seed : ℕ) (mix : Mix) → command_of (map string_bytes words.now) ≡ Some (rules.Bulk seed mix) → (FaultsCounted (K.faults output.old) (K.faults output.new) → ⊥) → (result ≡ 0) ⊎ (result ≡ 8) }
+    ensures show_dump_is_done { (name : Name) (bytes : List ℕ) (image : ContextImage) (place : ℕ) (rest : List ℕ) → command_of (map string_bytes words.now) ≡ Some (rules.ShowDump name) → IsSome (D.held depot.old) → Has (D.held depot.old) name (Some bytes) → read_dump bytes ≡ Good image place rest → (FaultsCounted (D.faults depot.old) (D.faults depot.new) → ⊥) → (FaultsCounted (K.faults output.old) (K.faults output.new) → ⊥) → ((result ≡ 0) × Puts (K.held output.old) (K.held output.new) (text_of image)) ⊎ (result ≡ 8) }
 {
     no_generated_line_is_bad();
     match perform(alloc, words, input, output, depot) {

@@ -1,8 +1,8 @@
 //! Why a run ends before its command is done.
 
 ghost use Rattle.std.specs.Prelude.{◌≡◌, ◌≤◌, OnOk, OnErr};
-ghost use Rattle.mig_ports.specs.Streams.{Rose, Puts};
-ghost use Rattle.script_rules.specs.Texts.{dump_why_text, line_why_text};
+ghost use Rattle.mig_ports.specs.Streams.{FaultsCounted, Puts};
+ghost use Rattle.law_headline.specs.Texts.{dump_why_text, line_why_text};
 ghost use Rattle.script_runner.specs.Playing.{PutsFront};
 ghost use Rattle.rdma_cli.specs.Stopping.{stop_of_dump, stop_of_play, stop_of_read};
 ghost use Rattle.rdma_cli.specs.Writing as writing;
@@ -155,8 +155,8 @@ impl Stop {
     pub(crate) fn write_last_line<K: Sink>(&self, output: &mut K) -> Result<(), WriteFault>
         ensures whole { OnOk result (Puts (K.held output.old) (K.held output.new) (writing.last_line self.now)) }
         ensures part { OnErr result (PutsFront (K.held output.old) (K.held output.new) (writing.last_line self.now)) }
-        ensures rose { OnErr result (Rose (K.faults output.old) (K.faults output.new)) }
-        ensures later { K.faults output.old ≤ K.faults output.new }
+        ensures faults_counted { OnErr result (FaultsCounted (K.faults output.old) (K.faults output.new)) }
+        ensures faults_monotone { K.faults output.old ≤ K.faults output.new }
     {
         match self {
             Stop::Usage => write_line(b"usage", &[], output),
@@ -180,8 +180,8 @@ fn write_bad_line<K: Sink>(
 ) -> Result<(), WriteFault>
     ensures whole { OnOk result (Puts (K.held output.old) (K.held output.new) (writing.last_line (Stop.BadLine line column why))) }
     ensures part { OnErr result (PutsFront (K.held output.old) (K.held output.new) (writing.last_line (Stop.BadLine line column why))) }
-    ensures rose { OnErr result (Rose (K.faults output.old) (K.faults output.new)) }
-    ensures later { K.faults output.old ≤ K.faults output.new }
+    ensures faults_counted { OnErr result (FaultsCounted (K.faults output.old) (K.faults output.new)) }
+    ensures faults_monotone { K.faults output.old ≤ K.faults output.new }
 {
     let mut line_digits = Buffer::new();
     let line = line_digits.format(line).as_bytes();
@@ -195,8 +195,8 @@ fn write_bad_line<K: Sink>(
 fn write_bad_dump<K: Sink>(place: usize, why: DumpWhy, output: &mut K) -> Result<(), WriteFault>
     ensures whole { OnOk result (Puts (K.held output.old) (K.held output.new) (writing.last_line (Stop.BadDump place why))) }
     ensures part { OnErr result (PutsFront (K.held output.old) (K.held output.new) (writing.last_line (Stop.BadDump place why))) }
-    ensures rose { OnErr result (Rose (K.faults output.old) (K.faults output.new)) }
-    ensures later { K.faults output.old ≤ K.faults output.new }
+    ensures faults_counted { OnErr result (FaultsCounted (K.faults output.old) (K.faults output.new)) }
+    ensures faults_monotone { K.faults output.old ≤ K.faults output.new }
 {
     let mut place_digits = Buffer::new();
     let place = place_digits.format(place as u64).as_bytes();

@@ -28,7 +28,7 @@ impl<R: Read> Source for StdSource<R> {
 
     ghost faults = { λ s. s.fault_count };
 
-    ghost sure = { λ _. ⊥ };
+    ghost never_fails = { λ _. ⊥ };
 
     fn read(&mut self, out: &mut [u8]) -> Result<usize, Failed> {
         match self.inner.read(out) {

@@ -1,7 +1,7 @@
 //! Texts are written whole, or a prefix of them.
 
 ghost use Rattle.std.specs.Prelude.{◌≡◌, ◌≤◌, map, OnOk, OnErr};
-ghost use Rattle.mig_ports.specs.Streams.{Rose, Puts};
+ghost use Rattle.mig_ports.specs.Streams.{FaultsCounted, Puts};
 ghost use Rattle.script_lang.specs.Printed.{line};
 ghost use Rattle.script_runner.specs.Playing.{PutsFront};
 
@@ -11,8 +11,8 @@ use mig_ports::{Sink, WriteFault, write_all_of};
 pub(crate) fn write_text<K: Sink>(text: &[u8], output: &mut K) -> Result<(), WriteFault>
     ensures whole { OnOk result (Puts (K.held output.old) (K.held output.new) text.now) }
     ensures part { OnErr result (PutsFront (K.held output.old) (K.held output.new) text.now) }
-    ensures rose { OnErr result (Rose (K.faults output.old) (K.faults output.new)) }
-    ensures later { K.faults output.old ≤ K.faults output.new }
+    ensures faults_counted { OnErr result (FaultsCounted (K.faults output.old) (K.faults output.new)) }
+    ensures faults_monotone { K.faults output.old ≤ K.faults output.new }
 {
     write_all_of(output, text)
 }
@@ -25,8 +25,8 @@ pub(crate) fn write_line<K: Sink>(
 ) -> Result<(), WriteFault>
     ensures whole { OnOk result (Puts (K.held output.old) (K.held output.new) (line first.now (map (λ w. w.now) words.now))) }
     ensures part { OnErr result (PutsFront (K.held output.old) (K.held output.new) (line first.now (map (λ w. w.now) words.now))) }
-    ensures rose { OnErr result (Rose (K.faults output.old) (K.faults output.new)) }
-    ensures later { K.faults output.old ≤ K.faults output.new }
+    ensures faults_counted { OnErr result (FaultsCounted (K.faults output.old) (K.faults output.new)) }
+    ensures faults_monotone { K.faults output.old ≤ K.faults output.new }
 {
     write_text(first, output)?;
     for word in words {

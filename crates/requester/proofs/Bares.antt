@@ -5,32 +5,32 @@ use Rattle.rdma_types.specs.Objects as objects
 use Rattle.rdma_types.specs.Kinds.{kind_of}
 use Rattle.rdma_types.specs.Spans.{end_number, first_number, span, span_of}
 use Rattle.protocol.specs.Requester.{overlap, packets_in_flight, packets_of, reads_in_flight}
-use Rattle.work_queues.specs.declared.posted.Posted.{Posted}
+use Rattle.work_queues.specs.declared.posted.QueuedRequest.{QueuedRequest}
 use Rattle.requester.specs.declared.marks.Mark.{Mark}
 use Rattle.requester.specs.Marks.{IsMark}
 use Rattle.requester.specs.Sending.{bare, bares}
 use Rattle.requester.proofs.Flight.{reads_of}
 use Rattle.requester.proofs.Places.{first-suc, found_within, span_inside, span_positive}
 
-pub length-bares : (ps : List Posted) → length (bares ps) ≡ length ps
+pub length-bares : (ps : List QueuedRequest) → length (bares ps) ≡ length ps
 length-bares [] = refl
 length-bares (p ∷ ps) = ap suc (length-bares ps)
 
-pub bare_at : (ps : List Posted) (i : ℕ) (p : Posted) → slice_get ps i ≡ Some p → slice_get (bares ps) i ≡ Some (bare p)
+pub bare_at : (ps : List QueuedRequest) (i : ℕ) (p : QueuedRequest) → slice_get ps i ≡ Some p → slice_get (bares ps) i ≡ Some (bare p)
 bare_at [] i p h = absurd (cc)
 bare_at (q ∷ ps) zero p h = let same : q ≡ p = cc in ap (λ r. Some (bare r)) same
 bare_at (q ∷ ps) (suc i) p h = bare_at ps i p h
 
-pub bare_none : (ps : List Posted) (i : ℕ) → slice_get ps i ≡ None → slice_get (bares ps) i ≡ None
+pub bare_none : (ps : List QueuedRequest) (i : ℕ) → slice_get ps i ≡ None → slice_get (bares ps) i ≡ None
 bare_none [] i h = refl
 bare_none (q ∷ ps) zero h = absurd (cc)
 bare_none (q ∷ ps) (suc i) h = bare_none ps i h
 
-pub bares-push : (ps : List Posted) (p : Posted) → bares (ps ++ p ∷ []) ≡ bares ps ++ bare p ∷ []
+pub bares-push : (ps : List QueuedRequest) (p : QueuedRequest) → bares (ps ++ p ∷ []) ≡ bares ps ++ bare p ∷ []
 bares-push [] p = refl
 bares-push (q ∷ ps) p = ap (λ rs. bare q ∷ rs) (bares-push ps p)
 
-pub bares-drop : (ps : List Posted) → bares (drop 1 ps) ≡ drop 1 (bares ps)
+pub bares-drop : (ps : List QueuedRequest) → bares (drop 1 ps) ≡ drop 1 (bares ps)
 bares-drop [] = refl
 bares-drop (p ∷ ps) = refl
 

@@ -18,22 +18,22 @@ use Rattle.protocol.specs.Requester.{advanced, barrier, packets_in_flight, reads
 use Rattle.protocol.specs.State.{Sender}
 use Rattle.protocol.specs.Wire.{Packet, is_read_response}
 use Rattle.page_pool.specs.Pool.{Pool}
-use Rattle.work_queues.specs.declared.posted.Posted.{Posted}
+use Rattle.work_queues.specs.declared.posted.QueuedRequest.{QueuedRequest}
 use Rattle.work_queues.specs.Untold.{posted_in, untold_in}
-use Rattle.requester.specs.declared.answers.Taken.TheVariants.{Acked, Ended, Landed, OldLanded, Rewound, Useless, Waits}
+use Rattle.requester.specs.declared.answers.ResponseEffect.TheVariants.{Acked, Ended, Landed, OldLanded, Rewound, Useless, Waits}
 use Rattle.requester.specs.Sending.{Sending, bare, bares, numbers_of, sender_in, sender_of, sender_with}
 use Rattle.requester.specs.Taking.{Taking, acknowledge_taking, acknowledging, answers, is_of_piece, landing_of, landing_taking, moved_or_useless, nak_taking, not_ready_taking, number_taking, piece_taking, refusing, rnr_taking, syndrome_taking, taken_response, wait_taking}
 
 -- ---- the words on lists of requests
 
-pub landing_same : (pool : Pool) (ps : List Posted) (mtu n : ℕ) → next_landing (untold_in pool ps) mtu n ≡ next_landing (bares ps) mtu n
+pub landing_same : (pool : Pool) (ps : List QueuedRequest) (mtu n : ℕ) → next_landing (untold_in pool ps) mtu n ≡ next_landing (bares ps) mtu n
 unfolding next_landing
 landing_same pool [] mtu n = refl
 landing_same pool (p ∷ ps) mtu n =
     ap (λ m. if nat_lt n (span_of (bare p) mtu) then (if lands p.request.shape.kind then n else span_of (bare p) mtu + m) else span_of (bare p) mtu + next_landing (untold_in pool ps) mtu (n - span_of (bare p) mtu)) (landing_same pool ps mtu 0)
     ∙ ap (λ m. if nat_lt n (span_of (bare p) mtu) then (if lands p.request.shape.kind then n else span_of (bare p) mtu + next_landing (bares ps) mtu 0) else span_of (bare p) mtu + m) (landing_same pool ps mtu (n - span_of (bare p) mtu))
 
-pub place_same : (pool : Pool) (ps : List Posted) (mtu n : ℕ) → request_of (untold_in pool ps) mtu n ≡ request_of (bares ps) mtu n
+pub place_same : (pool : Pool) (ps : List QueuedRequest) (mtu n : ℕ) → request_of (untold_in pool ps) mtu n ≡ request_of (bares ps) mtu n
 unfolding request_of
 place_same pool [] mtu n = refl
 place_same pool (p ∷ ps) mtu n = ap (λ m. if nat_lt n (span_of (bare p) mtu) then 0 else suc m) (place_same pool ps mtu (n - span_of (bare p) mtu))
@@ -43,7 +43,7 @@ abbrev pub bare_piece : Option Piece → Option Piece
 bare_piece None = None
 bare_piece (Some x) = Some (record { posted = record { request = x.posted.request; payload = [] }; k = x.k })
 
-pub piece_same : (pool : Pool) (ps : List Posted) (mtu n : ℕ) → bare_piece (piece_at (untold_in pool ps) mtu n) ≡ piece_at (bares ps) mtu n
+pub piece_same : (pool : Pool) (ps : List QueuedRequest) (mtu n : ℕ) → bare_piece (piece_at (untold_in pool ps) mtu n) ≡ piece_at (bares ps) mtu n
 unfolding piece_at
 piece_same pool [] mtu n = refl
 piece_same pool (p ∷ ps) mtu n = elim (nat_lt n (span_of (bare p) mtu)) as (λ b. bare_piece (if b then Some (record { posted = posted_in pool p; k = n }) else piece_at (untold_in pool ps) mtu (n - span_of (bare p) mtu)) ≡ (if b then Some (record { posted = bare p; k = n }) else piece_at (bares ps) mtu (n - span_of (bare p) mtu))) [ true ↦ refl | false ↦ piece_same pool ps mtu (n - span_of (bare p) mtu) ]
@@ -166,7 +166,7 @@ module _ (t : Terms) (s : Sender) (us : List objects.Posted)
   unfolding taken_response at'
   response_same = number_same (unwrap_near t.own_start d.psn s.una)
 
-bare_of_bare : (ps : List Posted) (mtu n : ℕ) → bare_piece (piece_at (bares ps) mtu n) ≡ piece_at (bares ps) mtu n
+bare_of_bare : (ps : List QueuedRequest) (mtu n : ℕ) → bare_piece (piece_at (bares ps) mtu n) ≡ piece_at (bares ps) mtu n
 unfolding piece_at
 bare_of_bare [] mtu n = refl
 bare_of_bare (p ∷ ps) mtu n = elim (nat_lt n (span_of (bare p) mtu)) as (λ b. bare_piece (if b then Some (record { posted = bare p; k = n }) else piece_at (bares ps) mtu (n - span_of (bare p) mtu)) ≡ (if b then Some (record { posted = bare p; k = n }) else piece_at (bares ps) mtu (n - span_of (bare p) mtu))) [ true ↦ refl | false ↦ bare_of_bare ps mtu (n - span_of (bare p) mtu) ]

@@ -19,7 +19,7 @@ use Rattle.protocol.specs.Numbers.{unwrap_near}
 use Rattle.protocol.specs.Requester.{acknowledged, advanced, barrier, ends_after, goes_back, is_this_piece, landing, moved_or_useless, old_bytes, response_at, rewound, takes_ack, takes_aeth, takes_landing, takes_nak, takes_piece, takes_refusal, takes_response, takes_rnr, takes_syndrome, telling, transmission, transmitted, useless, waited, waiting, waits_again}
 use Rattle.protocol.specs.State.{Context, End, Link, Running, Sender}
 use Rattle.protocol.specs.Wire.{Packet, is_read_response}
-use Rattle.requester.specs.declared.answers.Taken.TheVariants.{Acked, Ended, Landed, OldLanded, Rewound, Useless, Waits}
+use Rattle.requester.specs.declared.answers.ResponseEffect.TheVariants.{Acked, Ended, Landed, OldLanded, Rewound, Useless, Waits}
 use Rattle.requester.specs.Taking as table
 use Rattle.requester.specs.Taking.{Taking, acknowledge_taking, acknowledging, answers, is_of_piece, landing_of, landing_taking, nak_taking, not_ready_taking, number_taking, piece_taking, refusing, request_at, rnr_taking, step_by, step_of, syndrome_taking, taken_response, wait_taking}
 use Rattle.requester.specs.Transmitting.{next_row}

@@ -17,8 +17,8 @@ use Rattle.rdma_types.specs.declared.requests.WcStatus.{WcStatus}
 use Rattle.rdma_types.specs.declared.requests.WcStatus.TheVariants as status
 use Rattle.requester.specs.declared.caches.Caches.{Caches}
 use Rattle.requester.specs.declared.marks.Mark.{Mark}
-use Rattle.requester.specs.declared.answers.Taken.{Taken}
-use Rattle.requester.specs.declared.answers.Taken.TheVariants.{Acked, Ended, Landed, OldLanded, Rewound, Useless, Waits}
+use Rattle.requester.specs.declared.answers.ResponseEffect.{ResponseEffect}
+use Rattle.requester.specs.declared.answers.ResponseEffect.TheVariants.{Acked, Ended, Landed, OldLanded, Rewound, Useless, Waits}
 use Rattle.requester.specs.Held.{IsHeld}
 use Rattle.requester.specs.Marks.{IsMark}
 use Rattle.requester.specs.Taking.{Taking, acknowledge_taking, acknowledging, answers, is_of_piece, landing_of, landing_taking, moved_or_useless, nak_taking, not_ready_taking, refusing, request_at, rnr_taking, taken_response, wait_taking}
@@ -248,7 +248,7 @@ nak_other t s n code a b c =
 -- ---- landing
 
 -- the answer of a response that is this piece's
-abbrev pub landed_by : Terms → Packet → ℕ → Piece → Option Taken
+abbrev pub landed_by : Terms → Packet → ℕ → Piece → Option ResponseEffect
 landed_by t d index x = if is_of_piece t d x then Some (landing_of t d index x) else None
 
 pub landed_said : (t : Terms) (d : Packet) (index : ℕ) (x : Piece)
@@ -273,7 +273,7 @@ landing_row t s c h d n p r due same =
     let place : request_of s.untold t.mtu (n - s.first) ≡ c.barrier_at.index = rw same (sym h.barrier_index) in
     rw (due', found, place) refl
 
-pub landing_some : (t : Terms) (s s' : Sender) (d : Packet) (index : ℕ) (x : Piece) (taken : Taken) → Some taken ≡ landed_by t d index x → (if is_of_piece t d x then answers (landing_of t d index x) s' else answers Useless s) ≡ answers taken s'
+pub landing_some : (t : Terms) (s s' : Sender) (d : Packet) (index : ℕ) (x : Piece) (taken : ResponseEffect) → Some taken ≡ landed_by t d index x → (if is_of_piece t d x then answers (landing_of t d index x) s' else answers Useless s) ≡ answers taken s'
 landing_some t s s' d index x taken e = by_test (is_of_piece t d x) e
   where
     by_test : (b : Bool) → Some taken ≡ (if b then Some (landing_of t d index x) else None) → (if b then answers (landing_of t d index x) s' else answers Useless s) ≡ answers taken s'

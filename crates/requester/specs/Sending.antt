@@ -6,7 +6,7 @@ use Rattle.rdma_types.specs.Limits.{number_limit}
 use Rattle.rdma_types.specs.Objects as objects
 use Rattle.rdma_types.specs.Spans.{Piece, end_number, piece_at, span_of}
 use Rattle.page_pool.specs.Pool.{Pool}
-use Rattle.work_queues.specs.declared.posted.Posted.{Posted}
+use Rattle.work_queues.specs.declared.posted.QueuedRequest.{QueuedRequest}
 use Rattle.work_queues.specs.Untold.{untold_in}
 use Rattle.protocol.specs.State.{Sender}
 use Rattle.requester.specs.declared.answers.RequesterParts.{RequesterParts}
@@ -15,15 +15,15 @@ use Rattle.requester.specs.declared.answers.RequesterParts.{RequesterParts}
 pub record Sending : Type 0 where
   pub terms : Terms
   pub depth : ℕ
-  pub items : List Posted
+  pub items : List QueuedRequest
   pub numbers : RequesterParts
 
 -- a posted request without its bytes, at which the requester's rules do not look
-abbrev pub bare : Posted → objects.Posted
+abbrev pub bare : QueuedRequest → objects.Posted
 bare p = record { request = p.request; payload = [] }
 
 -- the posted requests without their bytes
-abbrev pub bares : List Posted → List objects.Posted
+abbrev pub bares : List QueuedRequest → List objects.Posted
 bares ps = map bare ps
 
 -- the sender of the protocol with these requests and numbers
@@ -49,7 +49,7 @@ pub record KeepsQueue (old new : Sending) : Type 0 where
   pub items : new.items ≡ old.items
 
 -- one more request at the end
-abbrev pub posting : Sending → Posted → Sending
+abbrev pub posting : Sending → QueuedRequest → Sending
 posting v p = record v { items = v.items ++ p ∷ [] }
 
 -- nothing is sent yet

@@ -18,16 +18,16 @@ use Rattle.protocol.specs.Numbers.{unwrap_near}
 use Rattle.protocol.specs.Requester.{advanced, barrier, ends_after, rewound, telling, useless, waited, waiting}
 use Rattle.protocol.specs.State.{Context, End, Link, Sender}
 use Rattle.protocol.specs.Wire.{Packet, is_read_response}
-use Rattle.requester.specs.declared.answers.Taken.{Taken}
-use Rattle.requester.specs.declared.answers.Taken.TheVariants.{Acked, Ended, Landed, OldLanded, Rewound, Useless, Waits}
+use Rattle.requester.specs.declared.answers.ResponseEffect.{ResponseEffect}
+use Rattle.requester.specs.declared.answers.ResponseEffect.TheVariants.{Acked, Ended, Landed, OldLanded, Rewound, Useless, Waits}
 
 -- the answer, and the sender after it
 pub record Taking : Type 0 where
-  pub taken : Taken
+  pub taken : ResponseEffect
   pub sender : Sender
 
 -- an answer and a sender
-abbrev pub answers : Taken → Sender → Taking
+abbrev pub answers : ResponseEffect → Sender → Taking
 answers t s = record { taken = t; sender = s }
 
 -- numbers below n are acknowledged, up to the barrier
@@ -84,7 +84,7 @@ is_of_piece terms d x =
     else d.opcode == 0x12
 
 -- the bytes of a Read land at the piece's offset, an old value in the request's place
-unfoldable pub landing_of : Terms → Packet → ℕ → Piece → Taken
+unfoldable pub landing_of : Terms → Packet → ℕ → Piece → ResponseEffect
 landing_of terms d index x = if is_read x.posted.request.shape.kind then Landed index (x.k * terms.mtu) else OldLanded index (unwrap_or d.old 0)
 
 -- the response of this piece lands, and all before it is acknowledged
@@ -122,7 +122,7 @@ request_at s index = unwrap_or (slice_get s.untold index) objects.no_posted
 
 -- the step of the end of the link l on such an answer, from the sender after it: what lands lies in the place of the
 -- request, what is told completes, and the answer is in the end's words
-abbrev pub step_by : Context → End → Link → Packet → Taken → Sender → EndStep
+abbrev pub step_by : Context → End → Link → Packet → ResponseEffect → Sender → EndStep
 step_by c e l d Acked s = stays (telling c e l s) took.Acked
 step_by c e l d (Landed index off) s =
     stays (telling (landed c (request_at l.sender index).request.lkey ((request_at l.sender index).request.local + off) d.payload) e l s) took.Landed

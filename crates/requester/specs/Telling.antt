@@ -2,7 +2,7 @@
 use Rattle.std.specs.Prelude.{ℕ, ◌+◌, ◌≡◌, false, drop, nat_lt, if◌then◌else◌, Option, None, slice_get}
 use Rattle.rdma_types.specs.declared.requests.Terms.{Terms}
 use Rattle.rdma_types.specs.Spans.{first_number}
-use Rattle.work_queues.specs.declared.posted.Posted.{Posted}
+use Rattle.work_queues.specs.declared.posted.QueuedRequest.{QueuedRequest}
 use Rattle.protocol.specs.Requester.{cut_by, end_of_queue, told_count}
 use Rattle.protocol.specs.State.{Sender}
 use Rattle.requester.specs.Sending.{Sending, sender_of}
@@ -20,7 +20,7 @@ unfoldable pub failing_without_oldest : Terms → Sender → Sender
 failing_without_oldest terms s = failed_numbers (end_of_queue terms s) (without_oldest terms s)
 
 -- the oldest request, where all its numbers are below `una`
-abbrev pub next_to_tell : Sending → Option Posted
+abbrev pub next_to_tell : Sending → Option QueuedRequest
 next_to_tell v = if nat_lt 0 (told_count v.terms (sender_of v)) then slice_get v.items 0 else None
 
 -- terms and depth stay, and the oldest request is gone

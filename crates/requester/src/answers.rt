@@ -28,7 +28,7 @@ pub enum Transmit {
 
 /// What a response did. What is told by it is handed out by `next_told`.
 #[derive(Clone, Copy, Debug, PartialEq, Eq)]
-pub enum Taken {
+pub enum ResponseEffect {
     /// The oldest unacknowledged number rose.
     Acked,
     /// Its payload lands in the place of the request at `index`, `off` bytes in.

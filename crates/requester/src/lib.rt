@@ -13,7 +13,7 @@ mod telling;
 mod transmitting;
 
 use crate::caches::Caches;
-pub use answers::{Expiry, RequesterParts, Taken, Transmit};
+pub use answers::{Expiry, RequesterParts, ResponseEffect, Transmit};
 pub use laws::{answers_are_the_protocols_rows, rules_look_at_no_payload};
 use rdma_types::Terms;
 use std::marker::Model;

@@ -12,7 +12,7 @@ use crate::{Requester, kinds};
 use rdma_types::Terms;
 use segmenter::span_of;
 use std::alloc::{AllocError, Global};
-use work_queues::{Posted, SendQueue, copy_sends};
+use work_queues::{QueuedRequest, SendQueue, copy_sends};
 
 impl Requester {
     /// The requester of a new connection, whose first packet has number 0.
@@ -62,7 +62,7 @@ impl Requester {
 
     /// Puts a request at the end of the queue. Errors: the request itself, exactly where the depth is reached; all then
     /// stays as it was.
-    pub fn post(&mut self, p: Posted) -> Result<(), Posted>
+    pub fn post(&mut self, p: QueuedRequest) -> Result<(), QueuedRequest>
         requires below_limit { end_of_queue self.old.terms (sender_of self.old) + span p.request.shape self.old.terms.mtu < 2 ^ 62 }
         ensures ok { OnOk result (self.new ≡ posting self.old p) }
         ensures full { IsErr result ↔ (length self.old.items ≡ self.old.depth) }
@@ -79,7 +79,7 @@ impl Requester {
     }
 
     /// Request `i` of those that are not told, counted from 0 for the oldest; None where there are fewer.
-    pub fn posted(&self, i: usize) -> Option<&Posted>
+    pub fn posted(&self, i: usize) -> Option<&QueuedRequest>
         ensures { option_copied result ≡ slice_get self.now.items i }
     {
         self.queue.at(i)

@@ -9,7 +9,7 @@ ghost use Rattle.roce_headers.specs.Packets.{packet};
 ghost use Rattle.requester.specs.Sending.{KeepsQueue, sender_of};
 ghost use Rattle.requester.specs.Taking.{acknowledge_taking, acknowledging, landing_taking, moved_or_useless, nak_taking, not_ready_taking, refusing, syndrome_taking, taken_response, wait_taking};
 
-use crate::answers::Taken;
+use crate::answers::ResponseEffect;
 use crate::marks::seek_barrier;
 use crate::{Requester, kinds};
 use psn_math::unwrap_near;
@@ -46,34 +46,40 @@ fn is_past_last_wait(rnr: u8, waits: u8) -> bool
 }
 
 /// What a response is for piece `k` of a request, where its kind and its payload's length are that piece's.
-fn landing(shape: &Shape, index: usize, k: u64, mtu: u32, d: &Datagram<'_>) -> Option<Taken>
+fn landing(
+    shape: &Shape,
+    index: usize,
+    k: u64,
+    mtu: u32,
+    d: &Datagram<'_>,
+) -> Option<ResponseEffect>
     requires mtu { 0 < mtu }
     requires inside { k < span shape.now mtu }
     ensures { result
         ≡ (if is_read shape.now.kind
-        then (if is_read_response d.now.opcode && length d.now.payload.now == piece_length shape.now.length k mtu then Some (Taken.Landed index (k * mtu)) else None)
-        else (if d.now.opcode == 0x12 then Some (Taken.OldLanded index (unwrap_or d.now.old 0)) else None)) }
+        then (if is_read_response d.now.opcode && length d.now.payload.now == piece_length shape.now.length k mtu then Some (ResponseEffect.Landed index (k * mtu)) else None)
+        else (if d.now.opcode == 0x12 then Some (ResponseEffect.OldLanded index (unwrap_or d.now.old 0)) else None)) }
 {
     if !kinds::is_read(shape.kind) {
         let old = d.old.unwrap_or(0);
-        return (d.opcode == 0x12).then_some(Taken::OldLanded { index, old });
+        return (d.opcode == 0x12).then_some(ResponseEffect::OldLanded { index, old });
     }
     let (off, length) = piece_at(shape.length, k, mtu);
     let fits = d.payload.len() == length as usize;
-    (kinds::is_read_response(d.opcode) && fits).then_some(Taken::Landed { index, off })
+    (kinds::is_read_response(d.opcode) && fits).then_some(ResponseEffect::Landed { index, off })
 }
 
 impl Requester {
     /// What a response does at an end that is not in Error. Its packet sequence number is below 2^24, as in each decoded
     /// datagram.
-    pub fn take_response(&mut self, d: &Datagram<'_>) -> Taken
+    pub fn take_response(&mut self, d: &Datagram<'_>) -> ResponseEffect
         requires { d.now.psn < 2 ^ 24 }
         ensures answer { result ≡ (taken_response self.old.terms (sender_of self.old) (packet d.now)).taken }
         ensures numbers { sender_of self.new ≡ (taken_response self.old.terms (sender_of self.old) (packet d.now)).sender }
         ensures kept { KeepsQueue self.old self.new }
     {
         let Some(n) = unwrap_near(d.psn, self.terms.own_start, self.numbers.una) else {
-            return Taken::Useless;
+            return ResponseEffect::Useless;
         };
         if is_landing(d.opcode) {
             self.take_landing(d, n)
@@ -82,16 +88,16 @@ impl Requester {
         }
     }
 
-    fn take_acknowledge(&mut self, aeth: Option<Aeth>, n: u64) -> Taken
+    fn take_acknowledge(&mut self, aeth: Option<Aeth>, n: u64) -> ResponseEffect
         ensures answer { result ≡ (acknowledge_taking self.old.terms (sender_of self.old) n aeth).taken }
         ensures numbers { sender_of self.new ≡ (acknowledge_taking self.old.terms (sender_of self.old) n aeth).sender }
         ensures kept { KeepsQueue self.old self.new }
     {
         let Some(aeth) = aeth else {
-            return Taken::Useless;
+            return ResponseEffect::Useless;
         };
         if !is_sent(n, self.numbers.una, self.numbers.top) {
-            return Taken::Useless;
+            return ResponseEffect::Useless;
         }
         match aeth.syndrome {
             Syndrome::Ack => self.take_ack(n + 1),
@@ -100,36 +106,40 @@ impl Requester {
         }
     }
 
-    fn take_ack(&mut self, n: u64) -> Taken
+    fn take_ack(&mut self, n: u64) -> ResponseEffect
         requires { n ≤ self.old.numbers.top }
         ensures answer { result ≡ (moved_or_useless (sender_of self.old) (acknowledging self.old.terms (sender_of self.old) n)).taken }
         ensures numbers { sender_of self.new ≡ (moved_or_useless (sender_of self.old) (acknowledging self.old.terms (sender_of self.old) n)).sender }
         ensures kept { KeepsQueue self.old self.new }
     {
         if self.acknowledge(n) {
-            Taken::Acked
+            ResponseEffect::Acked
         } else {
-            Taken::Useless
+            ResponseEffect::Useless
         }
     }
 
-    fn take_rnr(&mut self, n: u64) -> Taken
+    fn take_rnr(&mut self, n: u64) -> ResponseEffect
         requires { n ≤ self.old.numbers.top }
         ensures answer { result ≡ (not_ready_taking self.old.terms (sender_of self.old) n).taken }
         ensures numbers { sender_of self.new ≡ (not_ready_taking self.old.terms (sender_of self.old) n).sender }
         ensures kept { KeepsQueue self.old self.new }
     {
         if self.numbers.rnr_wait {
-            return Taken::Useless;
+            return ResponseEffect::Useless;
         }
         let moved = self.acknowledge(n);
         if self.numbers.una == n {
             return self.wait_again();
         }
-        if moved { Taken::Acked } else { Taken::Useless }
+        if moved {
+            ResponseEffect::Acked
+        } else {
+            ResponseEffect::Useless
+        }
     }
 
-    fn wait_again(&mut self) -> Taken
+    fn wait_again(&mut self) -> ResponseEffect
         ensures answer { result ≡ (wait_taking self.old.terms (waited (sender_of self.old))).taken }
         ensures numbers { sender_of self.new ≡ (wait_taking self.old.terms (waited (sender_of self.old))).sender }
         ensures kept { KeepsQueue self.old self.new }
@@ -138,13 +148,13 @@ impl Requester {
         self.caches = self.caches.rewound();
         if is_past_last_wait(self.terms.rnr, waits) {
             self.numbers = self.numbers.waited(waits, self.numbers.rnr_wait);
-            return Taken::Ended(WcStatus::RnrExceeded);
+            return ResponseEffect::Ended(WcStatus::RnrExceeded);
         }
         self.numbers = self.numbers.waited(waits, true);
-        Taken::Waits
+        ResponseEffect::Waits
     }
 
-    fn take_nak(&mut self, n: u64, code: u8) -> Taken
+    fn take_nak(&mut self, n: u64, code: u8) -> ResponseEffect
         requires { n ≤ self.old.numbers.top }
         ensures answer { result ≡ (nak_taking self.old.terms (sender_of self.old) n code).taken }
         ensures numbers { sender_of self.new ≡ (nak_taking self.old.terms (sender_of self.old) n code).sender }
@@ -154,15 +164,15 @@ impl Requester {
             0 => {
                 let _ = self.acknowledge(n);
                 self.rewind();
-                Taken::Rewound
+                ResponseEffect::Rewound
             }
             1 => self.take_refusal(n, WcStatus::RemoteInvalid),
             2 => self.take_refusal(n, WcStatus::RemoteAccess),
-            _ => Taken::Useless,
+            _ => ResponseEffect::Useless,
         }
     }
 
-    fn take_refusal(&mut self, n: u64, status: WcStatus) -> Taken
+    fn take_refusal(&mut self, n: u64, status: WcStatus) -> ResponseEffect
         requires { n ≤ self.old.numbers.top }
         ensures answer { result ≡ (refusing (acknowledging self.old.terms (sender_of self.old) n) n status).taken }
         ensures numbers { sender_of self.new ≡ (refusing (acknowledging self.old.terms (sender_of self.old) n) n status).sender }
@@ -170,10 +180,10 @@ impl Requester {
     {
         let _ = self.acknowledge(n);
         if self.numbers.una == n {
-            return Taken::Ended(status);
+            return ResponseEffect::Ended(status);
         }
         self.rewind();
-        Taken::Rewound
+        ResponseEffect::Rewound
     }
 
     /// Numbers below n are acknowledged, up to the barrier. Answers whether the oldest unacknowledged one rose.
@@ -192,13 +202,13 @@ impl Requester {
         true
     }
 
-    fn take_landing(&mut self, d: &Datagram<'_>, n: u64) -> Taken
+    fn take_landing(&mut self, d: &Datagram<'_>, n: u64) -> ResponseEffect
         ensures answer { result ≡ (landing_taking self.old.terms (sender_of self.old) (packet d.now) n).taken }
         ensures numbers { sender_of self.new ≡ (landing_taking self.old.terms (sender_of self.old) (packet d.now) n).sender }
         ensures kept { KeepsQueue self.old self.new }
     {
         if !is_due(n, self.caches.barrier, self.numbers.top) {
-            return Taken::Useless;
+            return ResponseEffect::Useless;
         }
         let at = self.caches.barrier_at;
         let Some(p) = self.queue.at(at.index) else {
@@ -206,7 +216,7 @@ impl Requester {
         };
         let k = n - self.numbers.first - at.offset;
         let Some(landing) = landing(&p.request.shape, at.index, k, self.terms.mtu, d) else {
-            return Taken::Useless;
+            return ResponseEffect::Useless;
         };
         self.land();
         landing

@@ -9,7 +9,7 @@ use crate::answers::RequesterParts;
 use crate::caches::Caches;
 use crate::marks::{FRONT, Mark};
 use segmenter::span_of;
-use work_queues::Posted;
+use work_queues::QueuedRequest;
 
 /// The numbers of an end that fails: all the first past the last request, but that of the oldest request left.
 fn failed_numbers(first: u64, end: u64) -> RequesterParts
@@ -54,7 +54,7 @@ fn failed_caches(first: u64, end: u64, len: usize) -> Caches
 impl Requester {
     /// Hands out the oldest request that is acknowledged whole, which is then told; None exactly where some of its numbers
     /// are not acknowledged, or there is none.
-    pub fn next_told(&mut self) -> Option<Posted>
+    pub fn next_told(&mut self) -> Option<QueuedRequest>
         ensures told { result ≡ next_to_tell self.old }
         ensures rest { OnSome result (LosesOldest self.old self.new) }
         ensures numbers { OnSome result (sender_of self.new ≡ without_oldest self.old.terms (sender_of self.old)) }
@@ -73,7 +73,7 @@ impl Requester {
     /// Hands out the oldest request of an end that fails, whether it is acknowledged or not; None exactly where there is
     /// none. All numbers but that of the oldest request left are then the first past the last request, and nothing is
     /// counted or waited for.
-    pub fn cut(&mut self) -> Option<Posted>
+    pub fn cut(&mut self) -> Option<QueuedRequest>
         ensures cut { result ≡ slice_get self.old.items 0 }
         ensures rest { LosesOldest self.old self.new }
         ensures numbers { sender_of self.new ≡ failing_without_oldest self.old.terms (sender_of self.old) }

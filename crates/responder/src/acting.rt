@@ -101,7 +101,7 @@ impl Responder {
     /// How many numbers a packet takes: a READ request as many as it has responses.
     pub(crate) fn span(&self, d: &Datagram<'_>) -> u64
         ensures span { result ≡ words.span_of_packet (packet d.now) self.now.terms.mtu d.now.reth }
-        ensures few { result ≤ 4294967296 }
+        ensures bounded { result ≤ 4294967296 }
         ensures positive { 0 < result }
         ensures held { IsHeld self.now.terms self.now.receiver }
     {
@@ -117,7 +117,7 @@ impl Responder {
         requires { self.now.receiver.expected + words.span_of_packet (packet d.now) self.now.terms.mtu d.now.reth < number_limit }
         ensures parts { (kept : List KeptReply) → receiver_of result kept ≡ record (words.executed (link_with self.now) (packet d.now)).receiver { progress = progress_of flow; kept = kept } }
         ensures held { IsHeld self.now.terms (receiver_of result self.now.receiver.kept) }
-        ensures later { self.now.receiver.expected < result.expected }
+        ensures expected_grows { self.now.receiver.expected < result.expected }
     {
         let part = Part::of(d.opcode);
         ResponderParts {

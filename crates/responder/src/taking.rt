@@ -20,7 +20,7 @@ use crate::{Flow, Reply, Responder, SilentWhy, Why, places};
 use completion_queue::Cq;
 use memory_keys::{Regions, Spot};
 use page_pool::PagePool;
-use psn_math::{Place, place, unwrap_near};
+use psn_math::{PsnOrder, place, unwrap_near};
 use rdma_types::{Name, Rights};
 use roce_headers::{Datagram, Reth};
 use segmenter::pieces_of;
@@ -105,9 +105,9 @@ impl Responder {
             return Reply::Silent(SilentWhy::NoRepeat);
         };
         match place(n, expected) {
-            Place::Ahead => self.take_ahead(),
-            Place::Before => self.take_repeat(regions, domain, d, n),
-            Place::Expected => self.take_expected(pool, regions, domain, recvs, cq, qp, d),
+            PsnOrder::Ahead => self.take_ahead(),
+            PsnOrder::Before => self.take_repeat(regions, domain, d, n),
+            PsnOrder::Expected => self.take_expected(pool, regions, domain, recvs, cq, qp, d),
         }
     }
 

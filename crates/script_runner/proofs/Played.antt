@@ -4,7 +4,7 @@ use Rattle.std.proofs.lemmas.List.Splits.{length-slice_split}
 use Rattle.std.proofs.lemmas.List.Sums.{count_by-le-length}
 use Rattle.std.specs.List.{slice_split}
 use Rattle.fabric.specs.Store.{forgetting}
-use Rattle.alike_worlds.specs.Alike.{AreAlike, StepAlike, forgetful}
+use Rattle.law_kept_datagrams.specs.Alike.{AreAlike, StepAlike, with_kept_datagrams}
 use Rattle.protocol.specs.Script.{Happening, Event, Dump, Settles, dumps, happens}
 use Rattle.protocol.specs.State.{World, empty_world}
 use Rattle.ideal_model.specs.Machine.{empty}
@@ -13,17 +13,17 @@ use Rattle.mig_ports.proofs.Chains.{Puts-none, Puts-then}
 use Rattle.script_lang.specs.declared.lines.Line.{Line}
 use Rattle.script_lang.specs.Lines.{reading_of}
 use Rattle.script_lang.specs.Scripts.{is_newline, lines_in, lines_of}
-use Rattle.script_rules.specs.Does.{before, happening_of, happenings_of}
-use Rattle.script_rules.specs.Left.{IsWorldAfter, ReachesAll, world_of}
-use Rattle.script_rules.specs.Playing.{IsPlayed, PlayingBegins, PlayingEnds, PlayingForgets, PlayingGoesOn, line_text, world_past}
-use Rattle.script_rules.specs.Script.{answers_text, bad_line, happenings, script_from, text_from, world_left}
+use Rattle.law_headline.specs.Does.{before, happening_of, happenings_of}
+use Rattle.law_headline.specs.Left.{IsWorldAfter, ReachesAll, world_of}
+use Rattle.law_headline.specs.Playing.{IsPlayed, PlayingBegins, PlayingEnds, PlayingForgets, PlayingGoesOn, line_text, world_past}
+use Rattle.law_headline.specs.Script.{answers_text, bad_line, happenings, script_from, text_from, world_left}
 use Rattle.script_runner.specs.Playing.{IsOnTheWay, IsPlayedTo, Leaves, PutsFront}
 use Rattle.script_runner.proofs.Fronts.{front_behind, front_longer}
 
 -- ---- worlds that are alike
 
 -- they differ in no datagram that is kept
-forget_alike : (a b : World) → AreAlike a b → forgetful a ≡ forgetful b
+forget_alike : (a b : World) → AreAlike a b → with_kept_datagrams a ≡ with_kept_datagrams b
 forget_alike a b h =
     ap (λ x. record { devices = x; sent = forgetting a.sent; carried = a.carried; stopped = a.stopped }) h.devices
     ∙ (ap (λ x. record { devices = b.devices; sent = x; carried = a.carried; stopped = a.stopped }) h.sent
@@ -32,17 +32,17 @@ forget_alike a b h =
 
 -- what the laws say of them
 pub record AreAlikeLaws : Type 0 where
-  pub forgets : (w : World) → AreAlike (forgetful w) w
+  pub forgets : (w : World) → AreAlike (with_kept_datagrams w) w
   pub line : (a b : World) (h : Happening) → AreAlike a b → StepAlike (happens a h) (happens b h)
 
 -- what happens in what is left of a world leaves what is left of the next one
-left_past : AreAlikeLaws → (w whole w' : World) (h : Happening) → w ≡ forgetful whole → w' ≡ forgetful (happens w h).world → w' ≡ forgetful (happens whole h).world
+left_past : AreAlikeLaws → (w whole w' : World) (h : Happening) → w ≡ with_kept_datagrams whole → w' ≡ with_kept_datagrams (happens w h).world → w' ≡ with_kept_datagrams (happens whole h).world
 left_past laws w whole w' h e l =
     let alike : AreAlike w whole = subst (λ (x : World). AreAlike x whole) (sym e) (laws.forgets whole) in
     l ∙ forget_alike (happens w h).world (happens whole h).world (laws.line w whole h alike).world
 
 -- .. so for what a line does
-left_on : AreAlikeLaws → (w whole w' : World) (o : Option Happening) → w ≡ forgetful whole → Leaves w o w' → w' ≡ forgetful (world_past whole o)
+left_on : AreAlikeLaws → (w whole w' : World) (o : Option Happening) → w ≡ with_kept_datagrams whole → Leaves w o w' → w' ≡ with_kept_datagrams (world_past whole o)
 unfolding happens dumps
 left_on laws w whole w' None e l = l ∙ e
 left_on laws w whole w' (Some (Event event)) e l = left_past laws w whole w' (Event event) e l
@@ -117,7 +117,7 @@ pub world_after : (held h : Option (List ℕ)) (script : List ℕ) (w : World) (
 world_after held h script w number rest e p reached =
     let y : IsOnTheWay script w number [] = subst (IsOnTheWay script w number) e p.way in
     let same : y.whole ≡ world_of script = sym y.leads in
-    record { left = y.left ∙ ap forgetful same; reached = reached }
+    record { left = y.left ∙ ap with_kept_datagrams same; reached = reached }
 
 -- ---- how many lines there are
 

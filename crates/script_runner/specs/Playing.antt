@@ -3,12 +3,12 @@ use Rattle.std.specs.Prelude.{ℕ, ◌≡◌, ◌+◌, List, ◌++◌, Option, N
 use Rattle.rdma_types.specs.declared.answers.Answer.{Answer}
 use Rattle.protocol.specs.Script.{Happening, Event, Dump, Settles, happens}
 use Rattle.protocol.specs.State.{World}
-use Rattle.alike_worlds.specs.Alike.{forgetful}
+use Rattle.law_kept_datagrams.specs.Alike.{with_kept_datagrams}
 use Rattle.mig_ports.specs.Streams.{Puts}
-use Rattle.script_rules.specs.Does.{happenings_of}
-use Rattle.script_rules.specs.Left.{world_of}
-use Rattle.script_rules.specs.Playing.{IsPlayed}
-use Rattle.script_rules.specs.Script.{BadLine, answers_text, bad_line, script_from, world_left}
+use Rattle.law_headline.specs.Does.{happenings_of}
+use Rattle.law_headline.specs.Left.{world_of}
+use Rattle.law_headline.specs.Playing.{IsPlayed}
+use Rattle.law_headline.specs.Script.{BadLine, answers_text, bad_line, script_from, world_left}
 use Rattle.script_runner.specs.declared.fault.PlayFault.{PlayFault}
 use Rattle.script_runner.specs.declared.fault.PlayFault.TheVariants as fault
 
@@ -16,9 +16,9 @@ use Rattle.script_runner.specs.declared.fault.PlayFault.TheVariants as fault
 -- blank that the network keeps no more
 abbrev pub Leaves : World → Option Happening → World → Type 0
 Leaves old None new = new ≡ old
-Leaves old (Some (Event e)) new = new ≡ forgetful (happens old (Event e)).world
+Leaves old (Some (Event e)) new = new ≡ with_kept_datagrams (happens old (Event e)).world
 Leaves old (Some (Dump name)) new = new ≡ old
-Leaves old (Some Settles) new = new ≡ forgetful (happens old Settles).world
+Leaves old (Some Settles) new = new ≡ with_kept_datagrams (happens old Settles).world
 
 -- the answer to what happens, and the world that it leaves
 pub record Answers (old : World) (h : Happening) (answer : Answer) (new : World) : Type 0 where
@@ -48,7 +48,7 @@ IsOneLineFault fault.OutOfMemory = Unit {0}
 -- network keeps no more, and the lines to come lead from the rules' world to the one that the text leaves
 pub record IsOnTheWay (text : List ℕ) (w : World) (number : ℕ) (rest : List (List ℕ)) : Type 0 where
   pub whole : World  -- the rules' world
-  pub left : w ≡ forgetful whole
+  pub left : w ≡ with_kept_datagrams whole
   pub leads : world_of text ≡ world_left whole (happenings_of (script_from (number + 1) rest).lines)
 
 -- how far a text is played, where `number` of its lines were read, `rest` are to come, and the world is `w`

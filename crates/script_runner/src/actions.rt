@@ -1,7 +1,7 @@
 //! What a line asks for.
 
 ghost use Rattle.std.specs.Prelude.{◌≡◌};
-ghost use Rattle.script_rules.specs.Does as rules;
+ghost use Rattle.law_headline.specs.Does as rules;
 ghost use Rattle.script_runner.specs.Actions.{happening_by};
 
 use protocol::{Event, WorldEvent};

@@ -5,7 +5,7 @@ ghost use Rattle.protocol.specs.Lawful.{IsLawful};
 ghost use Rattle.protocol.specs.Dumps.{dump_bytes};
 ghost use Rattle.protocol.specs.Script.{dumps_by, shown};
 ghost use Rattle.protocol.specs.WorldStep.{carried_image};
-ghost use Rattle.script_rules.specs.Does.{MayBeAsked};
+ghost use Rattle.law_headline.specs.Does.{MayBeAsked};
 ghost use Rattle.script_runner.specs.Actions.{happening_of};
 ghost use Rattle.script_runner.specs.Playing.{Answers};
 

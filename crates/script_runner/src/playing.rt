@@ -1,21 +1,21 @@
 //! The answers to the lines of a script.
 
 ghost use Rattle.std.specs.Prelude.{◌≡◌, ◌∷◌, ℕ, ◌+◌, ◌<◌, ◌≤◌, ◌^◌, List, length, Option, None, Some, Err, OnOk, OnErr, IfOk, IfErr};
-ghost use Rattle.mig_ports.specs.Streams.{Rose, Puts};
-ghost use Rattle.script_rules.specs.Does.{MayBeAskedOf, happening_of};
-ghost use Rattle.script_rules.specs.Headline.{IsFollowed};
-ghost use Rattle.script_rules.specs.Left.{IsWorldAfter};
-ghost use Rattle.script_rules.specs.Playing.{line_text};
-ghost use Rattle.script_rules.specs.Script.{answers_text, bad_line};
+ghost use Rattle.mig_ports.specs.Streams.{FaultsCounted, Puts};
+ghost use Rattle.law_headline.specs.Does.{MayBeAskedOf, happening_of};
+ghost use Rattle.law_headline.specs.Headline.{IsFollowed};
+ghost use Rattle.law_headline.specs.Left.{IsWorldAfter};
+ghost use Rattle.law_headline.specs.Playing.{line_text};
+ghost use Rattle.law_headline.specs.Script.{answers_text, bad_line};
 ghost use Rattle.script_runner.specs.Playing.{IfBadLine, IsOneLineFault, IsPlayedTo, IsStoppedAt, Leaves, PutsFront};
 
 use crate::PlayFault;
 use crate::actions::action_of;
 use crate::answering::act;
-use alike_worlds::alike_worlds_are_answered_alike;
+use law_headline::{lines_are_in_range, scripts_are_followed, scripts_are_played_line_by_line};
+use law_kept_datagrams::alike_worlds_are_answered_alike;
 use mig_ports::{Sink, WriteFault, write_all_of};
 use script_lang::{Line, LineFault, Lines, parse_line, print_answer};
-use script_rules::{lines_are_in_range, scripts_are_followed, scripts_are_played_line_by_line};
 use std::alloc::Global;
 use world_core::{Settler, World};
 
@@ -23,8 +23,8 @@ use world_core::{Settler, World};
 fn write_text<K: Sink>(text: &[u8], output: &mut K) -> Result<(), WriteFault>
     ensures whole { OnOk result (Puts (K.held output.old) (K.held output.new) text.now) }
     ensures part { OnErr result (PutsFront (K.held output.old) (K.held output.new) text.now) }
-    ensures rose { OnErr result (Rose (K.faults output.old) (K.faults output.new)) }
-    ensures later { K.faults output.old ≤ K.faults output.new }
+    ensures faults_counted { OnErr result (FaultsCounted (K.faults output.old) (K.faults output.new)) }
+    ensures faults_monotone { K.faults output.old ≤ K.faults output.new }
 {
     write_all_of(output, text)
 }
@@ -43,8 +43,8 @@ fn answer<T: Settler, K: Sink>(
     ensures whole { OnOk result (Puts (K.held output.old) (K.held output.new) (line_text world.old (happening_of line))) }
     ensures part { OnErr result (PutsFront (K.held output.old) (K.held output.new) (line_text world.old (happening_of line))) }
     ensures faults { IfErr result IsOneLineFault }
-    ensures rose { result ≡ Err PlayFault.WriteFault → Rose (K.faults output.old) (K.faults output.new) }
-    ensures later { K.faults output.old ≤ K.faults output.new }
+    ensures faults_counted { result ≡ Err PlayFault.WriteFault → FaultsCounted (K.faults output.old) (K.faults output.new) }
+    ensures faults_monotone { K.faults output.old ≤ K.faults output.new }
 {
     let Some(action) = action_of(line) else {
         return Ok(());
@@ -75,8 +75,8 @@ fn play_line<T: Settler, K: Sink>(
     ensures part { (held : Option (List ℕ)) (script : List ℕ) (n : ℕ) (rest : List (List ℕ)) → n + 1 ≡ number
         → IsPlayedTo held (K.held output.old) script world.old n (line.now ∷ rest)
         → OnErr result (PutsFront held (K.held output.new) (answers_text script)) }
-    ensures rose { result ≡ Err PlayFault.WriteFault → Rose (K.faults output.old) (K.faults output.new) }
-    ensures later { K.faults output.old ≤ K.faults output.new }
+    ensures faults_counted { result ≡ Err PlayFault.WriteFault → FaultsCounted (K.faults output.old) (K.faults output.new) }
+    ensures faults_monotone { K.faults output.old ≤ K.faults output.new }
 {
     alike_worlds_are_answered_alike();
     lines_are_in_range();
@@ -110,8 +110,8 @@ pub fn play_world<T: Settler, K: Sink>(
     ensures bad { IfErr result (IfBadLine (IsStoppedAt (K.held output.old) (K.held output.new) input.now)) }
     ensures part { OnErr result (PutsFront (K.held output.old) (K.held output.new) (answers_text input.now)) }
     ensures followed { IsFollowed input.now }
-    ensures rose { result ≡ Err PlayFault.WriteFault → Rose (K.faults output.old) (K.faults output.new) }
-    ensures later { K.faults output.old ≤ K.faults output.new }
+    ensures faults_counted { result ≡ Err PlayFault.WriteFault → FaultsCounted (K.faults output.old) (K.faults output.new) }
+    ensures faults_monotone { K.faults output.old ≤ K.faults output.new }
 {
     scripts_are_followed();
     scripts_are_played_line_by_line();
@@ -142,8 +142,8 @@ pub fn play<T: Settler, K: Sink>(
     ensures bad { IfErr result (IfBadLine (IsStoppedAt (K.held output.old) (K.held output.new) input.now)) }
     ensures part { OnErr result (PutsFront (K.held output.old) (K.held output.new) (answers_text input.now)) }
     ensures followed { IsFollowed input.now }
-    ensures rose { result ≡ Err PlayFault.WriteFault → Rose (K.faults output.old) (K.faults output.new) }
-    ensures later { K.faults output.old ≤ K.faults output.new }
+    ensures faults_counted { result ≡ Err PlayFault.WriteFault → FaultsCounted (K.faults output.old) (K.faults output.new) }
+    ensures faults_monotone { K.faults output.old ≤ K.faults output.new }
 {
     play_world(alloc, input, settler, output)?;
     Ok(())

@@ -10,7 +10,7 @@ use Rattle.rdma_types.specs.Lists.{first_that, same_object}
 use Rattle.rdma_types.specs.declared.names.ObjName.{ObjName}
 use Rattle.protocol.specs.State.{World}
 use Rattle.protocol.specs.Settle.{Settled, Settling, begun, last_wait, load_of, marks, round, rounds_of, settled, unfinished}
-use Rattle.alike_worlds.specs.Alike.{forgetful}
+use Rattle.law_kept_datagrams.specs.Alike.{with_kept_datagrams}
 use Rattle.world_core.specs.Settled.{IsSettled}
 use Rattle.context_core.specs.declared.lives.LiveEnd.{LiveEnd}
 use Rattle.world_core.specs.declared.settling.Quiet.{Quiet}
@@ -115,14 +115,14 @@ none_waited : (w : World) (n : Notes) (o : ObjName) → n.waited.entries ≡ [] 
 unfolding last_wait first_that
 none_waited w n o h = rw h refl
 
-shown_first : (w : World) (n : Notes) → forgetful w ≡ w → n.changed ≡ false → n.stepped ≡ false → n.waited.entries ≡ [] → n.seen ≡ None → Shows w n (first w)
+shown_first : (w : World) (n : Notes) → with_kept_datagrams w ≡ w → n.changed ≡ false → n.stepped ≡ false → n.waited.entries ≡ [] → n.seen ≡ None → Shows w n (first w)
 shown_first w n kept changed stepped none unseen = record { world = sym kept; changed = changed; stepped = stepped; waited = λ o. none_waited w n o none; seen = λ still. subst (λ o. IfSome o (λ ends. map view_mark ends ≡ marks w)) (sym unseen) tt }
 
-unfinished_shown : (w v : World) → w ≡ forgetful v → unfinished w ≡ unfinished v
+unfinished_shown : (w v : World) → w ≡ with_kept_datagrams v → unfinished w ≡ unfinished v
 unfolding unfinished
 unfinished_shown w v h = ap (λ (x : World). unfinished x) h
 
-pub settles_as : (w w' : World) (n : Notes) (most : ℕ) (q : Quiet) → forgetful w ≡ w → n.changed ≡ false → n.stepped ≡ false → n.waited.entries ≡ [] → n.seen ≡ None → most ≡ 32 * load_of w →
+pub settles_as : (w w' : World) (n : Notes) (most : ℕ) (q : Quiet) → with_kept_datagrams w ≡ w → n.changed ≡ false → n.stepped ≡ false → n.waited.entries ≡ [] → n.seen ≡ None → most ≡ 32 * load_of w →
     ((s : Settling) → Shows w n s → Ends (rounds_of most 0 s) w' q.rounds) → q.unfinished ≡ unfinished w' → IsSettled w w' q
 unfolding settled
 settles_as w w' n most q kept changed stepped none unseen is goes left =

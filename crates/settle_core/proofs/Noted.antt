@@ -8,8 +8,8 @@ use Rattle.protocol.specs.declared.events.WorldEvent.{WorldEvent}
 use Rattle.protocol.specs.State.{World}
 use Rattle.protocol.specs.WorldStep.{world_step}
 use Rattle.protocol.specs.Settle.{Settling, marks, same_marks, settle_step, transmit}
-use Rattle.alike_worlds.specs.Alike.{forgetful}
-use Rattle.settling_steps.specs.Settling.{IsSettling}
+use Rattle.law_kept_datagrams.specs.Alike.{with_kept_datagrams}
+use Rattle.law_settle_steps.specs.Settling.{IsSettling}
 use Rattle.world_core.specs.Kept.{Makes}
 use Rattle.world_core.specs.Lives.{live_list}
 use Rattle.world_core.specs.Places.{HaveOwnIds}
@@ -23,7 +23,7 @@ use Rattle.settle_core.proofs.Transmitting.{transmit_marks}
 use Rattle.settle_core.proofs.Worlds.{answer_shown, comes_same, comes_step, marks_shown, shown_step}
 
 -- where the round has changed already
-pub changed_step : (w w' : World) (n : Notes) (e : WorldEvent) → w' ≡ forgetful (world_step w e).world → n.changed ≡ true → Settles (λ s. settle_step s e) w n w' n
+pub changed_step : (w w' : World) (n : Notes) (e : WorldEvent) → w' ≡ with_kept_datagrams (world_step w e).world → n.changed ≡ true → Settles (λ s. settle_step s e) w n w' n
 changed_step w w' n e left is s shows = shown_step w w' n n s e shows left (is ∙ sym (ap (λ b. b || not (same_marks (marks w) (marks w'))) is)) refl refl (λ still. absurd (cc))
 
 pub comes_result : (r : Result Answer AllocError) (w w' : World) (e : WorldEvent) → IsSettling e → IfOk r (λ answer. Makes (world_step w e) answer w') → OnErr r (w' ≡ w) → Comes w w'
@@ -56,7 +56,7 @@ seen_as v w n h seen still = by n.seen (seen still)
     by None g = tt
     by (Some ends) g = g ∙ sym h
 
-transmit_kept : (w w' : World) (o : ObjName) → HaveOwnIds w.devices → w' ≡ forgetful (world_step w (transmit o)).world → marks w' ≡ marks w
+transmit_kept : (w w' : World) (o : ObjName) → HaveOwnIds w.devices → w' ≡ with_kept_datagrams (world_step w (transmit o)).world → marks w' ≡ marks w
 transmit_kept w w' o own left = marks_shown w' (world_step w (transmit o)).world left ∙ transmit_marks w o own
 
 pub transmit_shown : (r : Result Answer AllocError) (w w' : World) (o : ObjName) → IfOk r (λ answer. Makes (world_step w (transmit o)) answer w') → HaveOwnIds w.devices → OnOk r ((n : Notes) → Settles (λ s. settle_step s (transmit o)) w n w' n)

@@ -12,8 +12,8 @@ use Rattle.protocol.specs.State.{Link, World}
 use Rattle.protocol.specs.WorldStep.{home, live_context, world_step}
 use Rattle.protocol.specs.Settle.{Settling, drained, is_sent, link_at, pass, sending_all, sending_fuel, sends_all, sends_if_running, settle_step, transmit, visited, visiting}
 use Rattle.fabric.proofs.Histories.{forgetting-forgetting, kept_flight-forgetting, length-forgetting}
-use Rattle.alike_worlds.specs.Alike.{forgetful}
-use Rattle.alike_worlds.proofs.Stores.{pending_alike}
+use Rattle.law_kept_datagrams.specs.Alike.{with_kept_datagrams}
+use Rattle.law_kept_datagrams.proofs.Stores.{pending_alike}
 use Rattle.world_core.specs.Lives.{is_open, is_pending, link_view}
 use Rattle.world_core.specs.Places.{HaveOwnIds}
 use Rattle.context_core.specs.declared.lives.LinkView.{LinkView}
@@ -39,7 +39,7 @@ pending_shown w n s k h = ap (λ (x : World). is_pending x.sent k) h.world ∙ a
 
 pub least_shown : (w : World) (n : Notes) (s : Settling) → Shows w n s → pending w.sent ≡ pending s.world.sent
 unfolding pending
-least_shown w n s h = ap (λ (x : World). pending x.sent) h.world ∙ ap first_of (pending_alike (forgetful s.world).sent s.world.sent (forgetting-forgetting s.world.sent))
+least_shown w n s h = ap (λ (x : World). pending x.sent) h.world ∙ ap first_of (pending_alike (with_kept_datagrams s.world).sent s.world.sent (forgetting-forgetting s.world.sent))
 
 pub count_shown : (w : World) (n : Notes) (s : Settling) → Shows w n s → length w.sent ≡ length s.world.sent
 count_shown w n s h = ap (λ (x : World). length x.sent) h.world ∙ length-forgetting s.world.sent

@@ -10,9 +10,9 @@ use Rattle.protocol.specs.State.{World}
 use Rattle.protocol.specs.WorldStep.{world_after, world_step}
 use Rattle.protocol.specs.Settle.{Settling, begun, last_wait, live_ends, marks, same_marks, settle_step, stepped_to}
 use Rattle.fabric.proofs.Histories.{forgetting-forgetting}
-use Rattle.alike_worlds.specs.Alike.{AreAlike, StepAlike, forgetful}
-use Rattle.alike_worlds.proofs.Steps.{step_alike}
-use Rattle.settling_steps.specs.Settling.{IsSettling}
+use Rattle.law_kept_datagrams.specs.Alike.{AreAlike, StepAlike, with_kept_datagrams}
+use Rattle.law_kept_datagrams.proofs.Steps.{step_alike}
+use Rattle.law_settle_steps.specs.Settling.{IsSettling}
 use Rattle.world_core.specs.Settled.{IsLeft}
 use Rattle.world_core.specs.Kept.{Makes}
 use Rattle.settle_core.specs.Shown.{Comes, HasSeen, Shows, wait_of}
@@ -20,20 +20,20 @@ use Rattle.settle_core.specs.declared.notes.Notes.{Notes}
 
 -- ---- worlds that keep the last datagrams
 
-pub forgetful_alike : (w : World) → AreAlike (forgetful w) w
-forgetful_alike w = record { devices = refl; sent = forgetting-forgetting w.sent; carried = refl; stopped = refl }
+pub kept_datagrams_alike : (w : World) → AreAlike (with_kept_datagrams w) w
+kept_datagrams_alike w = record { devices = refl; sent = forgetting-forgetting w.sent; carried = refl; stopped = refl }
 
-pub alike_forgetful : (a b : World) → AreAlike a b → forgetful a ≡ forgetful b
-alike_forgetful a b h = λ i. record { devices = h.devices i; sent = h.sent i; carried = h.carried i; stopped = h.stopped i }
+pub alike_kept_datagrams : (a b : World) → AreAlike a b → with_kept_datagrams a ≡ with_kept_datagrams b
+alike_kept_datagrams a b h = λ i. record { devices = h.devices i; sent = h.sent i; carried = h.carried i; stopped = h.stopped i }
 
-pub kept_alike : (v w : World) → v ≡ forgetful w → AreAlike v w
-kept_alike v w h = subst (λ (x : World). AreAlike x w) (sym h) (forgetful_alike w)
+pub kept_alike : (v w : World) → v ≡ with_kept_datagrams w → AreAlike v w
+kept_alike v w h = subst (λ (x : World). AreAlike x w) (sym h) (kept_datagrams_alike w)
 
-pub kept_twice : (v w : World) → v ≡ forgetful w → forgetful v ≡ v
-kept_twice v w h = alike_forgetful v w (kept_alike v w h) ∙ sym h
+pub kept_twice : (v w : World) → v ≡ with_kept_datagrams w → with_kept_datagrams v ≡ v
+kept_twice v w h = alike_kept_datagrams v w (kept_alike v w h) ∙ sym h
 
 -- the steps of both are alike
-pub steps_shown : (v w : World) (e : WorldEvent) → v ≡ forgetful w → StepAlike (world_step v e) (world_step w e)
+pub steps_shown : (v w : World) (e : WorldEvent) → v ≡ with_kept_datagrams w → StepAlike (world_step v e) (world_step w e)
 steps_shown v w e h = step_alike v w e (kept_alike v w h)
 
 -- ---- worlds that come of others
@@ -52,7 +52,7 @@ pub comes_nothing : (w : World) → Comes w w
 unfolding world_after
 comes_nothing w kept = record { events = []; each = All-nil IsSettling; world = sym kept }
 
-pub comes_step : (old new : World) (e : WorldEvent) → IsSettling e → new ≡ forgetful (world_step old e).world → Comes old new
+pub comes_step : (old new : World) (e : WorldEvent) → IsSettling e → new ≡ with_kept_datagrams (world_step old e).world → Comes old new
 unfolding world_after
 comes_step old new e is h kept = record { events = e ∷ []; each = All-cons IsSettling e [] is (All-nil IsSettling); world = h }
 
@@ -65,8 +65,8 @@ comes_then a b c first second kept =
       each = All-append IsSettling one.events two.events one.each two.each;
       world =
           two.world
-          ∙ (alike_forgetful (world_after b two.events) (world_after (world_after a one.events) two.events) (after_alike two.events b (world_after a one.events) (kept_alike b (world_after a one.events) one.world))
-          ∙ ap forgetful (sym (after_append one.events two.events a)));
+          ∙ (alike_kept_datagrams (world_after b two.events) (world_after (world_after a one.events) two.events) (after_alike two.events b (world_after a one.events) (kept_alike b (world_after a one.events) one.world))
+          ∙ ap with_kept_datagrams (sym (after_append one.events two.events a)));
     }
 
 pub comes_same : (a b : World) → b ≡ a → Comes a b
@@ -74,17 +74,17 @@ comes_same a b h = subst (λ (x : World). Comes a x) (sym h) (comes_nothing a)
 
 -- ---- states that are shown
 
-pub marks_shown : (v w : World) → v ≡ forgetful w → marks v ≡ marks w
+pub marks_shown : (v w : World) → v ≡ with_kept_datagrams w → marks v ≡ marks w
 unfolding live_ends
 marks_shown v w h = ap marks h
 
 -- a step with a note of changes
-pub shown_step : (w w' : World) (n n' : Notes) (s : Settling) (e : WorldEvent) → Shows w n s → w' ≡ forgetful (world_step w e).world →
+pub shown_step : (w w' : World) (n n' : Notes) (s : Settling) (e : WorldEvent) → Shows w n s → w' ≡ with_kept_datagrams (world_step w e).world →
     n'.changed ≡ (n.changed || not (same_marks (marks w) (marks w'))) → n'.stepped ≡ n.stepped → n'.waited ≡ n.waited → HasSeen w' n' → Shows w' n' (settle_step s e)
 unfolding settle_step stepped_to last_wait
 shown_step w w' n n' s e h left changed stepped waited seen =
     let k : StepAlike (world_step w e) (world_step s.world e) = steps_shown w s.world e h.world in
-    let after : w' ≡ forgetful (world_step s.world e).world = left ∙ alike_forgetful (world_step w e).world (world_step s.world e).world k.world in
+    let after : w' ≡ with_kept_datagrams (world_step s.world e).world = left ∙ alike_kept_datagrams (world_step w e).world (world_step s.world e).world k.world in
     record {
       world = after;
       changed =

@@ -5,11 +5,11 @@ use Rattle.rdma_types.specs.declared.names.ObjName.{ObjName}
 use Rattle.protocol.specs.State.{World}
 use Rattle.protocol.specs.Settle.{settled}
 use Rattle.ideal_model.specs.Machine.{Machine}
-use Rattle.simulation.specs.Law.{FollowsRun}
-use Rattle.simulation.specs.Quiet.{IsQuiet}
-use Rattle.simulation.specs.Stands.{Stands}
-use Rattle.settling_steps.specs.Settling.{ComesOf}
-use Rattle.alike_worlds.specs.Alike.{forgetful}
+use Rattle.law_sim_relation.specs.Law.{FollowsRun}
+use Rattle.law_sim_relation.specs.Quiet.{IsQuiet}
+use Rattle.law_sim_relation.specs.Stands.{Stands}
+use Rattle.law_settle_steps.specs.Settling.{ComesOf}
+use Rattle.law_kept_datagrams.specs.Alike.{with_kept_datagrams}
 
 -- the whole world w settles by events of settling, and from m the machine follows them to a state for which the settled world stands;
 -- of that world the call leaves what is kept, and this is quiet, whichever state of the machine the settled world stands for: nothing
@@ -17,9 +17,9 @@ use Rattle.alike_worlds.specs.Alike.{forgetful}
 pub record Quiets (w : World) (m : Machine) (new : World) (listed : List (ObjName × LeftWhy)) : Type 0 where
   pub comes : ComesOf w (settled w).world
   pub followed : FollowsRun w m comes.events
-  pub left : new ≡ forgetful (settled w).world
+  pub left : new ≡ with_kept_datagrams (settled w).world
   pub quiet : (m' : Machine) → Stands (settled w).world m' → IsQuiet new m' listed
 
 -- .. of each whole world whose last datagrams this one keeps, and each machine state for which it stands
 abbrev pub IsQuieted : World → World → List (ObjName × LeftWhy) → Type 0
-IsQuieted old new listed = (w : World) (m : Machine) → forgetful w ≡ old → Stands w m → Quiets w m new listed
+IsQuieted old new listed = (w : World) (m : Machine) → with_kept_datagrams w ≡ old → Stands w m → Quiets w m new listed

@@ -4,7 +4,7 @@ use Rattle.rdma_types.specs.declared.names.ObjName.{ObjName}
 use Rattle.rdma_types.specs.Lists.{same_object}
 use Rattle.protocol.specs.State.{World}
 use Rattle.protocol.specs.Settle.{Settled, Settling, Waited, last_wait, marks}
-use Rattle.alike_worlds.specs.Alike.{forgetful}
+use Rattle.law_kept_datagrams.specs.Alike.{with_kept_datagrams}
 use Rattle.indexmap.specs.IndexMap.{get}
 use Rattle.world_core.specs.Settled.{IsLeft}
 use Rattle.settle_core.specs.Marks.{view_mark}
@@ -21,7 +21,7 @@ HasSeen w n = n.changed ≡ false → IfSome n.seen (λ ends. map view_mark ends
 
 -- the world keeps the last datagrams of the state's, and the notes are the state's
 pub record Shows (w : World) (n : Notes) (s : Settling) : Type 0 where
-  pub world : w ≡ forgetful s.world
+  pub world : w ≡ with_kept_datagrams s.world
   pub changed : n.changed ≡ s.changed
   pub stepped : n.stepped ≡ s.stepped
   pub waited : (o : ObjName) → get same_object n.waited o ≡ option_map wait_of (last_wait s o)
@@ -33,9 +33,9 @@ Settles f w n w' n' = (s : Settling) → Shows w n s → Shows w' n' (f s)
 
 -- a world that keeps the last datagrams comes of another such one by some of settling's events
 abbrev pub Comes : World → World → Type 0
-Comes old new = forgetful old ≡ old → IsLeft old new
+Comes old new = with_kept_datagrams old ≡ old → IsLeft old new
 
 -- the world keeps the last datagrams of a settled one, and its rounds are counted
 pub record Ends (end : Settled) (w : World) (count : ℕ) : Type 0 where
-  pub world : w ≡ forgetful end.world
+  pub world : w ≡ with_kept_datagrams end.world
   pub rounds : count ≡ end.rounds

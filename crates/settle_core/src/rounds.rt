@@ -93,7 +93,7 @@ impl Notes {
     /// Rounds until one in which nothing changed and nothing was stepped, and how many; at most `most`.
     fn go_round(&mut self, alloc: Global, world: &mut World, most: u64) -> Result<u64, AllocError>
         ensures ok { IfOk result (λ rounds. (s : Settling) → Shows world.old self.old s → Ends (rounds_of most 0 s) world.new rounds) }
-        ensures few { IfOk result (λ rounds. rounds ≤ most) }
+        ensures bounded { IfOk result (λ rounds. rounds ≤ most) }
         ensures comes { Comes world.old world.new }
     {
         for rounds in 0..most {
@@ -109,7 +109,7 @@ impl Notes {
 
 impl Settler for Rounds {
     /// Settles a world by rounds, at most 32 for each unit of the load. Where the world stands for a state of the packetless
-    /// machine, nothing changes in the last of them and no timer is stepped (`settling_bound::settling_ends`). The packetless
+    /// machine, nothing changes in the last of them and no timer is stepped (`law_settle_bound::settling_ends`). The packetless
     /// machine follows it, and the world is then quiet: nothing is pending, and each end with untold requests is listed with
     /// the first reason that holds. That is so of every settler ([`settled_worlds_are_quiet`]).
     ///
@@ -119,7 +119,7 @@ impl Settler for Rounds {
     /// steps of settling lead to.
     fn settle(&self, alloc: Global, world: &mut World) -> Result<Quiet, AllocError>
         ensures settled { IfOk result (λ quiet. IsSettled world.old world.new quiet) }
-        ensures few { IfOk result (λ quiet. quiet.rounds ≤ 32 * load_of world.old) }
+        ensures bounded { IfOk result (λ quiet. quiet.rounds ≤ 32 * load_of world.old) }
         ensures quiet { IfOk result (λ quiet. All IsLawful world.old.carried → IsQuieted world.old world.new quiet.unfinished) }
         ensures left { OnErr result (IsLeft world.old world.new) }
     {

@@ -55,7 +55,7 @@ impl Notes {
         link: &LinkView,
     ) -> Result<(), AllocError>
         requires link { IsLinkAt world.old end.now link.now }
-        requires few { link.now.last < 2 ^ 62 }
+        requires bounded { link.now.last < 2 ^ 62 }
         ensures ok { OnOk result (Settles (λ s. sends_all s end.now) world.old self.old world.new self.new) }
         ensures comes { Comes world.old world.new }
     {
@@ -77,7 +77,7 @@ impl Notes {
         link: &LinkView,
     ) -> Result<(), AllocError>
         requires link { IsLinkAt world.old end.now link.now }
-        requires few { link.now.last < 2 ^ 62 }
+        requires bounded { link.now.last < 2 ^ 62 }
         ensures ok { OnOk result (Settles (λ s. sends_if_running s end.now) world.old self.old world.new self.new) }
         ensures comes { Comes world.old world.new }
     {

@@ -12,7 +12,7 @@ pub fn copy_sends(alloc: Global, queue: &SendQueue) -> Result<SendQueue, AllocEr
     let mut copy = SendQueue::make(alloc, queue.depth())?;
     for i in 0..queue.len() {
         let posted = queue.at(i).unwrap();
-        copy.post(posted.twin()).unwrap();
+        copy.post(posted.in_copied_pool()).unwrap();
     }
     Ok(copy)
 }

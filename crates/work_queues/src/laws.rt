@@ -4,15 +4,15 @@ ghost use Rattle.std.specs.Prelude.{ℕ, List, [], ◌≡◌, ◌≢◌, ◌∷�
 ghost use Rattle.std.specs.Option.{option_map};
 ghost use Rattle.page_pool.specs.Pool.{Pool, Puts};
 ghost use Rattle.work_queues.specs.Queue.{Queue, posting, without_front};
-ghost use Rattle.work_queues.specs.declared.posted.Posted.{Posted};
+ghost use Rattle.work_queues.specs.declared.posted.QueuedRequest.{QueuedRequest};
 ghost use Rattle.work_queues.specs.Untold.{posted_in, untold_in};
 
 /// The list of posted requests grows and shrinks as the queue does, and a request's bytes stay as they were posted,
 /// whatever is done to the pool's other lists.
 pub fn requests_stay_as_posted()
-    ensures posting { (pool : Pool) (q : Queue Posted) (p : Posted) → untold_in pool (posting q p).items ≡ untold_in pool q.items ++ posted_in pool p ∷ [] }
-    ensures telling { (pool : Pool) (q : Queue Posted) → untold_in pool (without_front q).items ≡ drop 1 (untold_in pool q.items) }
-    ensures at { (pool : Pool) (ps : List Posted) (i : ℕ) → slice_get (untold_in pool ps) i ≡ option_map (posted_in pool) (slice_get ps i) }
-    ensures stays { (old new : Pool) (list : ℕ) (bytes : Option (List ℕ)) (p : Posted)
+    ensures posting { (pool : Pool) (q : Queue QueuedRequest) (p : QueuedRequest) → untold_in pool (posting q p).items ≡ untold_in pool q.items ++ posted_in pool p ∷ [] }
+    ensures telling { (pool : Pool) (q : Queue QueuedRequest) → untold_in pool (without_front q).items ≡ drop 1 (untold_in pool q.items) }
+    ensures at { (pool : Pool) (ps : List QueuedRequest) (i : ℕ) → slice_get (untold_in pool ps) i ≡ option_map (posted_in pool) (slice_get ps i) }
+    ensures stays { (old new : Pool) (list : ℕ) (bytes : Option (List ℕ)) (p : QueuedRequest)
         → Puts old new list bytes → p.payload.list ≢ list → posted_in new p ≡ posted_in old p }
 {}

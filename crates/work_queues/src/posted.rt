@@ -8,20 +8,20 @@ use rdma_types::Request;
 /// A request of the send queue, and the bytes of a Write or Send as they were when it was posted (this project's choice:
 /// inline data, of any length).
 #[derive(Drop)]
-pub struct Posted {
+pub struct QueuedRequest {
     pub request: Request,
     /// It has no bytes for a Read or an atomic.
     pub payload: Payload,
 }
 
-impl Posted {
+impl QueuedRequest {
     /// The same request, for a copy of its pool.
-    pub fn twin(&self) -> Posted
+    pub fn in_copied_pool(&self) -> QueuedRequest
         ensures { result ≡ self.now }
     {
-        Posted {
+        QueuedRequest {
             request: self.request,
-            payload: self.payload.twin(),
+            payload: self.payload.in_copied_pool(),
         }
     }
 }

@@ -22,12 +22,12 @@ use Rattle.protocol.specs.State.{Context, Device, End, Link, World, context_at, 
 use Rattle.protocol.specs.WorldStep as rules
 use Rattle.protocol.specs.WorldStep.{Step, answers, connect_causes, connects_one, end_of, exchanged, has_live_end, home, live_context, ran, runs, with_device, with_image, with_sent}
 use Rattle.fabric.specs.Store.{forgetting}
-use Rattle.simulation.proofs.Tables.{has_name-map, map-store, name-named_there}
-use Rattle.alike_worlds.specs.Alike.{forgetful}
-use Rattle.world_core.specs.declared.making.Site.{Site}
+use Rattle.law_sim_relation.proofs.Tables.{has_name-map, map-store, name-named_there}
+use Rattle.law_kept_datagrams.specs.Alike.{with_kept_datagrams}
+use Rattle.world_core.specs.declared.making.EndAddress.{EndAddress}
 use Rattle.world_core.specs.Kept.{Makes}
 use Rattle.world_core.specs.Places.{HaveOwnIds}
-use Rattle.world_core.specs.Sites.{IsSite, joined_at}
+use Rattle.world_core.specs.Sites.{IsEndAddress, joined_at}
 use Rattle.world_core.proofs.Places.{map-place, position-set, set_relates, store-place}
 use Rattle.world_core.proofs.Worlds.{kept_is, lives, passes}
 
@@ -127,7 +127,7 @@ module _ (w : World) (p : ℕ) (d d' : Device) (here : slice_get w.devices p ≡
       let h' : position (λ x. has_context x n) w'.devices ≡ Some place = position-set (λ x. has_context x n) p w.devices d d' here (like_has d d' n like) ∙ h in
       (h', set_relates AreLike like_itself w.devices p place d d' (home w n) (home w' n) here like (lives w n place h).here (lives w' n place h').here)
 
-  pub site_stays : (o : ObjName) (s : Site) → IsSite w o s → IsSite w' o s
+  pub site_stays : (o : ObjName) (s : EndAddress) → IsEndAddress w o s → IsEndAddress w' o s
   unfolding live_context
   site_stays o s site =
       let h : (position (λ x. has_context x o.context) w'.devices ≡ Some s.place) × AreLike (home w o.context) (home w' o.context) = homes_like o.context s.place site.place in
@@ -151,12 +151,12 @@ quiet_ran w place d s ids here quiet =
     ∙ (ap (λ k. record w { devices = store (λ x. x.id) k s.device w.devices }) quiet.like.id
     ∙ ap (λ ds. record w { devices = ds }) (store-place (λ x. x.id) place w.devices d s.device ids here))))
 
-quiet_here : (w : World) (one : ObjName) (s : Site) (peer : ℕ) (partner : Address) (terms : Terms) → IsSite w one s → IsQuiet (home w one.context) (device_step (home w one.context) (event.Connect one peer partner terms))
+quiet_here : (w : World) (one : ObjName) (s : EndAddress) (peer : ℕ) (partner : Address) (terms : Terms) → IsEndAddress w one s → IsQuiet (home w one.context) (device_step (home w one.context) (event.Connect one peer partner terms))
 unfolding live_context
 quiet_here w one s peer partner terms site = connected_quiet (home w one.context) one peer partner terms (lives w one.context s.place site.place).has site.there
 
 -- the rule of one end, at its place
-connected_one : (w : World) (one two : ObjName) (s t : Site) (terms : Terms) → HaveOwnIds w.devices → IsSite w one s → IsSite w two t →
+connected_one : (w : World) (one two : ObjName) (s t : EndAddress) (terms : Terms) → HaveOwnIds w.devices → IsEndAddress w one s → IsEndAddress w two t →
     connects_one w one two terms ≡ joined_at w s.place (home w one.context) (event.Connect one t.number t.address terms)
 unfolding connects_one
 connected_one w one two s t terms ids site1 site2 =
@@ -165,14 +165,14 @@ connected_one w one two s t terms ids site1 site2 =
     ∙ quiet_ran w s.place (home w one.context) (device_step (home w one.context) (event.Connect one t.number t.address terms)) ids (lives w one.context s.place site1.place).here
     (quiet_here w one s t.number t.address terms site1))
 
-pub joined_within : (w w1 : World) (one two : ObjName) (s t : Site) (e : Event) → IsSite w one s → IsSite w two t → ((d : Device) → slice_get w.devices s.place ≡ Some d → w1 ≡ joined_at w s.place d e) → t.place < length w1.devices
+pub joined_within : (w w1 : World) (one two : ObjName) (s t : EndAddress) (e : Event) → IsEndAddress w one s → IsEndAddress w two t → ((d : Device) → slice_get w.devices s.place ≡ Some d → w1 ≡ joined_at w s.place d e) → t.place < length w1.devices
 joined_within w w1 one two s t e site1 site2 first =
     let same : length w1.devices ≡ length w.devices =
     ap (λ (x : World). length x.devices) (first (home w one.context) (lives w one.context s.place site1.place).here) ∙ length-set w.devices s.place (device_step (home w one.context) e).device in
     subst (λ n. t.place < n) (sym same) (lives w two.context t.place site2.place).within
 
-pub connected_both : (w w1 w2 : World) (one two : ObjName) (s t : Site) (terms : Terms) → HaveOwnIds w.devices → forgetting w.sent ≡ w.sent →
-    first_cause (connect_causes w one two) ≡ None → IsSite w one s → IsSite w two t →
+pub connected_both : (w w1 w2 : World) (one two : ObjName) (s t : EndAddress) (terms : Terms) → HaveOwnIds w.devices → forgetting w.sent ≡ w.sent →
+    first_cause (connect_causes w one two) ≡ None → IsEndAddress w one s → IsEndAddress w two t →
     ((d : Device) → slice_get w.devices s.place ≡ Some d → w1 ≡ joined_at w s.place d (event.Connect one t.number t.address terms)) →
     ((d : Device) → slice_get w1.devices t.place ≡ Some d → w2 ≡ joined_at w1 t.place d (event.Connect two s.number s.address (exchanged terms))) →
     Makes (rules.connects w one two terms) answer.Done w2
@@ -185,8 +185,8 @@ connected_both w w1 w2 one two s t terms ids kept free site1 site2 first second 
     let w'' : World = joined_at w' t.place (home w' two.context) e2 in
     let there : slice_get w.devices s.place ≡ Some h1 = (lives w one.context s.place site1.place).here in
     let like : AreLike h1 (device_step h1 e1).device = (quiet_here w one s t.number t.address terms site1).like in
-    let site1' : IsSite w' one s = site_stays w s.place h1 (device_step h1 e1).device there like one s site1 in
-    let site2' : IsSite w' two t = site_stays w s.place h1 (device_step h1 e1).device there like two t site2 in
+    let site1' : IsEndAddress w' one s = site_stays w s.place h1 (device_step h1 e1).device there like one s site1 in
+    let site2' : IsEndAddress w' two t = site_stays w s.place h1 (device_step h1 e1).device there like two t site2 in
     let ids' : HaveOwnIds w'.devices = ids_stay w s.place h1 (device_step h1 e1).device there like ids in
     let second' : (d : Device) → slice_get w'.devices t.place ≡ Some d → w2 ≡ joined_at w' t.place d e2 =
     subst (λ (x : World). (d : Device) → slice_get x.devices t.place ≡ Some d → w2 ≡ joined_at x t.place d e2) (first h1 there) second in
@@ -194,4 +194,4 @@ connected_both w w1 w2 one two s t terms ids kept free site1 site2 first second 
     let rule : connects_one (connects_one w one two terms) two one (exchanged terms) ≡ w'' =
     ap (λ x. connects_one x two one (exchanged terms)) (connected_one w one two s t terms ids site1 site2) ∙ connected_one w' two one t s (exchanged terms) ids' site2' site1' in
     passes w (first_cause (connect_causes w one two)) (answers (connects_one (connects_one w one two terms) two one (exchanged terms)) answer.Done) answer.Done w2 free
-    (record { answered = refl; left = left ∙ (kept_is w'' kept ∙ ap forgetful (sym rule)) })
+    (record { answered = refl; left = left ∙ (kept_is w'' kept ∙ ap with_kept_datagrams (sym rule)) })

@@ -18,7 +18,7 @@ use Rattle.fabric.proofs.Stores.{kept_means}
 use Rattle.fabric.proofs.Histories.{took-forgetting, losing-forgetting}
 use Rattle.world_core.specs.Kept.{Makes}
 use Rattle.world_core.specs.Sites.{ComesNowhere, ComesTo}
-use Rattle.world_core.proofs.Places.{Spot, none_passes, spot, is_some-position}
+use Rattle.world_core.proofs.Places.{IsFirstPlace, none_passes, spot, is_some-position}
 use Rattle.world_core.proofs.Worlds.{kept_is, stays}
 
 -- ---- lists of datagrams that are kept
@@ -32,7 +32,7 @@ took_kept s k h = ap (λ x. fabric.took x k) (sym h) ∙ took-forgetting s k
 pub now_there : (w : World) (o : Option Flight) (f : Flight) (place : ℕ) (d : Device) (bytes : List ℕ) (m : ℕ) → o ≡ Some f → position (λ x. same_address x.address f.to) w.devices ≡ Some place →
     slice_get w.devices place ≡ Some d → bytes ≡ f.bytes → m ≡ now_at (Some d) bytes → m ≡ now_of w o
 now_there w o f place d bytes m is at here same h =
-    let s : Spot (λ (x : Device). same_address x.address f.to) w.devices place = spot (λ x. same_address x.address f.to) w.devices place at in
+    let s : IsFirstPlace (λ (x : Device). same_address x.address f.to) w.devices place = spot (λ x. same_address x.address f.to) w.devices place at in
     let found : device_with w f.to ≡ Some d = s.first ∙ (sym s.here ∙ here) in
     h ∙ (ap (λ bs. now_at (Some d) bs) same ∙ (ap (λ x. now_at x f.bytes) (sym found) ∙ ap (λ x. now_of w x) (sym is)))
 
@@ -58,7 +58,7 @@ look_keeps s k now f h = by (kept_flight s k) h
 
 pub comes_to : (w : World) (k place : ℕ) (f : Flight) → look w.sent k (now_of w (kept_flight w.sent k)) ≡ Here f → position (λ x. same_address x.address f.to) w.devices ≡ Some place → ComesTo w k place
 comes_to w k place f here at =
-    let s : Spot (λ (x : Device). same_address x.address f.to) w.devices place = spot (λ x. same_address x.address f.to) w.devices place at in
+    let s : IsFirstPlace (λ (x : Device). same_address x.address f.to) w.devices place = spot (λ x. same_address x.address f.to) w.devices place at in
     record { flight = f; device = s.thing; here = here; kept = look_keeps w.sent k _ f here; at = s.here; found = s.first }
 
 pub comes_nowhere : (w : World) (k : ℕ) (f : Flight) → look w.sent k (now_of w (kept_flight w.sent k)) ≡ Here f → position (λ x. same_address x.address f.to) w.devices ≡ None → ComesNowhere w k

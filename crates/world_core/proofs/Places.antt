@@ -62,14 +62,14 @@ unfolding place_or_len
 position-first test xs = ap (λ k. if nat_lt k (length xs) then Some k else None) (sym (is_position_or_len (place_or_len test) test refl (λ x ys. refl) xs)) ∙ place_by_len test xs
 
 -- the thing at the first place is the first that passes
-pub record Spot {A : Type 0} (test : A → Bool) (xs : List A) (k : ℕ) : Type 0 where
+pub record IsFirstPlace {A : Type 0} (test : A → Bool) (xs : List A) (k : ℕ) : Type 0 where
   pub thing : A
   pub here : slice_get xs k ≡ Some thing
   pub first : first_that test xs ≡ Some thing
   pub passes : test thing ≡ true
   pub within : k < length xs
 
-spot_more : {A : Type 0} (test : A → Bool) (x : A) (xs : List A) (j : ℕ) → test x ≡ false → Spot test xs j → Spot test (x ∷ xs) (suc j)
+spot_more : {A : Type 0} (test : A → Bool) (x : A) (xs : List A) (j : ℕ) → test x ≡ false → IsFirstPlace test xs j → IsFirstPlace test (x ∷ xs) (suc j)
 unfolding first_that
 spot_more test x xs j f s = record {
   thing = s.thing;
@@ -79,20 +79,20 @@ spot_more test x xs j f s = record {
   within = omega (arith, s.within);
 }
 
-spot_by : {A : Type 0} (test : A → Bool) (xs : List A) (k : ℕ) → first_place test xs ≡ Some k → Spot test xs k
+spot_by : {A : Type 0} (test : A → Bool) (xs : List A) (k : ℕ) → first_place test xs ≡ Some k → IsFirstPlace test xs k
 unfolding first_that first_place
 spot_by test [] k h = absurd (cc)
 spot_by {A} test (x ∷ xs) k h = by_test (test x) refl h (spot_by test xs)
   where
-    on : (o : Option ℕ) → first_place test xs ≡ o → option_map suc o ≡ Some k → test x ≡ false → ((j : ℕ) → first_place test xs ≡ Some j → Spot test xs j) → Spot test (x ∷ xs) k
+    on : (o : Option ℕ) → first_place test xs ≡ o → option_map suc o ≡ Some k → test x ≡ false → ((j : ℕ) → first_place test xs ≡ Some j → IsFirstPlace test xs j) → IsFirstPlace test (x ∷ xs) k
     on None e i f later = absurd (cc)
-    on (Some j) e i f later = subst (λ z. Spot test (x ∷ xs) z) (let e : suc j ≡ k = cc in e) (spot_more test x xs j f (later j e))
+    on (Some j) e i f later = subst (λ z. IsFirstPlace test (x ∷ xs) z) (let e : suc j ≡ k = cc in e) (spot_more test x xs j f (later j e))
 
-    by_test : (b : Bool) → test x ≡ b → (if b then Some 0 else option_map suc (first_place test xs)) ≡ Some k → ((j : ℕ) → first_place test xs ≡ Some j → Spot test xs j) → Spot test (x ∷ xs) k
-    by_test true t i later = subst (λ z. Spot test (x ∷ xs) z) (let e : 0 ≡ k = cc in e) (record { thing = x; here = refl; first = rw t refl; passes = t; within = omega arith })
+    by_test : (b : Bool) → test x ≡ b → (if b then Some 0 else option_map suc (first_place test xs)) ≡ Some k → ((j : ℕ) → first_place test xs ≡ Some j → IsFirstPlace test xs j) → IsFirstPlace test (x ∷ xs) k
+    by_test true t i later = subst (λ z. IsFirstPlace test (x ∷ xs) z) (let e : 0 ≡ k = cc in e) (record { thing = x; here = refl; first = rw t refl; passes = t; within = omega arith })
     by_test false t i later = on (first_place test xs) refl i t later
 
-pub spot : {A : Type 0} (test : A → Bool) (xs : List A) (k : ℕ) → position test xs ≡ Some k → Spot test xs k
+pub spot : {A : Type 0} (test : A → Bool) (xs : List A) (k : ℕ) → position test xs ≡ Some k → IsFirstPlace test xs k
 spot test xs k h = spot_by test xs k (sym (position-first test xs) ∙ h)
 
 is_some-first : {A : Type 0} (test : A → Bool) (xs : List A) → is_some (first_place test xs) ≡ some test xs

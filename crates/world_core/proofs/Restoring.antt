@@ -17,7 +17,7 @@ use Rattle.protocol.specs.State.{Device, World, device_at}
 use Rattle.protocol.specs.WorldStep.{Step, answers, carried_image, has_device, is_done, ran, restored_by, restores, restores_image, runs, with_device, with_image}
 use Rattle.world_core.specs.Kept.{Makes}
 use Rattle.world_core.specs.Sites.{put_back}
-use Rattle.world_core.proofs.Places.{Spot, none_passes, spot, without-place, is_some-position}
+use Rattle.world_core.proofs.Places.{IsFirstPlace, none_passes, spot, without-place, is_some-position}
 use Rattle.world_core.proofs.Causes.{holds_not, no_cause, not_true, or_neither}
 use Rattle.world_core.proofs.Stepping.{not_done, restore_bare}
 use Rattle.world_core.proofs.Worlds.{Stays, device_stays, passes}
@@ -55,7 +55,7 @@ record IsCarriedAt (w : World) (n : Name) (spot : ℕ) : Type 0 where
 carried_at : (w : World) (n : Name) (spot : ℕ) → position (λ c. bytes_eq c.name n) w.carried ≡ Some spot → IsCarriedAt w n spot
 unfolding carried_image
 carried_at w n k there =
-    let s : Spot (λ (c : ContextImage). bytes_eq c.name n) w.carried k = spot (λ c. bytes_eq c.name n) w.carried k there in
+    let s : IsFirstPlace (λ (c : ContextImage). bytes_eq c.name n) w.carried k = spot (λ c. bytes_eq c.name n) w.carried k there in
     record { image = s.thing; there = s.here; first = s.first }
 
 pub not_carried : (w : World) (n : Name) → position (λ c. bytes_eq c.name n) w.carried ≡ None → carried_image w n ≡ None

@@ -28,7 +28,7 @@ use Rattle.protocol.specs.State.{Device, Flight, HuskEntry, World}
 use Rattle.protocol.specs.WorldStep.{has_device, is_done, numbered, ran, runs, same_address, with_device, with_image}
 use Rattle.protocol.specs.Lawful.{IsLawful}
 use Rattle.fabric.specs.Store.{forgetting}
-use Rattle.alike_worlds.specs.Alike.{forgetful}
+use Rattle.law_kept_datagrams.specs.Alike.{with_kept_datagrams}
 use Rattle.world_core.specs.Kept.{Makes}
 use Rattle.world_core.specs.Places.{AreParts, HaveOwnIds, images_of, names_of, port_eq}
 use Rattle.world_core.specs.Sites.{joined_at}
@@ -59,7 +59,7 @@ ran_makes w place d d' e o a new ids here step same devices sent carried stopped
           ap (λ k. store (λ x. x.id) k d' w.devices) same ∙ store-place (λ x. x.id) place w.devices d d' ids here in
           parts new.devices (set w.devices place d') new.sent _ new.carried _ new.stopped _ devices sent carried stopped
           ∙ (ap (λ ds. record { devices = ds; sent = forgetting (sending w.sent d'.address o.sent); carried = w.carried ++ images_of o.image; stopped = reverse (names_of o.image) ++ w.stopped }) (sym stored)
-          ∙ ap forgetful (sym (image_parts (record w { devices = store (λ x. x.id) d'.id d' w.devices; sent = sending w.sent d'.address o.sent }) o.image)));
+          ∙ ap with_kept_datagrams (sym (image_parts (record w { devices = store (λ x. x.id) d'.id d' w.devices; sent = sending w.sent d'.address o.sent }) o.image)));
     })
   where
     parts : (a a' : List Device) (b b' : List Flight) (c c' : List ContextImage) (d d' : List Name) → a ≡ a' → b ≡ b' → c ≡ c' → d ≡ d' →
@@ -135,7 +135,7 @@ parts_more w by_id by_id' by_port by_port' by_name ds carried more d id address 
       indexed = indexed-more ds by_id by_id' by_port by_port' by_name d id address parts.indexed ids ports new_id new_address (ap (λ (y : Device). y.id) made) (ap (λ (y : Device). y.address) made) (ap (λ (y : Device). y.contexts) made);
     })
 
-pub added_makes : (v w new : World) (d : Device) → v ≡ w → forgetting w.sent ≡ w.sent → new ≡ record v { devices = v.devices ++ d ∷ [] } → new ≡ forgetful (record w { devices = w.devices ++ d ∷ [] })
+pub added_makes : (v w new : World) (d : Device) → v ≡ w → forgetting w.sent ≡ w.sent → new ≡ record v { devices = v.devices ++ d ∷ [] } → new ≡ with_kept_datagrams (record w { devices = w.devices ++ d ∷ [] })
 added_makes v w new d seen kept left = left ∙ (ap (λ (x : World). record x { devices = x.devices ++ d ∷ [] }) seen ∙ kept_is (record w { devices = w.devices ++ d ∷ [] }) kept)
 
 -- nothing is carried off

@@ -14,18 +14,18 @@ use Rattle.protocol.specs.Refusals.{has_context}
 use Rattle.protocol.specs.State.{Device, World, no_device, device_at}
 use Rattle.protocol.specs.WorldStep.{Step, answers, by_refusal, has_device, home, is_carried, is_live, or_none, runs}
 use Rattle.fabric.specs.Store.{forgetting}
-use Rattle.alike_worlds.specs.Alike.{AreAlike, forgetful}
+use Rattle.law_kept_datagrams.specs.Alike.{AreAlike, with_kept_datagrams}
 use Rattle.world_core.specs.Kept.{Makes}
-use Rattle.world_core.proofs.Places.{Spot, spot, at-first, has-some, has_name-some, is_some-position}
+use Rattle.world_core.proofs.Places.{IsFirstPlace, spot, at-first, has-some, has_name-some, is_some-position}
 
 -- ---- a world that stays
 
-pub kept_is : (w : World) → forgetting w.sent ≡ w.sent → w ≡ forgetful w
+pub kept_is : (w : World) → forgetting w.sent ≡ w.sent → w ≡ with_kept_datagrams w
 kept_is w h = ap (λ s. record w { sent = s }) (sym h)
 
 -- alike worlds are the same, where those datagrams are blank that are not kept
-pub alike_forgetful : (a b : World) → AreAlike a b → forgetful a ≡ forgetful b
-alike_forgetful a b like = cc (like.devices, like.sent, like.carried, like.stopped)
+pub alike_kept_datagrams : (a b : World) → AreAlike a b → with_kept_datagrams a ≡ with_kept_datagrams b
+alike_kept_datagrams a b like = cc (like.devices, like.sent, like.carried, like.stopped)
 
 pub stays : (w : World) (a : Answer) → forgetting w.sent ≡ w.sent → Makes (answers w a) a w
 stays w a h = record { answered = refl; left = kept_is w h }
@@ -55,7 +55,7 @@ pub record Lives (w : World) (n : Name) (place : ℕ) : Type 0 where
 pub lives : (w : World) (n : Name) (place : ℕ) → position (λ d. has_context d n) w.devices ≡ Some place → Lives w n place
 unfolding home
 lives w n place h =
-    let s : Spot (λ (d : Device). has_context d n) w.devices place = spot (λ d. has_context d n) w.devices place h in
+    let s : IsFirstPlace (λ (d : Device). has_context d n) w.devices place = spot (λ d. has_context d n) w.devices place h in
     let is_home : s.thing ≡ or_none (first_that (λ d. has_context d n) w.devices) = ap (λ o. or_none o) (sym s.first) in
     record {
       here = s.here ∙ ap (λ d. Some d) is_home;
@@ -84,7 +84,7 @@ device_there w id = is_some-position (λ d. d.id == id) w.devices ∙ sym (has-s
 
 pub device_stays : (w : World) (id place : ℕ) → position (λ d. d.id == id) w.devices ≡ Some place → Stays w id place
 device_stays w id place h =
-    let s : Spot (λ (d : Device). d.id == id) w.devices place = spot (λ d. d.id == id) w.devices place h in
+    let s : IsFirstPlace (λ (d : Device). d.id == id) w.devices place = spot (λ d. d.id == id) w.devices place h in
     record {
       here = s.here ∙ ap (λ d. Some d) (sym (at-first (λ d. d.id) no_device id w.devices s.thing s.first));
       within = s.within;

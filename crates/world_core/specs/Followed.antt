@@ -5,16 +5,16 @@ use Rattle.protocol.specs.declared.events.WorldEvent.{WorldEvent}
 use Rattle.protocol.specs.State.{World}
 use Rattle.protocol.specs.WorldStep.{world_step}
 use Rattle.ideal_model.specs.Machine.{Machine}
-use Rattle.simulation.specs.Law.{IsInRange, Reaches}
-use Rattle.simulation.specs.Stands.{Stands}
-use Rattle.alike_worlds.specs.Alike.{forgetful}
+use Rattle.law_sim_relation.specs.Law.{IsInRange, Reaches}
+use Rattle.law_sim_relation.specs.Stands.{Stands}
+use Rattle.law_kept_datagrams.specs.Alike.{with_kept_datagrams}
 
 -- the machine comes from m, by steps that the event allows, to a state for which the whole world's next one stands, and the
 -- answer is the one that an application hears; of that next world the call leaves what is kept
 pub record Follows (w : World) (m : Machine) (e : WorldEvent) (answer : Answer) (new : World) : Type 0 where
   pub reached : Reaches w m e (world_step w e).world answer
-  pub left : new ≡ forgetful (world_step w e).world
+  pub left : new ≡ with_kept_datagrams (world_step w e).world
 
 -- .. from each whole world whose last datagrams this one keeps, and each machine state for which it stands
 abbrev pub IsFollowed : World → WorldEvent → Answer → World → Type 0
-IsFollowed old e answer new = (w : World) (m : Machine) → forgetful w ≡ old → Stands w m → IsInRange e → Follows w m e answer new
+IsFollowed old e answer new = (w : World) (m : Machine) → with_kept_datagrams w ≡ old → Stands w m → IsInRange e → Follows w m e answer new

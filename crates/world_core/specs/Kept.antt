@@ -3,7 +3,7 @@ use Rattle.std.specs.Prelude.{◌≡◌, ◌≤◌, ◌^◌, length}
 use Rattle.rdma_types.specs.declared.answers.Answer.{Answer}
 use Rattle.protocol.specs.State.{World}
 use Rattle.protocol.specs.WorldStep.{Step}
-use Rattle.alike_worlds.specs.Alike.{forgetful}
+use Rattle.law_kept_datagrams.specs.Alike.{with_kept_datagrams}
 use Rattle.fabric.specs.Store.{forgetting}
 
 -- those datagrams are blank that are not kept, and there are numbers left for those of one more step
@@ -14,4 +14,4 @@ pub record IsReady (w : World) : Type 0 where
 -- a call answers what the rules' step does, and leaves its world, in which those datagrams are blank that are not kept
 pub record Makes (s : Step) (answer : Answer) (new : World) : Type 0 where
   pub answered : answer ≡ s.answer
-  pub left : new ≡ forgetful s.world
+  pub left : new ≡ with_kept_datagrams s.world

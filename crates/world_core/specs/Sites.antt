@@ -11,12 +11,12 @@ use Rattle.protocol.specs.declared.events.Event.{Event}
 use Rattle.protocol.specs.DeviceStep.{device_step}
 use Rattle.protocol.specs.State.{Device, Flight, World}
 use Rattle.protocol.specs.WorldStep.{Step, answers, device_with, end_of, has_live_end, home, is_carried_end, is_done, is_resuming_end, now_of}
-use Rattle.world_core.specs.declared.making.Site.{Site}
-use Rattle.world_core.specs.declared.network.Fate.{Fate}
-use Rattle.world_core.specs.declared.network.Fate.TheVariants as fate
+use Rattle.world_core.specs.declared.making.EndAddress.{EndAddress}
+use Rattle.world_core.specs.declared.network.Delivery.{Delivery}
+use Rattle.world_core.specs.declared.network.Delivery.TheVariants as delivery
 
 -- the end lives on the device at that place, which has that address, and it has that number
-pub record IsSite (w : World) (o : ObjName) (s : Site) : Type 0 where
+pub record IsEndAddress (w : World) (o : ObjName) (s : EndAddress) : Type 0 where
   pub place : position (λ d. has_context d o.context) w.devices ≡ Some s.place
   pub there : has_live_end w o ≡ true
   pub address : s.address ≡ (home w o.context).address
@@ -39,12 +39,12 @@ pub record ComesNowhere (w : World) (k : ℕ) : Type 0 where
   pub none : device_with w flight.to ≡ None
 
 -- what becomes of datagram k where it is delivered
-abbrev pub IsFate : World → ℕ → Fate → Type 0
-IsFate w k fate.Gone = look w.sent k (now_of w (kept_flight w.sent k)) ≡ IsGone
-IsFate w k fate.Lost = look w.sent k (now_of w (kept_flight w.sent k)) ≡ IsLost
-IsFate w k fate.Aged = look w.sent k (now_of w (kept_flight w.sent k)) ≡ IsAged
-IsFate w k fate.Nowhere = ComesNowhere w k
-IsFate w k (fate.Comes place) = ComesTo w k place
+abbrev pub IsDelivery : World → ℕ → Delivery → Type 0
+IsDelivery w k delivery.Gone = look w.sent k (now_of w (kept_flight w.sent k)) ≡ IsGone
+IsDelivery w k delivery.Lost = look w.sent k (now_of w (kept_flight w.sent k)) ≡ IsLost
+IsDelivery w k delivery.Aged = look w.sent k (now_of w (kept_flight w.sent k)) ≡ IsAged
+IsDelivery w k delivery.Nowhere = ComesNowhere w k
+IsDelivery w k (delivery.Comes place) = ComesTo w k place
 
 -- a state in Rts
 abbrev pub is_rts : EndState → Bool

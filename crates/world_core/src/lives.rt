@@ -1,7 +1,7 @@
 //! What settling looks at of a world.
 
 ghost use Rattle.std.specs.Prelude.{◌≡◌, ◌+◌, ◌^◌, ◌<◌, ◌≤◌, ◌==◌, ◌&&◌, length, option_map, IfOk, IfSome};
-ghost use Rattle.alike_worlds.specs.Alike.{forgetful};
+ghost use Rattle.law_kept_datagrams.specs.Alike.{with_kept_datagrams};
 ghost use Rattle.rdma_types.specs.Lists.{some};
 ghost use Rattle.protocol.specs.Settle.{is_ended_image, is_ended_live, link_at};
 ghost use Rattle.world_core.specs.Lives.{has_ended, is_pending, link_view, live_list};
@@ -37,8 +37,8 @@ impl World {
     /// The number that the next datagram gets.
     pub fn next(&self) -> u64
         ensures number { result ≡ length self.now.sent + 1 }
-        ensures few { result ≤ 2 ^ 63 }
-        ensures kept { forgetful self.now ≡ self.now }
+        ensures bounded { result ≤ 2 ^ 63 }
+        ensures kept { with_kept_datagrams self.now ≡ self.now }
     {
         self.fabric.next()
     }
@@ -64,7 +64,7 @@ impl World {
     /// The link of a live end; None where it is in Init or not there.
     pub fn link_at(&self, end: &ObjName) -> Option<LinkView>
         ensures link { result ≡ option_map link_view (link_at self.now end.now) }
-        ensures few { IfSome result (λ link. link.last < 2 ^ 62) }
+        ensures bounded { IfSome result (λ link. link.last < 2 ^ 62) }
     {
         let place = self.home_of(end.context)?;
         self.devices[place].link_named(end)

@@ -7,7 +7,7 @@ ghost use Rattle.protocol.specs.Events.{IsHandedOn, IsLawfulEvent};
 ghost use Rattle.protocol.specs.WorldStep as rules;
 ghost use Rattle.world_core.specs.Kept.{IsReady, Makes};
 ghost use Rattle.world_core.specs.Causes as causes;
-ghost use Rattle.world_core.specs.Sites.{IsSite, is_init_state, joined_at};
+ghost use Rattle.world_core.specs.Sites.{IsEndAddress, is_init_state, joined_at};
 ghost use Rattle.world_core.specs.Places.{HaveOwnIds};
 ghost use Rattle.protocol.specs.Refusals.{is_init};
 ghost use Rattle.protocol.specs.declared.events.Event.TheVariants as event;
@@ -27,7 +27,7 @@ const MOST_DEVICES: usize = 16;
 
 /// Where an end is that may be connected: the place and the address of its device, its number, and whether it is in Init.
 #[derive(Clone, Copy, Debug)]
-pub(crate) struct Site {
+pub(crate) struct EndAddress {
     pub(crate) place: usize,
     pub(crate) address: Address,
     pub(crate) number: u32,
@@ -176,11 +176,11 @@ impl World {
     }
 
     /// The two ends of a connection to be, or why they are not connected.
-    fn pair(&self, one: &ObjName, two: &ObjName) -> Result<(Site, Site), Refusal>
+    fn pair(&self, one: &ObjName, two: &ObjName) -> Result<(EndAddress, EndAddress), Refusal>
         ensures refusal { IfErr result (λ refusal. first_cause (rules.connect_causes self.now one.now two.now) ≡ Some refusal) }
         ensures free { OnOk result (first_cause (rules.connect_causes self.now one.now two.now) ≡ None) }
-        ensures one { IfOk result (λ sites. IsSite self.now one.now sites.0) }
-        ensures two { IfOk result (λ sites. IsSite self.now two.now sites.1) }
+        ensures one { IfOk result (λ sites. IsEndAddress self.now one.now sites.0) }
+        ensures two { IfOk result (λ sites. IsEndAddress self.now two.now sites.1) }
     {
         if !self.is_known(one.context) || !self.is_known(two.context) {
             return Err(Refusal::NoSuch);
@@ -199,15 +199,15 @@ impl World {
     }
 
     /// Where a live end is, if it is there.
-    fn site(&self, place: usize, end: &ObjName) -> Option<Site>
+    fn site(&self, place: usize, end: &ObjName) -> Option<EndAddress>
         requires { position (λ d. has_context d end.now.context) self.now.devices ≡ Some place }
-        ensures there { IfSome result (λ site. IsSite self.now end.now site) }
+        ensures there { IfSome result (λ site. IsEndAddress self.now end.now site) }
         ensures none { is_some result ≡ rules.has_live_end self.now end.now }
         ensures init { IfSome result (λ site. site.is_init ≡ is_init (rules.end_of self.now end.now).link) }
     {
         let device = &self.devices[place];
         let view = device.end_named(end)?;
-        Some(Site {
+        Some(EndAddress {
             place,
             address: device.address(),
             number: view.number,
@@ -220,8 +220,8 @@ impl World {
         &mut self,
         alloc: Global,
         end: &ObjName,
-        here: &Site,
-        there: &Site,
+        here: &EndAddress,
+        there: &EndAddress,
         terms: &Terms,
     )
         requires here { here.now.place < length self.old.devices }

@@ -9,7 +9,7 @@ ghost use Rattle.protocol.specs.Wire as wire;
 ghost use Rattle.protocol.specs.WorldStep as rules;
 ghost use Rattle.protocol.specs.declared.events.Event.TheVariants as event;
 ghost use Rattle.world_core.specs.Kept.{IsReady, Makes};
-ghost use Rattle.world_core.specs.Sites.{IsFate};
+ghost use Rattle.world_core.specs.Sites.{IsDelivery};
 
 use crate::World;
 use crate::running::{number, send_all};
@@ -20,7 +20,7 @@ use std::alloc::{AllocError, Global};
 
 /// What becomes of a datagram that is delivered.
 #[derive(Clone, Copy, Debug)]
-pub(crate) enum Fate {
+pub(crate) enum Delivery {
     Gone,
     Lost,
     Aged,
@@ -67,7 +67,7 @@ fn mark_at(device: &Device, bytes: &[u8]) -> u64
 fn reach(fabric: &Fabric, device: &mut Device, alloc: Global, k: u64) -> Result<Outcome, AllocError>
     requires { is_some (kept_flight fabric.now k) ≡ true }
     ensures ok { IfOk result (λ o. (f : state.Flight) → kept_flight fabric.now k ≡ Some f → device_step device.old (event.Arrive f.from f.bytes) ≡ record { device = device.new; outcome = o }) }
-    ensures few { IfOk result (λ o. length o.sent ≤ 2 ^ 32) }
+    ensures bounded { IfOk result (λ o. length o.sent ≤ 2 ^ 32) }
     ensures same { (device.new.id ≡ device.old.id) × (device.new.address ≡ device.old.address) }
     ensures err { OnErr result (device.new ≡ device.old) }
 {
@@ -90,16 +90,16 @@ impl World {
     }
 
     /// What becomes of datagram k.
-    fn fate(&self, k: u64) -> Fate
-        ensures { IsFate self.now k result }
+    fn delivery(&self, k: u64) -> Delivery
+        ensures { IsDelivery self.now k result }
     {
         match self.fabric.look(k, self.now_of(k)) {
-            Look::Gone => Fate::Gone,
-            Look::Lost => Fate::Lost,
-            Look::Aged => Fate::Aged,
+            Look::Gone => Delivery::Gone,
+            Look::Lost => Delivery::Lost,
+            Look::Aged => Delivery::Aged,
             Look::Here(flight) => match self.place_with(flight.sent.to) {
-                Some(place) => Fate::Comes(place),
-                None => Fate::Nowhere,
+                Some(place) => Delivery::Comes(place),
+                None => Delivery::Nowhere,
             },
         }
     }
@@ -110,14 +110,14 @@ impl World {
         ensures ok { IfOk result (λ answer. Makes (rules.delivers self.old k) answer self.new) }
         ensures err { OnErr result (self.new ≡ self.old) }
     {
-        match self.fate(k) {
-            Fate::Gone => Ok(Answer::Gone),
-            Fate::Lost => Ok(Answer::Lost),
-            Fate::Aged => {
+        match self.delivery(k) {
+            Delivery::Gone => Ok(Answer::Gone),
+            Delivery::Lost => Ok(Answer::Lost),
+            Delivery::Aged => {
                 self.fabric.took(k);
                 Ok(Answer::Aged)
             }
-            Fate::Nowhere => {
+            Delivery::Nowhere => {
                 self.fabric.took(k);
                 Ok(Answer::Took {
                     took: Took::Silent(SilentWhy::Unknown),
@@ -125,7 +125,7 @@ impl World {
                     count: 0,
                 })
             }
-            Fate::Comes(place) => self.arrive(alloc, place, k),
+            Delivery::Comes(place) => self.arrive(alloc, place, k),
         }
     }
 

@@ -21,7 +21,7 @@ use std::alloc::{AllocError, Global};
 /// Sends datagrams in their order.
 pub(crate) fn send_all(fabric: &mut Fabric, from: Address, sent: Items<Sent>)
     requires kept { forgetting fabric.old ≡ fabric.old }
-    requires few { length fabric.old + length sent < 2 ^ 63 }
+    requires bounded { length fabric.old + length sent < 2 ^ 63 }
     ensures { fabric.new ≡ forgetting (sending fabric.old from sent) }
 {
     for datagram in sent.into_vec() {

@@ -4,7 +4,7 @@ ghost use Rattle.std.specs.Prelude.{◌≡◌, IfOk, OnErr};
 ghost use Rattle.protocol.specs.Events.{IsLawfulWorldEvent};
 ghost use Rattle.protocol.specs.State.{empty_world};
 ghost use Rattle.protocol.specs.WorldStep.{world_step};
-ghost use Rattle.alike_worlds.specs.Alike.{forgetful};
+ghost use Rattle.law_kept_datagrams.specs.Alike.{with_kept_datagrams};
 ghost use Rattle.world_core.specs.Followed.{IsFollowed};
 ghost use Rattle.world_core.specs.Kept.{IsReady, Makes};
 ghost use Rattle.world_core.specs.Places.{HaveOwnIds};
@@ -76,7 +76,7 @@ impl World {
         requires { IsLawfulWorldEvent event.now }
         ensures ok { IfOk result (λ answer. Makes (world_step self.old event.now) answer self.new) }
         ensures followed { IfOk result (λ answer. IsFollowed self.old event.now answer self.new) }
-        ensures kept { forgetful self.old ≡ self.old }
+        ensures kept { with_kept_datagrams self.old ≡ self.old }
         ensures ids { HaveOwnIds self.old.devices }
         ensures err { OnErr result (self.new ≡ self.old) }
     {

@@ -7,9 +7,9 @@ use Rattle.roce_headers.specs.Packets.{packet}
 use Rattle.endpoint_core.specs.Due.{telling}
 use Rattle.endpoint_core.specs.Ends.{link_in}
 use Rattle.context_core.specs.Arriving.{aeth_at, opcode_at}
-use Rattle.context_core.proofs.Fitting.{dest-small}
-use Rattle.context_core.proofs.Responses.{response-fits, response-is}
-use Rattle.context_core.proofs.Sends.{wire-small}
+use Rattle.context_core.proofs.PacketSizes.{dest-small}
+use Rattle.context_core.proofs.ReadResponses.{response-fits, response-is}
+use Rattle.context_core.proofs.TransmittedPackets.{wire-small}
 use Rattle.context_core.proofs.arriving.read_datagram.Goals as goal
 
 made : (c : goal.After-answer) → packet c.answer.result ≡ record (plain (opcode_at c.args.k c.args.count) (c.args.link.now.peer % 16777216) (wire_number c.args.link.now.terms.peer_start c.args.n)) { aeth = aeth_at (opcode_at c.args.k c.args.count) c.args.msn; payload = c.args.payload.now }
@@ -24,4 +24,4 @@ returns-clause-says c = λ pool. made c ∙ response-is (telling (link_in pool c
 pub returns-clause-fits : goal.returns-clause-fits
 returns-clause-fits c =
     subst Fits (sym (made c))
-    (response-fits c.args.k c.args.count (c.args.link.now.peer % 16777216) (wire_number c.args.link.now.terms.peer_start c.args.n) c.args.msn c.args.payload.now (dest-small c.args.link.now.peer) (wire-small c.args.link.now.terms.peer_start c.args.n) c.requires.msn c.requires.few)
+    (response-fits c.args.k c.args.count (c.args.link.now.peer % 16777216) (wire_number c.args.link.now.terms.peer_start c.args.n) c.args.msn c.args.payload.now (dest-small c.args.link.now.peer) (wire-small c.args.link.now.terms.peer_start c.args.n) c.requires.msn c.requires.bounded)

@@ -3,7 +3,7 @@ use Rattle.roce_headers.specs.Packets.{packet}
 use Rattle.endpoint_core.specs.declared.answers.EndReply.{EndReply}
 use Rattle.endpoint_core.specs.Answers.{IsReply, sent_by}
 use Rattle.endpoint_core.specs.Ends.{link_in}
-use Rattle.context_core.proofs.Replying.{acknowledge-fits, acknowledge-sent, old-fits, old-sent, resume-sent, short}
+use Rattle.context_core.proofs.ReplyPackets.{acknowledge-fits, acknowledge-sent, old-fits, old-sent, resume-sent, short}
 use Rattle.context_core.proofs.arriving.reply_sent.Goals as goal
 
 pub fill-requires-clause-fits : goal.fill-requires-clause-fits

@@ -8,12 +8,12 @@ use Rattle.protocol.specs.Wire.{wire_of}
 use Rattle.endpoint_core.specs.Due.{telling}
 use Rattle.endpoint_core.specs.Ends.{link_in}
 use Rattle.roce_headers.proofs.Fitting.{few_bytes}
-use Rattle.context_core.proofs.Fitting.{wire-addressed}
-use Rattle.context_core.proofs.Sends.{mtu-small}
+use Rattle.context_core.proofs.PacketSizes.{wire-addressed}
+use Rattle.context_core.proofs.TransmittedPackets.{mtu-small}
 use Rattle.context_core.proofs.arriving.response.Goals as goal
 
-pub read_datagram-d-requires-clause-few : goal.read_datagram-d-requires-clause-few
-read_datagram-d-requires-clause-few c =
+pub read_datagram-d-requires-clause-bounded : goal.read_datagram-d-requires-clause-bounded
+read_datagram-d-requires-clause-bounded c =
     let few = few_bytes c.piece_at-from.result.0 c.piece_at-from.result.1 c.args.bytes.now in
     let size : length c.part_of-payload.result.now ≡ length (bytes_at c.piece_at-from.result.0 c.piece_at-from.result.1 c.args.bytes.now) = ap length c.part_of-payload.ensures in
     omega (arith, few, size, c.piece_at-from.ensures.length, mtu-small c.args.link.now.terms.mtu c.requires.terms.mtu)

@@ -6,8 +6,8 @@ use Rattle.memory_keys.specs.Regions.{regions_of, spot_bytes}
 use Rattle.protocol.specs.Responder.{read_piece}
 use Rattle.endpoint_core.specs.Due.{responses, telling}
 use Rattle.endpoint_core.specs.Ends.{link_in}
-use Rattle.context_core.proofs.Responses.{grown, next-response, none-after, piece-bytes, responses-count}
-use Rattle.context_core.proofs.Storing.{whole}
+use Rattle.context_core.proofs.ReadResponses.{grown, next-response, none-after, piece-bytes, responses-count}
+use Rattle.context_core.proofs.RegionStores.{whole}
 use Rattle.context_core.proofs.arriving.responses.Goals as goal
 
 pub loop-k-preserved : goal.loop-k-preserved
@@ -35,11 +35,11 @@ returns-clause-all c =
     (ap (λ j. c.loop-k.sent ++ responses pool regions c.args.link.now c.args.due.now (c.count_of-count.result - j)) same ∙ c.loop-k.invariant)
     ∙ ap (responses pool regions c.args.link.now c.args.due.now) c.count_of-count.ensures.rule
 
-pub returns-clause-few : goal.returns-clause-few
-returns-clause-few c =
+pub returns-clause-bounded : goal.returns-clause-bounded
+returns-clause-bounded c =
     let pool = c.args.pool.now in
     let regions = regions_of pool c.args.regions.now in
     let same : c.count_of-count.result ≡ c.loop-k.k = omega (arith, c.loop-k-test.false, c.loop-k.auto.k-end) in
     let all = none-after pool regions c.args.link.now c.args.due.now c.loop-k.sent (responses pool regions c.args.link.now c.args.due.now c.count_of-count.result) c.count_of-count.result
     (ap (λ j. c.loop-k.sent ++ responses pool regions c.args.link.now c.args.due.now (c.count_of-count.result - j)) same ∙ c.loop-k.invariant) in
-    omega (arith, ap length all, responses-count pool regions c.args.link.now c.args.due.now c.count_of-count.result, c.count_of-count.ensures.few)
+    omega (arith, ap length all, responses-count pool regions c.args.link.now c.args.due.now c.count_of-count.result, c.count_of-count.ensures.bounded)

@@ -1,4 +1,4 @@
-use Rattle.context_core.proofs.Brought.{domain-more}
+use Rattle.context_core.proofs.PlacesFromImage.{domain-more}
 use Rattle.context_core.proofs.coming.domains_of.Goals as goal
 
 pub loop-name-preserved : goal.loop-name-preserved

@@ -1,6 +1,6 @@
 use Rattle.std.proofs.Common.{◌∙◌, ap}
 use Rattle.memory_keys.specs.Regions.{held_at, regions_of}
-use Rattle.context_core.proofs.Made.{key-new, made-more, made-none, region-more}
+use Rattle.context_core.proofs.RegionsFromImage.{key-new, made-more, made-none, region-more}
 use Rattle.context_core.proofs.coming.put_regions.Goals as goal
 
 pub loop-image-init : goal.loop-image-init

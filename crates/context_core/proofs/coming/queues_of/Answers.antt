@@ -4,7 +4,7 @@ use Rattle.std.specs.Map.{lookup}
 use Rattle.indexmap.proofs.CallerLemmas.{insert_entry-new}
 use Rattle.completion_queue.specs.Queue.{unreserved}
 use Rattle.context_core.specs.Coming.{queue_after}
-use Rattle.context_core.proofs.Brought.{queue-more, queue-new}
+use Rattle.context_core.proofs.PlacesFromImage.{queue-more, queue-new}
 use Rattle.context_core.proofs.coming.queues_of.Goals as goal
 
 pub loop-image-preserved : goal.loop-image-preserved

@@ -1,6 +1,6 @@
 use Rattle.std.proofs.Common.{◌≡◌, ◌+◌, ◌<◌, ◌∙◌, ap, sym, subst, length}
 use Rattle.context_core.specs.Coming.{used_of_image}
-use Rattle.context_core.proofs.Brought.{Reserves, count-kept, reserves, reserves-end, room-part}
+use Rattle.context_core.proofs.PlacesFromImage.{Reserves, count-kept, reserves, reserves-end, room-part}
 use Rattle.context_core.proofs.coming.reserve_end.Goals as goal
 
 -- the places of the requests

@@ -1,6 +1,6 @@
 use Rattle.std.proofs.Common.{ap, sym, ◌∙◌}
 use Rattle.std.specs.Option.{option_copied}
-use Rattle.context_core.proofs.Copied.{key_more}
+use Rattle.context_core.proofs.CopiedEntries.{key_more}
 use Rattle.context_core.proofs.copies.copy_domains.Goals as goal
 
 pub loop-i-preserved : goal.loop-i-preserved

@@ -1,5 +1,5 @@
 use Rattle.std.proofs.Common.{◌∙◌, ap, refl, sym}
-use Rattle.context_core.proofs.Counted.{at-end, at-found, at-later}
+use Rattle.context_core.proofs.PageCounts.{at-end, at-found, at-later}
 use Rattle.context_core.proofs.counting.base_of.Goals as goal
 
 pub loop-region-init : goal.loop-region-init

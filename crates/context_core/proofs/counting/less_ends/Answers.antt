@@ -1,7 +1,7 @@
 use Rattle.std.proofs.Common.{◌∙◌, ◌+◌, ◌<◌, ap, sym, subst}
 use Rattle.std.specs.Prelude.{sum_by}
 use Rattle.protocol.specs.Memory.{pages_of_request}
-use Rattle.context_core.proofs.Counted.{sums-more, sums-none}
+use Rattle.context_core.proofs.PageCounts.{sums-more, sums-none}
 use Rattle.context_core.proofs.counting.less_ends.Goals as goal
 
 pub loop-end-preserved : goal.loop-end-preserved

@@ -2,7 +2,7 @@ use Rattle.std.proofs.Common.{◌∙◌, ◌+◌, ap, sym}
 use Rattle.std.specs.Prelude.{map, sum_by}
 use Rattle.protocol.specs.Images.{context_of, region_of_image}
 use Rattle.protocol.specs.Memory.{pages_of_length, pages_of_request}
-use Rattle.context_core.proofs.Counted.{image-pages, image-regions, less-both, less-first}
+use Rattle.context_core.proofs.PageCounts.{image-pages, image-regions, less-both, less-first}
 use Rattle.context_core.proofs.counting.less_image.Goals as goal
 
 pub returns-in_err-left : goal.returns-in_err-left

@@ -1,6 +1,6 @@
 use Rattle.std.proofs.Common.{◌≡◌, ◌∙◌}
 use Rattle.protocol.specs.Memory.{pages_of_length}
-use Rattle.context_core.proofs.Counted.{ceil-is, counts-more, counts-none}
+use Rattle.context_core.proofs.PageCounts.{ceil-is, counts-more, counts-none}
 use Rattle.context_core.proofs.counting.less_regions.Goals as goal
 
 pub loop-region-preserved : goal.loop-region-preserved

@@ -1,4 +1,4 @@
-use Rattle.context_core.proofs.Counted.{counts-more, counts-none}
+use Rattle.context_core.proofs.PageCounts.{counts-more, counts-none}
 use Rattle.protocol.specs.Memory.{pages_of_request}
 use Rattle.context_core.proofs.counting.less_requests.Goals as goal
 

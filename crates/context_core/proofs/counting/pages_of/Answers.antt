@@ -1,7 +1,7 @@
 use Rattle.std.proofs.Common.{◌≢◌, ◌∙◌, ◌%◌, ◌+◌, ap, sym}
 use Rattle.std.specs.Int.{div_ceil}
 use Rattle.protocol.specs.Memory.{pages_of_range}
-use Rattle.context_core.proofs.Counted.{range-is, takes-empty, takes-none, takes-range}
+use Rattle.context_core.proofs.PageCounts.{range-is, takes-empty, takes-none, takes-range}
 use Rattle.context_core.proofs.counting.pages_of.Goals as goal
 use Rattle.context_core.proofs.counting.pages_of.Goals.{then-length-eq0-via-then-length-eq0, then-length-eq0-via-else-length-eq0+then-not-takes_bytes}
 

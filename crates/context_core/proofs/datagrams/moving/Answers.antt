@@ -1,5 +1,5 @@
 use Rattle.std.proofs.Common.{arith}
-use Rattle.context_core.proofs.Fitting.{dest-small, moving-fits}
+use Rattle.context_core.proofs.PacketSizes.{dest-small, moving-fits}
 use Rattle.context_core.proofs.datagrams.moving.Goals as goal
 
 pub returns-clause-fits : goal.returns-clause-fits

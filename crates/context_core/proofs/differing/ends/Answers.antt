@@ -5,7 +5,7 @@ use Rattle.device_differences.specs.Differences.{end_difference}
 use Rattle.context_core.specs.Context.{HasQueues, end_of}
 use Rattle.context_core.specs.Payloads.{HasPayloads}
 use Rattle.device_differences.proofs.Found.{found-mapped, passed-mapped, end-mapped}
-use Rattle.context_core.proofs.Fronts.{at_place}
+use Rattle.context_core.proofs.ListPrefixes.{at_place}
 use Rattle.context_core.proofs.differing.ends.Goals as goal
 
 pub slots-found-requires-clause-placed : goal.slots-found-requires-clause-placed

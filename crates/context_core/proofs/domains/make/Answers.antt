@@ -6,8 +6,8 @@ use Rattle.rdma_types.specs.Causes.{first_cause}
 use Rattle.rdma_types.specs.declared.answers.Refusal.TheVariants.{NumberTaken}
 use Rattle.rdma_types.specs.Lists.{has_word}
 use Rattle.protocol.specs.State.{no_context}
-use Rattle.context_core.proofs.Named.{word-any}
-use Rattle.context_core.proofs.Refused.{none-here}
+use Rattle.context_core.proofs.NamedLookups.{word-any}
+use Rattle.context_core.proofs.FirstCause.{none-here}
 use Rattle.context_core.specs.Causes.{domain_causes}
 use Rattle.context_core.proofs.domains.make.Goals as goal
 

@@ -3,8 +3,8 @@ use Rattle.std.specs.Prelude.{nat_le, length, ◌∷◌, []}
 use Rattle.rdma_types.specs.declared.answers.Refusal.TheVariants.{NumberTaken, TooMany}
 use Rattle.rdma_types.specs.Causes.{first_cause, cause}
 use Rattle.rdma_types.specs.Lists.{has_word}
-use Rattle.context_core.proofs.Refused.{first-holds, first-passed, last-cause}
-use Rattle.context_core.proofs.Named.{word-any}
+use Rattle.context_core.proofs.FirstCause.{first-holds, first-passed, last-cause}
+use Rattle.context_core.proofs.NamedLookups.{word-any}
 use Rattle.context_core.proofs.domains.refusal.Goals as goal
 
 pub returns-then-contains : goal.returns-then-contains

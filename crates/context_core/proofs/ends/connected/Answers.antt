@@ -7,8 +7,8 @@ use Rattle.rdma_types.specs.declared.answers.Refusal.TheVariants.{NoSuch, BadSta
 use Rattle.protocol.specs.Refusals.{has_end, is_init}
 use Rattle.protocol.specs.State.{end_at, no_end}
 use Rattle.context_core.specs.Context.{end_of}
-use Rattle.context_core.proofs.Finding.{end-found, end-absent, init-is}
-use Rattle.context_core.proofs.Refused.{first-holds, first-passed, none-holds}
+use Rattle.context_core.proofs.EndsByName.{end-found, end-absent, init-is}
+use Rattle.context_core.proofs.FirstCause.{first-holds, first-passed, none-holds}
 use Rattle.context_core.proofs.ends.connected.Goals as goal
 
 pub returns-in_default-clause-refused : goal.returns-in_default-clause-refused

@@ -1,4 +1,4 @@
-use Rattle.context_core.proofs.Imaging.{link-is}
+use Rattle.context_core.proofs.ImageParts.{link-is}
 use Rattle.context_core.proofs.image_links.link_image.Goals as goal
 
 pub returns : goal.returns

@@ -1,6 +1,6 @@
 use Rattle.std.proofs.Common.{arith}
 use Rattle.std.proofs.lemmas.Grind.{common_steps}
-use Rattle.context_core.proofs.Fronts.{taken_on}
+use Rattle.context_core.proofs.ListPrefixes.{taken_on}
 use Rattle.context_core.proofs.image_links.replies.Goals as goal
 
 pub loop-i-preserved : goal.loop-i-preserved

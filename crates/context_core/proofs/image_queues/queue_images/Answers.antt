@@ -5,7 +5,7 @@ use Rattle.rdma_types.specs.Objects.{CompletionQueue}
 use Rattle.rdma_types.specs.declared.names.Name.{Name}
 use Rattle.completion_queue.specs.Queue.{Queue}
 use Rattle.protocol.specs.Images.{queue_image}
-use Rattle.context_core.proofs.Fronts.{both_of}
+use Rattle.context_core.proofs.ListPrefixes.{both_of}
 use Rattle.context_core.proofs.image_queues.queue_images.Goals as goal
 
 abbrev shown : Name × Queue → CompletionQueue

@@ -1,5 +1,5 @@
 use Rattle.std.proofs.Common.{sym, ◌∙◌}
-use Rattle.context_core.proofs.Placing.{name-found, name-missing}
+use Rattle.context_core.proofs.ImagePositions.{name-found, name-missing}
 use Rattle.context_core.proofs.image_regions.position_of.Goals as goal
 
 pub returns-in-Some : goal.returns-in-Some

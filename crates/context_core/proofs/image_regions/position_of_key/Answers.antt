@@ -1,5 +1,5 @@
 use Rattle.std.proofs.Common.{sym, ◌∙◌}
-use Rattle.context_core.proofs.Placing.{key-found, key-missing}
+use Rattle.context_core.proofs.ImagePositions.{key-found, key-missing}
 use Rattle.context_core.proofs.image_regions.position_of_key.Goals as goal
 
 pub returns-in-Some : goal.returns-in-Some

@@ -1,6 +1,6 @@
 use Rattle.std.proofs.Common.{sym, ◌∙◌}
 use Rattle.std.specs.Prelude.{slice_get}
-use Rattle.context_core.proofs.Imaging.{region-is}
+use Rattle.context_core.proofs.ImageParts.{region-is}
 use Rattle.context_core.proofs.image_regions.region_image.Goals as goal
 
 pub returns : goal.returns

@@ -1,7 +1,7 @@
 use Rattle.std.proofs.Common.{◌<◌, ◌++◌, ◌∷◌, [], length, ap, ◌∙◌, arith}
 use Rattle.memory_keys.specs.Regions.{region_of}
 use Rattle.protocol.specs.Images.{region_image}
-use Rattle.context_core.proofs.Fronts.{both_on}
+use Rattle.context_core.proofs.ListPrefixes.{both_on}
 use Rattle.context_core.proofs.image_regions.region_images.Goals as goal
 
 pub loop-place-preserved : goal.loop-place-preserved

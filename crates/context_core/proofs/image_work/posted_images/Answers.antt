@@ -3,7 +3,7 @@ use Rattle.std.specs.Prelude.{Some, slice_get}
 use Rattle.std.proofs.lemmas.Grind.{common_steps}
 use Rattle.protocol.specs.Images.{posted_image}
 use Rattle.work_queues.specs.Untold.{posted_in}
-use Rattle.context_core.proofs.Fronts.{both_of}
+use Rattle.context_core.proofs.ListPrefixes.{both_of}
 use Rattle.context_core.proofs.image_work.posted_images.Goals as goal
 
 pub loop-i-preserved : goal.loop-i-preserved

@@ -2,7 +2,7 @@ use Rattle.std.proofs.Common.{refl}
 use Rattle.protocol.specs.Memory.{pages_of_context, pages_of_request, region_of_key}
 use Rattle.endpoint_core.specs.Queues.{nothing}
 use Rattle.context_core.specs.Context.{context_in, lists_of}
-use Rattle.context_core.proofs.Agreeing.{context-same, holding-same, list-lives}
+use Rattle.context_core.proofs.PoolAgreement.{context-same, holding-same, list-lives}
 use Rattle.context_core.proofs.laws.a_context_looks_at_its_own_lists.Goals as goal
 
 pub returns-clause-name : goal.returns-clause-name

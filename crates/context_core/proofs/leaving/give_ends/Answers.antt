@@ -3,7 +3,7 @@ use Rattle.rdma_types.specs.declared.names.Name.{Name}
 use Rattle.context_core.specs.declared.state.EndSlot.{EndSlot}
 use Rattle.std.proofs.lemmas.List.{nil_from_length}
 use Rattle.context_core.specs.Context.{posted_of}
-use Rattle.context_core.proofs.Giving.{last-apart, last-given, no-more, none-left}
+use Rattle.context_core.proofs.ReleasedPayloads.{last-apart, last-given, no-more, none-left}
 use Rattle.context_core.proofs.leaving.give_ends.Goals as goal
 
 pub give_end-requires : goal.give_end-requires

@@ -1,6 +1,6 @@
 use Rattle.std.proofs.Common.{length}
 use Rattle.context_core.specs.Context.{posted_of}
-use Rattle.context_core.proofs.Giving.{IsGiving}
+use Rattle.context_core.proofs.ReleasedPayloads.{IsGiving}
 use Rattle.context_core.proofs.leaving.give_ends.Given as goal
 
 abbrev pub invariant-loop-slot : goal.invariant-loop-slot

@@ -1,5 +1,5 @@
 use Rattle.std.proofs.Common.{length}
-use Rattle.context_core.proofs.Giving.{IsGiving}
+use Rattle.context_core.proofs.ReleasedPayloads.{IsGiving}
 use Rattle.context_core.proofs.leaving.give_requests.Given as goal
 
 abbrev pub invariant-loop-p : goal.invariant-loop-p

@@ -1,7 +1,7 @@
 use Rattle.std.proofs.Common.{◌∙◌, ap}
 use Rattle.std.specs.Prelude.{map}
 use Rattle.protocol.specs.Images.{posted_of_image}
-use Rattle.context_core.proofs.Linked.{requests-same}
+use Rattle.context_core.proofs.LinksFromImage.{requests-same}
 use Rattle.context_core.proofs.links.endpoint_of.Goals as goal
 
 pub link_of-requires-clause-requests : goal.link_of-requires-clause-requests

@@ -1,6 +1,6 @@
 use Rattle.std.proofs.Common.{sym, subst}
 use Rattle.requester.specs.Sending.{AreInOrder, bares, sender_with}
-use Rattle.context_core.proofs.Linked.{order-after}
+use Rattle.context_core.proofs.LinksFromImage.{order-after}
 use Rattle.context_core.proofs.links.link_of.Goals as goal
 
 pub from_parts-requires-clause-order : goal.from_parts-requires-clause-order

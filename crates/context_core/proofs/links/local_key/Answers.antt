@@ -1,4 +1,4 @@
-use Rattle.context_core.proofs.Linked.{key-of}
+use Rattle.context_core.proofs.LinksFromImage.{key-of}
 use Rattle.context_core.proofs.links.local_key.Goals as goal
 
 pub returns : goal.returns

@@ -1,7 +1,7 @@
 use Rattle.std.proofs.Common.{◌<◌, ◌-◌, ◌^◌, sym, ap, subst, ◌∙◌, arith, refl}
 use Rattle.std.specs.Prelude.{IfSome, is_some}
 use Rattle.memory_keys.specs.Regions.{IsNamed}
-use Rattle.context_core.proofs.Ranging.{on-true, range-absent, range-inside, range-outside}
+use Rattle.context_core.proofs.RegionRanges.{on-true, range-absent, range-inside, range-outside}
 use Rattle.context_core.proofs.memory.range.Goals as goal
 
 pub returns-in_default-clause-refused : goal.returns-in_default-clause-refused

@@ -2,7 +2,7 @@ use Rattle.std.proofs.Common.{◌==◌, ◌∙◌, ap, sym, refl}
 use Rattle.std.specs.Prelude.{◌&&◌, not}
 use Rattle.std.specs.Option.{option_copied}
 use Rattle.rdma_types.specs.Lists.{some}
-use Rattle.context_core.proofs.Meeting.{none-more, none-past, some-at}
+use Rattle.context_core.proofs.ListTests.{none-more, none-past, some-at}
 use Rattle.context_core.proofs.naming.is_awaited.Goals as goal
 
 pub loop-place-init : goal.loop-place-init

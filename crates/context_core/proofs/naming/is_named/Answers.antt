@@ -10,7 +10,7 @@ use Rattle.context_core.specs.Naming.{IsFit}
 use Rattle.memory_keys.proofs.Dropped.{all-at}
 use Rattle.std.specs.Prelude.{All}
 use Rattle.std.proofs.Common.{List}
-use Rattle.context_core.proofs.Meeting.{mapped-at, none-more, some-at}
+use Rattle.context_core.proofs.ListTests.{mapped-at, none-more, some-at}
 use Rattle.context_core.proofs.naming.is_named.Goals as goal
 
 fit-at : (es : List (Name × EndSlot)) (i : ℕ) (e : Name × EndSlot) → All (λ x. IsFit x.1.endpoint) es → slice_get es i ≡ Some e → IsFit e.1.endpoint

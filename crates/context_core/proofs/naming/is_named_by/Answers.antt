@@ -1,7 +1,7 @@
 use Rattle.std.proofs.Common.{ap, ◌∙◌}
 use Rattle.std.specs.Prelude.{◌==◌, ◌||◌, ◌&&◌, not}
 use Rattle.rdma_types.specs.Lists.{some}
-use Rattle.context_core.proofs.NamedKeys.{names-linked, names-unlinked}
+use Rattle.context_core.proofs.KeysInUse.{names-linked, names-unlinked}
 use Rattle.context_core.proofs.naming.is_named_by.Goals as goal
 
 pub returns-in_default : goal.returns-in_default

@@ -8,8 +8,8 @@ use Rattle.rdma_types.specs.declared.answers.Refusal.TheVariants.{NoSuch}
 use Rattle.context_core.specs.declared.state.EndSlot.{EndSlot}
 use Rattle.context_core.specs.Faults.{told_as}
 use Rattle.context_core.specs.NewEnds.{lacks_parts}
-use Rattle.context_core.proofs.NewEnds.{not-there}
-use Rattle.context_core.proofs.Refused.{first-holds, first-passed}
+use Rattle.context_core.proofs.CreatedEnds.{not-there}
+use Rattle.context_core.proofs.FirstCause.{first-holds, first-passed}
 use Rattle.context_core.proofs.new_ends.make.Goals as goal
 
 pub returns-in_default-clause-refused : goal.returns-in_default-clause-refused

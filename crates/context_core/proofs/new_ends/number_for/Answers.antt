@@ -5,8 +5,8 @@ use Rattle.std.proofs.lemmas.Bool.Decides.{nat_tests}
 use Rattle.rdma_types.specs.Limits.{most_ends}
 use Rattle.rdma_types.specs.Lists.{has_word}
 use Rattle.rdma_types.specs.declared.answers.Refusal.TheVariants.{NumberTaken, TooMany}
-use Rattle.context_core.proofs.NewEnds.{or-true, word-lookup}
-use Rattle.context_core.proofs.Refused.{first-holds, first-passed, none-holds}
+use Rattle.context_core.proofs.CreatedEnds.{or-true, word-lookup}
+use Rattle.context_core.proofs.FirstCause.{first-holds, first-passed, none-holds}
 use Rattle.context_core.proofs.new_ends.number_for.Goals as goal
 
 pub returns-then-contains_key-clause-refused : goal.returns-then-contains_key-clause-refused

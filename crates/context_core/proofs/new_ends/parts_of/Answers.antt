@@ -3,8 +3,8 @@ use Rattle.std.specs.Prelude.{◌||◌, not}
 use Rattle.rdma_types.specs.Lists.{has_name, has_word}
 use Rattle.endpoint_core.specs.Queues.{queues_of}
 use Rattle.protocol.specs.Refusals.{lacks}
-use Rattle.context_core.proofs.Named.{word-any}
-use Rattle.context_core.proofs.NewEnds.{none-of-three}
+use Rattle.context_core.proofs.NamedLookups.{word-any}
+use Rattle.context_core.proofs.CreatedEnds.{none-of-three}
 use Rattle.context_core.proofs.new_ends.parts_of.Goals as goal
 
 pub returns-then-not-contains-clause-found : goal.returns-then-not-contains-clause-found

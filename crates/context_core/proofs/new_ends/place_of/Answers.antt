@@ -4,8 +4,8 @@ use Rattle.rdma_types.specs.Lists.{has_name}
 use Rattle.endpoint_core.specs.Queues.{queues_of}
 use Rattle.protocol.specs.DeviceStep.{word_of}
 use Rattle.protocol.specs.Refusals.{lacks}
-use Rattle.context_core.proofs.Named.{has-lookup}
-use Rattle.context_core.proofs.NewEnds.{name-at}
+use Rattle.context_core.proofs.NamedLookups.{has-lookup}
+use Rattle.context_core.proofs.CreatedEnds.{name-at}
 use Rattle.context_core.proofs.new_ends.place_of.Goals as goal
 
 pub returns-in_err-place-clause-found : goal.returns-in_err-place-clause-found

@@ -11,10 +11,10 @@ use Rattle.protocol.specs.Refusals.{has_end}
 use Rattle.endpoint_core.specs.Sound.{IsEnd}
 use Rattle.context_core.specs.Context.{HasQueues, context_in}
 use Rattle.context_core.specs.Requests.{slot_causes}
-use Rattle.context_core.proofs.Finding.{end-absent}
-use Rattle.context_core.proofs.Refused.{first-holds}
-use Rattle.context_core.proofs.Requesting.{request-refused}
-use Rattle.context_core.proofs.Stepping.{each-at}
+use Rattle.context_core.proofs.EndsByName.{end-absent}
+use Rattle.context_core.proofs.FirstCause.{first-holds}
+use Rattle.context_core.proofs.SendRefusals.{request-refused}
+use Rattle.context_core.proofs.EndStepCalls.{each-at}
 use Rattle.context_core.proofs.postings.admitted.Goals as goal
 
 pub returns-in_default-clause-refused : goal.returns-in_default-clause-refused

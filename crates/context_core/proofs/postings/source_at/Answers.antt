@@ -16,8 +16,8 @@ use Rattle.protocol.specs.Requester.{end_of_queue}
 use Rattle.rdma_types.specs.Spans.{span}
 use Rattle.context_core.specs.Queues.{is_full_at}
 use Rattle.context_core.specs.Requests.{is_full_place, is_past}
-use Rattle.context_core.proofs.Receiving.{place-none, place-some, value-at}
-use Rattle.context_core.proofs.Requesting.{below, is-barred, is-clear, is-deep, is-filled, is-init, is-long, is-past, source-is}
+use Rattle.context_core.proofs.ReceiveRefusals.{place-none, place-some, value-at}
+use Rattle.context_core.proofs.SendRefusals.{below, is-barred, is-clear, is-deep, is-filled, is-init, is-long, is-past, source-is}
 use Rattle.context_core.proofs.postings.source_at.Goals as goal
 
 pub returns-in_default-clause-refused : goal.returns-in_default-clause-refused

@@ -11,8 +11,8 @@ use Rattle.rdma_types.specs.Lists.{has_name}
 use Rattle.protocol.specs.State.{no_context}
 use Rattle.endpoint_core.specs.Queues.{queues_of}
 use Rattle.context_core.specs.Causes.{queue_causes}
-use Rattle.context_core.proofs.Adding.{length-queues, queue-absent}
-use Rattle.context_core.proofs.Refused.{none-here, none-later}
+use Rattle.context_core.proofs.AddedObjects.{length-queues, queue-absent}
+use Rattle.context_core.proofs.FirstCause.{none-here, none-later}
 use Rattle.context_core.proofs.queues.make.Goals as goal
 
 pub returns-clause-made : goal.returns-clause-made
@@ -27,8 +27,8 @@ returns-clause-made c =
 pub returns-clause-absent : goal.returns-clause-absent
 returns-clause-absent c = none-here NumberTaken (has_name (λ q. q.name) c.args.name (queues_of c.args.queues.now.entries)) _ (sym (c.refusal.ensures (record no_context { queues = queues_of c.args.queues.now.entries }) refl) ∙ c.in_default.is)
 
-pub returns-clause-few : goal.returns-clause-few
-returns-clause-few c =
+pub returns-clause-bounded : goal.returns-clause-bounded
+returns-clause-bounded c =
     let none : first_cause (queue_causes (record no_context { queues = queues_of c.args.queues.now.entries }) c.args.name) ≡ None = sym (c.refusal.ensures (record no_context { queues = queues_of c.args.queues.now.entries }) refl) ∙ c.in_default.is in
     let few : nat_le 64 (length (queues_of c.args.queues.now.entries)) ≡ false = none-here TooMany (nat_le 64 (length (queues_of c.args.queues.now.entries))) [] (none-later NumberTaken (has_name (λ q. q.name) c.args.name (queues_of c.args.queues.now.entries)) _ none) in
     grind (arith, nat_tests, few, length-queues c.args.queues.now.entries)

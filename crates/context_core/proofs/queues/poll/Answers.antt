@@ -4,7 +4,7 @@ use Rattle.std.specs.Prelude.{is_some}
 use Rattle.std.proofs.lemmas.Result.{IfErr-at_err, err_from_is_err_and}
 use Rattle.indexmap.specs.IndexMap.{set_value_at}
 use Rattle.context_core.specs.Faults.{told_as}
-use Rattle.context_core.proofs.HandingOut.{poll-absent, poll-there, set-same}
+use Rattle.context_core.proofs.PolledEntries.{poll-absent, poll-there, set-same}
 use Rattle.context_core.proofs.queues.poll.Goals as goal
 
 pub returns-in_default-clause-refused : goal.returns-in_default-clause-refused

@@ -4,9 +4,9 @@ use Rattle.rdma_types.specs.declared.answers.Refusal.TheVariants.{NumberTaken, T
 use Rattle.rdma_types.specs.Causes.{first_cause, cause}
 use Rattle.rdma_types.specs.Lists.{has_name}
 use Rattle.endpoint_core.specs.Queues.{queues_of}
-use Rattle.context_core.proofs.Refused.{first-holds, first-passed, last-cause}
-use Rattle.context_core.proofs.Named.{has-lookup}
-use Rattle.context_core.proofs.Adding.{length-queues}
+use Rattle.context_core.proofs.FirstCause.{first-holds, first-passed, last-cause}
+use Rattle.context_core.proofs.NamedLookups.{has-lookup}
+use Rattle.context_core.proofs.AddedObjects.{length-queues}
 use Rattle.context_core.proofs.queues.refusal.Goals as goal
 
 pub returns-then-contains_key : goal.returns-then-contains_key

@@ -9,10 +9,10 @@ use Rattle.protocol.specs.Refusals.{has_end, is_full}
 use Rattle.memory_keys.specs.Regions.{regions_of}
 use Rattle.context_core.specs.Queues.{is_full_at}
 use Rattle.context_core.specs.Context.{HasQueues, context_in}
-use Rattle.context_core.proofs.Finding.{end-absent}
-use Rattle.context_core.proofs.Receiving.{end-refused}
-use Rattle.context_core.proofs.Refused.{first-holds}
-use Rattle.context_core.proofs.Stepping.{each-at}
+use Rattle.context_core.proofs.EndsByName.{end-absent}
+use Rattle.context_core.proofs.ReceiveRefusals.{end-refused}
+use Rattle.context_core.proofs.FirstCause.{first-holds}
+use Rattle.context_core.proofs.EndStepCalls.{each-at}
 use Rattle.context_core.proofs.receives.admitted.Goals as goal
 
 pub returns-in_default-clause-refused : goal.returns-in_default-clause-refused

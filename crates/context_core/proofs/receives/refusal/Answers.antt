@@ -11,9 +11,9 @@ use Rattle.rdma_types.specs.declared.answers.Refusal.TheVariants.{TooLong, BadKe
 use Rattle.memory_keys.specs.Regions.{regions_of}
 use Rattle.protocol.specs.Refusals.{is_full}
 use Rattle.context_core.specs.Queues.{is_full_at}
-use Rattle.context_core.proofs.Receiving.{last-of-four, place-none, place-some, takes-none, value-at}
-use Rattle.context_core.proofs.Refused.{first-holds}
-use Rattle.context_core.proofs.Refusing.{second-holds, third-holds}
+use Rattle.context_core.proofs.ReceiveRefusals.{last-of-four, place-none, place-some, takes-none, value-at}
+use Rattle.context_core.proofs.FirstCause.{first-holds}
+use Rattle.context_core.proofs.CauseOrder.{second-holds, third-holds}
 use Rattle.context_core.proofs.receives.refusal.Goals as goal
 
 pub returns-then-receive-gt-MOST_BYTES-clause-refused : goal.returns-then-receive-gt-MOST_BYTES-clause-refused

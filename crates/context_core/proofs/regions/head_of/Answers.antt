@@ -4,9 +4,9 @@ use Rattle.rdma_types.specs.Causes.{first_cause}
 use Rattle.rdma_types.specs.Lists.{has_word}
 use Rattle.rdma_types.specs.declared.answers.Refusal.TheVariants.{NoSuch}
 use Rattle.protocol.specs.Refusals.{region_causes}
-use Rattle.context_core.proofs.Named.{word-any}
-use Rattle.context_core.proofs.Refused.{first-holds}
-use Rattle.context_core.proofs.Registering.{keys-lack}
+use Rattle.context_core.proofs.NamedLookups.{word-any}
+use Rattle.context_core.proofs.FirstCause.{first-holds}
+use Rattle.context_core.proofs.RegisteredRegions.{keys-lack}
 use Rattle.context_core.proofs.regions.head_of.Goals as goal
 
 pub returns-in_default-clause-refused : goal.returns-in_default-clause-refused

@@ -1,5 +1,5 @@
 use Rattle.std.proofs.Common.{ap, sym, subst}
-use Rattle.context_core.proofs.Comes.{Giving, giving-begins, giving-ends, giving-goes_on, giving-lives}
+use Rattle.context_core.proofs.RequestsFromImage.{Giving, giving-begins, giving-ends, giving-goes_on, giving-lives}
 use Rattle.context_core.proofs.requests.give_requests.Goals as goal
 
 pub loop-posted-init : goal.loop-posted-init

@@ -1,5 +1,5 @@
 use Rattle.std.proofs.Common.{length}
-use Rattle.context_core.proofs.Comes.{Giving}
+use Rattle.context_core.proofs.RequestsFromImage.{Giving}
 use Rattle.context_core.proofs.requests.give_requests.Given as goal
 
 abbrev pub invariant-loop-posted : goal.invariant-loop-posted

@@ -1,6 +1,6 @@
 use Rattle.std.proofs.Common.{◌≡◌, ◌∙◌, sym, subst}
 use Rattle.page_pool.specs.Held.{payload_bytes}
-use Rattle.context_core.proofs.Sources.{IsStored, first_in, room-for, stored-in}
+use Rattle.context_core.proofs.RequestSources.{IsStored, first_in, room-for, stored-in}
 use Rattle.context_core.proofs.requests.payload_of.Goals as goal
 
 first-is : (c : goal.After-from) → c.from.result ≡ first_in c.args.spot

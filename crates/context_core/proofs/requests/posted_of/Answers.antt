@@ -1,7 +1,7 @@
 use Rattle.std.proofs.Common.{◌∙◌, ap}
 use Rattle.std.specs.Prelude.{◌+◌}
 use Rattle.page_pool.specs.Pool.{free_pages}
-use Rattle.context_core.proofs.Comes.{come-one}
+use Rattle.context_core.proofs.RequestsFromImage.{come-one}
 use Rattle.context_core.proofs.requests.posted_of.Goals as goal
 
 pub returns-clause-come : goal.returns-clause-come

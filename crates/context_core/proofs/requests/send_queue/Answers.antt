@@ -1,4 +1,4 @@
-use Rattle.context_core.proofs.Comes.{alike-after}
+use Rattle.context_core.proofs.RequestsFromImage.{alike-after}
 use Rattle.context_core.proofs.requests.send_queue.Goals as goal
 
 pub returns-in-Err-clause-err : goal.returns-in-Err-clause-err

@@ -1,5 +1,5 @@
 use Rattle.std.proofs.Common.{◌∙◌, sym}
-use Rattle.context_core.proofs.Sources.{source-pages, source-there}
+use Rattle.context_core.proofs.RequestSources.{source-pages, source-there}
 use Rattle.context_core.proofs.requests.source_of.Goals as goal
 
 pub unwrap-requires : goal.unwrap-requires

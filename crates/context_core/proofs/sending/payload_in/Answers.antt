@@ -2,8 +2,8 @@ use Rattle.std.proofs.Common.{◌≡◌, ◌+◌, ◌-◌, length, drop, arith, 
 use Rattle.std.specs.Prelude.{min}
 use Rattle.page_pool.specs.Pool.{bytes_in}
 use Rattle.rdma_types.specs.Memory.{cut}
-use Rattle.context_core.proofs.Copying.{packet-bytes, packet-size}
-use Rattle.context_core.proofs.Storing.{whole}
+use Rattle.context_core.proofs.ByteParts.{packet-bytes, packet-size}
+use Rattle.context_core.proofs.RegionStores.{whole}
 use Rattle.context_core.proofs.sending.payload_in.Goals as goal
 
 pub zeros_in-out-requires-clause-room : goal.zeros_in-out-requires-clause-room

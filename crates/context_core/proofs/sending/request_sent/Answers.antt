@@ -1,7 +1,7 @@
 use Rattle.std.proofs.Common.{sym, ◌∙◌, refl, arith}
 use Rattle.work_queues.specs.Untold.{posted_in}
 use Rattle.roce_headers.specs.Packets.{packet}
-use Rattle.context_core.proofs.Sends.{few, fits, posted-is, sent-is, short}
+use Rattle.context_core.proofs.TransmittedPackets.{few, fits, posted-is, sent-is, short}
 use Rattle.context_core.proofs.sending.request_sent.Goals as goal
 
 pub payload_in-bytes-requires-clause-held : goal.payload_in-bytes-requires-clause-held

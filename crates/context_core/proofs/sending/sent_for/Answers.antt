@@ -8,8 +8,8 @@ use Rattle.endpoint_core.specs.Answers.{row_in}
 use Rattle.endpoint_core.specs.Ends.{link_in}
 use Rattle.context_core.specs.Sending.{row_sent}
 use Rattle.context_core.specs.Transmitting.{IsSending}
-use Rattle.context_core.proofs.Fitting.{wire-length}
-use Rattle.context_core.proofs.Sends.{resume-is}
+use Rattle.context_core.proofs.PacketSizes.{wire-length}
+use Rattle.context_core.proofs.TransmittedPackets.{resume-is}
 use Rattle.context_core.proofs.sending.sent_for.Goals as goal
 
 pub fill-requires-clause-short : goal.fill-requires-clause-short

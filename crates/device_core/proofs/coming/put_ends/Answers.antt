@@ -15,12 +15,12 @@ loop-place-init c = record { room = omega (arith, c.requires); said = λ k. sym 
 
 pub loop-place-preserved : goal.loop-place-preserved
 loop-place-preserved c = record {
-  room = omega (arith, c.loop-place.invariant.room, c.put_spot.ensures.spare);
-  said = λ k. placed-more (λ (e : EndImage). e.number) c.args.name c.args.ends.now c.loop-place.place c.loop-place-test.true _ k (get nat_eq c.args.index.now k) (get nat_eq c.loop-place.index k) (get nat_eq c.put_spot.new.index k) (c.loop-place.invariant.said k) (c.put_spot.ensures.puts k);
+  room = omega (arith, c.loop-place.invariant.room, c.put_location.ensures.spare);
+  said = λ k. placed-more (λ (e : EndImage). e.number) c.args.name c.args.ends.now c.loop-place.place c.loop-place-test.true _ k (get nat_eq c.args.index.now k) (get nat_eq c.loop-place.index k) (get nat_eq c.put_location.new.index k) (c.loop-place.invariant.said k) (c.put_location.ensures.puts k);
 }
 
-pub put_spot-requires : goal.put_spot-requires
-put_spot-requires c = omega (arith, c.loop-place.invariant.room, c.loop-place-test.true)
+put_location-requires : goal.put_location-requires
+put_location-requires c = omega (arith, c.loop-place.invariant.room, c.loop-place-test.true)
 
 pub returns : goal.returns
 returns c k = c.loop-place.invariant.said k ∙ ap (λ es. placed c.args.name 0 (numbers_of_ends es) k (get nat_eq c.args.index.now k)) (take_all c.loop-place.place c.args.ends.now c.loop-place-test.false)

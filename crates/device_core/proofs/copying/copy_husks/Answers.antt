@@ -1,7 +1,7 @@
 use Rattle.std.proofs.Common.{◌≡◌, ap, sym, ◌∙◌}
 use Rattle.std.specs.Option.{option_map}
 use Rattle.std.specs.Map.Iter.{deref_pair}
-use Rattle.context_core.proofs.Copied.{entry_more}
+use Rattle.context_core.proofs.CopiedEntries.{entry_more}
 use Rattle.device_core.proofs.copying.copy_husks.Goals as goal
 
 pub loop-i-preserved : goal.loop-i-preserved

@@ -3,7 +3,7 @@ use Rattle.std.specs.Prelude.{nat_eq}
 use Rattle.std.specs.Cmp.{nat_eq_equiv}
 use Rattle.std.specs.Option.{option_map}
 use Rattle.std.specs.Map.Iter.{deref_pair}
-use Rattle.context_core.proofs.Copied.{inserted_more}
+use Rattle.context_core.proofs.CopiedEntries.{inserted_more}
 use Rattle.device_core.proofs.copying.copy_index.Goals as goal
 
 pub loop-i-preserved : goal.loop-i-preserved

@@ -3,7 +3,7 @@ use Rattle.std.specs.Prelude.{Some, slice_get}
 use Rattle.std.proofs.lemmas.Grind.{common_steps}
 use Rattle.device_differences.specs.Differences.{context_difference}
 use Rattle.context_core.specs.Context.{IsContext}
-use Rattle.context_core.proofs.Fronts.{at_place}
+use Rattle.context_core.proofs.ListPrefixes.{at_place}
 use Rattle.device_core.specs.Parts.{held_in}
 use Rattle.device_differences.proofs.Found.{found-mapped, passed-mapped, end-mapped}
 use Rattle.device_core.proofs.differing.contexts.Goals as goal

@@ -13,7 +13,7 @@ pub returns-then-is_none : goal.returns-then-is_none
 returns-then-is_none c pool n e at k =
     let number : c.in-Some.end.number ≡ e.number = head-number _ c.end_at.result c.in-Some.end e (c.end_at.ensures pool n) c.in-Some.is at in
     let one = gone-one e c.entry_left.result (c.entry_left.ensures pool n e at) c.if-is_none.ensures in
-    c.drop_spot.ensures k ∙ (ap (λ m. if m == k then None else get nat_eq c.args.index.now k) number ∙ (sym (forgets-one e.number k (get nat_eq c.args.index.now k)) ∙ ap (λ ns. without_numbers ns k (get nat_eq c.args.index.now k)) (sym one)))
+    c.drop_location.ensures k ∙ (ap (λ m. if m == k then None else get nat_eq c.args.index.now k) number ∙ (sym (forgets-one e.number k (get nat_eq c.args.index.now k)) ∙ ap (λ ns. without_numbers ns k (get nat_eq c.args.index.now k)) (sym one)))
 
 pub returns-else-is_none : goal.returns-else-is_none
 returns-else-is_none c pool n e at k =

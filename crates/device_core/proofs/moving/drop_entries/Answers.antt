@@ -12,7 +12,7 @@ loop-entry-init c k = sym (forgets-none k (get nat_eq c.args.index.now k))
 
 pub loop-entry-preserved : goal.loop-entry-preserved
 loop-entry-preserved c k =
-    c.drop_spot.ensures k
+    c.drop_location.ensures k
     ∙ forgets c.args.entries.now c.loop-entry.entry-index c.loop-entry-test.true k (get nat_eq c.args.index.now k) (get nat_eq c.loop-entry.index k) (c.loop-entry.invariant k) _
 
 pub returns : goal.returns

@@ -6,9 +6,9 @@ use Rattle.dump_reader.specs.Ahead.{ahead}
 use Rattle.dump_reader.proofs.Ends.{placed_begin}
 use Rattle.dump_reader.proofs.end_steps.end_step.Goals as goal
 
-pub returns-clause-later : goal.returns-clause-later
+pub returns-clause-with_more_bytes : goal.returns-clause-with_more_bytes
 unfolding after items ahead
-returns-clause-later c = λ later. let h = read_alike (end_head_steady _ _ _) c.in_ok-head.ensures.end later in grind (arith, placed_begin)
+returns-clause-with_more_bytes c = λ later. let h = read_alike (end_head_steady _ _ _) c.in_ok-head.ensures.end later in grind (arith, placed_begin)
 
 pub returns-clause-left : goal.returns-clause-left
 returns-clause-left c = left_behind (read_goes (end_head_steady _ _ _) c.in_ok-head.ensures.end)

@@ -13,8 +13,8 @@ returns-clause-moves c =
     let none : payload_length c.args.request ≡ 0 = omega (arith, c.payload_len-missing.ensures) in
     moves_from _ _ _ _ (skip (payload_length c.args.request) c.args.c.now.place c.args.c.now.bytes.now (λ (payload : List ℕ). more_untold o s.domains.items s.regions.items (queues_of s) s.ends.items c.args.after c.args.head.now (link_of_head c.args.link.now s.kept.items) c.args.before.now c.args.count (s.untold.items ++ record { request = c.args.request; payload = payload } ∷ [])) c.make.result none c.make.ensures) c.take_request.ensures.moves
 
-pub returns-clause-later : goal.returns-clause-later
-returns-clause-later c =
+pub returns-clause-with_more_bytes : goal.returns-clause-with_more_bytes
+returns-clause-with_more_bytes c =
     let o = c.args.opened.now in
     let s = c.args.lists.now in
     let none : payload_length c.args.request ≡ 0 = omega (arith, c.payload_len-missing.ensures) in
@@ -22,4 +22,4 @@ returns-clause-later c =
     (more_untold o s.domains.items s.regions.items (queues_of s) s.ends.items c.args.after c.args.head.now (link_of_head c.args.link.now s.kept.items) c.args.before.now c.args.count (s.untold.items ++ record { request = c.args.request; payload = c.make.result } ∷ []))
     c.args.c.now.place c.args.c.now.bytes.now c.args.c.now.place c.args.c.now.bytes.now (ahead o c.take_request.new.lists) _ _ c.take_request.result
     (λ later. skip (payload_length c.args.request) c.args.c.now.place (c.args.c.now.bytes.now ++ later) (λ (payload : List ℕ). more_untold o s.domains.items s.regions.items (queues_of s) s.ends.items c.args.after c.args.head.now (link_of_head c.args.link.now s.kept.items) c.args.before.now c.args.count (s.untold.items ++ record { request = c.args.request; payload = payload } ∷ [])) c.make.result none c.make.ensures)
-    c.take_request.ensures.later
+    c.take_request.ensures.with_more_bytes

@@ -1,14 +1,14 @@
 use Rattle.std.proofs.Common.{rules, arith}
 use Rattle.std.proofs.lemmas.Grind.{common_steps}
-use Rattle.dump_laws.proofs.Steady.{kept_steady}
+use Rattle.law_dump_round_trip.proofs.Steady.{kept_steady}
 use Rattle.dump_reader.proofs.Later.{read_alike, read_goes, left_behind}
 use Rattle.protocol.specs.Dumps.{after, items}
 use Rattle.dump_reader.specs.Ahead.{ahead, more_kept}
 use Rattle.dump_reader.proofs.end_steps.kept_step.Goals as goal
 
-pub returns-clause-later : goal.returns-clause-later
+pub returns-clause-with_more_bytes : goal.returns-clause-with_more_bytes
 unfolding after items ahead more_kept
-returns-clause-later c = λ later. let h = read_alike (kept_steady _ _) c.in_ok-reply.ensures.kept later in search rules
+returns-clause-with_more_bytes c = λ later. let h = read_alike (kept_steady _ _) c.in_ok-reply.ensures.kept later in search rules
 
 pub returns-clause-left : goal.returns-clause-left
 returns-clause-left c = left_behind (read_goes (kept_steady _ _) c.in_ok-reply.ensures.kept)

@@ -6,8 +6,8 @@ abbrev pub invariant-loop-bytes : goal.invariant-loop-bytes
 invariant-loop-bytes g l = record {
   taken : Takes (g.S.Source.left l.initial.source) (g.S.Source.left l.source) l.bytes.items;
   short : length l.bytes.items ≤ l.limit;
-  calm : g.S.Source.faults l.source ≡ g.S.Source.faults l.initial.source;
-  sure : g.S.Source.sure l.initial.source → g.S.Source.sure l.source;
+  faults_unchanged : g.S.Source.faults l.source ≡ g.S.Source.faults l.initial.source;
+  never_fails : g.S.Source.never_fails l.initial.source → g.S.Source.never_fails l.source;
 }
 
 abbrev pub decreases-loop-bytes : goal.decreases-loop-bytes

@@ -9,6 +9,6 @@ loop-done-preserved g c =
     record {
       put = rw take-add (Puts-then _ _ _ _ _ c.loop-done.invariant.put (rw rest at c.in-Ok.ensures.put));
       within = omega (arith, c.in-Ok.ensures.most);
-      calm = grind (arith, common_steps);
+      faults_unchanged = grind (arith, common_steps);
       room = omega (arith, c.in-Ok.ensures.spends);
     }

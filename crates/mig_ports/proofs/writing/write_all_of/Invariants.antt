@@ -6,7 +6,7 @@ abbrev pub invariant-loop-done : goal.invariant-loop-done
 invariant-loop-done g l = record {
   put : Puts (g.K.Sink.held l.initial.sink) (g.K.Sink.held l.sink) (take l.done l.bytes);
   within : l.done ≤ length l.bytes;
-  calm : g.K.Sink.faults l.sink ≡ g.K.Sink.faults l.initial.sink;
+  faults_unchanged : g.K.Sink.faults l.sink ≡ g.K.Sink.faults l.initial.sink;
   room : g.K.Sink.room l.initial.sink ≤ g.K.Sink.room l.sink + l.done;
 }
 

@@ -1,7 +1,7 @@
 use Rattle.std.proofs.Common.{[], Some, ap, refl, subst, sym, ◌∙◌}
 use Rattle.std.proofs.lemmas.Result.{IfErr-weaker, on_ok_weaker}
 use Rattle.dump_writer.specs.Text.{text_of}
-use Rattle.script_rules.specs.Headline.{IsDoneBy, KeepsInput}
+use Rattle.law_headline.specs.Headline.{IsDoneBy, KeepsInput}
 use Rattle.command_line.specs.Commands.{known}
 use Rattle.rdma_cli.specs.declared.stop.Stop.TheVariants as stop
 use Rattle.rdma_cli.specs.Stopping.{BulkStops, PlayStops, ShowStops, StopsBy, StopsFor, run_of}
@@ -24,8 +24,8 @@ pub returns-in-Play-clause-failed : goal.returns-in-Play-clause-failed
 returns-in-Play-clause-failed g c e =
     absurd (err_holds c.play_input.result (PlayStops (run_of [] (g.S.Source.left c.args.input.now) (g.S.Source.left c.play_input.new.input) (g.K.Sink.held c.args.output.now) (g.K.Sink.held c.play_input.new.output) (g.D.Depot.held c.args.depot.now) (g.D.Depot.held c.args.depot.now))) stop.DepotFault (c.play_input.ensures.stops (run_of [] (g.S.Source.left c.args.input.now) (g.S.Source.left c.play_input.new.input) (g.K.Sink.held c.args.output.now) (g.K.Sink.held c.play_input.new.output) (g.D.Depot.held c.args.depot.now) (g.D.Depot.held c.args.depot.now))) e)
 
-pub returns-in-Play-clause-sure_depot : goal.returns-in-Play-clause-sure_depot
-returns-in-Play-clause-sure_depot g c s e =
+pub returns-in-Play-clause-depot_never_fails : goal.returns-in-Play-clause-depot_never_fails
+returns-in-Play-clause-depot_never_fails g c s e =
     err_holds c.play_input.result (PlayStops (run_of [] (g.S.Source.left c.args.input.now) (g.S.Source.left c.play_input.new.input) (g.K.Sink.held c.args.output.now) (g.K.Sink.held c.play_input.new.output) (g.D.Depot.held c.args.depot.now) (g.D.Depot.held c.args.depot.now))) stop.DepotFault (c.play_input.ensures.stops (run_of [] (g.S.Source.left c.args.input.now) (g.S.Source.left c.play_input.new.input) (g.K.Sink.held c.args.output.now) (g.K.Sink.held c.play_input.new.output) (g.D.Depot.held c.args.depot.now) (g.D.Depot.held c.args.depot.now))) e
 
 pub returns-in-Bulk-clause-done : goal.returns-in-Bulk-clause-done
@@ -44,16 +44,16 @@ pub returns-in-Bulk-clause-unread : goal.returns-in-Bulk-clause-unread
 returns-in-Bulk-clause-unread g c e =
     absurd (err_holds c.sum_up.result (BulkStops c.in-Bulk.seed c.in-Bulk.mix (run_of [] (g.S.Source.left c.args.input.now) (g.S.Source.left c.args.input.now) (g.K.Sink.held c.args.output.now) (g.K.Sink.held c.sum_up.new.output) (g.D.Depot.held c.args.depot.now) (g.D.Depot.held c.args.depot.now))) stop.ReadFault (c.sum_up.ensures.stops (run_of [] (g.S.Source.left c.args.input.now) (g.S.Source.left c.args.input.now) (g.K.Sink.held c.args.output.now) (g.K.Sink.held c.sum_up.new.output) (g.D.Depot.held c.args.depot.now) (g.D.Depot.held c.args.depot.now))) e)
 
-pub returns-in-Bulk-clause-sure : goal.returns-in-Bulk-clause-sure
-returns-in-Bulk-clause-sure g c s e =
+pub returns-in-Bulk-clause-never_fails : goal.returns-in-Bulk-clause-never_fails
+returns-in-Bulk-clause-never_fails g c s e =
     err_holds c.sum_up.result (BulkStops c.in-Bulk.seed c.in-Bulk.mix (run_of [] (g.S.Source.left c.args.input.now) (g.S.Source.left c.args.input.now) (g.K.Sink.held c.args.output.now) (g.K.Sink.held c.sum_up.new.output) (g.D.Depot.held c.args.depot.now) (g.D.Depot.held c.args.depot.now))) stop.ReadFault (c.sum_up.ensures.stops (run_of [] (g.S.Source.left c.args.input.now) (g.S.Source.left c.args.input.now) (g.K.Sink.held c.args.output.now) (g.K.Sink.held c.sum_up.new.output) (g.D.Depot.held c.args.depot.now) (g.D.Depot.held c.args.depot.now))) e
 
 pub returns-in-Bulk-clause-failed : goal.returns-in-Bulk-clause-failed
 returns-in-Bulk-clause-failed g c e =
     absurd (err_holds c.sum_up.result (BulkStops c.in-Bulk.seed c.in-Bulk.mix (run_of [] (g.S.Source.left c.args.input.now) (g.S.Source.left c.args.input.now) (g.K.Sink.held c.args.output.now) (g.K.Sink.held c.sum_up.new.output) (g.D.Depot.held c.args.depot.now) (g.D.Depot.held c.args.depot.now))) stop.DepotFault (c.sum_up.ensures.stops (run_of [] (g.S.Source.left c.args.input.now) (g.S.Source.left c.args.input.now) (g.K.Sink.held c.args.output.now) (g.K.Sink.held c.sum_up.new.output) (g.D.Depot.held c.args.depot.now) (g.D.Depot.held c.args.depot.now))) e)
 
-pub returns-in-Bulk-clause-sure_depot : goal.returns-in-Bulk-clause-sure_depot
-returns-in-Bulk-clause-sure_depot g c s e =
+pub returns-in-Bulk-clause-depot_never_fails : goal.returns-in-Bulk-clause-depot_never_fails
+returns-in-Bulk-clause-depot_never_fails g c s e =
     err_holds c.sum_up.result (BulkStops c.in-Bulk.seed c.in-Bulk.mix (run_of [] (g.S.Source.left c.args.input.now) (g.S.Source.left c.args.input.now) (g.K.Sink.held c.args.output.now) (g.K.Sink.held c.sum_up.new.output) (g.D.Depot.held c.args.depot.now) (g.D.Depot.held c.args.depot.now))) stop.DepotFault (c.sum_up.ensures.stops (run_of [] (g.S.Source.left c.args.input.now) (g.S.Source.left c.args.input.now) (g.K.Sink.held c.args.output.now) (g.K.Sink.held c.sum_up.new.output) (g.D.Depot.held c.args.depot.now) (g.D.Depot.held c.args.depot.now))) e
 
 pub returns-in-ShowDump-clause-done : goal.returns-in-ShowDump-clause-done
@@ -72,6 +72,6 @@ pub returns-in-ShowDump-clause-unread : goal.returns-in-ShowDump-clause-unread
 returns-in-ShowDump-clause-unread g c e =
     absurd (err_holds c.show_dump.result (ShowStops text_of c.in-ShowDump.name (run_of [] (g.S.Source.left c.args.input.now) (g.S.Source.left c.args.input.now) (g.K.Sink.held c.args.output.now) (g.K.Sink.held c.show_dump.new.output) (g.D.Depot.held c.args.depot.now) (g.D.Depot.held c.show_dump.new.depot))) stop.ReadFault (c.show_dump.ensures.stops (run_of [] (g.S.Source.left c.args.input.now) (g.S.Source.left c.args.input.now) (g.K.Sink.held c.args.output.now) (g.K.Sink.held c.show_dump.new.output) (g.D.Depot.held c.args.depot.now) (g.D.Depot.held c.show_dump.new.depot))) e)
 
-pub returns-in-ShowDump-clause-sure : goal.returns-in-ShowDump-clause-sure
-returns-in-ShowDump-clause-sure g c s e =
+pub returns-in-ShowDump-clause-never_fails : goal.returns-in-ShowDump-clause-never_fails
+returns-in-ShowDump-clause-never_fails g c s e =
     err_holds c.show_dump.result (ShowStops text_of c.in-ShowDump.name (run_of [] (g.S.Source.left c.args.input.now) (g.S.Source.left c.args.input.now) (g.K.Sink.held c.args.output.now) (g.K.Sink.held c.show_dump.new.output) (g.D.Depot.held c.args.depot.now) (g.D.Depot.held c.show_dump.new.depot))) stop.ReadFault (c.show_dump.ensures.stops (run_of [] (g.S.Source.left c.args.input.now) (g.S.Source.left c.args.input.now) (g.K.Sink.held c.args.output.now) (g.K.Sink.held c.show_dump.new.output) (g.D.Depot.held c.args.depot.now) (g.D.Depot.held c.show_dump.new.depot))) e

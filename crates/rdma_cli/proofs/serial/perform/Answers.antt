@@ -1,9 +1,9 @@
 use Rattle.std.proofs.Common.{Err, Some, ap, inl, inr, map, refl, sym, ◌∙◌}
 use Rattle.std.specs.String.{string_bytes}
 use Rattle.dump_writer.specs.Text.{text_of}
-use Rattle.script_rules.specs.Commands as rules
-use Rattle.script_rules.specs.Commands.{command_of}
-use Rattle.script_rules.specs.Headline.{input_limit}
+use Rattle.law_headline.specs.Commands as rules
+use Rattle.law_headline.specs.Commands.{command_of}
+use Rattle.law_headline.specs.Headline.{input_limit}
 use Rattle.command_line.specs.Commands.{known}
 use Rattle.rdma_cli.specs.declared.stop.Stop.TheVariants as stop
 use Rattle.rdma_cli.specs.Stopping.{IsNotAsked, run_of}
@@ -37,25 +37,25 @@ pub returns-in-Ok-clause-unread : goal.returns-in-Ok-clause-unread
 returns-in-Ok-clause-unread g c =
     c.carry_out.ensures.unread
 
-pub returns-in-Ok-clause-sure : goal.returns-in-Ok-clause-sure
-returns-in-Ok-clause-sure g c =
-    c.carry_out.ensures.sure
+pub returns-in-Ok-clause-never_fails : goal.returns-in-Ok-clause-never_fails
+returns-in-Ok-clause-never_fails g c =
+    c.carry_out.ensures.never_fails
 
 pub returns-in-Ok-clause-unwritten : goal.returns-in-Ok-clause-unwritten
 returns-in-Ok-clause-unwritten g c =
     c.carry_out.ensures.unwritten
 
-pub returns-in-Ok-clause-later : goal.returns-in-Ok-clause-later
-returns-in-Ok-clause-later g c =
-    c.carry_out.ensures.later
+pub returns-in-Ok-clause-faults_monotone : goal.returns-in-Ok-clause-faults_monotone
+returns-in-Ok-clause-faults_monotone g c =
+    c.carry_out.ensures.faults_monotone
 
 pub returns-in-Ok-clause-failed : goal.returns-in-Ok-clause-failed
 returns-in-Ok-clause-failed g c =
     c.carry_out.ensures.failed
 
-pub returns-in-Ok-clause-sure_depot : goal.returns-in-Ok-clause-sure_depot
-returns-in-Ok-clause-sure_depot g c =
-    c.carry_out.ensures.sure_depot
+pub returns-in-Ok-clause-depot_never_fails : goal.returns-in-Ok-clause-depot_never_fails
+returns-in-Ok-clause-depot_never_fails g c =
+    c.carry_out.ensures.depot_never_fails
 
 pub returns-in-Err-clause-stops : goal.returns-in-Err-clause-stops
 returns-in-Err-clause-stops g c =
@@ -77,8 +77,8 @@ pub returns-in-Err-clause-unread : goal.returns-in-Err-clause-unread
 returns-in-Err-clause-unread g c e =
     absurd (err_holds (Err c.in-Err.stop) (IsNotAsked (command_of (map string_bytes c.args.words.now))) stop.ReadFault c.in-Err.ensures.stops e)
 
-pub returns-in-Err-clause-sure : goal.returns-in-Err-clause-sure
-returns-in-Err-clause-sure g c s e =
+pub returns-in-Err-clause-never_fails : goal.returns-in-Err-clause-never_fails
+returns-in-Err-clause-never_fails g c s e =
     err_holds (Err c.in-Err.stop) (IsNotAsked (command_of (map string_bytes c.args.words.now))) stop.ReadFault c.in-Err.ensures.stops e
 
 pub returns-in-Err-clause-unwritten : goal.returns-in-Err-clause-unwritten
@@ -89,6 +89,6 @@ pub returns-in-Err-clause-failed : goal.returns-in-Err-clause-failed
 returns-in-Err-clause-failed g c e =
     absurd (err_holds (Err c.in-Err.stop) (IsNotAsked (command_of (map string_bytes c.args.words.now))) stop.DepotFault c.in-Err.ensures.stops e)
 
-pub returns-in-Err-clause-sure_depot : goal.returns-in-Err-clause-sure_depot
-returns-in-Err-clause-sure_depot g c s e =
+pub returns-in-Err-clause-depot_never_fails : goal.returns-in-Err-clause-depot_never_fails
+returns-in-Err-clause-depot_never_fails g c s e =
     err_holds (Err c.in-Err.stop) (IsNotAsked (command_of (map string_bytes c.args.words.now))) stop.DepotFault c.in-Err.ensures.stops e

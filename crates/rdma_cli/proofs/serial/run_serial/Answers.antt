@@ -1,10 +1,10 @@
 use Rattle.std.proofs.Common.{sym, ap, subst, ◌∙◌, inl, inr, refl, Err}
-use Rattle.mig_ports.proofs.Chains.{Rose-after, Rose-before}
+use Rattle.mig_ports.proofs.Chains.{FaultsCounted-after, FaultsCounted-before}
 use Rattle.dump_writer.specs.Text.{text_of}
-use Rattle.script_rules.specs.Headline.{IsStatus}
+use Rattle.law_headline.specs.Headline.{IsStatus}
 use Rattle.rdma_cli.specs.Stopping.{run_of}
 use Rattle.rdma_cli.specs.declared.stop.Stop.TheVariants as stop
-use Rattle.rdma_cli.proofs.Ending.{at_2, at_3, at_4, at_5, at_7, at_8, at_9, at_12, has_status, keeps_unused, later, same_status, stop_4, stop_5, stop_7, stopped, stopped_cut_off, words_stop}
+use Rattle.rdma_cli.proofs.Ending.{at_2, at_3, at_4, at_5, at_7, at_8, at_9, at_12, has_status, keeps_unused, with_held_after, same_status, stop_4, stop_5, stop_7, stopped, stopped_cut_off, words_stop}
 use Rattle.rdma_cli.specs.Writing.{status}
 use Rattle.rdma_cli.proofs.Complete.{bulk_is_done, play_is_done, show_dump_is_done, what_it_says_is_written}
 use Rattle.rdma_cli.proofs.serial.run_serial.Goals as goal
@@ -19,7 +19,7 @@ returns-in-Ok-write_last_line-clause-unused g c =
 
 pub returns-in-Ok-write_last_line-clause-usage : goal.returns-in-Ok-write_last_line-clause-usage
 returns-in-Ok-write_last_line-clause-usage g c e =
-    at_2 text_of (later (run_of c.args.words.now (g.S.Source.left c.args.input.now) (g.S.Source.left c.perform.new.input) (g.K.Sink.held c.args.output.now) (g.K.Sink.held c.perform.new.output) (g.D.Depot.held c.args.depot.now) (g.D.Depot.held c.perform.new.depot)) (g.K.Sink.held c.write_last_line.new.output)) c.in-Err.stop (sym c.status.ensures ∙ e) (stopped text_of (run_of c.args.words.now (g.S.Source.left c.args.input.now) (g.S.Source.left c.perform.new.input) (g.K.Sink.held c.args.output.now) (g.K.Sink.held c.perform.new.output) (g.D.Depot.held c.args.depot.now) (g.D.Depot.held c.perform.new.depot)) (g.K.Sink.held c.write_last_line.new.output) c.in-Err.stop c.in-Err.ensures.stops c.in-Ok-write_last_line.ensures.whole)
+    at_2 text_of (with_held_after (run_of c.args.words.now (g.S.Source.left c.args.input.now) (g.S.Source.left c.perform.new.input) (g.K.Sink.held c.args.output.now) (g.K.Sink.held c.perform.new.output) (g.D.Depot.held c.args.depot.now) (g.D.Depot.held c.perform.new.depot)) (g.K.Sink.held c.write_last_line.new.output)) c.in-Err.stop (sym c.status.ensures ∙ e) (stopped text_of (run_of c.args.words.now (g.S.Source.left c.args.input.now) (g.S.Source.left c.perform.new.input) (g.K.Sink.held c.args.output.now) (g.K.Sink.held c.perform.new.output) (g.D.Depot.held c.args.depot.now) (g.D.Depot.held c.perform.new.depot)) (g.K.Sink.held c.write_last_line.new.output) c.in-Err.stop c.in-Err.ensures.stops c.in-Ok-write_last_line.ensures.whole)
 
 pub returns-in-Ok-write_last_line-clause-usage_only : goal.returns-in-Ok-write_last_line-clause-usage_only
 returns-in-Ok-write_last_line-clause-usage_only g c e =
@@ -27,35 +27,35 @@ returns-in-Ok-write_last_line-clause-usage_only g c e =
 
 pub returns-in-Ok-write_last_line-clause-bad : goal.returns-in-Ok-write_last_line-clause-bad
 returns-in-Ok-write_last_line-clause-bad g c e =
-    at_3 text_of (later (run_of c.args.words.now (g.S.Source.left c.args.input.now) (g.S.Source.left c.perform.new.input) (g.K.Sink.held c.args.output.now) (g.K.Sink.held c.perform.new.output) (g.D.Depot.held c.args.depot.now) (g.D.Depot.held c.perform.new.depot)) (g.K.Sink.held c.write_last_line.new.output)) c.in-Err.stop (sym c.status.ensures ∙ e) (stopped text_of (run_of c.args.words.now (g.S.Source.left c.args.input.now) (g.S.Source.left c.perform.new.input) (g.K.Sink.held c.args.output.now) (g.K.Sink.held c.perform.new.output) (g.D.Depot.held c.args.depot.now) (g.D.Depot.held c.perform.new.depot)) (g.K.Sink.held c.write_last_line.new.output) c.in-Err.stop c.in-Err.ensures.stops c.in-Ok-write_last_line.ensures.whole)
+    at_3 text_of (with_held_after (run_of c.args.words.now (g.S.Source.left c.args.input.now) (g.S.Source.left c.perform.new.input) (g.K.Sink.held c.args.output.now) (g.K.Sink.held c.perform.new.output) (g.D.Depot.held c.args.depot.now) (g.D.Depot.held c.perform.new.depot)) (g.K.Sink.held c.write_last_line.new.output)) c.in-Err.stop (sym c.status.ensures ∙ e) (stopped text_of (run_of c.args.words.now (g.S.Source.left c.args.input.now) (g.S.Source.left c.perform.new.input) (g.K.Sink.held c.args.output.now) (g.K.Sink.held c.perform.new.output) (g.D.Depot.held c.args.depot.now) (g.D.Depot.held c.perform.new.depot)) (g.K.Sink.held c.write_last_line.new.output) c.in-Err.stop c.in-Err.ensures.stops c.in-Ok-write_last_line.ensures.whole)
 
 pub returns-in-Ok-write_last_line-clause-unread : goal.returns-in-Ok-write_last_line-clause-unread
 returns-in-Ok-write_last_line-clause-unread g c e =
-    (c.in-Err.ensures.unread (ap Err (stop_4 c.in-Err.stop (sym c.status.ensures ∙ e))), at_4 text_of (later (run_of c.args.words.now (g.S.Source.left c.args.input.now) (g.S.Source.left c.perform.new.input) (g.K.Sink.held c.args.output.now) (g.K.Sink.held c.perform.new.output) (g.D.Depot.held c.args.depot.now) (g.D.Depot.held c.perform.new.depot)) (g.K.Sink.held c.write_last_line.new.output)) c.in-Err.stop (sym c.status.ensures ∙ e) (stopped text_of (run_of c.args.words.now (g.S.Source.left c.args.input.now) (g.S.Source.left c.perform.new.input) (g.K.Sink.held c.args.output.now) (g.K.Sink.held c.perform.new.output) (g.D.Depot.held c.args.depot.now) (g.D.Depot.held c.perform.new.depot)) (g.K.Sink.held c.write_last_line.new.output) c.in-Err.stop c.in-Err.ensures.stops c.in-Ok-write_last_line.ensures.whole))
+    (c.in-Err.ensures.unread (ap Err (stop_4 c.in-Err.stop (sym c.status.ensures ∙ e))), at_4 text_of (with_held_after (run_of c.args.words.now (g.S.Source.left c.args.input.now) (g.S.Source.left c.perform.new.input) (g.K.Sink.held c.args.output.now) (g.K.Sink.held c.perform.new.output) (g.D.Depot.held c.args.depot.now) (g.D.Depot.held c.perform.new.depot)) (g.K.Sink.held c.write_last_line.new.output)) c.in-Err.stop (sym c.status.ensures ∙ e) (stopped text_of (run_of c.args.words.now (g.S.Source.left c.args.input.now) (g.S.Source.left c.perform.new.input) (g.K.Sink.held c.args.output.now) (g.K.Sink.held c.perform.new.output) (g.D.Depot.held c.args.depot.now) (g.D.Depot.held c.perform.new.depot)) (g.K.Sink.held c.write_last_line.new.output) c.in-Err.stop c.in-Err.ensures.stops c.in-Ok-write_last_line.ensures.whole))
 
-pub returns-in-Ok-write_last_line-clause-sure : goal.returns-in-Ok-write_last_line-clause-sure
-returns-in-Ok-write_last_line-clause-sure g c s e =
-    c.in-Err.ensures.sure s (ap Err (stop_4 c.in-Err.stop (sym c.status.ensures ∙ e)))
+pub returns-in-Ok-write_last_line-clause-never_fails : goal.returns-in-Ok-write_last_line-clause-never_fails
+returns-in-Ok-write_last_line-clause-never_fails g c s e =
+    c.in-Err.ensures.never_fails s (ap Err (stop_4 c.in-Err.stop (sym c.status.ensures ∙ e)))
 
 pub returns-in-Ok-write_last_line-clause-unwritten : goal.returns-in-Ok-write_last_line-clause-unwritten
 returns-in-Ok-write_last_line-clause-unwritten g c e =
-    (Rose-after _ _ _ (c.in-Err.ensures.unwritten (ap Err (stop_5 c.in-Err.stop (sym c.status.ensures ∙ e)))) c.write_last_line.ensures.later, at_5 text_of (later (run_of c.args.words.now (g.S.Source.left c.args.input.now) (g.S.Source.left c.perform.new.input) (g.K.Sink.held c.args.output.now) (g.K.Sink.held c.perform.new.output) (g.D.Depot.held c.args.depot.now) (g.D.Depot.held c.perform.new.depot)) (g.K.Sink.held c.write_last_line.new.output)) c.in-Err.stop (sym c.status.ensures ∙ e) (stopped text_of (run_of c.args.words.now (g.S.Source.left c.args.input.now) (g.S.Source.left c.perform.new.input) (g.K.Sink.held c.args.output.now) (g.K.Sink.held c.perform.new.output) (g.D.Depot.held c.args.depot.now) (g.D.Depot.held c.perform.new.depot)) (g.K.Sink.held c.write_last_line.new.output) c.in-Err.stop c.in-Err.ensures.stops c.in-Ok-write_last_line.ensures.whole))
+    (FaultsCounted-after _ _ _ (c.in-Err.ensures.unwritten (ap Err (stop_5 c.in-Err.stop (sym c.status.ensures ∙ e)))) c.write_last_line.ensures.faults_monotone, at_5 text_of (with_held_after (run_of c.args.words.now (g.S.Source.left c.args.input.now) (g.S.Source.left c.perform.new.input) (g.K.Sink.held c.args.output.now) (g.K.Sink.held c.perform.new.output) (g.D.Depot.held c.args.depot.now) (g.D.Depot.held c.perform.new.depot)) (g.K.Sink.held c.write_last_line.new.output)) c.in-Err.stop (sym c.status.ensures ∙ e) (stopped text_of (run_of c.args.words.now (g.S.Source.left c.args.input.now) (g.S.Source.left c.perform.new.input) (g.K.Sink.held c.args.output.now) (g.K.Sink.held c.perform.new.output) (g.D.Depot.held c.args.depot.now) (g.D.Depot.held c.perform.new.depot)) (g.K.Sink.held c.write_last_line.new.output) c.in-Err.stop c.in-Err.ensures.stops c.in-Ok-write_last_line.ensures.whole))
 
 pub returns-in-Ok-write_last_line-clause-no_depot : goal.returns-in-Ok-write_last_line-clause-no_depot
 returns-in-Ok-write_last_line-clause-no_depot g c e =
-    (c.in-Err.ensures.failed (ap Err (stop_7 c.in-Err.stop (sym c.status.ensures ∙ e))), at_7 text_of (later (run_of c.args.words.now (g.S.Source.left c.args.input.now) (g.S.Source.left c.perform.new.input) (g.K.Sink.held c.args.output.now) (g.K.Sink.held c.perform.new.output) (g.D.Depot.held c.args.depot.now) (g.D.Depot.held c.perform.new.depot)) (g.K.Sink.held c.write_last_line.new.output)) c.in-Err.stop (sym c.status.ensures ∙ e) (stopped text_of (run_of c.args.words.now (g.S.Source.left c.args.input.now) (g.S.Source.left c.perform.new.input) (g.K.Sink.held c.args.output.now) (g.K.Sink.held c.perform.new.output) (g.D.Depot.held c.args.depot.now) (g.D.Depot.held c.perform.new.depot)) (g.K.Sink.held c.write_last_line.new.output) c.in-Err.stop c.in-Err.ensures.stops c.in-Ok-write_last_line.ensures.whole))
+    (c.in-Err.ensures.failed (ap Err (stop_7 c.in-Err.stop (sym c.status.ensures ∙ e))), at_7 text_of (with_held_after (run_of c.args.words.now (g.S.Source.left c.args.input.now) (g.S.Source.left c.perform.new.input) (g.K.Sink.held c.args.output.now) (g.K.Sink.held c.perform.new.output) (g.D.Depot.held c.args.depot.now) (g.D.Depot.held c.perform.new.depot)) (g.K.Sink.held c.write_last_line.new.output)) c.in-Err.stop (sym c.status.ensures ∙ e) (stopped text_of (run_of c.args.words.now (g.S.Source.left c.args.input.now) (g.S.Source.left c.perform.new.input) (g.K.Sink.held c.args.output.now) (g.K.Sink.held c.perform.new.output) (g.D.Depot.held c.args.depot.now) (g.D.Depot.held c.perform.new.depot)) (g.K.Sink.held c.write_last_line.new.output) c.in-Err.stop c.in-Err.ensures.stops c.in-Ok-write_last_line.ensures.whole))
 
-pub returns-in-Ok-write_last_line-clause-sure_depot : goal.returns-in-Ok-write_last_line-clause-sure_depot
-returns-in-Ok-write_last_line-clause-sure_depot g c s e =
-    c.in-Err.ensures.sure_depot s (ap Err (stop_7 c.in-Err.stop (sym c.status.ensures ∙ e)))
+pub returns-in-Ok-write_last_line-clause-depot_never_fails : goal.returns-in-Ok-write_last_line-clause-depot_never_fails
+returns-in-Ok-write_last_line-clause-depot_never_fails g c s e =
+    c.in-Err.ensures.depot_never_fails s (ap Err (stop_7 c.in-Err.stop (sym c.status.ensures ∙ e)))
 
 pub returns-in-Ok-write_last_line-clause-memory : goal.returns-in-Ok-write_last_line-clause-memory
 returns-in-Ok-write_last_line-clause-memory g c e =
-    at_8 text_of (later (run_of c.args.words.now (g.S.Source.left c.args.input.now) (g.S.Source.left c.perform.new.input) (g.K.Sink.held c.args.output.now) (g.K.Sink.held c.perform.new.output) (g.D.Depot.held c.args.depot.now) (g.D.Depot.held c.perform.new.depot)) (g.K.Sink.held c.write_last_line.new.output)) c.in-Err.stop (sym c.status.ensures ∙ e) (stopped text_of (run_of c.args.words.now (g.S.Source.left c.args.input.now) (g.S.Source.left c.perform.new.input) (g.K.Sink.held c.args.output.now) (g.K.Sink.held c.perform.new.output) (g.D.Depot.held c.args.depot.now) (g.D.Depot.held c.perform.new.depot)) (g.K.Sink.held c.write_last_line.new.output) c.in-Err.stop c.in-Err.ensures.stops c.in-Ok-write_last_line.ensures.whole)
+    at_8 text_of (with_held_after (run_of c.args.words.now (g.S.Source.left c.args.input.now) (g.S.Source.left c.perform.new.input) (g.K.Sink.held c.args.output.now) (g.K.Sink.held c.perform.new.output) (g.D.Depot.held c.args.depot.now) (g.D.Depot.held c.perform.new.depot)) (g.K.Sink.held c.write_last_line.new.output)) c.in-Err.stop (sym c.status.ensures ∙ e) (stopped text_of (run_of c.args.words.now (g.S.Source.left c.args.input.now) (g.S.Source.left c.perform.new.input) (g.K.Sink.held c.args.output.now) (g.K.Sink.held c.perform.new.output) (g.D.Depot.held c.args.depot.now) (g.D.Depot.held c.perform.new.depot)) (g.K.Sink.held c.write_last_line.new.output) c.in-Err.stop c.in-Err.ensures.stops c.in-Ok-write_last_line.ensures.whole)
 
 pub returns-in-Ok-write_last_line-clause-long : goal.returns-in-Ok-write_last_line-clause-long
 returns-in-Ok-write_last_line-clause-long g c e =
-    at_9 text_of (later (run_of c.args.words.now (g.S.Source.left c.args.input.now) (g.S.Source.left c.perform.new.input) (g.K.Sink.held c.args.output.now) (g.K.Sink.held c.perform.new.output) (g.D.Depot.held c.args.depot.now) (g.D.Depot.held c.perform.new.depot)) (g.K.Sink.held c.write_last_line.new.output)) c.in-Err.stop (sym c.status.ensures ∙ e) (stopped text_of (run_of c.args.words.now (g.S.Source.left c.args.input.now) (g.S.Source.left c.perform.new.input) (g.K.Sink.held c.args.output.now) (g.K.Sink.held c.perform.new.output) (g.D.Depot.held c.args.depot.now) (g.D.Depot.held c.perform.new.depot)) (g.K.Sink.held c.write_last_line.new.output) c.in-Err.stop c.in-Err.ensures.stops c.in-Ok-write_last_line.ensures.whole)
+    at_9 text_of (with_held_after (run_of c.args.words.now (g.S.Source.left c.args.input.now) (g.S.Source.left c.perform.new.input) (g.K.Sink.held c.args.output.now) (g.K.Sink.held c.perform.new.output) (g.D.Depot.held c.args.depot.now) (g.D.Depot.held c.perform.new.depot)) (g.K.Sink.held c.write_last_line.new.output)) c.in-Err.stop (sym c.status.ensures ∙ e) (stopped text_of (run_of c.args.words.now (g.S.Source.left c.args.input.now) (g.S.Source.left c.perform.new.input) (g.K.Sink.held c.args.output.now) (g.K.Sink.held c.perform.new.output) (g.D.Depot.held c.args.depot.now) (g.D.Depot.held c.perform.new.depot)) (g.K.Sink.held c.write_last_line.new.output) c.in-Err.stop c.in-Err.ensures.stops c.in-Ok-write_last_line.ensures.whole)
 
 pub returns-in-Ok-write_last_line-clause-long_only : goal.returns-in-Ok-write_last_line-clause-long_only
 returns-in-Ok-write_last_line-clause-long_only g c e some takes =
@@ -63,7 +63,7 @@ returns-in-Ok-write_last_line-clause-long_only g c e some takes =
 
 pub returns-in-Ok-write_last_line-clause-missing : goal.returns-in-Ok-write_last_line-clause-missing
 returns-in-Ok-write_last_line-clause-missing g c e =
-    at_12 text_of (later (run_of c.args.words.now (g.S.Source.left c.args.input.now) (g.S.Source.left c.perform.new.input) (g.K.Sink.held c.args.output.now) (g.K.Sink.held c.perform.new.output) (g.D.Depot.held c.args.depot.now) (g.D.Depot.held c.perform.new.depot)) (g.K.Sink.held c.write_last_line.new.output)) c.in-Err.stop (sym c.status.ensures ∙ e) (stopped text_of (run_of c.args.words.now (g.S.Source.left c.args.input.now) (g.S.Source.left c.perform.new.input) (g.K.Sink.held c.args.output.now) (g.K.Sink.held c.perform.new.output) (g.D.Depot.held c.args.depot.now) (g.D.Depot.held c.perform.new.depot)) (g.K.Sink.held c.write_last_line.new.output) c.in-Err.stop c.in-Err.ensures.stops c.in-Ok-write_last_line.ensures.whole)
+    at_12 text_of (with_held_after (run_of c.args.words.now (g.S.Source.left c.args.input.now) (g.S.Source.left c.perform.new.input) (g.K.Sink.held c.args.output.now) (g.K.Sink.held c.perform.new.output) (g.D.Depot.held c.args.depot.now) (g.D.Depot.held c.perform.new.depot)) (g.K.Sink.held c.write_last_line.new.output)) c.in-Err.stop (sym c.status.ensures ∙ e) (stopped text_of (run_of c.args.words.now (g.S.Source.left c.args.input.now) (g.S.Source.left c.perform.new.input) (g.K.Sink.held c.args.output.now) (g.K.Sink.held c.perform.new.output) (g.D.Depot.held c.args.depot.now) (g.D.Depot.held c.perform.new.depot)) (g.K.Sink.held c.write_last_line.new.output) c.in-Err.stop c.in-Err.ensures.stops c.in-Ok-write_last_line.ensures.whole)
 
 pub returns-in-Ok-write_last_line-clause-missing_only : goal.returns-in-Ok-write_last_line-clause-missing_only
 returns-in-Ok-write_last_line-clause-missing_only g c name e some none =
@@ -81,25 +81,25 @@ returns-in-Err-write_last_line-clause-unused g c =
 
 pub returns-in-Err-write_last_line-clause-unwritten : goal.returns-in-Err-write_last_line-clause-unwritten
 returns-in-Err-write_last_line-clause-unwritten g c e =
-    (Rose-before _ _ _ c.in-Err.ensures.later c.in-Err-write_last_line.ensures.rose, stopped_cut_off text_of (run_of c.args.words.now (g.S.Source.left c.args.input.now) (g.S.Source.left c.perform.new.input) (g.K.Sink.held c.args.output.now) (g.K.Sink.held c.perform.new.output) (g.D.Depot.held c.args.depot.now) (g.D.Depot.held c.perform.new.depot)) (g.K.Sink.held c.write_last_line.new.output) c.in-Err.stop c.in-Err.ensures.stops c.in-Err-write_last_line.ensures.part)
+    (FaultsCounted-before _ _ _ c.in-Err.ensures.faults_monotone c.in-Err-write_last_line.ensures.faults_counted, stopped_cut_off text_of (run_of c.args.words.now (g.S.Source.left c.args.input.now) (g.S.Source.left c.perform.new.input) (g.K.Sink.held c.args.output.now) (g.K.Sink.held c.perform.new.output) (g.D.Depot.held c.args.depot.now) (g.D.Depot.held c.perform.new.depot)) (g.K.Sink.held c.write_last_line.new.output) c.in-Err.stop c.in-Err.ensures.stops c.in-Err-write_last_line.ensures.part)
 
 pub returns-in-Ok-write_last_line-clause-play_is_done : goal.returns-in-Ok-write_last_line-clause-play_is_done
 returns-in-Ok-write_last_line-clause-play_is_done g c text e left short good read written =
-    let wanted = play_is_done text_of (later (run_of c.args.words.now (g.S.Source.left c.args.input.now) (g.S.Source.left c.perform.new.input) (g.K.Sink.held c.args.output.now) (g.K.Sink.held c.perform.new.output) (g.D.Depot.held c.args.depot.now) (g.D.Depot.held c.perform.new.depot)) (g.K.Sink.held c.write_last_line.new.output)) text e left short good c.in-Err.stop (stopped text_of (run_of c.args.words.now (g.S.Source.left c.args.input.now) (g.S.Source.left c.perform.new.input) (g.K.Sink.held c.args.output.now) (g.K.Sink.held c.perform.new.output) (g.D.Depot.held c.args.depot.now) (g.D.Depot.held c.perform.new.depot)) (g.K.Sink.held c.write_last_line.new.output) c.in-Err.stop c.in-Err.ensures.stops c.in-Ok-write_last_line.ensures.whole) (λ h. read (c.in-Err.ensures.unread (ap Err h))) (λ h. written (Rose-after _ _ _ (c.in-Err.ensures.unwritten (ap Err h)) c.write_last_line.ensures.later)) in
+    let wanted = play_is_done text_of (with_held_after (run_of c.args.words.now (g.S.Source.left c.args.input.now) (g.S.Source.left c.perform.new.input) (g.K.Sink.held c.args.output.now) (g.K.Sink.held c.perform.new.output) (g.D.Depot.held c.args.depot.now) (g.D.Depot.held c.perform.new.depot)) (g.K.Sink.held c.write_last_line.new.output)) text e left short good c.in-Err.stop (stopped text_of (run_of c.args.words.now (g.S.Source.left c.args.input.now) (g.S.Source.left c.perform.new.input) (g.K.Sink.held c.args.output.now) (g.K.Sink.held c.perform.new.output) (g.D.Depot.held c.args.depot.now) (g.D.Depot.held c.perform.new.depot)) (g.K.Sink.held c.write_last_line.new.output) c.in-Err.stop c.in-Err.ensures.stops c.in-Ok-write_last_line.ensures.whole) (λ h. read (c.in-Err.ensures.unread (ap Err h))) (λ h. written (FaultsCounted-after _ _ _ (c.in-Err.ensures.unwritten (ap Err h)) c.write_last_line.ensures.faults_monotone)) in
     inr (c.status.ensures ∙ ap status wanted)
 
 pub returns-in-Ok-write_last_line-clause-bulk_is_done : goal.returns-in-Ok-write_last_line-clause-bulk_is_done
 returns-in-Ok-write_last_line-clause-bulk_is_done g c seed mix e written =
-    let wanted = bulk_is_done text_of (later (run_of c.args.words.now (g.S.Source.left c.args.input.now) (g.S.Source.left c.perform.new.input) (g.K.Sink.held c.args.output.now) (g.K.Sink.held c.perform.new.output) (g.D.Depot.held c.args.depot.now) (g.D.Depot.held c.perform.new.depot)) (g.K.Sink.held c.write_last_line.new.output)) seed mix e (c.no_generated_line_is_bad.ensures.not_asked (later (run_of c.args.words.now (g.S.Source.left c.args.input.now) (g.S.Source.left c.perform.new.input) (g.K.Sink.held c.args.output.now) (g.K.Sink.held c.perform.new.output) (g.D.Depot.held c.args.depot.now) (g.D.Depot.held c.perform.new.depot)) (g.K.Sink.held c.write_last_line.new.output)) seed mix e) c.in-Err.stop (stopped text_of (run_of c.args.words.now (g.S.Source.left c.args.input.now) (g.S.Source.left c.perform.new.input) (g.K.Sink.held c.args.output.now) (g.K.Sink.held c.perform.new.output) (g.D.Depot.held c.args.depot.now) (g.D.Depot.held c.perform.new.depot)) (g.K.Sink.held c.write_last_line.new.output) c.in-Err.stop c.in-Err.ensures.stops c.in-Ok-write_last_line.ensures.whole) (λ h. written (Rose-after _ _ _ (c.in-Err.ensures.unwritten (ap Err h)) c.write_last_line.ensures.later)) in
+    let wanted = bulk_is_done text_of (with_held_after (run_of c.args.words.now (g.S.Source.left c.args.input.now) (g.S.Source.left c.perform.new.input) (g.K.Sink.held c.args.output.now) (g.K.Sink.held c.perform.new.output) (g.D.Depot.held c.args.depot.now) (g.D.Depot.held c.perform.new.depot)) (g.K.Sink.held c.write_last_line.new.output)) seed mix e (c.no_generated_line_is_bad.ensures.not_asked (with_held_after (run_of c.args.words.now (g.S.Source.left c.args.input.now) (g.S.Source.left c.perform.new.input) (g.K.Sink.held c.args.output.now) (g.K.Sink.held c.perform.new.output) (g.D.Depot.held c.args.depot.now) (g.D.Depot.held c.perform.new.depot)) (g.K.Sink.held c.write_last_line.new.output)) seed mix e) c.in-Err.stop (stopped text_of (run_of c.args.words.now (g.S.Source.left c.args.input.now) (g.S.Source.left c.perform.new.input) (g.K.Sink.held c.args.output.now) (g.K.Sink.held c.perform.new.output) (g.D.Depot.held c.args.depot.now) (g.D.Depot.held c.perform.new.depot)) (g.K.Sink.held c.write_last_line.new.output) c.in-Err.stop c.in-Err.ensures.stops c.in-Ok-write_last_line.ensures.whole) (λ h. written (FaultsCounted-after _ _ _ (c.in-Err.ensures.unwritten (ap Err h)) c.write_last_line.ensures.faults_monotone)) in
     inr (c.status.ensures ∙ ap status wanted)
 
 pub returns-in-Err-write_last_line-clause-play_is_done : goal.returns-in-Err-write_last_line-clause-play_is_done
 returns-in-Err-write_last_line-clause-play_is_done g c text e left short good read written =
-    absurd (written (Rose-before _ _ _ c.in-Err.ensures.later c.in-Err-write_last_line.ensures.rose))
+    absurd (written (FaultsCounted-before _ _ _ c.in-Err.ensures.faults_monotone c.in-Err-write_last_line.ensures.faults_counted))
 
 pub returns-in-Err-write_last_line-clause-bulk_is_done : goal.returns-in-Err-write_last_line-clause-bulk_is_done
 returns-in-Err-write_last_line-clause-bulk_is_done g c seed mix e written =
-    absurd (written (Rose-before _ _ _ c.in-Err.ensures.later c.in-Err-write_last_line.ensures.rose))
+    absurd (written (FaultsCounted-before _ _ _ c.in-Err.ensures.faults_monotone c.in-Err-write_last_line.ensures.faults_counted))
 
 pub returns-in-Ok-clause-show_dump_is_done : goal.returns-in-Ok-clause-show_dump_is_done
 returns-in-Ok-clause-show_dump_is_done g c name bytes image place rest e told has reads kept written =
@@ -107,9 +107,9 @@ returns-in-Ok-clause-show_dump_is_done g c name bytes image place rest e told ha
 
 pub returns-in-Ok-write_last_line-clause-show_dump_is_done : goal.returns-in-Ok-write_last_line-clause-show_dump_is_done
 returns-in-Ok-write_last_line-clause-show_dump_is_done g c name bytes image place rest e told has reads kept written =
-    let wanted = show_dump_is_done text_of (later (run_of c.args.words.now (g.S.Source.left c.args.input.now) (g.S.Source.left c.perform.new.input) (g.K.Sink.held c.args.output.now) (g.K.Sink.held c.perform.new.output) (g.D.Depot.held c.args.depot.now) (g.D.Depot.held c.perform.new.depot)) (g.K.Sink.held c.write_last_line.new.output)) name bytes image place rest told has reads e c.in-Err.stop (stopped text_of (run_of c.args.words.now (g.S.Source.left c.args.input.now) (g.S.Source.left c.perform.new.input) (g.K.Sink.held c.args.output.now) (g.K.Sink.held c.perform.new.output) (g.D.Depot.held c.args.depot.now) (g.D.Depot.held c.perform.new.depot)) (g.K.Sink.held c.write_last_line.new.output) c.in-Err.stop c.in-Err.ensures.stops c.in-Ok-write_last_line.ensures.whole) (λ h. kept (c.in-Err.ensures.failed (ap Err h))) (λ h. written (Rose-after _ _ _ (c.in-Err.ensures.unwritten (ap Err h)) c.write_last_line.ensures.later)) in
+    let wanted = show_dump_is_done text_of (with_held_after (run_of c.args.words.now (g.S.Source.left c.args.input.now) (g.S.Source.left c.perform.new.input) (g.K.Sink.held c.args.output.now) (g.K.Sink.held c.perform.new.output) (g.D.Depot.held c.args.depot.now) (g.D.Depot.held c.perform.new.depot)) (g.K.Sink.held c.write_last_line.new.output)) name bytes image place rest told has reads e c.in-Err.stop (stopped text_of (run_of c.args.words.now (g.S.Source.left c.args.input.now) (g.S.Source.left c.perform.new.input) (g.K.Sink.held c.args.output.now) (g.K.Sink.held c.perform.new.output) (g.D.Depot.held c.args.depot.now) (g.D.Depot.held c.perform.new.depot)) (g.K.Sink.held c.write_last_line.new.output) c.in-Err.stop c.in-Err.ensures.stops c.in-Ok-write_last_line.ensures.whole) (λ h. kept (c.in-Err.ensures.failed (ap Err h))) (λ h. written (FaultsCounted-after _ _ _ (c.in-Err.ensures.unwritten (ap Err h)) c.write_last_line.ensures.faults_monotone)) in
     inr (c.status.ensures ∙ ap status wanted)
 
 pub returns-in-Err-write_last_line-clause-show_dump_is_done : goal.returns-in-Err-write_last_line-clause-show_dump_is_done
 returns-in-Err-write_last_line-clause-show_dump_is_done g c name bytes image place rest e told has reads kept written =
-    absurd (written (Rose-before _ _ _ c.in-Err.ensures.later c.in-Err-write_last_line.ensures.rose))
+    absurd (written (FaultsCounted-before _ _ _ c.in-Err.ensures.faults_monotone c.in-Err-write_last_line.ensures.faults_counted))

@@ -17,7 +17,7 @@ returns-in_err-write_text-3-clause-part g c = on_err c.from_residual-in_err-writ
 pub loop-word-preserved : goal.loop-word-preserved
 loop-word-preserved g c = record {
   written = word_written (g.K.Sink.held c.args.output.now) (g.K.Sink.held c.loop-word.output) (g.K.Sink.held c.write_text-in-loop-word.new.output) (line c.args.first.now (map (λ w. w.now) c.args.words.now)) c.args.words.now c.loop-word.word-index c.loop-word.invariant.written _ c.loop-word-test.true (g.K.Sink.held c.write_text-in-loop-word-2.new.output) c.in_ok-write_text-2.ensures.whole c.in_ok-write_text-3.ensures.whole;
-  later = omega (arith, c.loop-word.invariant.later, c.write_text-in-loop-word.ensures.later, c.write_text-in-loop-word-2.ensures.later);
+  faults_monotone = omega (arith, c.loop-word.invariant.faults_monotone, c.write_text-in-loop-word.ensures.faults_monotone, c.write_text-in-loop-word-2.ensures.faults_monotone);
 }
 
 pub returns-clause-part : goal.returns-clause-part

@@ -3,7 +3,7 @@ use Rattle.std.proofs.Common.{◌≤◌, ◌<◌, ◌≡◌, ◌+◌, ◌-◌, a
 use Rattle.std.specs.Prelude.{None, slice_get}
 use Rattle.rdma_types.specs.Spans.{end_number, first_number, span, span_of}
 use Rattle.work_queues.specs.Queue.{Queue}
-use Rattle.work_queues.specs.declared.posted.Posted.{Posted}
+use Rattle.work_queues.specs.declared.posted.QueuedRequest.{QueuedRequest}
 use Rattle.requester.specs.Sending.{bare, bares, sender_with}
 use Rattle.requester.proofs.Bares.{bare_at, bares-drop, length-bares}
 use Rattle.requester.proofs.Keeping.{end-drop, end-none, first-none, first-one, first-zero, failed, held_failed}
@@ -11,7 +11,7 @@ use Rattle.requester.proofs.Places.{span_inside}
 use Rattle.requester.proofs.Tables.{failing_is}
 use Rattle.requester.proofs.Requester.cut.Goals as goal
 
-nothing_left_items : (ps : List Posted) → slice_get ps 0 ≡ None → ps ≡ []
+nothing_left_items : (ps : List QueuedRequest) → slice_get ps 0 ≡ None → ps ≡ []
 nothing_left_items [] h = refl
 nothing_left_items (p ∷ ps) h = absurd (cc)
 
@@ -44,7 +44,7 @@ failed_caches-self-inside-requires-2 c =
 
 pub invariant_of-self-2 : goal.invariant_of-self-2
 invariant_of-self-2 c =
-    let items = ap (λ (q : Queue Posted). q.items) c.drop_front-cut.ensures.rest in
+    let items = ap (λ (q : Queue QueuedRequest). q.items) c.drop_front-cut.ensures.rest in
     let more = end-drop (bares c.self.inside.queue.items) c.self.inside.terms.mtu (bare c.in-Some.p.now) (bare_at c.self.inside.queue.items 0 c.in-Some.p.now (sym c.in-Some.ensures)) in
     let o = c.self.invariant.order in
     rw (c.failed_numbers-self-inside-2.ensures, c.failed_caches-self-inside-2.ensures, c.len.ensures.len, items, ← length-bares (drop 1 c.self.inside.queue.items), bares-drop c.self.inside.queue.items, c.span_of.ensures.rule)
@@ -52,7 +52,7 @@ invariant_of-self-2 c =
 
 pub returns-clause-numbers : goal.returns-clause-numbers
 returns-clause-numbers c =
-    let items = ap (λ (q : Queue Posted). q.items) c.drop_front-cut.ensures.rest in
+    let items = ap (λ (q : Queue QueuedRequest). q.items) c.drop_front-cut.ensures.rest in
     let one = first-one (bares c.self.inside.queue.items) c.self.inside.terms.mtu (bare c.in-Some.p.now) (bare_at c.self.inside.queue.items 0 c.in-Some.p.now (sym c.in-Some.ensures)) in
     let e = failing_is c.self.inside.terms (sender_with (bares c.self.inside.queue.items) c.self.inside.numbers) c.self.inside.caches c.self.invariant (c.self.inside.numbers.first + span_of (bare c.in-Some.p.now) c.self.inside.terms.mtu) (ap (λ n. c.self.inside.numbers.first + n) (sym one)) in
     rw (c.failed_numbers-self-inside-2.ensures, items, bares-drop c.self.inside.queue.items, c.span_of.ensures.rule, ← c.self.view_is) e

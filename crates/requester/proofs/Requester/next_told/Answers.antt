@@ -2,7 +2,7 @@
 use Rattle.std.proofs.Common.{◌≤◌, ◌<◌, ◌≡◌, ◌+◌, ◌-◌, arith, sym, ap, ◌∙◌, refl}
 use Rattle.rdma_types.specs.Spans.{span, span_of}
 use Rattle.work_queues.specs.Queue.{Queue}
-use Rattle.work_queues.specs.declared.posted.Posted.{Posted}
+use Rattle.work_queues.specs.declared.posted.QueuedRequest.{QueuedRequest}
 use Rattle.requester.specs.Sending.{bare, bares, sender_with}
 use Rattle.requester.proofs.Bares.{bare_at, bares-drop}
 use Rattle.requester.proofs.Keeping.{first-one, held_told, none_told, some_told}
@@ -15,7 +15,7 @@ returns-then-self-span-clause-told c =
 
 pub invariant_of-self : goal.invariant_of-self
 invariant_of-self c =
-    let items = ap (λ (q : Queue Posted). q.items) c.drop_front-told.ensures.rest in
+    let items = ap (λ (q : Queue QueuedRequest). q.items) c.drop_front-told.ensures.rest in
     let past : c.self.inside.numbers.first + span_of (bare c.in_ok-at.field-0.now) c.self.inside.terms.mtu ≤ c.self.inside.numbers.una = omega (arith, c.if-self-span.false, c.span_of-span.ensures.rule, c.span_of-span.ensures.positive) in
     rw (items, bares-drop c.self.inside.queue.items, c.without_first-self-inside.ensures, c.span_of-span.ensures.rule)
     (held_told c.self.inside.terms (bares c.self.inside.queue.items) c.self.inside.numbers c.self.inside.caches (bare c.in_ok-at.field-0.now) (bare_at c.self.inside.queue.items 0 c.in_ok-at.field-0.now (sym c.in_ok-at.ensures)) c.self.invariant past)
@@ -27,6 +27,6 @@ returns-clause-told c =
 
 pub returns-clause-numbers : goal.returns-clause-numbers
 returns-clause-numbers c =
-    let items = ap (λ (q : Queue Posted). q.items) c.drop_front-told.ensures.rest in
+    let items = ap (λ (q : Queue QueuedRequest). q.items) c.drop_front-told.ensures.rest in
     let one = first-one (bares c.self.inside.queue.items) c.self.inside.terms.mtu (bare c.in_ok-at.field-0.now) (bare_at c.self.inside.queue.items 0 c.in_ok-at.field-0.now (sym c.in_ok-at.ensures)) in
     rw (c.drop_front-told.ensures.front ∙ sym c.in_ok-at.ensures, items, bares-drop c.self.inside.queue.items, c.span_of-span.ensures.rule, ← c.self.view_is, one) refl

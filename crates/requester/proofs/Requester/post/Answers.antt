@@ -2,7 +2,7 @@
 use Rattle.std.proofs.Common.{◌≤◌, ◌<◌, ◌≡◌, ◌+◌, arith, sym, ap, ◌∙◌}
 use Rattle.rdma_types.specs.Spans.{span, span_of}
 use Rattle.work_queues.specs.Queue.{Queue}
-use Rattle.work_queues.specs.declared.posted.Posted.{Posted}
+use Rattle.work_queues.specs.declared.posted.QueuedRequest.{QueuedRequest}
 use Rattle.requester.specs.Sending.{bare, bares, sender_with}
 use Rattle.requester.proofs.Bares.{bares-push, index_few, length-bares}
 use Rattle.requester.proofs.Keeping.{barrier_within, held_posted}
@@ -33,6 +33,6 @@ posted-self-inside-requires-clause-index c =
 pub invariant_of-self-2 : goal.invariant_of-self-2
 invariant_of-self-2 c =
     let room = rw (end_is c.self.inside.terms (sender_with (bares c.self.inside.queue.items) c.self.inside.numbers) c.self.inside.caches c.self.invariant) at (rw (← c.self.view_is) at c.requires.below_limit) in
-    let items = ap (λ (q : Queue Posted). q.items) c.in_ok-post.ensures.ok in
+    let items = ap (λ (q : Queue QueuedRequest). q.items) c.in_ok-post.ensures.ok in
     rw (items, bares-push c.self.inside.queue.items c.args.p, c.posted-self-inside.ensures, c.barrier_stays-stays.ensures, c.len.ensures.len, ← length-bares c.self.inside.queue.items, c.span_of-span.ensures.rule)
     (held_posted c.self.inside.terms (sender_with (bares c.self.inside.queue.items) c.self.inside.numbers) c.self.inside.caches c.self.invariant (bare c.args.p) room)

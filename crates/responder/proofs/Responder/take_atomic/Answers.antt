@@ -18,7 +18,7 @@ invariant_of-self c =
     let reply : KeptReply = record { number = c.self.inside.parts.expected; old = c.exchange-old.result } in
     let kept = ap (λ v. v.receiver.kept) c.self.view_is in
     let number = ap (λ v. v.receiver.expected) c.self.view_is in
-    let later : reply.number < bound = omega (arith, number, c.executed-parts.ensures.later) in
+    let later : reply.number < bound = omega (arith, number, c.executed-parts.ensures.expected_grows) in
     let old : All (λ k. k.number < bound) c.self.inside.kept = subst (λ ks. All (λ k. k.number < bound) ks) (sym kept) held.kept in
     record {
       mtu = c.self.invariant.mtu;

@@ -6,7 +6,7 @@ use Rattle.script_runner.proofs.playing.play_line.Goals as goal
 
 pub returns-in-Ok-clause-played : goal.returns-in-Ok-clause-played
 returns-in-Ok-clause-played g c held script n rest e p =
-    on_ok_with c.answer.result (line_played c.scripts_are_played_line_by_line.ensures.goes_on held _ _ script c.args.world.now n c.args.number c.args.line.now rest c.in-Ok.line e c.in-Ok.ensures.value p (record { forgets = c.alike_worlds_are_answered_alike.ensures.forgetful; line = c.alike_worlds_are_answered_alike.ensures.line }) c.scripts_are_played_line_by_line.ensures.forgets c.answer.new.world) c.answer.ensures.world c.answer.ensures.whole
+    on_ok_with c.answer.result (line_played c.scripts_are_played_line_by_line.ensures.goes_on held _ _ script c.args.world.now n c.args.number c.args.line.now rest c.in-Ok.line e c.in-Ok.ensures.value p (record { forgets = c.alike_worlds_are_answered_alike.ensures.kept_datagrams; line = c.alike_worlds_are_answered_alike.ensures.line }) c.scripts_are_played_line_by_line.ensures.forgets c.answer.new.world) c.answer.ensures.world c.answer.ensures.whole
 
 pub returns-in-Ok-clause-part : goal.returns-in-Ok-clause-part
 returns-in-Ok-clause-part g c held script n rest e p =

@@ -30,5 +30,5 @@ loop-line-init g c =
     let here : IsPlayedTo held held c.args.input.now empty_world 0 c.new-lines.result = subst (IsPlayedTo held held c.args.input.now empty_world 0) (sym c.new-lines.ensures) (start c.scripts_are_played_line_by_line.ensures.begins held c.args.input.now) in
     record {
       played = subst (λ (w : World). IsPlayedTo held held c.args.input.now w 0 c.new-lines.result) (sym c.in_ok-world.ensures) here;
-      later = omega arith;
+      faults_monotone = omega arith;
     }

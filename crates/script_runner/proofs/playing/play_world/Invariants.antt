@@ -5,7 +5,7 @@ use Rattle.script_runner.proofs.playing.play_world.Given as goal
 abbrev pub invariant-loop-line : goal.invariant-loop-line
 invariant-loop-line g l = record {
   played : IsPlayedTo (g.K.Sink.held l.initial.output) (g.K.Sink.held l.output) l.input l.world l.number l.lines;
-  later : g.K.Sink.faults l.initial.output ≤ g.K.Sink.faults l.output;
+  faults_monotone : g.K.Sink.faults l.initial.output ≤ g.K.Sink.faults l.output;
 }
 
 abbrev pub decreases-loop-line : goal.decreases-loop-line

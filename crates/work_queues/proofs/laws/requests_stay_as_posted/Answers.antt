@@ -3,12 +3,12 @@ use Rattle.std.proofs.lemmas.List.{map_push, drop-map}
 use Rattle.std.proofs.lemmas.Option.{slice_get-map}
 use Rattle.page_pool.specs.Pool.{Pool, Puts}
 use Rattle.page_pool.specs.Held.{payload_bytes}
-use Rattle.work_queues.specs.declared.posted.Posted.{Posted}
+use Rattle.work_queues.specs.declared.posted.QueuedRequest.{QueuedRequest}
 use Rattle.work_queues.specs.Untold.{posted_in}
 use Rattle.work_queues.proofs.laws.requests_stay_as_posted.Goals as goal
 
 -- a change to another list leaves the bytes
-stays : (old new : Pool) (list : ℕ) (bytes : Option (List ℕ)) (p : Posted) → Puts old new list bytes → p.payload.list ≢ list → posted_in new p ≡ posted_in old p
+stays : (old new : Pool) (list : ℕ) (bytes : Option (List ℕ)) (p : QueuedRequest) → Puts old new list bytes → p.payload.list ≢ list → posted_in new p ≡ posted_in old p
 unfolding payload_bytes
 stays old new list bytes p puts other = rw (puts.others p.payload.list other) refl
 

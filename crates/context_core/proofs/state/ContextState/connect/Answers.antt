@@ -11,11 +11,11 @@ use Rattle.protocol.specs.EndWords.{linked}
 use Rattle.protocol.specs.State.{Context, fresh_link}
 use Rattle.endpoint_core.specs.Ends.{Names}
 use Rattle.endpoint_core.specs.Queues.{nothing, promised}
-use Rattle.endpoint_core.specs.Sites.{IsHome, Site, end_at, home}
+use Rattle.endpoint_core.specs.Sites.{IsHome, EndWithMemory, end_at, home}
 use Rattle.endpoint_core.specs.Sound.{IsEnd}
 use Rattle.context_core.specs.Context.{Holding, IsContext, context_in, end_of, names_in, site_in}
-use Rattle.context_core.proofs.Finding.{end-found}
-use Rattle.context_core.proofs.Stepping.{end-sound, entry, entry-there, is-unlinked, lists-still, numbers-still, ok-where, pages-still, still, untold-none}
+use Rattle.context_core.proofs.EndsByName.{end-found}
+use Rattle.context_core.proofs.EndStepCalls.{end-sound, entry, entry-there, is-unlinked, lists-still, numbers-still, ok-where, pages-still, still, untold-none}
 use Rattle.context_core.proofs.state.ContextState.connect.Goals as goal
 
 pub returns-in_err-place-clause-refused : goal.returns-in_err-place-clause-refused
@@ -55,6 +55,6 @@ returns-clause-connected c = rw (← c.self.view_is) (λ pool n d is.
     let st = still pool _ c.in_ok-place.place c.unwrap-slot.result.now c.connect.new.self is (sym c.get_index_mut.ensures.value ∙ ap option_copied_mut c.unwrap-slot.ensures) c.connect.ensures.end (untold-none c.unwrap-slot.result.now.endpoint c.connect.new.self (is-unlinked _ c.in_ok-place.place c.unwrap-slot.result.now (sym c.get_index_mut.ensures.value ∙ ap option_copied_mut c.unwrap-slot.ensures) c.in_ok-place.ensures.init) (IfOk-at_ok (λ u. (send recv place : ℕ) → promised send recv c.connect.new.self place ≡ promised send recv c.unwrap-slot.result.now.endpoint place) c.unwrap.ensures c.connect.ensures.reserved)) (IfOk-at_ok (λ u. (send recv place : ℕ) → promised send recv c.connect.new.self place ≡ promised send recv c.unwrap-slot.result.now.endpoint place) c.unwrap.ensures c.connect.ensures.reserved) ((IfOk-at_ok (λ u. (pool : Pool) (held : List Held) → IsEnd pool held c.unwrap-slot.result.now.endpoint → IsEnd pool held c.connect.new.self) c.unwrap.ensures c.connect.ensures.sound) pool _ (end-sound pool _ nothing c.in_ok-place.place (entry _ c.in_ok-place.place c.unwrap-slot.result.now) is.is (entry-there _ c.in_ok-place.place c.unwrap-slot.result.now (sym c.get_index_mut.ensures.value ∙ ap option_copied_mut c.unwrap-slot.ensures))).end) in
     let found = end-found pool c.self.inside.queues.entries c.self.inside.ends.entries c.args.name c.in_ok-place.place (entry c.self.inside.ends.entries c.in_ok-place.place c.unwrap-slot.result.now) is.is.end_names c.in_ok-place.ensures.place (entry-there c.self.inside.ends.entries c.in_ok-place.place c.unwrap-slot.result.now value) in
     let stands = st.stands n in
-    let step = IfOk-at_ok (λ u. (s : Site) → s.end ≡ c.unwrap-slot.result.now.endpoint → (k : Context) (names : Names) → IsHome k names s → linked k (end_at names s) (fresh_link c.args.peer c.args.partner c.args.terms.now) ≡ home k names (record s { end = c.connect.new.self })) c.unwrap.ensures c.connect.ensures.step in
+    let step = IfOk-at_ok (λ u. (s : EndWithMemory) → s.end ≡ c.unwrap-slot.result.now.endpoint → (k : Context) (names : Names) → IsHome k names s → linked k (end_at names s) (fresh_link c.args.peer c.args.partner c.args.terms.now) ≡ home k names (record s { end = c.connect.new.self })) c.unwrap.ensures c.connect.ensures.step in
     ap (λ e. connects d (context_in pool n (record { domains = c.self.inside.domains.keys; regions = c.self.inside.regions; queues = c.self.inside.queues.entries; ends = c.self.inside.ends.entries })) e c.args.peer c.args.partner c.args.terms.now) found.end
     ∙ ap (λ x. answers (with_context d x) answer.Done) (step (site_in pool (record { domains = c.self.inside.domains.keys; regions = c.self.inside.regions; queues = c.self.inside.queues.entries; ends = c.self.inside.ends.entries }) (entry c.self.inside.ends.entries c.in_ok-place.place c.unwrap-slot.result.now)) refl (context_in pool n (record { domains = c.self.inside.domains.keys; regions = c.self.inside.regions; queues = c.self.inside.queues.entries; ends = c.self.inside.ends.entries })) (names_in c.self.inside.queues.entries (entry c.self.inside.ends.entries c.in_ok-place.place c.unwrap-slot.result.now)) stands ∙ st.shown n))

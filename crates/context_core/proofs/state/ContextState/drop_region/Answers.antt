@@ -7,9 +7,9 @@ use Rattle.memory_keys.specs.Causes.{region_named}
 use Rattle.memory_keys.specs.Regions.{IsRemoved, regions_of}
 use Rattle.protocol.specs.Refusals.{names_key}
 use Rattle.context_core.specs.Context.{IsContext, context_in, end_of}
-use Rattle.context_core.proofs.Adding.{numbers-in}
-use Rattle.context_core.proofs.Rearranged.{re-is, re-moves}
-use Rattle.context_core.proofs.Registering.{all-ok, drop-absent, drop-told, dropped-is, drops-free, are-fit, removed-is, removed-key}
+use Rattle.context_core.proofs.AddedObjects.{numbers-in}
+use Rattle.context_core.proofs.RegionChanges.{re-is, re-moves}
+use Rattle.context_core.proofs.RegisteredRegions.{all-ok, drop-absent, drop-told, dropped-is, drops-free, are-fit, removed-is, removed-key}
 use Rattle.context_core.proofs.state.ContextState.drop_region.Goals as goal
 
 pub is_named-requires : goal.is_named-requires

@@ -1,7 +1,7 @@
 use Rattle.std.proofs.Common.{◌≡◌, ◌∙◌, arith}
 use Rattle.std.specs.Prelude.{None, Some, slice_get}
 use Rattle.std.proofs.lemmas.Grind.{common_steps}
-use Rattle.context_core.proofs.Telling.{told-none, told-some}
+use Rattle.context_core.proofs.EndHeadReaders.{told-none, told-some}
 use Rattle.context_core.proofs.state.ContextState.end_at.Goals as goal
 
 pub returns-in_err-name : goal.returns-in_err-name

@@ -1,5 +1,5 @@
 use Rattle.std.proofs.Common.{sym, ◌∙◌}
-use Rattle.context_core.proofs.Reading.{count-is}
+use Rattle.context_core.proofs.ContextReaders.{count-is}
 use Rattle.context_core.proofs.state.ContextState.end_count.Goals as goal
 
 pub returns : goal.returns

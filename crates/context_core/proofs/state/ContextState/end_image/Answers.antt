@@ -4,8 +4,8 @@ use Rattle.std.proofs.lemmas.Grind.{common_steps}
 use Rattle.endpoint_core.specs.Sound.{IsEnd}
 use Rattle.context_core.specs.Context.{HasQueues, IsContext}
 use Rattle.context_core.specs.Fits.{IsNarrow, IsNarrowEnd}
-use Rattle.context_core.proofs.Fronts.{at_place}
-use Rattle.context_core.proofs.Imaging.{end-at-is, payloads-held}
+use Rattle.context_core.proofs.ListPrefixes.{at_place}
+use Rattle.context_core.proofs.ImageParts.{end-at-is, payloads-held}
 use Rattle.context_core.proofs.state.ContextState.end_image.Goals as goal
 
 pub position_of-requires : goal.position_of-requires

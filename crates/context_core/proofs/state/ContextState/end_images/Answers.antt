@@ -3,8 +3,8 @@ use Rattle.std.specs.Prelude.{map}
 use Rattle.std.proofs.lemmas.List.{take_all}
 use Rattle.protocol.specs.Images.{end_image}
 use Rattle.context_core.specs.Context.{Holding, context_in, end_of}
-use Rattle.context_core.proofs.Fronts.{each_on}
-use Rattle.context_core.proofs.Imaging.{ends-shown}
+use Rattle.context_core.proofs.ListPrefixes.{each_on}
+use Rattle.context_core.proofs.ImageParts.{ends-shown}
 use Rattle.context_core.proofs.state.ContextState.end_images.Goals as goal
 
 pub loop-place-preserved : goal.loop-place-preserved

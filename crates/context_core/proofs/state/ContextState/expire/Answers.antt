@@ -8,10 +8,10 @@ use Rattle.endpoint_core.specs.Answers.{expiry_of}
 use Rattle.endpoint_core.specs.Ends.{link_in}
 use Rattle.endpoint_core.specs.Queues.{nothing}
 use Rattle.context_core.specs.Context.{Holding, IsContext, context_in, end_of, names_in}
-use Rattle.context_core.proofs.Finding.{end-found, some-shown}
-use Rattle.context_core.proofs.Rules.{expires-is}
-use Rattle.context_core.proofs.Steps.{after}
-use Rattle.context_core.proofs.Stepping.{steps, end-sound, entry, entry-there, is-linked}
+use Rattle.context_core.proofs.EndsByName.{end-found, some-shown}
+use Rattle.context_core.proofs.EndRules.{expires-is}
+use Rattle.context_core.proofs.EndSteps.{after}
+use Rattle.context_core.proofs.EndStepCalls.{steps, end-sound, entry, entry-there, is-linked}
 use Rattle.context_core.proofs.state.ContextState.expire.Goals as goal
 
 pub returns-in_err-place-clause-refused : goal.returns-in_err-place-clause-refused

@@ -3,7 +3,7 @@ use Rattle.page_pool.specs.Pool.{free_pages}
 use Rattle.protocol.specs.Images.{context_of}
 use Rattle.protocol.specs.Memory.{pages_of_context}
 use Rattle.context_core.specs.Faults.{told_as}
-use Rattle.context_core.proofs.Begun.{enough-so, image-may, queue-pairs, whole-part}
+use Rattle.context_core.proofs.ContextFromImage.{enough-so, image-may, queue-pairs, whole-part}
 use Rattle.context_core.proofs.state.ContextState.from_image.Goals as goal
 
 pub queues_of-requires-clause-names : goal.queues_of-requires-clause-names

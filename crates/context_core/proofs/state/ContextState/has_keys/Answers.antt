@@ -3,7 +3,7 @@ use Rattle.std.specs.Prelude.{◌==◌, ◌||◌}
 use Rattle.rdma_types.specs.Lists.{some}
 use Rattle.memory_keys.specs.Regions.{regions_of}
 use Rattle.context_core.specs.Context.{Holding, context_in, meets}
-use Rattle.context_core.proofs.Meeting.{some-or}
+use Rattle.context_core.proofs.ListTests.{some-or}
 use Rattle.context_core.proofs.state.ContextState.has_keys.Goals as goal
 
 pub returns-then-has_key : goal.returns-then-has_key

@@ -5,11 +5,11 @@ use Rattle.protocol.specs.Images.{queue_image, region_image}
 use Rattle.endpoint_core.specs.Queues.{queues_of}
 use Rattle.context_core.specs.Context.{Holding}
 use Rattle.context_core.specs.Fits.{IsNarrow}
-use Rattle.context_core.proofs.Imaging.{context-is, narrow-held}
+use Rattle.context_core.proofs.ImageParts.{context-is, narrow-held}
 use Rattle.context_core.proofs.state.ContextState.image.Goals as goal
 
-pub region_images-requires-clause-few : goal.region_images-requires-clause-few
-region_images-requires-clause-few c = (subst IsNarrow (sym c.self.view_is) (narrow-held c.args.pool.now c.args.name c.args.self.now c.requires.fits)).domains
+pub region_images-requires-clause-bounded : goal.region_images-requires-clause-bounded
+region_images-requires-clause-bounded c = (subst IsNarrow (sym c.self.view_is) (narrow-held c.args.pool.now c.args.name c.args.self.now c.requires.fits)).domains
 
 pub end_images-requires-clause-narrow : goal.end_images-requires-clause-narrow
 end_images-requires-clause-narrow c = narrow-held c.args.pool.now c.args.name c.args.self.now c.requires.fits

@@ -1,6 +1,6 @@
 use Rattle.std.proofs.Common.{sym, ap, ◌∙◌}
 use Rattle.std.specs.Option.{option_map}
-use Rattle.context_core.proofs.Reading.{keys-told}
+use Rattle.context_core.proofs.ContextReaders.{keys-told}
 use Rattle.context_core.proofs.state.ContextState.keys_at.Goals as goal
 
 pub returns-in_err-head : goal.returns-in_err-head

@@ -5,7 +5,7 @@ use Rattle.std.specs.Map.{lookup}
 use Rattle.std.specs.Str.{bytes_eq}
 use Rattle.context_core.specs.Context.{Holding}
 use Rattle.context_core.specs.Links.{link_view}
-use Rattle.context_core.proofs.Linking.{link-at, link_shown, sends-found}
+use Rattle.context_core.proofs.SettlingReaders.{link-at, link_shown, sends-found}
 use Rattle.context_core.proofs.state.ContextState.link_named.Goals as goal
 
 pub link_of-requires : goal.link_of-requires

@@ -6,7 +6,7 @@ use Rattle.rdma_types.specs.declared.answers.Answer.TheVariants as answer
 use Rattle.memory_keys.specs.Regions.{regions_of}
 use Rattle.protocol.specs.DeviceStep.{answers, loads}
 use Rattle.context_core.specs.Context.{Holding, IsContext, context_in}
-use Rattle.context_core.proofs.Storing.{loads-is, range-spot, whole}
+use Rattle.context_core.proofs.RegionStores.{loads-is, range-spot, whole}
 use Rattle.context_core.proofs.state.ContextState.load.Goals as goal
 
 pub returns-in_err-spot-clause-refused : goal.returns-in_err-spot-clause-refused

@@ -1,5 +1,5 @@
 use Rattle.std.proofs.Common.{rules}
-use Rattle.context_core.proofs.Empty.{empty-context, empty-view}
+use Rattle.context_core.proofs.EmptyContext.{empty-context, empty-view}
 use Rattle.context_core.proofs.state.ContextState.make.Goals as goal
 
 pub returns-clause-view : goal.returns-clause-view

@@ -2,7 +2,7 @@ use Rattle.std.proofs.Common.{refl, sym, ap}
 use Rattle.std.proofs.lemmas.Result.{on_ok_weaker}
 use Rattle.endpoint_core.specs.Queues.{nothing}
 use Rattle.context_core.specs.Context.{context_in}
-use Rattle.context_core.proofs.Adding.{domain-made, domain-holding, domain-pages, domain-lists}
+use Rattle.context_core.proofs.AddedObjects.{domain-made, domain-holding, domain-pages, domain-lists}
 use Rattle.context_core.proofs.state.ContextState.make_domain.Goals as goal
 
 pub returns-clause-refused : goal.returns-clause-refused

@@ -1,6 +1,6 @@
 use Rattle.std.proofs.Common.{◌∙◌}
 use Rattle.std.proofs.lemmas.Result.{on_ok_weaker}
-use Rattle.context_core.proofs.NewEnds.{causes-are, end-is, end-lists, end-made, end-made-pages}
+use Rattle.context_core.proofs.CreatedEnds.{causes-are, end-is, end-lists, end-made, end-made-pages}
 use Rattle.context_core.proofs.state.ContextState.make_qp.Goals as goal
 
 pub returns-clause-refused : goal.returns-clause-refused

@@ -5,9 +5,9 @@ use Rattle.rdma_types.specs.Memory.{local_key}
 use Rattle.memory_keys.specs.Regions.{regions_of}
 use Rattle.context_core.specs.Asked.{IsAsked}
 use Rattle.context_core.specs.Context.{Holding, IsContext, context_in}
-use Rattle.context_core.proofs.Adding.{numbers-in}
-use Rattle.context_core.proofs.Rearranged.{re-is, re-moves}
-use Rattle.context_core.proofs.Registering.{added-is, causes-of, has-none, made-is, told-memory, told-refusal}
+use Rattle.context_core.proofs.AddedObjects.{numbers-in}
+use Rattle.context_core.proofs.RegionChanges.{re-is, re-moves}
+use Rattle.context_core.proofs.RegisteredRegions.{added-is, causes-of, has-none, made-is, told-memory, told-refusal}
 use Rattle.context_core.proofs.state.ContextState.make_region.Goals as goal
 
 pub returns-in_err-head-clause-refused : goal.returns-in_err-head-clause-refused

@@ -1,5 +1,5 @@
 use Rattle.std.proofs.Common.{◌∙◌}
-use Rattle.context_core.proofs.Reading.{place-is}
+use Rattle.context_core.proofs.ContextReaders.{place-is}
 use Rattle.context_core.proofs.state.ContextState.place_of_end.Goals as goal
 
 pub returns : goal.returns

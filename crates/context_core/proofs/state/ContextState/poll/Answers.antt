@@ -2,8 +2,8 @@ use Rattle.std.proofs.Common.{sym, ap, ◌∙◌}
 use Rattle.std.proofs.lemmas.Result.{IfOk-weaker}
 use Rattle.endpoint_core.specs.Queues.{queues_of}
 use Rattle.context_core.specs.Context.{Holding, context_in}
-use Rattle.context_core.proofs.Adding.{numbers-in, queue-lists, queue-pages}
-use Rattle.context_core.proofs.HandingOut.{poll-after, poll-rule}
+use Rattle.context_core.proofs.AddedObjects.{numbers-in, queue-lists, queue-pages}
+use Rattle.context_core.proofs.PolledEntries.{poll-after, poll-rule}
 use Rattle.context_core.proofs.state.ContextState.poll.Goals as goal
 
 pub returns-clause-refused : goal.returns-clause-refused

@@ -13,10 +13,10 @@ use Rattle.endpoint_core.specs.Queues.{count_at, nothing}
 use Rattle.endpoint_core.specs.Sites.{IsHome, IsSound, Keeps, home}
 use Rattle.context_core.specs.Context.{HasQueues, Holding, IsContext, context_in, names_in, site_in}
 use Rattle.context_core.specs.Queues.{TakesReceive}
-use Rattle.context_core.proofs.Finding.{end-found}
-use Rattle.context_core.proofs.Posting.{ok-below, posts-moves, posts-step, reserves, with_queues}
-use Rattle.context_core.proofs.Steps.{site_after}
-use Rattle.context_core.proofs.Stepping.{each-at, end-sound, entry, entry-there, none-new}
+use Rattle.context_core.proofs.EndsByName.{end-found}
+use Rattle.context_core.proofs.ReservedSteps.{ok-below, posts-moves, posts-step, reserves, with_queues}
+use Rattle.context_core.proofs.EndSteps.{site_after}
+use Rattle.context_core.proofs.EndStepCalls.{each-at, end-sound, entry, entry-there, none-new}
 use Rattle.context_core.proofs.state.ContextState.post_recv.Goals as goal
 
 pub admitted-requires : goal.admitted-requires

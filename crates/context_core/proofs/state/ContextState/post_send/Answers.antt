@@ -14,11 +14,11 @@ use Rattle.endpoint_core.specs.Sites.{IsHome, IsSound, Keeps, home}
 use Rattle.context_core.specs.Context.{HasQueues, Holding, IsContext, context_in}
 use Rattle.context_core.specs.Faults.{refusal_of}
 use Rattle.context_core.specs.Requests.{TakesRequest, post_causes}
-use Rattle.context_core.proofs.Posting.{ok-below}
-use Rattle.context_core.proofs.Requested.{IsAsked, asked-new, asked-sound, found-refused, more-causes, sends, sent-is}
-use Rattle.context_core.proofs.Requesting.{if-there}
-use Rattle.context_core.proofs.Steps.{site_after}
-use Rattle.context_core.proofs.Stepping.{each-at, entry, entry-there}
+use Rattle.context_core.proofs.ReservedSteps.{ok-below}
+use Rattle.context_core.proofs.PostedSends.{IsAsked, asked-new, asked-sound, found-refused, more-causes, sends, sent-is}
+use Rattle.context_core.proofs.SendRefusals.{if-there}
+use Rattle.context_core.proofs.EndSteps.{site_after}
+use Rattle.context_core.proofs.EndStepCalls.{each-at, entry, entry-there}
 use Rattle.context_core.proofs.state.ContextState.post_send.Goals as goal
 
 pub admitted-requires-clause-sound : goal.admitted-requires-clause-sound

@@ -5,8 +5,8 @@ use Rattle.std.specs.Map.Iter.{deref_pair}
 use Rattle.std.proofs.lemmas.List.{take_all}
 use Rattle.context_core.specs.Context.{Holding, context_in, end_of}
 use Rattle.context_core.specs.Links.{SendsByTerms, live_end}
-use Rattle.context_core.proofs.Fronts.{at_place, both_of}
-use Rattle.context_core.proofs.Linking.{ends-are, name-is}
+use Rattle.context_core.proofs.ListPrefixes.{at_place, both_of}
+use Rattle.context_core.proofs.SettlingReaders.{ends-are, name-is}
 use Rattle.context_core.proofs.state.ContextState.push_ends.Goals as goal
 
 pub live_end-requires : goal.live_end-requires

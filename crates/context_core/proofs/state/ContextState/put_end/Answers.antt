@@ -6,7 +6,7 @@ use Rattle.indexmap.specs.IndexMap.{insert_entry}
 use Rattle.indexmap.proofs.CallerLemmas.{insert_entry-new}
 use Rattle.context_core.specs.declared.state.EndSlot.{EndSlot}
 use Rattle.context_core.specs.Context.{Holding}
-use Rattle.context_core.proofs.Entering.{alike-kept, next-absent, next-context, next-may, next-moves, next-of, next-part, next-receives, next-recv, next-room, next-send, next-sends, one-more, slot-same, slot_of}
+use Rattle.context_core.proofs.NextEndFromImage.{alike-kept, next-absent, next-context, next-may, next-moves, next-of, next-part, next-receives, next-recv, next-room, next-send, next-sends, one-more, slot-same, slot_of}
 use Rattle.context_core.proofs.state.ContextState.put_end.Goals as goal
 
 pub endpoint_of-requires-clause-may : goal.endpoint_of-requires-clause-may

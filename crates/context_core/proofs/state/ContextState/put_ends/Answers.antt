@@ -1,4 +1,4 @@
-use Rattle.context_core.proofs.Begun.{goes-begin, goes-on, goes-whole, item-there, moves-both}
+use Rattle.context_core.proofs.ContextFromImage.{goes-begin, goes-on, goes-whole, item-there, moves-both}
 use Rattle.context_core.proofs.state.ContextState.put_ends.Goals as goal
 
 pub loop-end-init : goal.loop-end-init

@@ -1,4 +1,4 @@
-use Rattle.context_core.proofs.Begun.{Goes}
+use Rattle.context_core.proofs.ContextFromImage.{Goes}
 use Rattle.context_core.proofs.state.ContextState.put_ends.Given as goal
 
 abbrev pub invariant-loop-end : goal.invariant-loop-end

@@ -1,6 +1,6 @@
 use Rattle.context_core.specs.Context.{IsContext, Moves, no_holding}
 use Rattle.context_core.specs.Coming.{IsPart}
-use Rattle.context_core.proofs.Begun.{bare-so, moves-both, regions-context, regions-moves, regions-part, shown-so}
+use Rattle.context_core.proofs.ContextFromImage.{bare-so, moves-both, regions-context, regions-moves, regions-part, shown-so}
 use Rattle.context_core.proofs.state.ContextState.put_rest.Goals as goal
 
 pub returns-in_err-made-clause-is : goal.returns-in_err-made-clause-is

@@ -1,6 +1,6 @@
 use Rattle.std.proofs.Common.{sym, subst}
 use Rattle.context_core.specs.Context.{Holding, IsContext, Moves, no_holding}
-use Rattle.context_core.proofs.Gone.{gone-moves, posted-apart, regions-held}
+use Rattle.context_core.proofs.ReleasedContext.{gone-moves, posted-apart, regions-held}
 use Rattle.context_core.proofs.state.ContextState.release.Goals as goal
 
 pub give_ends-requires : goal.give_ends-requires

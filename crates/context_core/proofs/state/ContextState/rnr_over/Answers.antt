@@ -7,10 +7,10 @@ use Rattle.rdma_types.specs.declared.answers.Answer.TheVariants as answer
 use Rattle.protocol.specs.DeviceStep.{answers, rnr_over, with_context}
 use Rattle.endpoint_core.specs.Queues.{nothing}
 use Rattle.context_core.specs.Context.{Holding, context_in, end_of, names_in, site_in}
-use Rattle.context_core.proofs.Finding.{end-found, if-shown, some-shown}
-use Rattle.context_core.proofs.Rules.{rnr-is}
-use Rattle.context_core.proofs.Steps.{after}
-use Rattle.context_core.proofs.Stepping.{end-sound, entry, entry-there, is-linked, lists-still, numbers-still, pages-still, still}
+use Rattle.context_core.proofs.EndsByName.{end-found, if-shown, some-shown}
+use Rattle.context_core.proofs.EndRules.{rnr-is}
+use Rattle.context_core.proofs.EndSteps.{after}
+use Rattle.context_core.proofs.EndStepCalls.{end-sound, entry, entry-there, is-linked, lists-still, numbers-still, pages-still, still}
 use Rattle.context_core.proofs.state.ContextState.rnr_over.Goals as goal
 
 pub returns-in_err-place-clause-refused : goal.returns-in_err-place-clause-refused

@@ -4,8 +4,8 @@ use Rattle.std.specs.Result.{result_err}
 use Rattle.std.proofs.lemmas.Result.{err_from_is_err_and}
 use Rattle.memory_keys.specs.Regions.{AreHeld, regions_of}
 use Rattle.context_core.specs.Context.{Holding, IsContext, context_in}
-use Rattle.context_core.proofs.Storing.{changes, range-spot, stores-is}
-use Rattle.context_core.proofs.Adding.{numbers-in}
+use Rattle.context_core.proofs.RegionStores.{changes, range-spot, stores-is}
+use Rattle.context_core.proofs.AddedObjects.{numbers-in}
 use Rattle.context_core.proofs.state.ContextState.store.Goals as goal
 
 pub returns-in_err-spot-clause-refused : goal.returns-in_err-spot-clause-refused

@@ -10,9 +10,9 @@ use Rattle.endpoint_core.specs.Queues.{nothing}
 use Rattle.endpoint_core.proofs.Frames.{link-of}
 use Rattle.context_core.specs.declared.state.EndSlot.{EndSlot}
 use Rattle.context_core.specs.Context.{IsContext, site_in}
-use Rattle.context_core.proofs.Arrives.{are-ready, few-sent, none-linked, none-there, sent-for, some-linked, takes-is}
-use Rattle.context_core.proofs.Steps.{site_after}
-use Rattle.context_core.proofs.Stepping.{steps, end-sound, entry, entry-there}
+use Rattle.context_core.proofs.ArrivingDatagrams.{are-ready, few-sent, none-linked, none-there, sent-for, some-linked, takes-is}
+use Rattle.context_core.proofs.EndSteps.{site_after}
+use Rattle.context_core.proofs.EndStepCalls.{steps, end-sound, entry, entry-there}
 use Rattle.context_core.proofs.state.ContextState.take.Goals as goal
 
 pub returns-in_default-clause-none : goal.returns-in_default-clause-none
@@ -73,8 +73,8 @@ returns-clause-took c =
     takes-is c.args.pool.now c.take-done.new.memory.0 (record { domains = c.self.inside.domains.keys; regions = c.self.inside.regions; queues = c.self.inside.queues.entries; ends = c.self.inside.ends.entries }) c.args.place c.unwrap-slot.result.now c.take-done.new.memory.1.0 c.take-done.new.memory.1.1.0.entries c.take-done.new.self n e l (packet c.args.d.now) c.take-done.result.took c.sent-sent.result value st there linked
     c.take-done.ensures.step c.take-done.ensures.took (λ k names home. c.take-done.ensures.sent k names home ∙ sent))
 
-pub returns-clause-few : goal.returns-clause-few
-returns-clause-few c = few-sent (site_after c.take-done.new.memory.0 (entry c.self.inside.ends.entries c.args.place c.unwrap-slot.result.now) c.take-done.new.memory.1.0 c.take-done.new.memory.1.1.0.entries c.take-done.new.self) c.take-done.result.reply c.in_ok-replies.replies.read c.sent-sent.result c.in_ok-replies.ensures.few (c.sent-sent.ensures c.take-done.new.memory.0 (regions_of c.take-done.new.memory.0 c.take-done.new.memory.1.0))
+pub returns-clause-bounded : goal.returns-clause-bounded
+returns-clause-bounded c = few-sent (site_after c.take-done.new.memory.0 (entry c.self.inside.ends.entries c.args.place c.unwrap-slot.result.now) c.take-done.new.memory.1.0 c.take-done.new.memory.1.1.0.entries c.take-done.new.self) c.take-done.result.reply c.in_ok-replies.replies.read c.sent-sent.result c.in_ok-replies.ensures.bounded (c.sent-sent.ensures c.take-done.new.memory.0 (regions_of c.take-done.new.memory.0 c.take-done.new.memory.1.0))
 
 pub returns-clause-is : goal.returns-clause-is
 returns-clause-is c =

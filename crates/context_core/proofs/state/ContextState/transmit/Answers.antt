@@ -9,9 +9,9 @@ use Rattle.endpoint_core.specs.Ends.{link_in}
 use Rattle.endpoint_core.specs.Queues.{nothing}
 use Rattle.context_core.specs.Context.{Holding, IsContext, context_in, end_of}
 use Rattle.context_core.specs.Sending.{row_sent}
-use Rattle.context_core.proofs.Steps.{after}
-use Rattle.context_core.proofs.Stepping.{end-sound, entry, entry-there, is-linked, lists-still, numbers-still, pages-still, still}
-use Rattle.context_core.proofs.Transmits.{sending-is, sends-is, some-of, way-small, way-there}
+use Rattle.context_core.proofs.EndSteps.{after}
+use Rattle.context_core.proofs.EndStepCalls.{end-sound, entry, entry-there, is-linked, lists-still, numbers-still, pages-still, still}
+use Rattle.context_core.proofs.Transmissions.{sending-is, sends-is, some-of, way-small, way-there}
 use Rattle.context_core.proofs.state.ContextState.transmit.Goals as goal
 
 pub returns-in_err-place-clause-refused : goal.returns-in_err-place-clause-refused

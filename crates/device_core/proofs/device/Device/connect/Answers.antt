@@ -27,8 +27,8 @@ invariant_of-self-2 c =
     let is = is-context x.id x.address x.qp_count x.key_count x.pool x.contexts.entries x.husks.entries _ c.self.invariant n s found in
     let turn : Turn x.pool x.pool n s s' = record { moves = moves-plainly x.pool s s' e.lists (λ m. e.pages x.pool m is); is = e.is x.pool is; numbers = e.numbers x.pool n } in
     (stepped-plainly x.id x.address x.qp_count x.key_count x.pool x.contexts.entries x.husks.entries _ c.self.invariant n s found x.pool s' turn (c.get_mut.follows.lender s').entries (c.get_mut.follows.holds s').0 x.qp_count x.key_count (omega arith)
-    (event.Connect c.args.o.now c.args.peer c.args.partner c.args.terms.now) (λ k. connect_causes k c.args.o.now.name) refl (λ k. connects d k (end_at k c.args.o.now.name) c.args.peer c.args.partner c.args.terms.now) refl (λ y. plain _) c.told_done.result
-    c.connect-made.result c.told_done.ensures.told (e.refused x.pool n) (e.connected x.pool n d is) (unchanged-err _ x.pool x.pool s s' _ _ e.err (err-same _ x.pool))).held c.requires tt
+    (event.Connect c.args.o.now c.args.peer c.args.partner c.args.terms.now) (λ k. connect_causes k c.args.o.now.name) refl (λ k. connects d k (end_at k c.args.o.now.name) c.args.peer c.args.partner c.args.terms.now) refl (λ y. plain _) c.outcome_of_done.result
+    c.connect-made.result c.outcome_of_done.ensures.told (e.refused x.pool n) (e.connected x.pool n d is) (unchanged-err _ x.pool x.pool s s' _ _ e.err (err-same _ x.pool))).held c.requires tt
 
 pub returns-clause-done : goal.returns-clause-done
 returns-clause-done c =
@@ -42,8 +42,8 @@ returns-clause-done c =
     let is = is-context x.id x.address x.qp_count x.key_count x.pool x.contexts.entries x.husks.entries _ c.self.invariant n s found in
     let turn : Turn x.pool x.pool n s s' = record { moves = moves-plainly x.pool s s' e.lists (λ m. e.pages x.pool m is); is = e.is x.pool is; numbers = e.numbers x.pool n } in
     done-at c.self.view_is (stepped-plainly x.id x.address x.qp_count x.key_count x.pool x.contexts.entries x.husks.entries _ c.self.invariant n s found x.pool s' turn (c.get_mut.follows.lender s').entries (c.get_mut.follows.holds s').0 x.qp_count x.key_count (omega arith)
-    (event.Connect c.args.o.now c.args.peer c.args.partner c.args.terms.now) (λ k. connect_causes k c.args.o.now.name) refl (λ k. connects d k (end_at k c.args.o.now.name) c.args.peer c.args.partner c.args.terms.now) refl (λ y. plain _) c.told_done.result
-    c.connect-made.result c.told_done.ensures.told (e.refused x.pool n) (e.connected x.pool n d is) (unchanged-err _ x.pool x.pool s s' _ _ e.err (err-same _ x.pool)))
+    (event.Connect c.args.o.now c.args.peer c.args.partner c.args.terms.now) (λ k. connect_causes k c.args.o.now.name) refl (λ k. connects d k (end_at k c.args.o.now.name) c.args.peer c.args.partner c.args.terms.now) refl (λ y. plain _) c.outcome_of_done.result
+    c.connect-made.result c.outcome_of_done.ensures.told (e.refused x.pool n) (e.connected x.pool n d is) (unchanged-err _ x.pool x.pool s s' _ _ e.err (err-same _ x.pool)))
 
 pub missing-requires : goal.missing-requires
 missing-requires c = gone-kept c.self.inside.id c.self.inside.address c.self.inside.qp_count c.self.inside.key_count c.self.inside.pool c.self.inside.contexts.entries c.get_mut.follows.lender-at-none.entries c.self.inside.husks.entries c.args.o.now.context (λ i. (c.get_mut.follows.holds-at-none i).entries) (none-mut c.get_mut.result (lookup (bytes_eq c.args.o.now.context) c.self.inside.contexts.entries) c.in_default.is c.get_mut.ensures.value)

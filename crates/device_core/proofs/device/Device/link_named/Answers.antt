@@ -7,8 +7,8 @@ use Rattle.protocol.specs.Refusals.{has_context}
 use Rattle.protocol.specs.State.{Context, context_at, end_at}
 use Rattle.context_core.specs.Context.{IsContext, context_in}
 use Rattle.context_core.specs.Links.{link_view}
-use Rattle.context_core.proofs.Linking.{sends-all}
-use Rattle.device_laws.specs.Sound.{IsSoundDevice}
+use Rattle.context_core.proofs.SettlingReaders.{sends-all}
+use Rattle.law_device_sound.specs.Sound.{IsSoundDevice}
 use Rattle.device_core.proofs.Contexts.{found-there, lookup-found}
 use Rattle.device_core.proofs.Pairs.{All-found}
 use Rattle.device_core.proofs.LiveEnds.{link-few, link-nowhere}
@@ -38,8 +38,8 @@ returns-in-Some-clause-link c =
     let at : context_at c.args.self.now o.context ≡ context_in x.pool o.context s = ap (λ k. context_at k o.context) (sym c.self.view_is) ∙ lookup-found x.pool o.context x.contexts.entries s found in
     c.link_named.ensures x.pool o.context ∙ ap (λ (k : Context). option_map link_view (end_at k o.name).link) (sym at)
 
-pub returns-in-Some-clause-few : goal.returns-in-Some-clause-few
-returns-in-Some-clause-few c =
+pub returns-in-Some-clause-bounded : goal.returns-in-Some-clause-bounded
+returns-in-Some-clause-bounded c =
     let x = c.self.inside in
     let o = c.args.end.now in
     let s = c.in-Some.held.now in

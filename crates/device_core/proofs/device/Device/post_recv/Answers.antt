@@ -27,8 +27,8 @@ invariant_of-self-2 c =
     let is = is-context x.id x.address x.qp_count x.key_count x.pool x.contexts.entries x.husks.entries _ c.self.invariant n s found in
     let turn : Turn x.pool c.post_recv-made.new.pool n s s' = record { moves = e.moves; is = e.is; numbers = e.numbers n } in
     (stepped-plainly x.id x.address x.qp_count x.key_count x.pool x.contexts.entries x.husks.entries _ c.self.invariant n s found c.post_recv-made.new.pool s' turn (c.get_mut.follows.lender s').entries (c.get_mut.follows.holds s').0 x.qp_count x.key_count (omega arith)
-    (event.PostRecv c.args.o.now c.args.receive.now) (λ k. end_causes k c.args.o.now.name (recv_causes k (end_at k c.args.o.now.name) c.args.receive.now)) refl (λ k. receives d k (end_at k c.args.o.now.name) c.args.receive.now) refl (λ y. plain _) c.told_done.result
-    c.post_recv-made.result c.told_done.ensures.told (e.refused n) (e.posted n d) (unchanged-err _ x.pool c.post_recv-made.new.pool s s' _ _ e.err e.err_pool)).held tt tt
+    (event.PostRecv c.args.o.now c.args.receive.now) (λ k. end_causes k c.args.o.now.name (recv_causes k (end_at k c.args.o.now.name) c.args.receive.now)) refl (λ k. receives d k (end_at k c.args.o.now.name) c.args.receive.now) refl (λ y. plain _) c.outcome_of_done.result
+    c.post_recv-made.result c.outcome_of_done.ensures.told (e.refused n) (e.posted n d) (unchanged-err _ x.pool c.post_recv-made.new.pool s s' _ _ e.err e.err_pool)).held tt tt
 
 pub returns : goal.returns
 returns c =
@@ -42,8 +42,8 @@ returns c =
     let is = is-context x.id x.address x.qp_count x.key_count x.pool x.contexts.entries x.husks.entries _ c.self.invariant n s found in
     let turn : Turn x.pool c.post_recv-made.new.pool n s s' = record { moves = e.moves; is = e.is; numbers = e.numbers n } in
     done-at c.self.view_is (stepped-plainly x.id x.address x.qp_count x.key_count x.pool x.contexts.entries x.husks.entries _ c.self.invariant n s found c.post_recv-made.new.pool s' turn (c.get_mut.follows.lender s').entries (c.get_mut.follows.holds s').0 x.qp_count x.key_count (omega arith)
-    (event.PostRecv c.args.o.now c.args.receive.now) (λ k. end_causes k c.args.o.now.name (recv_causes k (end_at k c.args.o.now.name) c.args.receive.now)) refl (λ k. receives d k (end_at k c.args.o.now.name) c.args.receive.now) refl (λ y. plain _) c.told_done.result
-    c.post_recv-made.result c.told_done.ensures.told (e.refused n) (e.posted n d) (unchanged-err _ x.pool c.post_recv-made.new.pool s s' _ _ e.err e.err_pool))
+    (event.PostRecv c.args.o.now c.args.receive.now) (λ k. end_causes k c.args.o.now.name (recv_causes k (end_at k c.args.o.now.name) c.args.receive.now)) refl (λ k. receives d k (end_at k c.args.o.now.name) c.args.receive.now) refl (λ y. plain _) c.outcome_of_done.result
+    c.post_recv-made.result c.outcome_of_done.ensures.told (e.refused n) (e.posted n d) (unchanged-err _ x.pool c.post_recv-made.new.pool s s' _ _ e.err e.err_pool))
 
 pub missing-requires : goal.missing-requires
 missing-requires c = gone-kept c.self.inside.id c.self.inside.address c.self.inside.qp_count c.self.inside.key_count c.self.inside.pool c.self.inside.contexts.entries c.get_mut.follows.lender-at-none.entries c.self.inside.husks.entries c.args.o.now.context (λ i. (c.get_mut.follows.holds-at-none i).entries) (none-mut c.get_mut.result (lookup (bytes_eq c.args.o.now.context) c.self.inside.contexts.entries) c.in_default.is c.get_mut.ensures.value)

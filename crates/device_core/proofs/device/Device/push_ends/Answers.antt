@@ -6,8 +6,8 @@ use Rattle.std.proofs.lemmas.List.{length-map, take_all}
 use Rattle.protocol.specs.State.{Context, Device}
 use Rattle.context_core.specs.Context.{IsContext, context_in}
 use Rattle.context_core.specs.Links.{live_end}
-use Rattle.context_core.proofs.Fronts.{at_place}
-use Rattle.context_core.proofs.Linking.{sends-all}
+use Rattle.context_core.proofs.ListPrefixes.{at_place}
+use Rattle.context_core.proofs.SettlingReaders.{sends-all}
 use Rattle.device_core.specs.Parts.{held_in}
 use Rattle.device_core.proofs.Brought.{map-at}
 use Rattle.device_core.proofs.LiveEnds.{ends-more}

@@ -21,10 +21,10 @@ pub invariant_of-self-2 : goal.invariant_of-self-2
 invariant_of-self-2 c =
     let x = c.self.inside in
     (released x.id x.address x.qp_count x.key_count x.pool x.contexts.entries x.husks.entries (λ k. lookup (nat_eq k) x.index.entries) c.self.invariant c.args.name (λ k. lookup (nat_eq k) c.drop_entries.new.index.entries) c.shift_remove.new.self.entries c.in-Some.entries (sym c.shift_remove.ensures.value ∙ c.in-Some.is) c.shift_remove.ensures.entries
-    (λ k. c.drop_entries.ensures k ∙ ap (λ es. without_numbers (numbers_in es) k (lookup (nat_eq k) x.index.entries)) c.as_slice.ensures) _ c.told_done.ensures.told).held tt tt
+    (λ k. c.drop_entries.ensures k ∙ ap (λ es. without_numbers (numbers_in es) k (lookup (nat_eq k) x.index.entries)) c.as_slice.ensures) _ c.outcome_of_done.ensures.told).held tt tt
 
 pub returns-clause-done : goal.returns-clause-done
 returns-clause-done c =
     let x = c.self.inside in
     done-at c.self.view_is (released x.id x.address x.qp_count x.key_count x.pool x.contexts.entries x.husks.entries (λ k. lookup (nat_eq k) x.index.entries) c.self.invariant c.args.name (λ k. lookup (nat_eq k) c.drop_entries.new.index.entries) c.shift_remove.new.self.entries c.in-Some.entries (sym c.shift_remove.ensures.value ∙ c.in-Some.is) c.shift_remove.ensures.entries
-    (λ k. c.drop_entries.ensures k ∙ ap (λ es. without_numbers (numbers_in es) k (lookup (nat_eq k) x.index.entries)) c.as_slice.ensures) _ c.told_done.ensures.told)
+    (λ k. c.drop_entries.ensures k ∙ ap (λ es. without_numbers (numbers_in es) k (lookup (nat_eq k) x.index.entries)) c.as_slice.ensures) _ c.outcome_of_done.ensures.told)

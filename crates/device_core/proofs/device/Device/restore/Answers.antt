@@ -9,5 +9,5 @@ returns-clause-id c = (told c.args.self.now c.put_image-done.new.self (event.Res
 pub returns-clause-address : goal.returns-clause-address
 returns-clause-address c = (told c.args.self.now c.put_image-done.new.self (event.Restore c.args.image.now) c.put_image-done.result c.told_step.result c.told_step.ensures c.put_image-done.ensures (few-sent c.args.self.now c.put_image-done.new.self (event.Restore c.args.image.now) c.put_image-done.result tt c.put_image-done.ensures)).address
 
-pub returns-clause-few : goal.returns-clause-few
-returns-clause-few c = (told c.args.self.now c.put_image-done.new.self (event.Restore c.args.image.now) c.put_image-done.result c.told_step.result c.told_step.ensures c.put_image-done.ensures (few-sent c.args.self.now c.put_image-done.new.self (event.Restore c.args.image.now) c.put_image-done.result tt c.put_image-done.ensures)).few
+pub returns-clause-bounded : goal.returns-clause-bounded
+returns-clause-bounded c = (told c.args.self.now c.put_image-done.new.self (event.Restore c.args.image.now) c.put_image-done.result c.told_step.result c.told_step.ensures c.put_image-done.ensures (few-sent c.args.self.now c.put_image-done.new.self (event.Restore c.args.image.now) c.put_image-done.result tt c.put_image-done.ensures)).few

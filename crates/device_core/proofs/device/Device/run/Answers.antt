@@ -3,59 +3,59 @@ use Rattle.protocol.specs.declared.events.Event.TheVariants as event
 use Rattle.device_core.proofs.Steps.{few-sent, no-image}
 use Rattle.device_core.proofs.device.Device.run.Goals as goal
 
-pub returns-in-MakeContext-clause-few : goal.returns-in-MakeContext-clause-few
-returns-in-MakeContext-clause-few c = few-sent _ _ (event.MakeContext _) _ tt c.make_context.ensures
+pub returns-in-MakeContext-clause-bounded : goal.returns-in-MakeContext-clause-bounded
+returns-in-MakeContext-clause-bounded c = few-sent _ _ (event.MakeContext _) _ tt c.make_context.ensures
 
-pub returns-in-MakeDomain-clause-few : goal.returns-in-MakeDomain-clause-few
-returns-in-MakeDomain-clause-few c = few-sent _ _ (event.MakeDomain _) _ tt c.make_domain.ensures
+pub returns-in-MakeDomain-clause-bounded : goal.returns-in-MakeDomain-clause-bounded
+returns-in-MakeDomain-clause-bounded c = few-sent _ _ (event.MakeDomain _) _ tt c.make_domain.ensures
 
-pub returns-in-MakeRegion-clause-few : goal.returns-in-MakeRegion-clause-few
-returns-in-MakeRegion-clause-few c = few-sent _ _ (event.MakeRegion _ _ _ _ _) _ tt c.make_region.ensures
+pub returns-in-MakeRegion-clause-bounded : goal.returns-in-MakeRegion-clause-bounded
+returns-in-MakeRegion-clause-bounded c = few-sent _ _ (event.MakeRegion _ _ _ _ _) _ tt c.make_region.ensures
 
-pub returns-in-MakeCq-clause-few : goal.returns-in-MakeCq-clause-few
-returns-in-MakeCq-clause-few c = few-sent _ _ (event.MakeCq _ _) _ tt c.make_cq.ensures
+pub returns-in-MakeCq-clause-bounded : goal.returns-in-MakeCq-clause-bounded
+returns-in-MakeCq-clause-bounded c = few-sent _ _ (event.MakeCq _ _) _ tt c.make_cq.ensures
 
-pub returns-in-MakeQp-clause-few : goal.returns-in-MakeQp-clause-few
-returns-in-MakeQp-clause-few c = few-sent _ _ (event.MakeQp _ _ _ _ _ _) _ tt c.make_qp.ensures
+pub returns-in-MakeQp-clause-bounded : goal.returns-in-MakeQp-clause-bounded
+returns-in-MakeQp-clause-bounded c = few-sent _ _ (event.MakeQp _ _ _ _ _ _) _ tt c.make_qp.ensures
 
-pub returns-in-Connect-clause-few : goal.returns-in-Connect-clause-few
-returns-in-Connect-clause-few c = few-sent _ _ (event.Connect _ _ _ _) _ tt c.connect.ensures.done
+pub returns-in-Connect-clause-bounded : goal.returns-in-Connect-clause-bounded
+returns-in-Connect-clause-bounded c = few-sent _ _ (event.Connect _ _ _ _) _ tt c.connect.ensures.done
 
-pub returns-in-DropRegion-clause-few : goal.returns-in-DropRegion-clause-few
-returns-in-DropRegion-clause-few c = few-sent _ _ (event.DropRegion _) _ tt c.drop_region.ensures
+pub returns-in-DropRegion-clause-bounded : goal.returns-in-DropRegion-clause-bounded
+returns-in-DropRegion-clause-bounded c = few-sent _ _ (event.DropRegion _) _ tt c.drop_region.ensures
 
-pub returns-in-Store-clause-few : goal.returns-in-Store-clause-few
-returns-in-Store-clause-few c = few-sent _ _ (event.Store _ _ _) _ tt c.store.ensures
+pub returns-in-Store-clause-bounded : goal.returns-in-Store-clause-bounded
+returns-in-Store-clause-bounded c = few-sent _ _ (event.Store _ _ _) _ tt c.store.ensures
 
-pub returns-in-Load-clause-few : goal.returns-in-Load-clause-few
-returns-in-Load-clause-few c = few-sent _ _ (event.Load _ _ _) _ tt c.load.ensures
+pub returns-in-Load-clause-bounded : goal.returns-in-Load-clause-bounded
+returns-in-Load-clause-bounded c = few-sent _ _ (event.Load _ _ _) _ tt c.load.ensures
 
-pub returns-in-PostSend-clause-few : goal.returns-in-PostSend-clause-few
-returns-in-PostSend-clause-few c = few-sent _ _ (event.PostSend _ _) _ tt c.post_send.ensures
+pub returns-in-PostSend-clause-bounded : goal.returns-in-PostSend-clause-bounded
+returns-in-PostSend-clause-bounded c = few-sent _ _ (event.PostSend _ _) _ tt c.post_send.ensures
 
-pub returns-in-PostRecv-clause-few : goal.returns-in-PostRecv-clause-few
-returns-in-PostRecv-clause-few c = few-sent _ _ (event.PostRecv _ _) _ tt c.post_recv.ensures
+pub returns-in-PostRecv-clause-bounded : goal.returns-in-PostRecv-clause-bounded
+returns-in-PostRecv-clause-bounded c = few-sent _ _ (event.PostRecv _ _) _ tt c.post_recv.ensures
 
-pub returns-in-Poll-clause-few : goal.returns-in-Poll-clause-few
-returns-in-Poll-clause-few c = few-sent _ _ (event.Poll _ _) _ tt c.poll.ensures
+pub returns-in-Poll-clause-bounded : goal.returns-in-Poll-clause-bounded
+returns-in-Poll-clause-bounded c = few-sent _ _ (event.Poll _ _) _ tt c.poll.ensures
 
-pub returns-in-Transmit-clause-few : goal.returns-in-Transmit-clause-few
-returns-in-Transmit-clause-few c = few-sent _ _ (event.Transmit _) _ tt c.transmit.ensures
+pub returns-in-Transmit-clause-bounded : goal.returns-in-Transmit-clause-bounded
+returns-in-Transmit-clause-bounded c = few-sent _ _ (event.Transmit _) _ tt c.transmit.ensures
 
-pub returns-in-Expire-clause-few : goal.returns-in-Expire-clause-few
-returns-in-Expire-clause-few c = few-sent _ _ (event.Expire _) _ tt c.expire.ensures
+pub returns-in-Expire-clause-bounded : goal.returns-in-Expire-clause-bounded
+returns-in-Expire-clause-bounded c = few-sent _ _ (event.Expire _) _ tt c.expire.ensures
 
-pub returns-in-RnrOver-clause-few : goal.returns-in-RnrOver-clause-few
-returns-in-RnrOver-clause-few c = few-sent _ _ (event.RnrOver _) _ tt c.rnr_over.ensures
+pub returns-in-RnrOver-clause-bounded : goal.returns-in-RnrOver-clause-bounded
+returns-in-RnrOver-clause-bounded c = few-sent _ _ (event.RnrOver _) _ tt c.rnr_over.ensures
 
-pub returns-in-Stop-clause-few : goal.returns-in-Stop-clause-few
-returns-in-Stop-clause-few c = few-sent _ _ (event.Stop _ _) _ tt c.stop.ensures.done
+pub returns-in-Stop-clause-bounded : goal.returns-in-Stop-clause-bounded
+returns-in-Stop-clause-bounded c = few-sent _ _ (event.Stop _ _) _ tt c.stop.ensures.done
 
-pub returns-in-Restore-clause-few : goal.returns-in-Restore-clause-few
-returns-in-Restore-clause-few c = few-sent _ _ (event.Restore _) _ tt c.put_image.ensures
+pub returns-in-Restore-clause-bounded : goal.returns-in-Restore-clause-bounded
+returns-in-Restore-clause-bounded c = few-sent _ _ (event.Restore _) _ tt c.put_image.ensures
 
-pub returns-in-Release-clause-few : goal.returns-in-Release-clause-few
-returns-in-Release-clause-few c = few-sent _ _ (event.Release _) _ tt c.release.ensures.done
+pub returns-in-Release-clause-bounded : goal.returns-in-Release-clause-bounded
+returns-in-Release-clause-bounded c = few-sent _ _ (event.Release _) _ tt c.release.ensures.done
 
 pub returns-in-MakeContext-clause-image : goal.returns-in-MakeContext-clause-image
 returns-in-MakeContext-clause-image c = no-image _ _ (event.MakeContext _) _ tt c.make_context.ensures

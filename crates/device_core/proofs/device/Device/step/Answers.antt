@@ -3,10 +3,10 @@ use Rattle.device_core.proofs.Steps.{told, told-image}
 use Rattle.device_core.proofs.device.Device.step.Goals as goal
 
 pub returns-clause-id : goal.returns-clause-id
-returns-clause-id c = (told c.args.self.now c.run-done.new.self c.args.event.now c.run-done.result c.told_step.result c.told_step.ensures c.run-done.ensures.done c.run-done.ensures.few).id
+returns-clause-id c = (told c.args.self.now c.run-done.new.self c.args.event.now c.run-done.result c.told_step.result c.told_step.ensures c.run-done.ensures.done c.run-done.ensures.bounded).id
 
 pub returns-clause-address : goal.returns-clause-address
-returns-clause-address c = (told c.args.self.now c.run-done.new.self c.args.event.now c.run-done.result c.told_step.result c.told_step.ensures c.run-done.ensures.done c.run-done.ensures.few).address
+returns-clause-address c = (told c.args.self.now c.run-done.new.self c.args.event.now c.run-done.result c.told_step.result c.told_step.ensures c.run-done.ensures.done c.run-done.ensures.bounded).address
 
 pub returns-clause-image : goal.returns-clause-image
 returns-clause-image c = told-image c.run-done.result c.told_step.result c.told_step.ensures c.run-done.ensures.image

@@ -6,7 +6,7 @@ use Rattle.endpoint_core.specs.Answers.{failed_at}
 use Rattle.endpoint_core.specs.Flushed.{IsFlushed, all_receives}
 use Rattle.endpoint_core.specs.Ends.{link_in}
 use Rattle.endpoint_core.specs.Queues.{count_at, nothing, reserved_in}
-use Rattle.endpoint_core.specs.Sites.{IsSound, Site, end_at, site_of}
+use Rattle.endpoint_core.specs.Sites.{IsSound, EndWithMemory, end_at, site_of}
 use Rattle.endpoint_core.specs.declared.end.EndLink.{EndLink}
 use Rattle.endpoint_core.proofs.Ended.{failed-keeps, failed-sound, failed-step, flushed-both, promised-is, receives-fit, requests-fit}
 use Rattle.endpoint_core.proofs.Frames.{link-of}
@@ -20,7 +20,7 @@ flush-in_use-requires-clause-payloads c =
     apart-of c.args.memory.pool.now c.args.memory.regions.now c.args.self.now.domain c.in-Some.link.requester.items linked.posted linked.apart
 
 -- each place has as many reserved as the flush takes
-fits : (s : Site) (l : EndLink) → IsSound s nothing → s.end.link ≡ Some l
+fits : (s : EndWithMemory) (l : EndLink) → IsSound s nothing → s.end.link ≡ Some l
     → (place : ℕ) → count_at s.send (length l.requester.items) place + count_at s.recv (length (all_receives l s.end.recvs)) place ≤ reserved_in s.queues place
 fits s l sound is place = let before = promised-is s.end l s.send s.recv place is in let enough = sound.reserved.enough place in omega (arith, before, enough)
 

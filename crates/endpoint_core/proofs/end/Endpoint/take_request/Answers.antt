@@ -18,7 +18,7 @@ use Rattle.endpoint_core.specs.Ends.{is_ended_link, link_in}
 use Rattle.endpoint_core.specs.Flushed.{all_receives}
 use Rattle.endpoint_core.specs.Queues.{StandsAt, nothing}
 use Rattle.endpoint_core.specs.Served.{request_answer}
-use Rattle.endpoint_core.specs.Sites.{IsSound, Keeps, Site, end_at, home, site_at, site_of}
+use Rattle.endpoint_core.specs.Sites.{IsSound, Keeps, EndWithMemory, end_at, home, site_at, site_of}
 use Rattle.endpoint_core.proofs.Answered.{home-of, home-twice}
 use Rattle.endpoint_core.proofs.Ended.{count-here, length-both, promised-is}
 use Rattle.endpoint_core.proofs.Frames.{link-of}
@@ -47,7 +47,7 @@ serve-reply-requires-clause-reserved c =
 -- ---- a refusal
 
 -- the site before the flush
-abbrev failing : (c : goal.After-answer_of) → Site
+abbrev failing : (c : goal.After-answer_of) → EndWithMemory
 failing c = record (site_of c.args.memory c.args.self.now) { pool = c.serve-reply.new.pool; held = c.serve-reply.new.regions; queues = c.serve-reply.new.queues.entries; end = record c.args.self.now { recvs = c.serve-reply.new.recvs; link = Some c.serve-reply.new.self } }
 
 pub fail-requires-clause-sound : goal.fail-requires-clause-sound
@@ -66,8 +66,8 @@ returns-in-Refused-clause-step c = λ ctx names l at is.
     let t = taken_request k.responder.terms c.args.self.now.domain c.args.self.now.number k.responder.receiver (regions_of c.args.memory.pool.now c.args.memory.regions.now) c.args.self.now.recvs.items (packet c.args.d.now) in
     let some : Some l ≡ Some k = sym is ∙ c.in-Some.is in
     let same : l ≡ k = cc in
-    let s1 : Site = failing c in
-    let s2 : Site = site_at c.args.memory c.fail.new.memory.0 c.fail.new.memory.1.0 c.fail.new.memory.1.1.0.entries c.fail.new.self in
+    let s1 : EndWithMemory = failing c in
+    let s2 : EndWithMemory = site_at c.args.memory c.fail.new.memory.0 c.fail.new.memory.1.0 c.fail.new.memory.1.1.0.entries c.fail.new.self in
     let a : EndTook = c.answer_of.result in
     let answer : request_answer c.serve-reply.result k.responder.receiver.expected c.expected-after.result ≡ a = sym (c.answer_of.ensures ∙ ap (λ n. request_answer c.serve-reply.result n c.expected-after.result) c.expected-before.ensures) in
     let refused : request_answer (served.Refused c.in-Refused.field-0) k.responder.receiver.expected c.expected-after.result ≡ a = sym (ap (λ r. request_answer r k.responder.receiver.expected c.expected-after.result) c.in-Refused.is) ∙ answer in
@@ -119,7 +119,7 @@ returns-clause-step c = λ ctx names l at is.
     ap (λ n. request_answer t.reply k.responder.receiver.expected n) after
     ∙ (ap (λ r. request_answer r k.responder.receiver.expected c.expected-after.result) (sym c.serve-reply.ensures.reply)
     ∙ (ap (λ n. request_answer c.serve-reply.result n c.expected-after.result) (sym c.expected-before.ensures) ∙ sym c.answer_of-2.ensures)) in
-    let s1 : (h : List Held) → Site = λ h. record s { pool = c.serve-reply.new.pool; held = h; queues = c.serve-reply.new.queues.entries; end = record s.end { recvs = c.serve-reply.new.recvs; link = Some l' } } in
+    let s1 : (h : List Held) → EndWithMemory = λ h. record s { pool = c.serve-reply.new.pool; held = h; queues = c.serve-reply.new.queues.entries; end = record s.end { recvs = c.serve-reply.new.recvs; link = Some l' } } in
     ap (λ (x : EndLink). takes_request ctx (end_at names s) (link_in s.pool x) (packet c.args.d.now)) same
     ∙ (served-step s k l' (packet c.args.d.now) c.serve-reply.new.pool c.serve-reply.new.recvs c.serve-reply.new.queues.entries t c.requires.sound c.in-Some.is (sym (ap is_ended_link c.in-Some.is) ∙ c.requires.running) c.requires.fits refl c.serve-reply.ensures.served
     ctx names at (λ w e. c.in_default-reply.not-Refused w (c.serve-reply.ensures.reply ∙ e))
@@ -157,7 +157,7 @@ returns-clause-due c = λ l at paused.
     let some : Some l ≡ Some k = sym at ∙ c.in-Some.is in
     let same : l ≡ k = cc in
     let t = taken_request k.responder.terms c.args.self.now.domain c.args.self.now.number k.responder.receiver (regions_of c.args.memory.pool.now c.args.memory.regions.now) c.args.self.now.recvs.items (packet c.args.d.now) in
-    let s1 : (h : List Held) → Site = λ h. record s { pool = c.serve-reply.new.pool; held = h; queues = c.serve-reply.new.queues.entries; end = record s.end { recvs = c.serve-reply.new.recvs; link = Some c.serve-reply.new.self } } in
+    let s1 : (h : List Held) → EndWithMemory = λ h. record s { pool = c.serve-reply.new.pool; held = h; queues = c.serve-reply.new.queues.entries; end = record s.end { recvs = c.serve-reply.new.recvs; link = Some c.serve-reply.new.self } } in
     let due = served-due s k c.serve-reply.new.self (packet c.args.d.now) c.serve-reply.new.pool c.serve-reply.new.recvs c.serve-reply.new.queues.entries t c.requires.sound c.in-Some.is (sym (ap is_ended_link c.in-Some.is) ∙ c.requires.running) c.requires.fits refl c.serve-reply.ensures.served
     (subst (λ (x : EndLink). is_paused (phase_of x.moves.phase) ≡ false) same paused) c.expected-before.result c.expected-after.result c.serve-reply.new.regions c.serve-reply.result c.serve-reply.ensures.read (sym c.serve-reply.ensures.reply) in
     let answered = subst (λ (x : EndTook). WasDue s (s1 s.held) k (packet c.args.d.now) x.reply) (sym c.answer_of-2.ensures) due in

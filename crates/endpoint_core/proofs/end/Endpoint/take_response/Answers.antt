@@ -12,7 +12,7 @@ use Rattle.endpoint_core.specs.declared.end.EndLink.{EndLink}
 use Rattle.endpoint_core.specs.Ends.{is_ended_link, link_in}
 use Rattle.endpoint_core.specs.Queues.{StandsAt, nothing}
 use Rattle.endpoint_core.specs.Responded.{is_useless}
-use Rattle.endpoint_core.specs.Sites.{IsSound, Keeps, Site, end_at, home, site_at, site_of}
+use Rattle.endpoint_core.specs.Sites.{IsSound, Keeps, EndWithMemory, end_at, home, site_at, site_of}
 use Rattle.endpoint_core.proofs.Answered.{ended-step, home-of, home-twice, told-keeps, told-sound}
 use Rattle.endpoint_core.proofs.Settled.{stands-settled}
 use Rattle.endpoint_core.proofs.Whole.{IsStep, keeps-both, old-there, response-whole}
@@ -21,7 +21,7 @@ use Rattle.endpoint_core.proofs.end.Endpoint.take_response.Goals as goal
 -- ---- an end that fails
 
 -- the site before it
-abbrev failing : (c : goal.After-fail) → Site
+abbrev failing : (c : goal.After-fail) → EndWithMemory
 failing c = record (site_of c.args.memory c.args.self.now) { pool = c.respond-taken.new.pool; held = c.respond-taken.new.regions; queues = c.respond-taken.new.queues.entries; end = record c.args.self.now { link = Some c.respond-taken.new.self } }
 
 pub fail-requires-clause-sound : goal.fail-requires-clause-sound
@@ -38,7 +38,7 @@ returns-in-Ended-clause-step c = λ ctx names l at is.
     let some : Some l ≡ Some k = sym is ∙ c.in-Some.is in
     let same : l ≡ k = cc in
     let answered = c.respond-taken.ensures.answered (ap is_useless c.in-Ended.is) in
-    let s1 : Site = failing c in
+    let s1 : EndWithMemory = failing c in
     let ended : (h : List Held) → Context = λ h. ended_with (home ctx names (record s1 { held = h })) (end_at names s1) (link_in s1.pool l') c.in-Ended.status in
     let stands : (name : Name) (place : ℕ) → StandsAt s.queues name place → StandsAt s1.queues name place =
     λ name place there. subst (λ qs. StandsAt qs name place) (sym answered.queues) (stands-settled s.queues name place s.send (rows.told_count k.requester.terms (taken_response k.requester.terms (sender_of k.requester) (packet c.args.d.now)).sender) (told_completions s.end.number k.requester.terms (taken_response k.requester.terms (sender_of k.requester) (packet c.args.d.now)).sender) there) in

@@ -10,4 +10,4 @@ pub loop-i-preserved : goal.loop-i-preserved
 loop-i-preserved c =
     rw (c.in_ok-insert.ensures.entries, c.loop-i.invariant)
     (inserted_more nat_eq nat_eq_equiv.symm _ _ _ _ c.self.invariant.distinct
-    (rw c.twin.ensures (sym c.get_index.ensures.entry ∙ ap (option_map deref_pair) c.unwrap.ensures)))
+    (rw c.in_copied_pool.ensures (sym c.get_index.ensures.entry ∙ ap (option_map deref_pair) c.unwrap.ensures)))

@@ -27,8 +27,8 @@ returns-clause-link c =
     let device : c.index.result.now ≡ home w o.context = read_device _ w c.in_ok-place.place c.index.result.now (home w o.context) c.self.view_is (lives w o.context c.in_ok-place.place (sym c.home_of.ensures ∙ c.in_ok-place.was)).here c.index.ensures in
     c.link_named.ensures.link ∙ ap (λ d. link_named d o) device
 
-pub returns-in_err-place-clause-few : goal.returns-in_err-place-clause-few
-returns-in_err-place-clause-few c = subst (λ (o : Option LinkView). IfSome o (λ l. l.last < 2 ^ 62)) (sym c.from_residual.ensures) tt
+pub returns-in_err-place-clause-bounded : goal.returns-in_err-place-clause-bounded
+returns-in_err-place-clause-bounded c = subst (λ (o : Option LinkView). IfSome o (λ l. l.last < 2 ^ 62)) (sym c.from_residual.ensures) tt
 
-pub returns-clause-few : goal.returns-clause-few
-returns-clause-few c = c.link_named.ensures.few
+pub returns-clause-bounded : goal.returns-clause-bounded
+returns-clause-bounded c = c.link_named.ensures.bounded

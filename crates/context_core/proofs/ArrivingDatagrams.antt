@@ -1,0 +1,111 @@
+-- A datagram that an end of a context takes.
+use Rattle.std.proofs.Common.{◌≡◌, ℕ, zero, suc, ◌≤◌, ◌^◌, true, false, List, [], ◌∷◌, length, refl, ap, sym, ◌∙◌, subst, arith}
+use Rattle.std.specs.Prelude.{Option, Some, None, IfSome, IsSome, is_none, map, option_map, slice_get}
+use Rattle.std.specs.Option.{option_map_or}
+use Rattle.std.specs.Map.{values_of}
+use Rattle.rdma_types.specs.declared.answers.Sent.{Sent}
+use Rattle.rdma_types.specs.declared.answers.Took.{Took}
+use Rattle.rdma_types.specs.declared.names.Name.{Name}
+use Rattle.rdma_types.specs.Spans.{pieces}
+use Rattle.page_pool.specs.Pool.{Pool}
+use Rattle.completion_queue.specs.Queue.{Queue}
+use Rattle.memory_keys.specs.declared.Held.{Held}
+use Rattle.memory_keys.specs.Regions.{regions_of}
+use Rattle.protocol.specs.EndStep.{takes}
+use Rattle.protocol.specs.EndWords.{EndStep}
+use Rattle.protocol.specs.State.{Context, End, Link}
+use Rattle.protocol.specs.Wire.{Packet}
+use Rattle.endpoint_core.specs.declared.answers.DueRead.{DueRead}
+use Rattle.endpoint_core.specs.declared.answers.EndReply.{EndReply}
+use Rattle.endpoint_core.specs.declared.answers.EndReply.TheVariants.{Nothing, Acknowledge, ReadBytes, Old, ResumeAck}
+use Rattle.endpoint_core.specs.declared.end.Endpoint.{Endpoint}
+use Rattle.endpoint_core.specs.declared.end.EndLink.{EndLink}
+use Rattle.endpoint_core.specs.Answers.{sent_by, sent_of, taken_at}
+use Rattle.endpoint_core.specs.Due.{WasDue, due_in, responses}
+use Rattle.endpoint_core.specs.Ends.{Names, link_in}
+use Rattle.endpoint_core.specs.Sites.{IsHome, EndWithMemory, end_at, home}
+use Rattle.context_core.specs.declared.state.EndSlot.{EndSlot}
+use Rattle.context_core.specs.Arriving.{AreReady, IsSentFor}
+use Rattle.context_core.specs.Context.{Holding, context_in, end_of, names_in, site_in}
+use Rattle.context_core.specs.Heads.{link_at, link_by}
+use Rattle.context_core.proofs.EndSteps.{after, site_after}
+use Rattle.context_core.proofs.EndStepCalls.{Steps, entry, entry-there}
+
+-- ---- the end at a place
+
+get-map : {A B : Type 0} (f : A → B) (xs : List A) (i : ℕ) → slice_get (map f xs) i ≡ option_map f (slice_get xs i)
+get-map f [] i = refl
+get-map f (x ∷ xs) zero = refl
+get-map f (x ∷ xs) (suc i) = get-map f xs i
+
+pub link-shown : (pool : Pool) (n : Name) (h : Holding) (i : ℕ) → link_at (context_in pool n h) i ≡ link_by (option_map (end_of pool h.queues) (slice_get h.ends i))
+unfolding context_in
+link-shown pool n h i = ap link_by (get-map (end_of pool h.queues) h.ends i)
+
+pub none-there : (pool : Pool) (n : Name) (h : Holding) (i : ℕ) → slice_get h.ends i ≡ None → is_none (link_at (context_in pool n h) i) ≡ true
+none-there pool n h i e = ap is_none (link-shown pool n h i ∙ ap (λ o. link_by (option_map (end_of pool h.queues) o)) e)
+
+pub none-linked : (pool : Pool) (n : Name) (h : Holding) (i : ℕ) (e : Name × EndSlot) → slice_get h.ends i ≡ Some e → e.1.endpoint.link ≡ None → is_none (link_at (context_in pool n h) i) ≡ true
+none-linked pool n h i e there none = ap is_none (link-shown pool n h i ∙ (ap (λ o. link_by (option_map (end_of pool h.queues) o)) there ∙ ap (option_map (link_in pool)) none))
+
+pub some-linked : (pool : Pool) (n : Name) (h : Holding) (i : ℕ) (e : Name × EndSlot) (l : EndLink) → slice_get h.ends i ≡ Some e → e.1.endpoint.link ≡ Some l → is_none (link_at (context_in pool n h) i) ≡ false
+some-linked pool n h i e l there some = ap is_none (link-shown pool n h i ∙ (ap (λ o. link_by (option_map (end_of pool h.queues) o)) there ∙ ap (option_map (link_in pool)) some))
+
+-- ---- what is sent
+
+pub are-ready : (old new : EndWithMemory) (l : EndLink) (d : Packet) (r : EndReply) (read : Option (List Sent)) → WasDue old new l d r
+    → ((due : DueRead) → due_in l (regions_of old.pool old.held) old.end.domain d ≡ Some due → read ≡ Some (responses old.pool (regions_of old.pool old.held) l due (pieces due.spot.length l.terms.mtu)))
+    → AreReady r read
+are-ready old new l d Nothing read was made = tt
+are-ready old new l d (Acknowledge number syndrome) read was made = tt
+are-ready old new l d (ReadBytes spot first count) read was made = subst IsSome (sym (made (record { spot = spot; first = first; msn = was.msn }) was.due)) refl
+are-ready old new l d (Old number value) read was made = tt
+are-ready old new l d (ResumeAck count address) read was made = tt
+
+pub sent-for : (old new : EndWithMemory) (l : EndLink) (d : Packet) (r : EndReply) (read : Option (List Sent)) (sent : List Sent) → WasDue old new l d r
+    → ((due : DueRead) → due_in l (regions_of old.pool old.held) old.end.domain d ≡ Some due → read ≡ Some (responses old.pool (regions_of old.pool old.held) l due (pieces due.spot.length l.terms.mtu)))
+    → IsSentFor r read (sent_of new r) sent → sent_of new r ≡ sent
+sent-for old new l d Nothing read sent was made is = sym is
+sent-for old new l d (Acknowledge number syndrome) read sent was made is = sym is
+sent-for old new l d (ReadBytes spot first count) read sent was made is =
+    let due : DueRead = record { spot = spot; first = first; msn = was.msn } in
+    let both : Some (responses old.pool (regions_of old.pool old.held) l due (pieces spot.length l.terms.mtu)) ≡ Some sent = sym (made due was.due) ∙ is in
+    let same : responses old.pool (regions_of old.pool old.held) l due (pieces spot.length l.terms.mtu) ≡ sent = cc in
+    was.sent ∙ (ap (λ n. responses old.pool (regions_of old.pool old.held) l due n) was.all ∙ same)
+sent-for old new l d (Old number value) read sent was made is = sym is
+sent-for old new l d (ResumeAck count address) read sent was made is = sym is
+
+one-sent : (new : EndWithMemory) (r : EndReply) (o : Option EndLink) → new.end.link ≡ o → ((l : EndLink) → length (sent_by (regions_of new.pool new.held) (link_in new.pool l) r) ≤ 1) → length (sent_of new r) ≤ 1
+one-sent new r None e h = subst (λ o. length (option_map_or (λ l. sent_by (regions_of new.pool new.held) (link_in new.pool l) r) o []) ≤ 1) (sym e) (omega arith)
+one-sent new r (Some l) e h = subst (λ o. length (option_map_or (λ l. sent_by (regions_of new.pool new.held) (link_in new.pool l) r) o []) ≤ 1) (sym e) (h l)
+
+pub few-sent : (new : EndWithMemory) (r : EndReply) (read : Option (List Sent)) (sent : List Sent) → IfSome read (λ list. length list ≤ 2 ^ 32) → IsSentFor r read (sent_of new r) sent → length sent ≤ 2 ^ 32
+few-sent new Nothing read sent few is = let n = ap length is in let one = one-sent new Nothing new.end.link refl (λ l. omega arith) in omega (arith, n, one)
+few-sent new (Acknowledge number syndrome) read sent few is = let n = ap length is in let one = one-sent new (Acknowledge number syndrome) new.end.link refl (λ l. omega arith) in omega (arith, n, one)
+few-sent new (ReadBytes spot first count) read sent few is = subst (λ o. IfSome o (λ list. length list ≤ 2 ^ 32)) is few
+few-sent new (Old number value) read sent few is = let n = ap length is in let one = one-sent new (Old number value) new.end.link refl (λ l. omega arith) in omega (arith, n, one)
+few-sent new (ResumeAck count address) read sent few is = let n = ap length is in let one = one-sent new (ResumeAck count address) new.end.link refl (λ l. omega arith) in omega (arith, n, one)
+
+-- ---- the rule
+
+by-parts : (z : EndStep) (c : Context) (t : Took) (s : List Sent) → z.context ≡ c → z.took ≡ t → z.sent ≡ s → z ≡ record { context = c; took = t; sent = s }
+by-parts z c t s one two three =
+    ap {A = Context} (λ x. record { context = x; took = z.took; sent = z.sent }) one
+    ∙ (ap {A = Took} (λ x. record { context = c; took = x; sent = z.sent }) two ∙ ap {A = List Sent} (λ x. record { context = c; took = t; sent = x }) three)
+
+pub takes-is : (a b : Pool) (h : Holding) (i : ℕ) (v : EndSlot) (held : List Held) (queues : List (Name × Queue)) (x : Endpoint) (n : Name) (e : End) (l : Link) (d : Packet) (t : Took) (sent : List Sent)
+    → slice_get (values_of h.ends) i ≡ Some v → Steps a b h i v held queues x → slice_get (context_in a n h).ends i ≡ Some e → e.link ≡ Some l
+    → ((c : Context) (names : Names) → IsHome c names (site_in a h (entry h.ends i v)) → (taken_at c (end_at names (site_in a h (entry h.ends i v))) (end_at names (site_in a h (entry h.ends i v))).link d).context ≡ home c names (site_after b (entry h.ends i v) held queues x))
+    → ((c : Context) (names : Names) → IsHome c names (site_in a h (entry h.ends i v)) → (taken_at c (end_at names (site_in a h (entry h.ends i v))) (end_at names (site_in a h (entry h.ends i v))).link d).took ≡ t)
+    → ((c : Context) (names : Names) → IsHome c names (site_in a h (entry h.ends i v)) → (taken_at c (end_at names (site_in a h (entry h.ends i v))) (end_at names (site_in a h (entry h.ends i v))).link d).sent ≡ sent)
+    → takes (context_in a n h) e l d ≡ record { context = context_in b n (after h i (entry h.ends i v) held queues x); took = t; sent = sent }
+unfolding context_in
+takes-is a b h i v held queues x n e l d t sent value st there linked step took' sent' =
+    let c : Context = context_in a n h in
+    let k = entry h.ends i v in
+    let here : Some (end_of a h.queues k) ≡ Some e = sym (get-map (end_of a h.queues) h.ends i ∙ ap (option_map (end_of a h.queues)) (entry-there h.ends i v value)) ∙ there in
+    let same : end_of a h.queues k ≡ e = cc in
+    let link : (end_of a h.queues k).link ≡ Some l = ap (λ (z : End). z.link) same ∙ linked in
+    ap (λ z. takes c z l d) (sym same)
+    ∙ (ap (λ o. taken_at c (end_of a h.queues k) o d) (sym link)
+    ∙ by-parts (taken_at c (end_of a h.queues k) (end_of a h.queues k).link d) (context_in b n (after h i k held queues x)) t sent (step c (names_in h.queues k) (st.stands n) ∙ st.shown n) (took' c (names_in h.queues k) (st.stands n)) (sent' c (names_in h.queues k) (st.stands n)))

@@ -1,0 +1,129 @@
+-- READ responses.
+use Rattle.std.proofs.Common.{◌≡◌, ℕ, zero, suc, ◌+◌, ◌-◌, ◌<◌, ◌≤◌, ◌^◌, Bool, true, false, List, [], ◌∷◌, ◌++◌, length, take, drop, refl, ap, sym, ◌∙◌, arith, append_assoc}
+use Rattle.std.specs.Prelude.{◌%◌, ◌==◌, Option, Some, None, IsSomeAnd, option_map, unwrap_or, if◌then◌else◌}
+use Rattle.rdma_types.specs.declared.answers.Sent.{Sent}
+use Rattle.rdma_types.specs.Lists.{at}
+use Rattle.rdma_types.specs.Memory.{cut}
+use Rattle.rdma_types.specs.Objects.{Region, no_region}
+use Rattle.rdma_types.specs.Spans.{pieces}
+use Rattle.page_pool.specs.Pool.{Pool, bytes_in}
+use Rattle.memory_keys.specs.declared.Held.{Held}
+use Rattle.memory_keys.specs.declared.Spot.{Spot}
+use Rattle.memory_keys.specs.Regions.{IsSpot, held_at, regions_of, spot_bytes}
+use Rattle.memory_keys.proofs.Protocol.{found-region}
+use Rattle.protocol.specs.declared.wire.Headers.TheVariants as headers
+use Rattle.protocol.specs.declared.wire.Syndrome.TheVariants.{Ack}
+use Rattle.protocol.specs.Bytes.{bytes_at}
+use Rattle.protocol.specs.Numbers.{wire_number}
+use Rattle.protocol.specs.Responder.{read_piece, read_pieces, read_response}
+use Rattle.protocol.specs.State.{Link}
+use Rattle.protocol.specs.Wire.{Fits, Packet, layout_of, plain}
+use Rattle.endpoint_core.specs.declared.answers.DueRead.{DueRead}
+use Rattle.endpoint_core.specs.declared.end.EndLink.{EndLink}
+use Rattle.endpoint_core.specs.Due.{responses, telling}
+use Rattle.endpoint_core.specs.Ends.{link_in}
+use Rattle.context_core.specs.Arriving.{aeth_at, opcode_at}
+use Rattle.context_core.specs.Sending.{addressed}
+use Rattle.context_core.proofs.ByteParts.{front-part, inner-part}
+use Rattle.context_core.proofs.PacketSizes.{answer-fits}
+
+-- ---- the packet of a response
+
+-- a packet of this opcode
+abbrev made : Link → ℕ → ℕ → List ℕ → Packet
+made l n opcode bytes = record (plain opcode (l.peer % 16777216) (wire_number l.terms.peer_start n)) { aeth = aeth_at opcode l.receiver.msn; payload = bytes }
+
+pub response-is : (l : Link) (n k count : ℕ) (bytes : List ℕ) → made l n (opcode_at k count) bytes ≡ addressed (read_response l n k count bytes)
+response-is l n k count bytes = by_tests (count == 1) (k == 0) (k + 1 == count)
+  where
+    by_tests : (a b c : Bool)
+        → made l n (if a then 0x10 else if b then 0x0D else if c then 0x0F else 0x0E) bytes
+        ≡ addressed (if a
+        then record (plain 0x10 l.peer (wire_number l.terms.peer_start n)) { aeth = Some (record { syndrome = Ack; msn = l.receiver.msn }); payload = bytes }
+        else if b
+        then record (plain 0x0D l.peer (wire_number l.terms.peer_start n)) { aeth = Some (record { syndrome = Ack; msn = l.receiver.msn }); payload = bytes }
+        else if c
+        then record (plain 0x0F l.peer (wire_number l.terms.peer_start n)) { aeth = Some (record { syndrome = Ack; msn = l.receiver.msn }); payload = bytes }
+        else record (plain 0x0E l.peer (wire_number l.terms.peer_start n)) { payload = bytes })
+    by_tests true b c = refl
+    by_tests false true c = refl
+    by_tests false false true = refl
+    by_tests false false false = refl
+
+loaded-fits : (opcode dest psn msn : ℕ) (payload : List ℕ) → (opcode == 0x0E) ≡ false → layout_of opcode ≡ Some (record { headers = headers.Aeth; payload = true }) → dest < 2 ^ 24 → psn < 2 ^ 24 → msn < 2 ^ 24 → length payload ≤ 4096
+    → Fits (record (plain opcode dest psn) { aeth = aeth_at opcode msn; payload = payload })
+loaded-fits opcode dest psn msn payload middle known d p m few =
+    rw middle (answer-fits opcode dest psn (Some (record { syndrome = Ack; msn = msn })) None payload (record { headers = headers.Aeth; payload = true }) known d p refl refl refl refl refl refl (record { syndrome = refl; msn = m }) tt tt few)
+
+pub response-fits : (k count dest psn msn : ℕ) (payload : List ℕ) → dest < 2 ^ 24 → psn < 2 ^ 24 → msn < 2 ^ 24 → length payload ≤ 4096
+    → Fits (record (plain (opcode_at k count) dest psn) { aeth = aeth_at (opcode_at k count) msn; payload = payload })
+unfolding layout_of
+response-fits k count dest psn msn payload d p m few = by_tests (count == 1) (k == 0) (k + 1 == count)
+  where
+    by_tests : (a b c : Bool) → Fits (record (plain (if a then 0x10 else if b then 0x0D else if c then 0x0F else 0x0E) dest psn) { aeth = aeth_at (if a then 0x10 else if b then 0x0D else if c then 0x0F else 0x0E) msn; payload = payload })
+    by_tests true b c = loaded-fits 0x10 dest psn msn payload refl refl d p m few
+    by_tests false true c = loaded-fits 0x0D dest psn msn payload refl refl d p m few
+    by_tests false false true = loaded-fits 0x0F dest psn msn payload refl refl d p m few
+    by_tests false false false = answer-fits 0x0E dest psn None None payload (record { headers = headers.Bare; payload = true }) refl d p refl refl refl refl refl refl tt tt tt few
+
+-- ---- its bytes
+
+-- a part of a range of a region
+in-region : (bs : List ℕ) (off size top n count : ℕ) → off + size ≤ top → count ≤ size - n → take count (drop n (take size (drop off bs))) ≡ take count (drop (off + n) (take top bs))
+in-region bs off size top n zero inside few = refl
+in-region bs off size top n (suc count) inside few = inner-part bs off size n (suc count) (omega arith) ∙ sym (front-part bs (off + n) (suc count) top (omega arith))
+
+none-left : (count size n : ℕ) → size ≡ 0 → count ≤ size - n → count ≡ 0
+none-left count size n z few = omega arith
+
+pub piece-bytes : (pool : Pool) (held : List Held) (spot : Spot) (n count : ℕ) (bytes : List ℕ) → IsSpot held spot → bytes ≡ spot_bytes pool held spot → count ≤ spot.length - n
+    → bytes_at n count bytes ≡ cut (spot.off + n) count (at (λ r. r.keys.local) no_region spot.region (regions_of pool held)).bytes
+unfolding bytes_at cut
+piece-bytes pool held spot n count bytes inside is few = by_size spot.length refl
+  where
+    region : Region
+    region = at (λ r. r.keys.local) no_region spot.region (regions_of pool held)
+
+    none : count ≡ 0 → take count (drop n bytes) ≡ take count (drop (spot.off + n) region.bytes)
+    none z = ap (λ k. take k (drop n bytes)) z ∙ sym (ap (λ k. take k (drop (spot.off + n) region.bytes)) z)
+
+    found : (o : Option Held) → held_at spot.region held ≡ o → IsSomeAnd o (λ h. spot.off + spot.length ≤ h.head.length) → take count (drop n bytes) ≡ take count (drop (spot.off + n) region.bytes)
+    found None e h = absurd h
+    found (Some h) e low =
+        ap (λ bs. take count (drop n bs)) (is ∙ ap (λ o. unwrap_or (option_map (λ h. cut spot.off spot.length (bytes_in pool h.list)) o) []) e)
+        ∙ (in-region (bytes_in pool h.list) spot.off spot.length h.head.length n count low few
+        ∙ ap (λ (r : Region). take count (drop (spot.off + n) r.bytes)) (sym (found-region pool spot.region held h e)))
+
+    by_size : (size : ℕ) → spot.length ≡ size → take count (drop n bytes) ≡ take count (drop (spot.off + n) region.bytes)
+    by_size zero z = none (none-left count spot.length n z few)
+    by_size (suc size) z = found (held_at spot.region held) refl (inside (omega (arith, z)))
+
+-- ---- one after the other
+
+pub next-response : (pool : Pool) (regions : List Region) (l : EndLink) (due : DueRead) (count k : ℕ) → count ≡ pieces due.spot.length l.terms.mtu → k < count
+    → responses pool regions l due (count - k) ≡ read_piece (telling (link_in pool l) due.msn) (at (λ r. r.keys.local) no_region due.spot.region regions) due.spot.off due.spot.length due.first k ∷ responses pool regions l due (count - (k + 1))
+unfolding read_pieces
+next-response pool regions l due count k all inside =
+    let more : count - k ≡ suc (count - (k + 1)) = omega arith in
+    let here : pieces due.spot.length l.terms.mtu - suc (count - (k + 1)) ≡ k = omega (arith, all, inside) in
+    ap (λ left. responses pool regions l due left) more
+    ∙ ap (λ i. read_piece (telling (link_in pool l) due.msn) (at (λ r. r.keys.local) no_region due.spot.region regions) due.spot.off due.spot.length due.first i ∷ responses pool regions l due (count - (k + 1))) here
+
+pub grown : (sent new : List Sent) (x y : Sent) (rest all whole : List Sent) → new ≡ sent ++ x ∷ [] → x ≡ y → all ≡ y ∷ rest → sent ++ all ≡ whole → new ++ rest ≡ whole
+grown sent new x y rest all whole one same two done =
+    ap (λ l. l ++ rest) (one ∙ ap (λ z. sent ++ z ∷ []) same) ∙ (append_assoc sent (y ∷ []) rest ∙ (ap (λ l. sent ++ l) (sym two) ∙ done))
+
+pub none-after : (pool : Pool) (regions : List Region) (l : EndLink) (due : DueRead) (sent whole : List Sent) (count : ℕ) → sent ++ responses pool regions l due (count - count) ≡ whole → sent ≡ whole
+unfolding read_pieces
+none-after pool regions l due sent whole count e =
+    let zero' : count - count ≡ 0 = omega arith in
+    sym (ap (λ n. sent ++ responses pool regions l due n) zero' ∙ nil sent) ∙ e
+  where
+    nil : (xs : List Sent) → xs ++ [] ≡ xs
+    nil [] = refl
+    nil (x ∷ xs) = ap (λ l. x ∷ l) (nil xs)
+
+pub responses-count : (pool : Pool) (regions : List Region) (l : EndLink) (due : DueRead) (n : ℕ) → length (responses pool regions l due n) ≡ n
+unfolding read_pieces
+responses-count pool regions l due zero = refl
+responses-count pool regions l due (suc n) = ap suc (responses-count pool regions l due n)

@@ -1,0 +1,18 @@
+-- The facts of the relation at a worked state, with all that they compute with opened at once.
+use Rattle.std.specs.Prelude.{Bool, ◌&&◌}
+use Rattle.rdma_types.specs.declared.names.ObjName.{ObjName}
+use Rattle.protocol.specs.State.{World}
+use Rattle.ideal_model.specs.Machine.{Machine}
+use Rattle.law_sim_relation.specs.Views as in_views
+use Rattle.law_sim_relation.specs.Packets as in_packets
+use Rattle.law_sim_relation.specs.Carries as in_carries
+use Rattle.law_sim_relation.specs.Joined as in_joined
+use Rattle.law_sim_relation.specs.Facts as in_facts
+use Rattle.example_relation.specs.Tests as in_tests
+use Rattle.example_relation.specs.Tests.{same_numbers, same_context, in_domains, all_sent}
+
+-- numbers, contexts and datagrams of two connected ends are as the relation says
+unfoldable pub stands_at : World → Machine → ObjName → ObjName → Bool
+unfolding in_views.contexts_of in_views.context_of in_views.end_of in_views.link_or_none in_views.in_rts in_views.home_in in_views.address_or_none in_views.place_of in_views.name_at in_views.receive_in in_views.owned_there in_views.owned in_joined.old_value in_joined.old_values in_joined.last_of in_joined.is_granted_in in_facts.is_access_denied in_packets.nak_class in_packets.syndrome_class in_packets.aeth_class in_packets.resume_class in_packets.class_of in_carries.is_at in_tests.same_lists in_tests.same_region in_tests.same_queue in_tests.same_bool in_tests.same_owned in_tests.same_context in_tests.in_domains in_tests.same_kept in_tests.is_packet in_tests.is_old in_tests.is_refused in_tests.numbered_test in_tests.move_test in_tests.class_test in_tests.packet_test in_tests.all_sent in_tests.same_numbers
+stands_at w m one two =
+    same_numbers w m one && (same_numbers w m two && (same_context w m one.context && (same_context w m two.context && (in_domains m one.context && (in_domains m two.context && all_sent w m)))))

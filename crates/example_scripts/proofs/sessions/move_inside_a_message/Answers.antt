@@ -1,0 +1,7 @@
+use Rattle.std.specs.Prelude.{refl}
+use Rattle.law_headline.specs.Evaluate.{written_for}
+use Rattle.example_scripts.proofs.sessions.move_inside_a_message.Goals as goal
+
+pub returns : goal.returns
+unfolding written_for
+returns c = refl

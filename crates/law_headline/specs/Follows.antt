@@ -1,0 +1,44 @@
+-- How the packetless machine follows the lines of a script.
+use Rattle.std.specs.Prelude.{◌≡◌, List, [], ◌∷◌, All}
+use Rattle.protocol.specs.declared.events.WorldEvent.{WorldEvent}
+use Rattle.protocol.specs.Script.{Happening, Event, Dump, Settles, happens}
+use Rattle.protocol.specs.Settle.{settled}
+use Rattle.protocol.specs.State.{World}
+use Rattle.protocol.specs.WorldStep.{world_step, world_after}
+use Rattle.ideal_model.specs.declared.steps.IdealStep.{IdealStep}
+use Rattle.ideal_model.specs.Legal.{IsRun, after, seen}
+use Rattle.ideal_model.specs.Machine.{Machine}
+use Rattle.law_sim_relation.specs.Carries.{Allows}
+use Rattle.law_sim_relation.specs.Law.{AllowsAll, inner_of, joined_steps}
+use Rattle.law_sim_relation.specs.Stands.{Stands}
+use Rattle.law_settle_steps.specs.Settling.{IsSettling}
+use Rattle.law_headline.specs.Script.{heard_of}
+
+-- the steps are those that a settling may cause: part by part those of its deliveries, transmissions, expiries and ends of
+-- RNR timers, which lead to the settled world
+pub record AreOfSettling (w : World) (m : Machine) (ss : List IdealStep) : Type 0 where
+  pub events : List WorldEvent
+  pub each : All IsSettling events
+  pub reached : world_after w events ≡ (settled w).world
+  pub parts : List (List IdealStep)  -- those of each event
+  pub joined : ss ≡ joined_steps parts
+  pub allowed : AllowsAll w m events parts
+
+-- the inner steps among the steps are those that a line may cause; a dump causes none
+abbrev pub Causes : World → Machine → Happening → List IdealStep → Type 0
+Causes w m (Event e) ss = Allows w m e (world_step w e).answer (inner_of ss)
+Causes w m (Dump name) ss = ss ≡ []
+Causes w m Settles ss = AreOfSettling w m ss
+
+-- the machine follows a line by these steps: it may make them, an application hears of them what it hears of the line, the
+-- line may cause them, and the next world stands for the machine after them
+pub record FollowsBy (w : World) (m : Machine) (h : Happening) (ss : List IdealStep) : Type 0 where
+  pub is_run : IsRun m ss
+  pub heard : seen m ss ≡ heard_of w h
+  pub caused : Causes w m h ss
+  pub stands : Stands (happens w h).world (after m ss)
+
+-- the machine follows the lines, one after the other, and the last world stands for the state that it comes to
+abbrev pub FollowsAll : World → Machine → List Happening → Type 0
+FollowsAll w m [] = Stands w m
+FollowsAll w m (h ∷ hs) = (ss : List IdealStep) × FollowsBy w m h ss × FollowsAll (happens w h).world (after m ss) hs

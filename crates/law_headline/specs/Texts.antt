@@ -1,0 +1,82 @@
+-- The last line of a run that is not done, and the words of reasons in it (this project's choice).
+use Rattle.std.specs.Prelude.{ℕ, List, [], ◌∷◌, codes}
+use Rattle.std.specs.Fmt.{decimal}
+use Rattle.rdma_types.specs.declared.names.Name.{Name}
+use Rattle.protocol.specs.declared.dumps.DumpWhy.{DumpWhy}
+use Rattle.protocol.specs.declared.dumps.DumpWhy.TheVariants as dump_why
+use Rattle.script_lang.specs.declared.lines.LineWhy.{LineWhy}
+use Rattle.script_lang.specs.declared.lines.LineWhy.TheVariants as line_why
+use Rattle.script_lang.specs.Printed.{line}
+use Rattle.law_headline.specs.Script.{BadLine}
+
+-- why a line is in no form
+abbrev pub line_why_text : LineWhy → List ℕ
+line_why_text line_why.Long = codes "long"
+line_why_text line_why.Ascii = codes "ascii"
+line_why_text line_why.Word = codes "word"
+line_why_text line_why.Missing = codes "missing"
+line_why_text line_why.Name = codes "name"
+line_why_text line_why.Number = codes "number"
+line_why_text line_why.Hex = codes "hex"
+line_why_text line_why.Rights = codes "rights"
+line_why_text line_why.Address = codes "address"
+line_why_text line_why.BadOption = codes "option"
+line_why_text line_why.Extra = codes "extra"
+
+-- why bytes are no dump
+abbrev pub dump_why_text : DumpWhy → List ℕ
+dump_why_text dump_why.Short = codes "short"
+dump_why_text dump_why.Magic = codes "magic"
+dump_why_text dump_why.Version = codes "version"
+dump_why_text dump_why.Name = codes "name"
+dump_why_text dump_why.Count = codes "count"
+dump_why_text dump_why.Field = codes "field"
+dump_why_text dump_why.Trailing = codes "trailing"
+
+-- the words are of no command
+abbrev pub usage_line : List ℕ
+usage_line = line (codes "usage") []
+
+-- `bad line` number `column` column reason
+abbrev pub bad_line_line : BadLine → List ℕ
+bad_line_line b = line (codes "bad") (codes "line" ∷ decimal b.number ∷ codes "column" ∷ decimal b.offence.column ∷ line_why_text b.offence.why ∷ [])
+
+-- `bad dump` place reason
+abbrev pub bad_dump_line : ℕ → DumpWhy → List ℕ
+bad_dump_line place why = line (codes "bad") (codes "dump" ∷ decimal place ∷ dump_why_text why ∷ [])
+
+-- a fault of the depot
+abbrev pub depot_line : List ℕ
+depot_line = line (codes "depot") (codes "fault" ∷ [])
+
+-- it was out of memory
+abbrev pub memory_line : List ℕ
+memory_line = line (codes "out") (codes "of" ∷ codes "memory" ∷ [])
+
+-- the input is too long
+abbrev pub long_line : List ℕ
+long_line = line (codes "input") (codes "too" ∷ codes "long" ∷ [])
+
+-- the depot holds nothing under a name
+abbrev pub missing_line : Name → List ℕ
+missing_line name = line (codes "missing") (name ∷ [])
+
+-- one of the last lines
+pub data LastLine : Type 0 where
+  Usage : LastLine
+  BadScript : (bad : BadLine) → LastLine
+  BadDump : (place : ℕ) → (why : DumpWhy) → LastLine
+  DepotFault : LastLine
+  OutOfMemory : LastLine
+  TooLong : LastLine
+  Missing : (name : Name) → LastLine
+
+-- its text
+abbrev pub last_text : LastLine → List ℕ
+last_text Usage = usage_line
+last_text (BadScript bad) = bad_line_line bad
+last_text (BadDump place why) = bad_dump_line place why
+last_text DepotFault = depot_line
+last_text OutOfMemory = memory_line
+last_text TooLong = long_line
+last_text (Missing name) = missing_line name

@@ -1,7 +1,0 @@
-use Rattle.std.specs.Prelude.{refl}
-use Rattle.line_examples.proofs.Evaluate.{all_read}
-use Rattle.line_examples.proofs.lines.requests_are_posted.Goals as goal
-
-pub returns : goal.returns
-unfolding all_read
-returns c = refl

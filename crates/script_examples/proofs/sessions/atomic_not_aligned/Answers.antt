@@ -1,7 +1,0 @@
-use Rattle.std.specs.Prelude.{refl}
-use Rattle.script_rules.specs.Evaluate.{written_for}
-use Rattle.script_examples.proofs.sessions.atomic_not_aligned.Goals as goal
-
-pub returns : goal.returns
-unfolding written_for
-returns c = refl

@@ -1,6 +1,0 @@
-use Rattle.script_lang.specs.Scripts.{lines_of}
-use Rattle.script_rules.proofs.Played.{says_lines}
-use Rattle.script_rules.proofs.playing.scripts_say_their_lines.Goals as goal
-
-pub returns : goal.returns
-returns c text = says_lines 1 (lines_of text)

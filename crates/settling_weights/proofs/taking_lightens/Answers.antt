@@ -1,5 +1,0 @@
-use Rattle.settling_weights.proofs.Taking.{taken}
-use Rattle.settling_weights.proofs.taking_lightens.Goals as goal
-
-pub returns : goal.returns
-returns c = taken

@@ -1,4 +1,0 @@
-use Rattle.simulation_rereads.proofs.repeated_reads_follow.Goals as goal
-
-pub returns : goal.returns
-returns c = c.rereads_are_taken.ensures
