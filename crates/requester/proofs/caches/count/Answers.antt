@@ -16,7 +16,7 @@ use Rattle.requester.proofs.Places.{at_end}
 use Rattle.requester.proofs.caches.count.Goals as goal
 
 -- what one more request does to the counts
-record More (us : List QueuedRequest) (mtu i first low una next high packets reads counted read : ℕ) : Type 0 where
+record More (us : List Posted) (mtu i first low una next high packets reads counted read : ℕ) : Type 0 where
   pub within : high ≤ first + end_number us mtu
   pub index : i + 1 ≤ end_number us mtu
   pub there : i < length us
@@ -26,7 +26,7 @@ record More (us : List QueuedRequest) (mtu i first low una next high packets rea
   pub packets-left : counted + packets + packets_in_flight (drop (i + 1) us) mtu high una next ≡ packets_in_flight us mtu first una next
   pub reads-left : read + reads + reads_in_flight (drop (i + 1) us) mtu high una next ≡ reads_in_flight us mtu first una next
 
-more : (us : List QueuedRequest) (mtu i first low una next span packets reads counted read : ℕ) (p : QueuedRequest) → slice_get us i ≡ Some p → i ≤ length us → low ≡ first + first_number us mtu i → span ≡ span_of p mtu
+more : (us : List Posted) (mtu i first low una next span packets reads counted read : ℕ) (p : Posted) → slice_get us i ≡ Some p → i ≤ length us → low ≡ first + first_number us mtu i → span ≡ span_of p mtu
     → packets ≡ packets_of (kind_of p) (overlap low (low + span) una next) → reads ≡ reads_of (kind_of p) (overlap low (low + span) una next)
     → counted + packets_in_flight (drop i us) mtu low una next ≡ packets_in_flight us mtu first una next
     → read + reads_in_flight (drop i us) mtu low una next ≡ reads_in_flight us mtu first una next
