@@ -45,8 +45,8 @@ const FIRST_WORDS: [(u64, [u32; 8]); 5] = [
     ),
 ];
 
-/// The first 40 lines for seed 7, 4 connections, 1,000 messages and 5 moves.
-const FIRST_LINES: [&[u8]; 40] = [
+/// The opening of scripts with two connections or more, up to the second connection.
+const OPENING: [&[u8]; 17] = [
     b"device 1 10.0.0.1",
     b"device 2 10.0.0.2",
     b"device 3 10.0.0.3",
@@ -64,6 +64,10 @@ const FIRST_LINES: [&[u8]; 40] = [
     b"qp a.q2 a.p a.c a.c 64 64",
     b"qp b.q2 b.p b.c b.c 64 64",
     b"connect a.q2 b.q2 mtu 1024 psn 2000 4000 retry 7 rnr 7 reads 4",
+];
+
+/// The lines after the opening among the first 40 for seed 7, 4 connections, 1,000 messages and 5 moves.
+const FIRST_LINES: [&[u8]; 23] = [
     b"qp a.q3 a.p a.c a.c 64 64",
     b"qp b.q3 b.p b.c b.c 64 64",
     b"connect a.q3 b.q3 mtu 1024 psn 3000 6000 retry 7 rnr 7 reads 4",
@@ -89,25 +93,8 @@ const FIRST_LINES: [&[u8]; 40] = [
     b"go a.q4",
 ];
 
-/// The lines for seed 42, 2 connections, 3 messages and 5 moves: one move stands before the first message.
-const ALL_LINES: [&[u8]; 49] = [
-    b"device 1 10.0.0.1",
-    b"device 2 10.0.0.2",
-    b"device 3 10.0.0.3",
-    b"context a 1",
-    b"context b 2",
-    b"domain a.p",
-    b"domain b.p",
-    b"region a.m a.p 65536 65536 lwra",
-    b"region b.n b.p 65536 65536 lwra",
-    b"cq a.c 4096",
-    b"cq b.c 4096",
-    b"qp a.q1 a.p a.c a.c 64 64",
-    b"qp b.q1 b.p b.c b.c 64 64",
-    b"connect a.q1 b.q1 mtu 1024 psn 1000 2000 retry 7 rnr 7 reads 4",
-    b"qp a.q2 a.p a.c a.c 64 64",
-    b"qp b.q2 b.p b.c b.c 64 64",
-    b"connect a.q2 b.q2 mtu 1024 psn 2000 4000 retry 7 rnr 7 reads 4",
+/// The lines after the opening for seed 42, 2 connections, 3 messages and 5 moves: one move stands before the first message.
+const ALL_LINES: [&[u8]; 32] = [
     b"stop b",
     b"restore b 3",
     b"settle",
@@ -142,12 +129,19 @@ const ALL_LINES: [&[u8]; 49] = [
     b"poll b.c 256",
 ];
 
-fn ended(alloc: Global, lines: &[&[u8]]) -> Result<Vec<u8>, AllocError> {
-    let mut text = Vec::new(alloc);
+fn add_lines(text: &mut Vec<u8>, lines: &[&[u8]]) -> Result<(), AllocError> {
     for line in lines {
         text.extend_from_slice(line)?;
         text.extend_from_slice(b"\n")?;
     }
+    Ok(())
+}
+
+/// The opening and these lines, each with its end.
+fn opened(alloc: Global, lines: &[&[u8]]) -> Result<Vec<u8>, AllocError> {
+    let mut text = Vec::new(alloc);
+    add_lines(&mut text, &OPENING)?;
+    add_lines(&mut text, lines)?;
     Ok(text)
 }
 
@@ -169,7 +163,7 @@ fn the_first_lines_of_a_long_script(rt: HostRuntime) -> Result<(), AllocError> {
         moves: 5,
     };
     let script = plan_of(rt.alloc(), 7, &mix)?;
-    let first = ended(rt.alloc(), &FIRST_LINES)?;
+    let first = opened(rt.alloc(), &FIRST_LINES)?;
     assert!(rt; script.as_slice().starts_with(first.as_slice()));
     let line = summary_of(rt.alloc(), script.as_slice(), b"")?;
     assert_eq!(rt;
@@ -187,7 +181,7 @@ fn a_short_script_with_moves(rt: HostRuntime) -> Result<(), AllocError> {
         moves: 5,
     };
     let script = plan_of(rt.alloc(), 42, &mix)?;
-    let all = ended(rt.alloc(), &ALL_LINES)?;
+    let all = opened(rt.alloc(), &ALL_LINES)?;
     assert_eq!(rt; script.as_slice(), all.as_slice());
     Ok(())
 }
