@@ -19,7 +19,7 @@ loop-place-preserved c = record {
   said = λ k. placed-more (λ (e : EndImage). e.number) c.args.name c.args.ends.now c.loop-place.place c.loop-place-test.true _ k (get nat_eq c.args.index.now k) (get nat_eq c.loop-place.index k) (get nat_eq c.put_location.new.index k) (c.loop-place.invariant.said k) (c.put_location.ensures.puts k);
 }
 
-put_location-requires : goal.put_location-requires
+pub put_location-requires : goal.put_location-requires
 put_location-requires c = omega (arith, c.loop-place.invariant.room, c.loop-place-test.true)
 
 pub returns : goal.returns

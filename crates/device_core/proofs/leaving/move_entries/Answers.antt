@@ -17,5 +17,5 @@ loop-place-preserved c k = placed-next c.args.name c.args.entries.now c.loop-pla
 pub returns : goal.returns
 returns c k = c.loop-place.invariant k ∙ ap (λ es. placed c.args.name 0 (numbers_in es) k (get nat_eq c.args.index.now k)) (take_all c.loop-place.place c.args.entries.now c.loop-place-test.false)
 
-move_location-requires : goal.move_location-requires
+pub move_location-requires : goal.move_location-requires
 move_location-requires c = let k = (get_or c.args.entries.now c.loop-place.place (record { number = 0; peer = 0; moves = 0 })).number in subst IsSome (sym (c.loop-place.invariant k)) (placed-some c.args.name 0 (numbers_in (take c.loop-place.place c.args.entries.now)) k (get nat_eq c.args.index.now k) (c.requires c.loop-place.place _ c.loop-place-test.true))

@@ -19,11 +19,11 @@ use Rattle.device_core.proofs.device.Device.take_bytes.Goals as goal
 pub returns-in_default-clause-done : goal.returns-in_default-clause-done
 returns-in_default-clause-done c = arrives-nothing c.args.self.now c.args.from c.args.bytes.now c.in_default.ensures.nothing ∙ ap (λ o. record { device = c.args.self.now; outcome = o }) (sym c.silent.ensures)
 
-pub returns-in_default-spot_of-clause-done : goal.returns-in_default-spot_of-clause-done
-returns-in_default-spot_of-clause-done c =
-    let away = c.in_default-spot_of.ensures.nowhere in
+pub returns-in_default-location_of-clause-done : goal.returns-in_default-location_of-clause-done
+returns-in_default-location_of-clause-done c =
+    let away = c.in_default-location_of.ensures.nowhere in
     arrives-packet c.args.self.now c.args.from c.args.bytes.now (packet c.in-Ok.d) c.in-Ok.ensures.exact _ (found-nowhere c.args.self.now c.args.from (packet c.in-Ok.d) away.0 away.1)
-    ∙ ap (λ o. record { device = c.args.self.now; outcome = o }) (sym c.silent-in_default-spot_of.ensures)
+    ∙ ap (λ o. record { device = c.args.self.now; outcome = o }) (sym c.silent-in_default-location_of.ensures)
 
 pub invariant_of-self : goal.invariant_of-self
 invariant_of-self c = held-kept c.self.inside.id c.self.inside.address c.self.inside.qp_count c.self.inside.key_count c.self.inside.pool c.self.inside.contexts.entries c.get_mut.follows.lender-at-none.entries c.self.inside.husks.entries _ (λ i. (c.get_mut.follows.holds-at-none i).entries) c.self.invariant
