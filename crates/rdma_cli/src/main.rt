@@ -1,17 +1,12 @@
 //! Jichurpa: a software RDMA device whose reliable connections are moved live to another device.
 #![tactic(auto)]
 
-mod commands;
 mod folder_depot;
-mod serial;
-mod stop;
 mod streams;
-mod text_sink;
-mod writing;
 
 use folder_depot::FolderDepot;
 use mig_ports::{Failed, write_all_of};
-use serial::run_serial;
+use rdma_cli_calls::run_serial;
 use std::io::{BufReader, BufWriter};
 use std::process::ExitCode;
 use std::{env, io};
@@ -29,7 +24,7 @@ jichurpa COMMAND
 A bulk run has a seed below 2^64, 1 to 8 connections, 1 to 2000 messages and at most 16 moves.
 
 The status is 0 where all is done, 2 for other words, 3 for a bad line or dump, 4, 5 and 7 where
-the input, the output and the depot fail, 8 for want of memory, 9 for an input of more than
+the input, the output and the depot fail, 8 where memory runs out, 9 for an input of more than
 1048576 bytes, and 12 for a name of which the depot holds no dump.
 ";
 
