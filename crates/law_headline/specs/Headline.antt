@@ -1,5 +1,5 @@
 -- What a run of the program leaves under each status: what was read, what was written, and what is claimed of it.
-use Rattle.std.specs.Prelude.{ℕ, ◌≡◌, ◌⊎◌, ◌+◌, List, [], ◌++◌, Option, Some, None}
+use Rattle.std.specs.Prelude.{ℕ, ◌≡◌, ◌≤◌, ◌⊎◌, ◌+◌, List, [], ◌++◌, length, Option, Some, None}
 use Rattle.rdma_types.specs.declared.names.Name.{Name}
 use Rattle.protocol.specs.declared.dumps.DumpWhy.{DumpWhy}
 use Rattle.protocol.specs.declared.images.ContextImage.{ContextImage}
@@ -15,7 +15,7 @@ use Rattle.workload_gen.specs.Summary.{summary}
 use Rattle.law_headline.specs.Commands.{Command, Play, Bulk, ShowDump, command_of}
 use Rattle.law_headline.specs.Follows.{FollowsAll}
 use Rattle.law_headline.specs.Script.{BadLine, answers_text, bad_line, happenings, heard}
-use Rattle.law_headline.specs.Texts.{LastLine, last_text, bad_dump_line, bad_line_line, depot_line, long_line, memory_line, missing_line, usage_line}
+use Rattle.law_headline.specs.Texts.{bad_dump_line, bad_line_line, depot_line, long_line, memory_line, missing_line, usage_line}
 
 -- ---- what is claimed of a script
 
@@ -78,6 +78,7 @@ bulk_text seed mix = summary (plan seed mix) (answers_text (plan seed mix))
 pub record IsAnswered (r : Run) : Type 0 where
   pub text : List ℕ
   pub read : ReadsAll r text
+  pub short : length text ≤ input_limit
   pub good : bad_line text ≡ None
   pub written : Writes r (answers_text text)
   pub followed : IsFollowed text
@@ -123,6 +124,7 @@ pub record IsOfNoCommand (r : Run) : Type 0 where
 pub record IsStoppedAtBadLine (r : Run) : Type 0 where
   pub text : List ℕ
   pub read : ReadsAll r text
+  pub short : length text ≤ input_limit
   pub bad : BadLine
   pub first : bad_line text ≡ Some bad
   pub written : Writes r (answers_text text ++ bad_line_line bad)
@@ -157,9 +159,12 @@ IsStopped r = IsStoppedBy r (command r)
 
 -- ---- statuses 4, 7, 9 and 12
 
--- a read failed: the command is `play`, and nothing was written
+-- a read failed: the command is `play`, no more was taken than the limit, and nothing was written
 pub record IsUnread (r : Run) : Type 0 where
   pub plays : command r ≡ Some Play
+  pub count : ℕ
+  pub short : count ≤ input_limit
+  pub read : TakesCount r.left r.left_after count
   pub silent : r.held_after ≡ r.held
 
 -- the depot failed: the command is `show-dump`
@@ -181,12 +186,13 @@ pub record IsMissing (r : Run) : Type 0 where
   pub nothing : Has r.stored name None
   pub written : Writes r (missing_line name)
 
--- ---- statuses 5 and 8: a prefix of what the command writes
+-- ---- status 8, and a prefix of what the command writes
 
 -- the input was read to its end, and this is the answers to it; the machine follows its lines
 pub record AreAnswersRead (r : Run) (answers : List ℕ) : Type 0 where
   pub text : List ℕ
   pub read : ReadsAll r text
+  pub short : length text ≤ input_limit
   pub are : answers ≡ answers_text text
   pub followed : IsFollowed text
 
@@ -218,16 +224,17 @@ pub record IsShortOfMemory (said : ImageText) (r : Run) : Type 0 where
   pub to_write : IsToWrite said r (front ++ rest)
   pub written : Writes r (front ++ memory_line)
 
--- status 5: what was written is a prefix of what the command writes, and perhaps a prefix of a last line
+-- a run that was not cut off, under one of the statuses that write: it is done, or it stopped and its last line was written
+abbrev pub IsWritten : ImageText → Run → Type 0
+IsWritten said r = IsDone said r ⊎ IsOfNoCommand r ⊎ IsStopped r ⊎ IsWithoutDepot r ⊎ IsShortOfMemory said r ⊎ IsTooLong r ⊎ IsMissing r
+
+-- status 5: a write failed. What was written is a prefix of what a run under another status writes: had the rest been written
+-- too, it would be such a run
 pub record IsCutOff (said : ImageText) (r : Run) : Type 0 where
-  pub front : List ℕ
   pub rest : List ℕ
-  pub to_write : IsToWrite said r (front ++ rest)
-  pub last : LastLine
-  pub last_front : List ℕ
-  pub last_rest : List ℕ
-  pub last_splits : last_text last ≡ last_front ++ last_rest
-  pub written : Writes r (front ++ last_front)
+  pub whole : Option (List ℕ)
+  pub missing : Puts r.held_after whole rest
+  pub is : IsWritten said (record r { held_after = whole })
 
 -- ---- all of them
 

@@ -60,23 +60,3 @@ long_line = line (codes "input") (codes "too" ∷ codes "long" ∷ [])
 -- the depot holds nothing under a name
 abbrev pub missing_line : Name → List ℕ
 missing_line name = line (codes "missing") (name ∷ [])
-
--- one of the last lines
-pub data LastLine : Type 0 where
-  Usage : LastLine
-  BadScript : (bad : BadLine) → LastLine
-  BadDump : (place : ℕ) → (why : DumpWhy) → LastLine
-  DepotFault : LastLine
-  OutOfMemory : LastLine
-  TooLong : LastLine
-  Missing : (name : Name) → LastLine
-
--- its text
-abbrev pub last_text : LastLine → List ℕ
-last_text Usage = usage_line
-last_text (BadScript bad) = bad_line_line bad
-last_text (BadDump place why) = bad_dump_line place why
-last_text DepotFault = depot_line
-last_text OutOfMemory = memory_line
-last_text TooLong = long_line
-last_text (Missing name) = missing_line name

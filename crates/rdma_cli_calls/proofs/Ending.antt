@@ -1,17 +1,17 @@
 -- What a run that stops leaves, once its last line is written, or a front of it.
-use Rattle.std.proofs.Common.{arith, ◌≡◌, ℕ, List, [], ◌∷◌, ◌++◌, Option, Some, None, Result, Err, refl, ap, subst, sym, ◌∙◌, inl, inr, append-nil}
+use Rattle.std.proofs.Common.{arith, ◌≡◌, ◌≢◌, ◌⊎◌, ℕ, List, [], ◌∷◌, ◌++◌, Option, Some, None, Result, Err, refl, ap, subst, sym, ◌∙◌, inl, inr, append-nil, append_assoc}
 use Rattle.mig_ports.specs.Streams.{Puts}
 use Rattle.mig_ports.proofs.Chains.{Puts-none, Puts-then}
 use Rattle.rdma_types.specs.declared.names.Name.{Name}
 use Rattle.workload_gen.specs.declared.plan.Mix.{Mix}
 use Rattle.law_headline.specs.Commands as rules
-use Rattle.law_headline.specs.Headline.{Run, ImageText, IsCutOff, IsDone, IsDoneBy, IsMissing, IsOfNoCommand, IsShortOfMemory, IsStatus, IsStopped, IsStoppedBy, IsToWriteBy, IsTooLong, IsUnread, IsWithoutDepot, KeepsInput, KeepsUnused, command}
-use Rattle.law_headline.specs.Script.{BadLine, answers_text}
-use Rattle.law_headline.specs.Texts.{LastLine, last_text, BadDump, BadScript, DepotFault, Missing, OutOfMemory, TooLong, Usage, bad_line_line, missing_line, usage_line}
+use Rattle.law_headline.specs.Headline.{Run, AreAnswersRead, ImageText, IsCutOff, IsDone, IsDoneBy, IsDumpRead, IsMissing, IsOfNoCommand, IsShortOfMemory, IsStatus, IsStopped, IsStoppedBy, IsToWriteBy, IsTooLong, IsUnread, IsWithoutDepot, IsWritten, KeepsInput, KeepsUnused, bulk_text, command}
+use Rattle.law_headline.specs.Script.{BadLine, answers_text, bad_line}
+use Rattle.law_headline.specs.Texts.{bad_dump_line, bad_line_line, depot_line, long_line, memory_line, missing_line, usage_line}
 use Rattle.script_runner.specs.Playing.{PutsFront}
 use Rattle.rdma_cli_calls.specs.declared.stop.Stop.{Stop}
 use Rattle.rdma_cli_calls.specs.declared.stop.Stop.TheVariants as stop
-use Rattle.rdma_cli_calls.specs.Stopping.{EndsFor, IsBadScript, IsSilent, StopsBy, StopsFor, WritesFront}
+use Rattle.rdma_cli_calls.specs.Stopping.{EndsFor, IsSilent, IsSummedUpInPart, StopsBy, StopsFor, WritesFront}
 use Rattle.rdma_cli_calls.specs.Writing.{last_line, status}
 
 -- ---- a last line alone, and one behind a front
@@ -46,54 +46,6 @@ IsFront said r c = WritesFront (IsToWriteBy said r c) r
 silent_front : (said : ImageText) (r : Run) (c : Option rules.Command) → IsSilent r → IsFront said r c
 silent_front said r c s = record { front = []; rest = []; holds = nothing_by said r c; written = subst (λ h. Puts r.held h []) (sym s) (Puts-none r.held) }
 
--- the answers before a bad line
-bad_script_front : (said : ImageText) (r : Run) (bad : BadLine) → IsBadScript r bad → IsFront said r (Some rules.Play)
-bad_script_front said r bad b = record {
-  front = answers_text b.text;
-  rest = [];
-  holds = inr (record { text = b.text; read = b.read; are = append-nil (answers_text b.text); followed = b.followed });
-  written = b.written;
-}
-
--- each command that stops wrote a front
-front_by : (said : ImageText) (r : Run) (c : Option rules.Command) (x : Stop) → StopsBy said r c x → IsFront said r c
-front_by said r None stop.Usage s = silent_front said r None s
-front_by said r None (stop.BadLine line column why) s = absurd s
-front_by said r None (stop.BadDump place why) s = absurd s
-front_by said r None stop.ReadFault s = absurd s
-front_by said r None stop.WriteFault s = absurd s
-front_by said r None stop.DepotFault s = absurd s
-front_by said r None stop.OutOfMemory s = absurd s
-front_by said r None stop.TooLong s = absurd s
-front_by said r None (stop.Missing name) s = absurd s
-front_by said r (Some rules.Play) stop.Usage s = absurd s
-front_by said r (Some rules.Play) (stop.BadLine line column why) s = bad_script_front said r (record { number = line; offence = record { column = column; why = why } }) s
-front_by said r (Some rules.Play) (stop.BadDump place why) s = absurd s
-front_by said r (Some rules.Play) stop.ReadFault s = silent_front said r (Some rules.Play) s
-front_by said r (Some rules.Play) stop.WriteFault s = s
-front_by said r (Some rules.Play) stop.DepotFault s = absurd s
-front_by said r (Some rules.Play) stop.OutOfMemory s = s
-front_by said r (Some rules.Play) stop.TooLong s = silent_front said r (Some rules.Play) s.0
-front_by said r (Some rules.Play) (stop.Missing name) s = absurd s
-front_by said r (Some (rules.Bulk seed mix)) stop.Usage s = absurd s
-front_by said r (Some (rules.Bulk seed mix)) (stop.BadLine line column why) s = silent_front said r (Some (rules.Bulk seed mix)) s.0
-front_by said r (Some (rules.Bulk seed mix)) (stop.BadDump place why) s = absurd s
-front_by said r (Some (rules.Bulk seed mix)) stop.ReadFault s = absurd s
-front_by said r (Some (rules.Bulk seed mix)) stop.WriteFault s = s
-front_by said r (Some (rules.Bulk seed mix)) stop.DepotFault s = absurd s
-front_by said r (Some (rules.Bulk seed mix)) stop.OutOfMemory s = silent_front said r (Some (rules.Bulk seed mix)) s
-front_by said r (Some (rules.Bulk seed mix)) stop.TooLong s = absurd s
-front_by said r (Some (rules.Bulk seed mix)) (stop.Missing name) s = absurd s
-front_by said r (Some (rules.ShowDump own)) stop.Usage s = absurd s
-front_by said r (Some (rules.ShowDump own)) (stop.BadLine line column why) s = absurd s
-front_by said r (Some (rules.ShowDump own)) (stop.BadDump place why) s = silent_front said r (Some (rules.ShowDump own)) s.0
-front_by said r (Some (rules.ShowDump own)) stop.ReadFault s = absurd s
-front_by said r (Some (rules.ShowDump own)) stop.WriteFault s = s
-front_by said r (Some (rules.ShowDump own)) stop.DepotFault s = silent_front said r (Some (rules.ShowDump own)) s
-front_by said r (Some (rules.ShowDump own)) stop.OutOfMemory s = silent_front said r (Some (rules.ShowDump own)) s
-front_by said r (Some (rules.ShowDump own)) stop.TooLong s = absurd s
-front_by said r (Some (rules.ShowDump own)) (stop.Missing name) s = silent_front said r (Some (rules.ShowDump own)) s.0
-
 -- ---- after the last line
 
 -- the run once more was written
@@ -105,7 +57,7 @@ to_write_later : (said : ImageText) (r : Run) (after : Option (List ℕ)) (c : O
 to_write_later said r after None text h = h
 to_write_later said r after (Some rules.Play) text h = elim h [
   | inl e ↦ inl e
-  | inr a ↦ inr (record { text = a.text; read = a.read; are = a.are; followed = a.followed })
+  | inr a ↦ inr (record { text = a.text; read = a.read; short = a.short; are = a.are; followed = a.followed })
 ]
 to_write_later said r after (Some (rules.Bulk seed mix)) text h = h
 to_write_later said r after (Some (rules.ShowDump name)) text h = elim h [
@@ -114,40 +66,23 @@ to_write_later said r after (Some (rules.ShowDump name)) text h = elim h [
 ]
 
 -- memory was wanting
-short : (said : ImageText) (r : Run) (after : Option (List ℕ)) → IsFront said r (command r) → Puts r.held_after after (last_text OutOfMemory) → IsShortOfMemory said (with_held_after r after)
-short said r after f p = record { front = f.front; rest = f.rest; to_write = to_write_later said r after (command r) (f.front ++ f.rest) f.holds; written = Puts-then r.held r.held_after after f.front (last_text OutOfMemory) f.written p }
+short : (said : ImageText) (r : Run) (after : Option (List ℕ)) → IsFront said r (command r) → Puts r.held_after after memory_line → IsShortOfMemory said (with_held_after r after)
+short said r after f p = record { front = f.front; rest = f.rest; to_write = to_write_later said r after (command r) (f.front ++ f.rest) f.holds; written = Puts-then r.held r.held_after after f.front memory_line f.written p }
 
--- a last line was written in part
-cut : (said : ImageText) (r : Run) (after : Option (List ℕ)) (last : LastLine) → IsFront said r (command r) → PutsFront r.held_after after (last_text last) → IsCutOff said (with_held_after r after)
-cut said r after last f p = record {
-  front = f.front;
-  rest = f.rest;
-  to_write = to_write_later said r after (command r) (f.front ++ f.rest) f.holds;
-  last = last;
-  last_front = p.front;
-  last_rest = p.rest;
-  last_splits = p.splits;
-  written = Puts-then r.held r.held_after after f.front p.front f.written p.put;
-}
+-- ---- where a write failed: the rest is put behind what was written
 
--- no last line is written
-none_cut : (said : ImageText) (r : Run) (after : Option (List ℕ)) → IsFront said r (command r) → PutsFront r.held_after after [] → IsCutOff said (with_held_after r after)
-none_cut said r after f p = cut said r after Usage f (record { front = p.front; rest = usage_line; splits = ap (λ xs. xs ++ usage_line) (sym (front_of_nothing p.front p.rest p.splits)); put = p.put })
+-- these bytes more, where that is told
+abbrev with_more : Option (List ℕ) → List ℕ → Option (List ℕ)
+with_more None rest = None
+with_more (Some held) rest = Some (held ++ rest)
 
--- the front of a last line
-pub stopped_cut_off : (said : ImageText) (r : Run) (after : Option (List ℕ)) (x : Stop) → StopsFor said r x → PutsFront r.held_after after (last_line x) → IsCutOff said (with_held_after r after)
-stopped_cut_off said r after x s p = cut_by x (front_by said r (command r) x s) p
-  where
-    cut_by : (x : Stop) → IsFront said r (command r) → PutsFront r.held_after after (last_line x) → IsCutOff said (with_held_after r after)
-    cut_by stop.Usage f p = cut said r after Usage f p
-    cut_by (stop.BadLine line column why) f p = cut said r after (BadScript (record { number = line; offence = record { column = column; why = why } })) f p
-    cut_by (stop.BadDump place why) f p = cut said r after (BadDump place why) f p
-    cut_by stop.ReadFault f p = none_cut said r after f p
-    cut_by stop.WriteFault f p = none_cut said r after f p
-    cut_by stop.DepotFault f p = cut said r after DepotFault f p
-    cut_by stop.OutOfMemory f p = cut said r after OutOfMemory f p
-    cut_by stop.TooLong f p = cut said r after TooLong f p
-    cut_by (stop.Missing name) f p = cut said r after (Missing name) f p
+puts_more : (held : Option (List ℕ)) (rest : List ℕ) → Puts held (with_more held rest) rest
+puts_more None rest = refl
+puts_more (Some held) rest = refl
+
+-- a text is whole with its rest
+put_whole : (a b c : Option (List ℕ)) (front rest text : List ℕ) → Puts a b front → c ≡ b → front ++ rest ≡ text → Puts a (with_more c rest) text
+put_whole a b c front rest text p same whole = subst (λ t. Puts a (with_more c rest) t) whole (subst (λ h. Puts a (with_more h rest) (front ++ rest)) (sym same) (Puts-then a b (with_more b rest) front rest p (puts_more b rest)))
 
 -- ---- what each stop leaves
 
@@ -168,9 +103,68 @@ module _ (said : ImageText) (r : Run) (after : Option (List ℕ)) where
   front_here : (c : Option rules.Command) → command r ≡ c → IsFront said r c → IsFront said r (command r)
   front_here c e f = subst (IsFront said r) (sym e) f
 
-  -- a write failed, and no last line is written
-  cut_end : (c : Option rules.Command) → command r ≡ c → IsFront said r c → Puts r.held_after after [] → IsCutOff said (with_held_after r after)
-  cut_end c e f p = none_cut said r after (front_here c e f) (record { front = []; rest = []; splits = refl; put = p })
+  -- the answers were written in part
+  answers_cut : command r ≡ Some rules.Play → WritesFront (AreAnswersRead r) r → after ≡ r.held_after → IsCutOff said (with_held_after r after)
+  answers_cut e s same = by_line (bad_line s.holds.text) refl
+    where
+      by_line : (b : Option BadLine) → bad_line s.holds.text ≡ b → IsCutOff said (with_held_after r after)
+      by_line None good = record {
+        rest = s.rest;
+        whole = with_more after s.rest;
+        missing = puts_more after s.rest;
+        is = inl (subst (IsDoneBy said (with_held_after r (with_more after s.rest))) (sym e) (record {
+          text = s.holds.text;
+          read = s.holds.read;
+          short = s.holds.short;
+          good = good;
+          written = put_whole r.held r.held_after after s.front s.rest (answers_text s.holds.text) s.written same s.holds.are;
+          followed = s.holds.followed;
+        }));
+      }
+      by_line (Some bad) first = record {
+        rest = s.rest ++ bad_line_line bad;
+        whole = with_more after (s.rest ++ bad_line_line bad);
+        missing = puts_more after (s.rest ++ bad_line_line bad);
+        is = inr (inr (inl (subst (IsStoppedBy (with_held_after r (with_more after (s.rest ++ bad_line_line bad)))) (sym e) (record {
+          text = s.holds.text;
+          read = s.holds.read;
+          short = s.holds.short;
+          bad = bad;
+          first = first;
+          written = put_whole r.held r.held_after after s.front (s.rest ++ bad_line_line bad) (answers_text s.holds.text ++ bad_line_line bad) s.written same (sym (append_assoc s.front s.rest (bad_line_line bad)) ∙ ap (λ xs. xs ++ bad_line_line bad) s.holds.are);
+          followed = s.holds.followed;
+        }))));
+      }
+
+  -- the summary was
+  summary_cut : (seed : ℕ) (mix : Mix) → command r ≡ Some (rules.Bulk seed mix) → IsSummedUpInPart r seed mix → after ≡ r.held_after → IsCutOff said (with_held_after r after)
+  summary_cut seed mix e s same = record {
+    rest = s.front.rest;
+    whole = with_more after s.front.rest;
+    missing = puts_more after s.front.rest;
+    is = inl (subst (IsDoneBy said (with_held_after r (with_more after s.front.rest))) (sym e) (record {
+      good = s.good;
+      written = put_whole r.held r.held_after after s.front.front s.front.rest (bulk_text seed mix) s.front.written same s.front.holds;
+      followed = s.followed;
+    }));
+  }
+
+  -- the text of a dump was
+  text_cut : (own : Name) → command r ≡ Some (rules.ShowDump own) → WritesFront (IsDumpRead said r own) r → after ≡ r.held_after → IsCutOff said (with_held_after r after)
+  text_cut own e s same = record {
+    rest = s.rest;
+    whole = with_more after s.rest;
+    missing = puts_more after s.rest;
+    is = inl (subst (IsDoneBy said (with_held_after r (with_more after s.rest))) (sym e) (record {
+      bytes = s.holds.bytes;
+      found = s.holds.found;
+      image = s.holds.image;
+      place = s.holds.place;
+      rest = s.holds.rest;
+      reads = s.holds.reads;
+      written = put_whole r.held r.held_after after s.front s.rest (said s.holds.image) s.written same s.holds.is;
+    }));
+  }
 
   -- `play`
   play_end : command r ≡ Some rules.Play → (x : Stop) → StopsBy said r (Some rules.Play) x → Puts r.held_after after (last_line x) → EndsFor said (with_held_after r after) x
@@ -178,17 +172,18 @@ module _ (said : ImageText) (r : Run) (after : Option (List ℕ)) where
   play_end e (stop.BadLine line column why) s p = subst (IsStoppedBy (with_held_after r after)) (sym e) (record {
     text = s.text;
     read = s.read;
+    short = s.short;
     bad = record { number = line; offence = record { column = column; why = why } };
     first = s.first;
     written = Puts-then r.held r.held_after after (answers_text s.text) (bad_line_line (record { number = line; offence = record { column = column; why = why } })) s.written p;
     followed = s.followed;
   })
   play_end e (stop.BadDump place why) s p = absurd s
-  play_end e stop.ReadFault s p = record { plays = e; silent = nothing_put r.held_after after p ∙ s }
-  play_end e stop.WriteFault s p = cut_end (Some rules.Play) e s p
+  play_end e stop.ReadFault s p = record { plays = e; count = s.1.count; short = s.1.short; read = s.1.read; silent = nothing_put r.held_after after p ∙ s.0 }
+  play_end e stop.WriteFault s p = answers_cut e s (nothing_put r.held_after after p)
   play_end e stop.DepotFault s p = absurd s
   play_end e stop.OutOfMemory s p = short said r after (front_here (Some rules.Play) e s) p
-  play_end e stop.TooLong s p = record { plays = e; read = s.1; written = behind_nothing r after (last_text TooLong) s.0 p }
+  play_end e stop.TooLong s p = record { plays = e; read = s.1; written = behind_nothing r after long_line s.0 p }
   play_end e (stop.Missing name) s p = absurd s
 
   -- `bulk`
@@ -201,7 +196,7 @@ module _ (said : ImageText) (r : Run) (after : Option (List ℕ)) where
   })
   bulk_end seed mix e (stop.BadDump place why) s p = absurd s
   bulk_end seed mix e stop.ReadFault s p = absurd s
-  bulk_end seed mix e stop.WriteFault s p = cut_end (Some (rules.Bulk seed mix)) e s p
+  bulk_end seed mix e stop.WriteFault s p = summary_cut seed mix e s (nothing_put r.held_after after p)
   bulk_end seed mix e stop.DepotFault s p = absurd s
   bulk_end seed mix e stop.OutOfMemory s p = short said r after (silent_front said r (command r) s) p
   bulk_end seed mix e stop.TooLong s p = absurd s
@@ -217,11 +212,11 @@ module _ (said : ImageText) (r : Run) (after : Option (List ℕ)) where
     place = place;
     why = why;
     reads = s.1.reads;
-    written = behind_nothing r after (last_text (BadDump place why)) s.0 p;
+    written = behind_nothing r after (bad_dump_line place why) s.0 p;
   })
   show_end own e stop.ReadFault s p = absurd s
-  show_end own e stop.WriteFault s p = cut_end (Some (rules.ShowDump own)) e s p
-  show_end own e stop.DepotFault s p = record { name = own; shows = e; written = behind_nothing r after (last_text DepotFault) s p }
+  show_end own e stop.WriteFault s p = text_cut own e s (nothing_put r.held_after after p)
+  show_end own e stop.DepotFault s p = record { name = own; shows = e; written = behind_nothing r after depot_line s p }
   show_end own e stop.OutOfMemory s p = short said r after (silent_front said r (command r) s) p
   show_end own e stop.TooLong s p = absurd s
   show_end own e (stop.Missing name) s p = record { name = own; shows = e; nothing = s.2; written = subst (λ n. Puts r.held after (missing_line n)) s.1 (behind_nothing r after (missing_line name) s.0 p) }
@@ -235,6 +230,29 @@ module _ (said : ImageText) (r : Run) (after : Option (List ℕ)) where
   -- the command of the run
   pub stopped : (x : Stop) → StopsFor said r x → Puts r.held_after after (last_line x) → EndsFor said (with_held_after r after) x
   stopped x s p = end_by (command r) refl x s p
+
+-- ---- where the last line was written in part
+
+-- each stop with a last line
+written_by : (said : ImageText) (r : Run) (x : Stop) → x ≢ stop.ReadFault → x ≢ stop.WriteFault → EndsFor said r x → IsWritten said r
+written_by said r stop.Usage n m h = inr (inl h)
+written_by said r (stop.BadLine line column why) n m h = inr (inr (inl h))
+written_by said r (stop.BadDump place why) n m h = inr (inr (inl h))
+written_by said r stop.ReadFault n m h = absurd (n refl)
+written_by said r stop.WriteFault n m h = absurd (m refl)
+written_by said r stop.DepotFault n m h = inr (inr (inr (inl h)))
+written_by said r stop.OutOfMemory n m h = inr (inr (inr (inr (inl h))))
+written_by said r stop.TooLong n m h = inr (inr (inr (inr (inr (inl h)))))
+written_by said r (stop.Missing name) n m h = inr (inr (inr (inr (inr (inr h)))))
+
+-- a front of it
+pub stopped_cut_off : (said : ImageText) (r : Run) (after : Option (List ℕ)) (x : Stop) → x ≢ stop.ReadFault → x ≢ stop.WriteFault → StopsFor said r x → PutsFront r.held_after after (last_line x) → IsCutOff said (with_held_after r after)
+stopped_cut_off said r after x n m s p = record {
+  rest = p.rest;
+  whole = with_more after p.rest;
+  missing = puts_more after p.rest;
+  is = written_by said (with_held_after r (with_more after p.rest)) x n m (stopped said r (with_more after p.rest) x s (put_whole r.held_after after after p.front p.rest (last_line x) p.put refl (sym p.splits)));
+}
 
 -- ---- by the status
 

@@ -1,5 +1,5 @@
 -- Why a command stops, and what is known there.
-use Rattle.std.proofs.Common.{◌≡◌, ◌≢◌, ◌⊎◌, ◌+◌, ℕ, List, [], ◌++◌, length, drop, Option, Some, None, Result, Err, refl, ap, subst, sym, ◌∙◌, inl, inr, append-nil, arith, length-drop}
+use Rattle.std.proofs.Common.{◌≡◌, ◌≢◌, ◌≤◌, ◌⊎◌, ◌+◌, ℕ, List, [], ◌++◌, length, drop, Option, Some, None, Result, Err, refl, ap, subst, sym, ◌∙◌, inl, inr, append-nil, arith, length-drop}
 use Rattle.std.specs.Prelude.{IfErr, IsSome}
 use Rattle.protocol.specs.declared.dumps.DumpWhy.{DumpWhy}
 use Rattle.protocol.specs.declared.images.ContextImage.{ContextImage}
@@ -23,7 +23,7 @@ use Rattle.script_runner.specs.declared.fault.PlayFault.{PlayFault}
 use Rattle.script_runner.specs.declared.fault.PlayFault.TheVariants as play
 use Rattle.rdma_cli_calls.specs.declared.stop.Stop.{Stop}
 use Rattle.rdma_cli_calls.specs.declared.stop.Stop.TheVariants as stop
-use Rattle.rdma_cli_calls.specs.Stopping.{AnswersStop, BulkStops, IsNotAsked, IsSilent, LookStops, PlayStops, ShowStops, StopsBy, WritesFront, stop_of_dump, stop_of_play, stop_of_read}
+use Rattle.rdma_cli_calls.specs.Stopping.{AnswersStop, BulkStops, IsNotAsked, IsReadInPart, IsSilent, IsSummedUpInPart, LookStops, PlayStops, ShowStops, StopsBy, WritesFront, stop_of_dump, stop_of_play, stop_of_read}
 
 -- nothing is a front of nothing
 pub nothing_written : (P : List ℕ → Type 0) (r : Run) → P [] → IsSilent r → WritesFront P r
@@ -32,24 +32,24 @@ nothing_written P r p s = record { front = []; rest = []; holds = p; written = s
 -- ---- play
 
 -- the input is not read
-pub read_stopped : (r : Run) (f : ReadAllFault) → (f ≡ read.TooLong → TakesCount r.left r.left_after (input_limit + 1)) → IsSilent r → PlayStops r (stop_of_read f)
-read_stopped r read.ReadFault long s = s
-read_stopped r read.TooLong long s = (s, long refl)
-read_stopped r read.OutOfMemory long s = nothing_written (λ text. (text ≡ []) ⊎ AreAnswersRead r text) r (inl refl) s
+pub read_stopped : (r : Run) (f : ReadAllFault) → (f ≡ read.TooLong → TakesCount r.left r.left_after (input_limit + 1)) → (f ≡ read.ReadFault → IsReadInPart r) → IsSilent r → PlayStops r (stop_of_read f)
+read_stopped r read.ReadFault long part s = (s, part refl)
+read_stopped r read.TooLong long part s = (s, long refl)
+read_stopped r read.OutOfMemory long part s = nothing_written (λ text. (text ≡ []) ⊎ AreAnswersRead r text) r (inl refl) s
 
-module _ (r : Run) (text : List ℕ) (t : TakesAll r.left r.left_after text) (followed : IsFollowed text) where
-  front_played : PutsFront r.held r.held_after (answers_text text) → WritesFront (λ text. (text ≡ []) ⊎ AreAnswersRead r text) r
-  front_played p = record { front = p.front; rest = p.rest; holds = inr (record { text = text; read = t; are = sym p.splits; followed = followed }); written = p.put }
+module _ (r : Run) (text : List ℕ) (t : TakesAll r.left r.left_after text) (short : length text ≤ input_limit) (followed : IsFollowed text) where
+  answers_in_part : PutsFront r.held r.held_after (answers_text text) → WritesFront (AreAnswersRead r) r
+  answers_in_part p = record { front = p.front; rest = p.rest; holds = record { text = text; read = t; short = short; are = sym p.splits; followed = followed }; written = p.put }
 
   -- it is not played to its end
   pub play_stopped : (f : PlayFault) → IfBadLine (IsStoppedAt r.held r.held_after text) f → PutsFront r.held r.held_after (answers_text text) → PlayStops r (stop_of_play f)
-  play_stopped (play.BadLine line column why) b p = record { text = text; read = t; first = b.first; written = b.written; followed = followed }
-  play_stopped play.WriteFault b p = front_played p
-  play_stopped play.OutOfMemory b p = front_played p
+  play_stopped (play.BadLine line column why) b p = record { text = text; read = t; short = short; first = b.first; written = b.written; followed = followed }
+  play_stopped play.WriteFault b p = answers_in_part p
+  play_stopped play.OutOfMemory b p = let a = answers_in_part p in record { front = a.front; rest = a.rest; holds = inr a.holds; written = a.written }
 
   -- it is
   pub played : bad_line text ≡ None → Puts r.held r.held_after (answers_text text) → IsAnswered r
-  played g p = record { text = text; read = t; good = g; written = p; followed = followed }
+  played g p = record { text = text; read = t; short = short; good = g; written = p; followed = followed }
 
 -- ---- bulk
 
@@ -73,8 +73,8 @@ module _ (seed : ℕ) (mix : Mix) (r : Run) where
   bulk_stopped (stop.Missing name) a s = a
 
   -- the summary is written in part
-  pub bulk_cut_off : PutsFront r.held r.held_after (bulk_text seed mix) → WritesFront (λ text. (text ≡ []) ⊎ (text ≡ bulk_text seed mix)) r
-  bulk_cut_off p = record { front = p.front; rest = p.rest; holds = inr (sym p.splits); written = p.put }
+  pub bulk_cut_off : bad_line (plan seed mix) ≡ None → IsFollowed (plan seed mix) → PutsFront r.held r.held_after (bulk_text seed mix) → IsSummedUpInPart r seed mix
+  bulk_cut_off good followed p = record { good = good; front = record { front = p.front; rest = p.rest; holds = sym p.splits; written = p.put }; followed = followed }
 
 -- ---- show-dump
 
@@ -99,7 +99,7 @@ module _ (said : ImageText) (name : Name) (r : Run) where
 
     -- what it says is written in part
     pub show_cut_off : (image : ContextImage) (place : ℕ) (rest : List ℕ) → read_dump bytes ≡ Good image place rest → PutsFront r.held r.held_after (said image) → ShowStops said name r stop.WriteFault
-    show_cut_off image place rest g p = record { front = p.front; rest = p.rest; holds = inr (record { bytes = bytes; found = found; image = image; place = place; rest = rest; reads = g; is = sym p.splits }); written = p.put }
+    show_cut_off image place rest g p = record { front = p.front; rest = p.rest; holds = record { bytes = bytes; found = found; image = image; place = place; rest = rest; reads = g; is = sym p.splits }; written = p.put }
 
     -- or whole
     pub shown : (image : ContextImage) (place : ℕ) (rest : List ℕ) → read_dump bytes ≡ Good image place rest → Puts r.held r.held_after (said image) → IsShown said r name

@@ -1,5 +1,5 @@
 -- Why a run of the program stops before it is done, and what is known there before its last line is written.
-use Rattle.std.specs.Prelude.{ℕ, ◌≡◌, ◌≢◌, ◌⊎◌, ◌+◌, List, [], ◌++◌, map, Option, Some, None, String}
+use Rattle.std.specs.Prelude.{ℕ, ◌≡◌, ◌≢◌, ◌≤◌, ◌⊎◌, ◌+◌, List, [], ◌++◌, length, map, Option, Some, None, String}
 use Rattle.std.specs.String.{string_bytes}
 use Rattle.std.specs.declared.alloc.Global.{Global}
 use Rattle.rdma_types.specs.declared.names.Name.{Name}
@@ -62,10 +62,17 @@ pub record WritesFront (P : List ℕ → Type 0) (r : Run) : Type 0 where
   pub holds : P (front ++ rest)
   pub written : Writes r front
 
+-- no more than the limit was taken of the input
+pub record IsReadInPart (r : Run) : Type 0 where
+  pub count : ℕ
+  pub short : count ≤ input_limit
+  pub read : TakesCount r.left r.left_after count
+
 -- the answers to the lines before a bad one were written
 pub record IsBadScript (r : Run) (bad : BadLine) : Type 0 where
   pub text : List ℕ
   pub read : TakesAll r.left r.left_after text
+  pub short : length text ≤ input_limit
   pub first : bad_line text ≡ Some bad
   pub written : Writes r (answers_text text)
   pub followed : IsFollowed text
@@ -73,8 +80,8 @@ pub record IsBadScript (r : Run) (bad : BadLine) : Type 0 where
 -- `play` stops
 abbrev pub PlayStops : Run → Stop → Type 0
 PlayStops r (stop.BadLine line column why) = IsBadScript r (record { number = line; offence = record { column = column; why = why } })
-PlayStops r stop.ReadFault = IsSilent r
-PlayStops r stop.WriteFault = WritesFront (λ text. (text ≡ []) ⊎ AreAnswersRead r text) r
+PlayStops r stop.ReadFault = IsSilent r × IsReadInPart r
+PlayStops r stop.WriteFault = WritesFront (AreAnswersRead r) r
 PlayStops r stop.OutOfMemory = WritesFront (λ text. (text ≡ []) ⊎ AreAnswersRead r text) r
 PlayStops r stop.TooLong = IsSilent r × TakesCount r.left r.left_after (input_limit + 1)
 PlayStops r other = ⊥
@@ -85,10 +92,16 @@ AnswersStop script (stop.BadLine line column why) = bad_line script ≡ Some (re
 AnswersStop script stop.OutOfMemory = Unit {0}
 AnswersStop script other = ⊥
 
+-- a prefix of the line that sums a generated script up was written
+pub record IsSummedUpInPart (r : Run) (seed : ℕ) (mix : Mix) : Type 0 where
+  pub good : bad_line (plan seed mix) ≡ None
+  pub front : WritesFront (λ text. text ≡ bulk_text seed mix) r
+  pub followed : IsFollowed (plan seed mix)
+
 -- `bulk` stops
 abbrev pub BulkStops : ℕ → Mix → Run → Stop → Type 0
 BulkStops seed mix r (stop.BadLine line column why) = IsSilent r × (bad_line (plan seed mix) ≡ Some (record { number = line; offence = record { column = column; why = why } }))
-BulkStops seed mix r stop.WriteFault = WritesFront (λ text. (text ≡ []) ⊎ (text ≡ bulk_text seed mix)) r
+BulkStops seed mix r stop.WriteFault = IsSummedUpInPart r seed mix
 BulkStops seed mix r stop.OutOfMemory = IsSilent r
 BulkStops seed mix r other = ⊥
 
@@ -108,7 +121,7 @@ LookStops stored name other = ⊥
 -- `show-dump` stops
 abbrev pub ShowStops : ImageText → Name → Run → Stop → Type 0
 ShowStops said name r (stop.BadDump place why) = IsSilent r × HasBadDump r name place why
-ShowStops said name r stop.WriteFault = WritesFront (λ text. (text ≡ []) ⊎ IsDumpRead said r name text) r
+ShowStops said name r stop.WriteFault = WritesFront (IsDumpRead said r name) r
 ShowStops said name r stop.DepotFault = IsSilent r
 ShowStops said name r stop.OutOfMemory = IsSilent r
 ShowStops said name r (stop.Missing other) = IsSilent r × (other ≡ name) × Has r.stored name None

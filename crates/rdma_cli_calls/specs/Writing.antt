@@ -1,5 +1,5 @@
 -- What the last line of a run is.
-use Rattle.std.specs.Prelude.{ℕ, List, []}
+use Rattle.std.specs.Prelude.{ℕ, ◌≢◌, List, []}
 use Rattle.law_headline.specs.Texts as text
 use Rattle.rdma_cli_calls.specs.declared.stop.Stop.{Stop}
 use Rattle.rdma_cli_calls.specs.declared.stop.Stop.TheVariants as stop
@@ -15,6 +15,11 @@ last_line stop.DepotFault = text.depot_line
 last_line stop.OutOfMemory = text.memory_line
 last_line stop.TooLong = text.long_line
 last_line (stop.Missing name) = text.missing_line name
+
+-- it has one
+pub record HasLastLine (x : Stop) : Type 0 where
+  pub read : x ≢ stop.ReadFault
+  pub write : x ≢ stop.WriteFault
 
 -- the status of it
 abbrev pub status : Stop → ℕ

@@ -155,6 +155,7 @@ impl Stop {
     pub(crate) fn write_last_line<K: Sink>(&self, output: &mut K) -> Result<(), WriteFault>
         ensures whole { OnOk result (Puts (K.held output.old) (K.held output.new) (writing.last_line self.now)) }
         ensures part { OnErr result (PutsFront (K.held output.old) (K.held output.new) (writing.last_line self.now)) }
+        ensures speaks { OnErr result (writing.HasLastLine self.now) }
         ensures faults_counted { OnErr result (FaultsCounted (K.faults output.old) (K.faults output.new)) }
         ensures faults_monotone { K.faults output.old ≤ K.faults output.new }
     {

@@ -81,7 +81,7 @@ returns-in-Err-write_last_line-clause-unused g c =
 
 pub returns-in-Err-write_last_line-clause-unwritten : goal.returns-in-Err-write_last_line-clause-unwritten
 returns-in-Err-write_last_line-clause-unwritten g c e =
-    (FaultsCounted-before _ _ _ c.in-Err.ensures.faults_monotone c.in-Err-write_last_line.ensures.faults_counted, stopped_cut_off text_of (run_of c.args.words.now (g.S.Source.left c.args.input.now) (g.S.Source.left c.perform.new.input) (g.K.Sink.held c.args.output.now) (g.K.Sink.held c.perform.new.output) (g.D.Depot.held c.args.depot.now) (g.D.Depot.held c.perform.new.depot)) (g.K.Sink.held c.write_last_line.new.output) c.in-Err.stop c.in-Err.ensures.stops c.in-Err-write_last_line.ensures.part)
+    (FaultsCounted-before _ _ _ c.in-Err.ensures.faults_monotone c.in-Err-write_last_line.ensures.faults_counted, stopped_cut_off text_of (run_of c.args.words.now (g.S.Source.left c.args.input.now) (g.S.Source.left c.perform.new.input) (g.K.Sink.held c.args.output.now) (g.K.Sink.held c.perform.new.output) (g.D.Depot.held c.args.depot.now) (g.D.Depot.held c.perform.new.depot)) (g.K.Sink.held c.write_last_line.new.output) c.in-Err.stop c.in-Err-write_last_line.ensures.speaks.read c.in-Err-write_last_line.ensures.speaks.write c.in-Err.ensures.stops c.in-Err-write_last_line.ensures.part)
 
 pub returns-in-Ok-write_last_line-clause-play_is_done : goal.returns-in-Ok-write_last_line-clause-play_is_done
 returns-in-Ok-write_last_line-clause-play_is_done g c text e left short good read written =
