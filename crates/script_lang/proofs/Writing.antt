@@ -1,6 +1,6 @@
 -- Bytes that begin with those that were there, and lists that are written an item at a time.
 use Rattle.std.proofs.Common.{◌≡◌, ℕ, ◌+◌, ◌<◌, List, [], ◌∷◌, ◌++◌, length, take, drop, get_or, refl, sym, ◌∙◌, ap, append_assoc, Result, Ok, Err}
-use Rattle.std.specs.Prelude.{OnErr}
+use Rattle.std.specs.Prelude.{OnOk, OnErr}
 use Rattle.std.proofs.lemmas.List.{take_more, take-append-drop, append-nil}
 use Rattle.std.proofs.Math.Seq.{take-append_seam}
 use Rattle.rdma_types.specs.declared.answers.LeftWhy.{LeftWhy}
@@ -88,3 +88,19 @@ left_start start = sym (append-nil start)
 pub on_err : {T E : Type 0} (r : Result T E) (P : Type 0) → P → OnErr r P
 on_err (Ok x) P p = tt
 on_err (Err e) P p = p
+
+-- a text behind one that was written
+pub ok_after : {T E : Type 0} (r : Result T E) (old first mid more new : List ℕ) → mid ≡ old ++ first → OnOk r (new ≡ mid ++ more) → OnOk r (new ≡ old ++ (first ++ more))
+ok_after (Ok x) old first mid more new e n = n ∙ ap (λ (z : List ℕ). z ++ more) e ∙ append_assoc old first more
+ok_after (Err x) old first mid more new e n = tt
+
+-- a text behind two that were written
+pub ok_after_pair : {T E : Type 0} (r : Result T E) (old first second mid more new : List ℕ) → mid ≡ old ++ (first ++ second) → OnOk r (new ≡ mid ++ more) → OnOk r (new ≡ old ++ (first ++ (second ++ more)))
+ok_after_pair (Ok x) old first second mid more new e n =
+    n ∙ ap (λ (z : List ℕ). z ++ more) e ∙ append_assoc old (first ++ second) more ∙ ap (λ (z : List ℕ). old ++ z) (append_assoc first second more)
+ok_after_pair (Err x) old first second mid more new e n = tt
+
+-- a failure behind a text that was written
+pub err_after : {T E : Type 0} (r : Result T E) (old text mid new : List ℕ) → mid ≡ old ++ text → OnErr r (Keeps mid new) → OnErr r (Keeps old new)
+err_after (Ok x) old text mid new e k = tt
+err_after (Err x) old text mid new e k = keeps_after old text mid new e k

@@ -194,7 +194,6 @@ fn low_bytes(n: u32) -> [u8; 3]
 }
 
 /// A line of a text and a word.
-#[tactic(auto, using(crate::proofs::Writing::keeps_after, std::proofs::lemmas::List::append_assoc))]
 fn put_told(out: &mut Vec<u8>, word: &[u8], what: &[u8]) -> Result<(), AllocError>
     ensures ok { OnOk result (out.new.items ≡ out.old.items ++ (word.now ++ (what.now ++ 10 ∷ []))) }
     ensures err { OnErr result (Keeps out.old.items out.new.items) }
@@ -204,7 +203,6 @@ fn put_told(out: &mut Vec<u8>, word: &[u8], what: &[u8]) -> Result<(), AllocErro
 }
 
 /// A line of a text and a number.
-#[tactic(auto, using(crate::proofs::Writing::keeps_after, std::proofs::lemmas::List::append_assoc))]
 fn put_count(out: &mut Vec<u8>, word: &[u8], n: u64) -> Result<(), AllocError>
     ensures ok { OnOk result (out.new.items ≡ out.old.items ++ (word.now ++ (decimal n ++ 10 ∷ []))) }
     ensures err { OnErr result (Keeps out.old.items out.new.items) }
@@ -214,7 +212,6 @@ fn put_count(out: &mut Vec<u8>, word: &[u8], n: u64) -> Result<(), AllocError>
 }
 
 /// A line of a text and bytes in hexadecimal digits.
-#[tactic(auto, using(crate::proofs::Writing::keeps_after, std::proofs::lemmas::List::append_assoc))]
 fn put_bytes(out: &mut Vec<u8>, word: &[u8], bytes: &[u8]) -> Result<(), AllocError>
     ensures ok { OnOk result (out.new.items
         ≡ out.old.items ++ (word.now ++ (encode_lower bytes.now ++ 10 ∷ []))) }
@@ -307,7 +304,6 @@ fn put_completion(out: &mut Vec<u8>, completion: &Completion) -> Result<(), Allo
     put_imm(out, completion.imm)
 }
 
-#[tactic(auto, using(crate::proofs::Writing::keeps_after, crate::proofs::Writing::completions_start))]
 fn put_completions(out: &mut Vec<u8>, completions: &[Completion]) -> Result<(), AllocError>
     ensures ok { OnOk result (out.new.items ≡ out.old.items ++ text.completion_lines completions.now) }
     ensures err { OnErr result (Keeps out.old.items out.new.items) }
@@ -329,7 +325,6 @@ fn put_polled(out: &mut Vec<u8>, completions: &[Completion]) -> Result<(), Alloc
     }
 }
 
-#[tactic(auto, using(crate::proofs::Writing::keeps_after, std::proofs::lemmas::List::append_assoc))]
 fn put_object(out: &mut Vec<u8>, object: &ObjName) -> Result<(), AllocError>
     ensures ok { OnOk result (out.new.items ≡ out.old.items ++ text.object_text object.now) }
     ensures err { OnErr result (Keeps out.old.items out.new.items) }
@@ -348,7 +343,6 @@ fn put_left(out: &mut Vec<u8>, end: &(ObjName, LeftWhy)) -> Result<(), AllocErro
     put_told(out, b" ", left_text(end.1))
 }
 
-#[tactic(auto, using(crate::proofs::Writing::keeps_after, crate::proofs::Writing::left_step, crate::proofs::Writing::left_start))]
 fn put_left_lines(out: &mut Vec<u8>, ends: &[(ObjName, LeftWhy)]) -> Result<(), AllocError>
     ensures ok { OnOk result (out.new.items ≡ out.old.items ++ text.left_lines ends.now) }
     ensures err { OnErr result (Keeps out.old.items out.new.items) }

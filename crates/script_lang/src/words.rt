@@ -34,7 +34,6 @@ impl<'a> Model for Words<'a> {
 }
 
 /// How many spaces the bytes begin with.
-#[tactic(auto, using(crate::proofs::Splitting::space_passed))]
 fn spaces_before(bytes: &[u8]) -> usize
     ensures words { (column : ℕ) → words_from (column + result) (drop result bytes.now) ≡ words_from column bytes.now }
     ensures within { result ≤ length bytes.now }

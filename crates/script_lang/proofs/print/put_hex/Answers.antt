@@ -1,4 +1,5 @@
-use Rattle.std.proofs.Common.{◌≡◌, ◌++◌, [], ◌∷◌, List, ℕ, take, get_or, ap, ◌∙◌}
+use Rattle.std.proofs.Common.{◌≡◌, ◌++◌, [], ◌∷◌, List, ℕ, take, get_or, ap, append_assoc, ◌∙◌}
+use Rattle.std.proofs.lemmas.List.{take_all}
 use Rattle.hex.specs.Hex.{encode_lower}
 use Rattle.script_lang.specs.Printed.{Keeps}
 use Rattle.script_lang.proofs.Writing.{keeps_after, hex_start, hex_step, on_err}
@@ -22,3 +23,9 @@ returns-in_err-put-2-clause-err c =
     let kept : Keeps c.args.out.now.items c.put-in-loop-b.new.out.items =
     keeps_after c.args.out.now.items c.args.word.now c.put.new.out.items c.put-in-loop-b.new.out.items c.in_ok-put.ensures.ok from_word in
     on_err c.from_residual-in_err-put-2.result (Keeps c.args.out.now.items c.put-in-loop-b.new.out.items) kept
+
+pub returns-clause-ok : goal.returns-clause-ok
+returns-clause-ok c =
+    let told : List ℕ = encode_lower (take c.loop-b.b-index c.args.bytes.now) in
+    c.loop-b.invariant ∙ ap (λ (z : List ℕ). z ++ told) c.in_ok-put.ensures.ok ∙ append_assoc c.args.out.now.items c.args.word.now told
+    ∙ ap (λ (bs : List ℕ). c.args.out.now.items ++ (c.args.word.now ++ encode_lower bs)) (take_all c.loop-b.b-index c.args.bytes.now c.loop-b-test.false)

@@ -1,0 +1,8 @@
+use Rattle.script_lang.specs.Verbs.{write_line}
+use Rattle.script_lang.proofs.verbs.write.Goals as goal
+
+pub returns-clause-value : goal.returns-clause-value
+unfolding write_line
+returns-clause-value c =
+    rw (c.in_ok-end.ensures, c.in_ok-id.ensures, c.in_ok-lkey.ensures, c.in_ok-local.ensures, c.in_ok-length.ensures, c.in_ok-remote.ensures, c.in_ok-rkey.ensures, c.in_ok-imm.ensures)
+    c.posted.ensures.value
