@@ -5,14 +5,14 @@ ghost use Rattle.std.specs.Prelude.{◌≡◌, ◌<◌, ◌+◌, length, IfSome,
 ghost use Rattle.rdma_types.specs.Memory.{word_of};
 ghost use Rattle.ideal_model.specs.Keyed.{put_maybe};
 ghost use Rattle.ideal_model.specs.Machine.{Machine as MachineRecord, completed};
-ghost use Rattle.ideal_model.specs.Steps.{current, fills, next_bytes, arrivals, used_by, may_run, run, may_atom, atom, may_read, read_turn, may_refuse, refuse, may_dry, dried, may_offer, offered, changed_word, refused_entries, refused_receives, refused_queues, received_whole, placing};
+ghost use Rattle.ideal_model.specs.Steps.{current, fills, next_bytes, arrivals, used_by, may_run, run, may_atom, atom, may_read, read_turn, may_refuse, refuse, may_dry, dried, may_offer, offered, word_there, changed_word, refused_entries, refused_receives, refused_queues, received_whole, placing};
 
 use crate::end::End;
 use crate::ideal::Ideal;
 use crate::kinds::{is_send, receive_done};
 use crate::posted::{IdealRequest, Offered};
 use crate::queue::{Queue, complete, copied};
-use crate::region::{KeyKind, KeyedRange, bytes_at};
+use crate::region::{KeyKind, KeyedRange, Region, bytes_at};
 use crate::reply::Reply;
 use crate::turns::remote_place;
 use rdma_types::{Completion, Kind, Name, ObjName, Receive, WcKind, WcStatus, Why};
@@ -42,11 +42,19 @@ fn word_of(bytes: &[u8]) -> u64
     ])
 }
 
+/// The word in these regions that an atomic names. Errors: `AllocError` when out of memory.
+fn word_there(alloc: Global, r: &IdealRequest, regions: &[Region]) -> Result<u64, AllocError>
+    ensures { IfOk result (λ w. w ≡ word_there r.now regions.now) }
+{
+    let bytes = bytes_at(alloc, regions, &remote_place(r, 0, 8))?;
+    Ok(word_of(&bytes))
+}
+
 /// What an atomic makes of a word.
 fn changed_word(r: &IdealRequest, old: u64) -> u64
     ensures { result ≡ changed_word r.now old }
 {
-    let shape = r.request().shape;
+    let shape = r.request.shape;
     match shape.kind {
         Kind::FetchAdd => old.wrapping_add(shape.swap_add),
         Kind::Write | Kind::Send | Kind::Read | Kind::CompareSwap => {
@@ -64,10 +72,10 @@ impl End {
     fn used_by(&self, r: &IdealRequest) -> Option<Receive>
         ensures { result ≡ used_by r.now self.now }
     {
-        if is_send(r.kind()) {
+        if is_send(r.request.shape.kind) {
             return self.receive_for();
         }
-        if r.imm().is_some() {
+        if r.request.shape.imm.is_some() {
             return self.unused.get(0).copied();
         }
         None
@@ -89,14 +97,40 @@ impl End {
             return Ok(all);
         }
         if let Some(v) = x.used_by(r) {
-            let kind = if is_send(r.kind()) {
+            let kind = if is_send(r.request.shape.kind) {
                 WcKind::Recv
             } else {
                 WcKind::RecvImm
             };
-            all.push(receive_done(x.number, v, kind, WcStatus::Success, r.length(), r.imm()))?;
+            all.push(receive_done(
+                x.number,
+                v,
+                kind,
+                WcStatus::Success,
+                r.request.shape.length,
+                r.request.shape.imm,
+            ))?;
         }
         Ok(all)
+    }
+
+    /// The queues of its peer x, once n more bytes of its current request r are in place there. Errors: `AllocError`
+    /// when out of memory.
+    fn arrived_queues(
+        &self,
+        alloc: Global,
+        r: &IdealRequest,
+        n: u32,
+        x: &End,
+        queues: &[Queue],
+    ) -> Result<Vec<Queue>, AllocError>
+        requires { r.now ≡ current self.now }
+        ensures { IfOk result (λ v. v.items ≡ completed x.now.receive_queue (arrivals self.now n x.now) queues.now) }
+    {
+        let done = self.arrivals(alloc, r, n, x)?;
+        let mut queues = copied(alloc, queues)?;
+        complete(&mut queues, x.receive_queue, &done)?;
+        Ok(queues)
     }
 
     /// What a refusal completes here before the rest is flushed.
@@ -156,7 +190,7 @@ fn target(end: &End, r: &IdealRequest, x: &End, count: usize) -> Option<KeyedRan
     ensures put { (m : MachineRecord) (c : List ℕ) (new : List ℕ) → put_maybe m c result new ≡ placing m c end.now x.now new }
     ensures count { IfSome result (λ p. p.count ≡ count) }
 {
-    if !is_send(r.kind()) {
+    if !is_send(r.request.shape.kind) {
         return Some(remote_place(r, end.into, count));
     }
     let v = x.receive_for()?;
@@ -186,10 +220,8 @@ impl Ideal {
         let whole = end.fills(r, n);
         let bytes = end.next_bytes(alloc, r, n)?;
         let place = target(end, r, x, bytes.len());
-        let done = end.arrivals(alloc, r, n, x)?;
-        let mut queues = copied(alloc, &context.queues)?;
-        complete(&mut queues, x.receive_queue, &done)?;
-        let shape = r.request().shape;
+        let queues = end.arrived_queues(alloc, r, n, x, &context.queues)?;
+        let shape = r.request.shape;
         let peer = end.peer;
         if let Some(end) = self.end_mut(q) {
             end.advance(n, whole)?;
@@ -211,8 +243,8 @@ impl Ideal {
         let Some((end, context, _, r)) = self.turn(q) else {
             return Ok(());
         };
+        let old = word_there(alloc, r, &context.regions)?;
         let place = remote_place(r, 0, 8);
-        let old = word_of(&bytes_at(alloc, &context.regions, &place)?);
         let new = changed_word(r, old);
         let home = end.peer.context;
         if let Some(end) = self.end_mut(q) {
@@ -289,7 +321,11 @@ impl Ideal {
             return Ok(());
         };
         let bytes = bytes_at(alloc, &context.regions, &remote_place(r, off, n as usize))?;
-        let offer = Offered::make(i, off, bytes);
+        let offer = Offered {
+            request: i,
+            offset: off,
+            bytes,
+        };
         match self.end_mut(q) {
             Some(end) => end.offer(offer),
             None => Ok(()),

@@ -163,22 +163,6 @@ impl End {
         Ok(())
     }
 
-    /// The request that acts next.
-    pub fn current(&self) -> Option<&IdealRequest>
-        ensures some { IfSome result (λ r. (r.now ≡ current self.now) × (self.now.acted < length self.now.posted)) }
-        ensures none { IfNone result (length self.now.posted ≤ self.now.acted) }
-    {
-        self.posted.get(self.acted)
-    }
-
-    /// The first request that is not finished for its owner.
-    pub fn front(&self) -> Option<&IdealRequest>
-        ensures some { IfSome result (λ r. (r.now ≡ front self.now) × (self.now.told < length self.now.posted)) }
-        ensures none { IfNone result (length self.now.posted ≤ self.now.told) }
-    {
-        self.posted.get(self.told)
-    }
-
     /// The requests that are not finished for their owner.
     pub fn untold(&self) -> &[IdealRequest]
         ensures { result.now ≡ untold self.now }
@@ -199,7 +183,7 @@ impl End {
         ensures whole { result ≡ fills self.now n }
         ensures small { size_of (current self.now) < 2 ^ 32 }
     {
-        u64::from(self.into) + u64::from(n) == u64::from(r.length())
+        u64::from(self.into) + u64::from(n) == u64::from(r.request.shape.length)
     }
 
     /// So many bytes of its current request r may come next.
@@ -207,7 +191,7 @@ impl End {
         requires { r.now ≡ current self.now }
         ensures { result ≡ may_add self.now n }
     {
-        let length = r.length();
+        let length = r.request.shape.length;
         (n >= 1 || length == 0) && u64::from(self.into) + u64::from(n) <= u64::from(length)
     }
 
@@ -217,7 +201,10 @@ impl End {
         ensures { result ≡ lands_before self.now }
     {
         let before = self.acted.saturating_sub(self.told);
-        self.untold().iter().take(before).any(|r| lands(r.kind()))
+        self.untold()
+            .iter()
+            .take(before)
+            .any(|r| lands(r.request.shape.kind))
     }
 
     /// Request number i, where it is a Read that had its turn and has n bytes from an offset on.
@@ -227,7 +214,7 @@ impl End {
     {
         let r = self.posted.get(i)?;
         if i < self.acted
-            && is_read(r.kind())
+            && is_read(r.request.shape.kind)
             && u64::from(off) + u64::from(n) <= u64::from(r.length())
         {
             return Some(r);
@@ -241,7 +228,7 @@ impl End {
         requires { r.now ≡ current self.now }
         ensures { IfOk result (λ v. v.items ≡ next_bytes self.now n) }
     {
-        r.payload()
+        r.payload
             .iter()
             .skip(self.into as usize)
             .take(n as usize)
@@ -302,9 +289,7 @@ impl End {
     pub fn requests_name(&self, key: u32) -> bool
         ensures { result ≡ list_any (request_names key) (untold self.now) }
     {
-        self.untold()
-            .iter()
-            .any(|r| !(r.length() == 0) && r.request().lkey == key)
+        self.untold().iter().any(|r| !(r.request.shape.length == 0) && r.request.lkey == key)
     }
 
     /// An unused receive that is not empty names a local key.
@@ -333,8 +318,7 @@ impl End {
     pub fn is_dry(&self) -> bool
         ensures { result ≡ list_any (λ i. self.now.told == i) self.now.dry }
     {
-        let told = self.told;
-        self.dry.iter().any(|i| told == *i)
+        self.dry.contains(&self.told)
     }
 
     /// The receive that a Send towards it goes to.

@@ -88,7 +88,7 @@ fn completed_kind(kind: Kind) -> WcKind
 pub fn request_done(number: u32, r: &IdealRequest, status: WcStatus, length: u32) -> Completion
     ensures { result ≡ request_done number r.now status length }
 {
-    let request = r.request();
+    let request = r.request;
     Completion {
         qp: number,
         id: request.id,

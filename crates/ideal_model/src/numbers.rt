@@ -17,10 +17,10 @@ fn span_of(r: &IdealRequest, mtu: u32) -> u64
     requires { 0 < mtu }
     ensures { result ≡ span_of r.now mtu }
 {
-    if is_atomic(r.kind()) {
+    if is_atomic(r.request.shape.kind) {
         return 1;
     }
-    ((u64::from(r.length()) + u64::from(mtu - 1)) / u64::from(mtu)).max(1)
+    ((u64::from(r.request.shape.length) + u64::from(mtu - 1)) / u64::from(mtu)).max(1)
 }
 
 /// The first number of request i.
@@ -54,7 +54,7 @@ fn next_landing(posted: &[IdealRequest], mtu: u32, n: u64) -> u64
             left -= span;
             continue;
         }
-        if lands(r.kind()) {
+        if lands(r.request.shape.kind) {
             return before + left;
         }
         before += span;

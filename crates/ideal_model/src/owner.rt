@@ -21,7 +21,7 @@ impl End {
         ensures { result ≡ in_place self.now i }
     {
         match self.posted.get(i) {
-            Some(r) if i < self.acted => r.length(),
+            Some(r) if i < self.acted => r.request.shape.length,
             _ if i == self.acted => self.into,
             _ => 0,
         }
@@ -31,7 +31,7 @@ impl End {
     fn may_land(&self, offer: &Offered) -> bool
         ensures { result ≡ may_land_offer self.now (Some offer.now) }
     {
-        !offer.bytes().is_empty() && offer.request() == self.told && offer.offset() == self.known
+        !offer.bytes.is_empty() && offer.request == self.told && offer.offset == self.known
     }
 
     /// The completion of its first untold request, where that is signaled.
@@ -39,8 +39,8 @@ impl End {
         ensures { IfOk result (λ v. v.items ≡ success self.now r.now) }
     {
         let mut all = Vec::new(alloc);
-        if r.request().signaled {
-            all.push(request_done(self.number, r, WcStatus::Success, r.length()))?;
+        if r.request.signaled {
+            all.push(request_done(self.number, r, WcStatus::Success, r.request.shape.length))?;
         }
         Ok(all)
     }
@@ -50,11 +50,10 @@ impl End {
 fn local_place(r: &IdealRequest, offset: u32, count: usize) -> KeyedRange
     ensures { result ≡ record { kind = KeyKind.Local; key = r.now.request.lkey; address = r.now.request.local + offset; count = count } }
 {
-    let request = r.request();
     KeyedRange {
         kind: KeyKind::Local,
-        key: request.lkey,
-        address: u128::from(request.local) + u128::from(offset),
+        key: r.request.lkey,
+        address: u128::from(r.request.local) + u128::from(offset),
         count,
     }
 }
@@ -75,16 +74,17 @@ fn failed_queues(
 }
 
 impl Ideal {
-    /// The end of that name, where it has an untold request.
-    fn owner(&self, q: &ObjName) -> Option<&End>
-        ensures some { IfSome result (λ e. (e.now ≡ end_of self.now q.now) × (has_end self.now q.now ≡ true) × (has_untold self.now q.now ≡ true) × (e.now.told < length e.now.posted)) }
+    /// The end of that name and its first untold request, where it has one.
+    fn owner(&self, q: &ObjName) -> Option<(&End, &IdealRequest)>
+        ensures some { IfSome result (λ p. (p.0.now ≡ end_of self.now q.now) × (p.1.now ≡ front (end_of self.now q.now)) × (has_end self.now q.now ≡ true) × (has_untold self.now q.now ≡ true) × ((end_of self.now q.now).told < length (end_of self.now q.now).posted)) }
         ensures none { IfNone result (has_untold self.now q.now ≡ false) }
     {
         let end = self.end(q)?;
-        if end.connected && !end.ended && end.told < end.posted.len() {
-            return Some(end);
+        if !end.connected || end.ended {
+            return None;
         }
-        None
+        let r = end.posted.get(end.told)?;
+        Some((end, r))
     }
 
     pub(crate) fn has_untold(&self, q: &ObjName) -> bool
@@ -96,7 +96,7 @@ impl Ideal {
     pub(crate) fn may_land(&self, q: &ObjName, o: usize) -> bool
         ensures { result ≡ may_land self.now q.now o }
     {
-        let Some(end) = self.owner(q) else {
+        let Some((end, _)) = self.owner(q) else {
             return false;
         };
         match end.offers.get(o) {
@@ -108,31 +108,26 @@ impl Ideal {
     pub(crate) fn may_know(&self, q: &ObjName, bytes: u32) -> bool
         ensures { result ≡ may_know self.now q.now bytes }
     {
-        let Some(end) = self.owner(q) else {
+        let Some((end, r)) = self.owner(q) else {
             return false;
         };
-        match end.front() {
-            Some(r) => !lands(r.kind()) && end.known < bytes && bytes <= end.in_place(end.told),
-            None => false,
-        }
+        !lands(r.request.shape.kind) && end.known < bytes && bytes <= end.in_place(end.told)
     }
 
     pub(crate) fn may_tell(&self, q: &ObjName) -> bool
         ensures { result ≡ may_tell self.now q.now }
     {
-        let Some(end) = self.owner(q) else {
+        let Some((end, r)) = self.owner(q) else {
             return false;
         };
-        match end.front() {
-            Some(r) => end.told < end.acted && (!is_read(r.kind()) || end.known == r.length()),
-            None => false,
-        }
+        end.told < end.acted
+            && (!is_read(r.request.shape.kind) || end.known == r.request.shape.length)
     }
 
     pub(crate) fn may_wait(&self, q: &ObjName) -> bool
         ensures { result ≡ may_wait self.now q.now }
     {
-        let Some(end) = self.owner(q) else {
+        let Some((end, _)) = self.owner(q) else {
             return false;
         };
         end.is_dry()
@@ -141,7 +136,7 @@ impl Ideal {
     pub(crate) fn may_bounce(&self, q: &ObjName) -> bool
         ensures { result ≡ may_bounce self.now q.now }
     {
-        let Some(end) = self.owner(q) else {
+        let Some((end, _)) = self.owner(q) else {
             return false;
         };
         matches!(end.answers.get(end.told), Some(Reply::Denied(_)))
@@ -182,7 +177,7 @@ impl Ideal {
         ensures ok { OnOk result (self.new ≡ expire self.old q.now) }
         ensures err { OnErr result (self.new ≡ self.old) }
     {
-        let Some(end) = self.owner(q) else {
+        let Some((end, _)) = self.owner(q) else {
             return Ok(());
         };
         if end.spent == end.retry {
@@ -199,7 +194,7 @@ impl Ideal {
         ensures ok { OnOk result (self.new ≡ wait self.old q.now) }
         ensures err { OnErr result (self.new ≡ self.old) }
     {
-        let Some(end) = self.owner(q) else {
+        let Some((end, _)) = self.owner(q) else {
             return Ok(());
         };
         if end.rnr == 7 {
@@ -219,7 +214,7 @@ impl Ideal {
         ensures ok { OnOk result (self.new ≡ bounce self.old q.now) }
         ensures err { OnErr result (self.new ≡ self.old) }
     {
-        let Some(end) = self.owner(q) else {
+        let Some((end, _)) = self.owner(q) else {
             return Ok(());
         };
         let status = match end.answers.get(end.told) {
@@ -235,13 +230,13 @@ impl Ideal {
         ensures ok { OnOk result (self.new ≡ landed self.old q.now o) }
         ensures err { OnErr result (self.new ≡ self.old) }
     {
-        let Some(end) = self.owner(q) else {
+        let Some((end, r)) = self.owner(q) else {
             return Ok(());
         };
-        let (Some(r), Some(offer)) = (end.front(), end.offers.get(o)) else {
+        let Some(offer) = end.offers.get(o) else {
             return Ok(());
         };
-        let bytes = Vec::from_slice(alloc, offer.bytes())?;
+        let bytes = Vec::from_slice(alloc, &offer.bytes)?;
         let place = local_place(r, end.known, bytes.len());
         let known = end.known + bytes.len() as u32;
         self.put(q.context, &place, &bytes);
@@ -258,14 +253,11 @@ impl Ideal {
         ensures ok { OnOk result (self.new ≡ tell self.old q.now) }
         ensures err { OnErr result (self.new ≡ self.old) }
     {
-        let Some(end) = self.owner(q) else {
-            return Ok(());
-        };
-        let Some(r) = end.front() else {
+        let Some((end, r)) = self.owner(q) else {
             return Ok(());
         };
         let done = end.success(alloc, r)?;
-        let request = r.request();
+        let request = r.request;
         let reply = end.answers.get(end.told).copied();
         let queue = end.send_queue;
         self.complete(q.context, queue, &done)?;

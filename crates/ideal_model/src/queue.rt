@@ -13,8 +13,8 @@ use std::marker::Model;
 #[derive(Drop)]
 pub struct Queue {
     name: Name,
-    capacity: u32,
-    entries: Vec<Completion>,
+    pub(crate) capacity: u32,
+    pub(crate) entries: Vec<Completion>,
 }
 
 impl Model for Queue {
@@ -45,20 +45,6 @@ impl Queue {
         }
     }
 
-    /// How many entries it may hold.
-    pub fn capacity(&self) -> u32
-        ensures { result ≡ self.now.capacity }
-    {
-        self.capacity
-    }
-
-    /// How many entries it holds.
-    pub fn len(&self) -> usize
-        ensures { result ≡ length self.now.entries }
-    {
-        self.entries.len()
-    }
-
     /// Completions are added at the end. Errors: `AllocError` when out of memory; nothing has changed.
     pub fn complete(&mut self, more: &[Completion]) -> Result<(), AllocError>
         ensures ok { OnOk result (self.new ≡ longer self.old more.now) }
@@ -81,13 +67,6 @@ impl Queue {
     {
         let count = self.entries.len().min(max as usize);
         Vec::from_slice(alloc, &self.entries[count..])
-    }
-
-    /// Its entries are replaced.
-    pub fn set_entries(&mut self, entries: Vec<Completion>)
-        ensures { self.new ≡ record self.old { entries = entries.items } }
-    {
-        self.entries = entries;
     }
 
     /// An equal queue. Errors: `AllocError` when out of memory.

@@ -68,7 +68,7 @@ impl Ideal {
         let reserved = reserved(&context.ends, name);
         match self.queue(home, name) {
             Some(queue) => {
-                let free = (queue.capacity() as usize).saturating_sub(queue.len());
+                let free = (queue.capacity as usize).saturating_sub(queue.entries.len());
                 free as u128 <= reserved
             }
             None => true,
@@ -84,7 +84,7 @@ impl Ideal {
         }
         match self.turn(&end.peer) {
             Some((from, _, _, r)) => {
-                from.into > 0 && is_write(r.kind()) && r.request().shape.rkey == key
+                from.into > 0 && is_write(r.request.shape.kind) && r.request.shape.rkey == key
             }
             None => false,
         }
@@ -94,11 +94,10 @@ impl Ideal {
     fn is_used_by(&self, region: &Region, end: &End) -> bool
         ensures { result ≡ is_used_by self.now region.now end.now }
     {
-        let keys = region.keys();
-        end.requests_name(keys.local)
-            || end.receives_name(keys.local)
-            || end.in_use_names(keys.local)
-            || self.is_written(end, keys.remote)
+        end.requests_name(region.keys.local)
+            || end.receives_name(region.keys.local)
+            || end.in_use_names(region.keys.local)
+            || self.is_written(end, region.keys.remote)
     }
 
     /// Work of some end names a region.

@@ -15,14 +15,14 @@ use std::alloc::{AllocError, Global};
 use std::marker::Model;
 
 /// Which of a region's two keys is meant.
-#[derive(Clone, Copy, Debug, PartialEq, Eq)]
+#[derive(Clone, Copy)]
 pub enum KeyKind {
     Local,
     Remote,
 }
 
 /// The right that a use of memory needs.
-#[derive(Clone, Copy, Debug, PartialEq, Eq)]
+#[derive(Clone, Copy)]
 pub enum Need {
     Nothing,
     LocalWrite,
@@ -32,7 +32,7 @@ pub enum Need {
 }
 
 /// A place in memory, as a request names it.
-#[derive(Clone, Copy, Debug, PartialEq, Eq)]
+#[derive(Clone, Copy)]
 pub struct KeyedRange {
     pub kind: KeyKind,
     pub key: u32,
@@ -47,7 +47,7 @@ pub struct Region {
     domain: Name,
     base: u64,
     rights: Rights,
-    keys: Keys,
+    pub(crate) keys: Keys,
     bytes: Vec<u8>,
 }
 
@@ -95,13 +95,6 @@ impl Region {
             },
             bytes,
         })
-    }
-
-    /// Its local and remote keys.
-    pub fn keys(&self) -> Keys
-        ensures { result ≡ self.now.keys }
-    {
-        self.keys
     }
 
     fn has_key(&self, kind: KeyKind, key: u32) -> bool

@@ -3,7 +3,7 @@
 use rdma_types::Why;
 
 /// What a peer made of a request.
-#[derive(Clone, Copy, Debug, PartialEq, Eq)]
+#[derive(Clone, Copy)]
 pub enum Reply {
     /// A Write, Send or Read acted.
     Finished,

@@ -19,11 +19,10 @@ use rdma_types::{Kind, ObjName, Receive, Why};
 pub fn remote_place(r: &IdealRequest, offset: u32, count: usize) -> KeyedRange
     ensures { result ≡ record { kind = KeyKind.Remote; key = r.now.request.shape.rkey; address = r.now.request.shape.remote + offset; count = count } }
 {
-    let shape = r.request().shape;
     KeyedRange {
         kind: KeyKind::Remote,
-        key: shape.rkey,
-        address: u128::from(shape.remote) + u128::from(offset),
+        key: r.request.shape.rkey,
+        address: u128::from(r.request.shape.remote) + u128::from(offset),
         count,
     }
 }
@@ -32,15 +31,20 @@ pub fn remote_place(r: &IdealRequest, offset: u32, count: usize) -> KeyedRange
 fn is_request_granted(r: &IdealRequest, context: &Context, peer: &End) -> bool
     ensures { result ≡ is_granted remote_key context.now.regions peer.now.domain r.now.request.shape.rkey r.now.request.shape.remote (size_of r.now) (right_for (kind_of r.now)) }
 {
-    let place = remote_place(r, 0, r.length() as usize);
-    is_granted(&context.regions, peer.domain, &place, need_of(r.kind()))
+    let place = remote_place(r, 0, r.request.shape.length as usize);
+    is_granted(
+        &context.regions,
+        peer.domain,
+        &place,
+        need_of(r.request.shape.kind),
+    )
 }
 
 /// The address of an atomic is not a multiple of 8.
 fn is_misaligned(r: &IdealRequest) -> bool
     ensures { result ≡ is_misaligned r.now }
 {
-    is_atomic(r.kind()) && r.request().shape.remote % 8 != 0
+    is_atomic(r.request.shape.kind) && r.request.shape.remote % 8 != 0
 }
 
 /// There is a receive, and so many bytes fit it.
@@ -86,8 +90,8 @@ impl Ideal {
         if peer.ended {
             return None;
         }
-        let r = end.current()?;
-        if r.request().fence && end.lands_before() {
+        let r = end.posted.get(end.acted)?;
+        if r.request.fence && end.lands_before() {
             return None;
         }
         Some((end, context, peer, r))
@@ -102,10 +106,11 @@ impl Ideal {
         if !end.may_add(r, n) {
             return false;
         }
-        match r.kind() {
+        match r.request.shape.kind {
             Kind::Write => {
                 is_request_granted(r, context, peer)
-                    && (!(end.fills(r, n) && r.imm().is_some()) || !peer.unused.is_empty())
+                    && (!(end.fills(r, n) && r.request.shape.imm.is_some())
+                        || !peer.unused.is_empty())
             }
             Kind::Send => fits(peer.receive_for(), u64::from(end.into) + u64::from(n)),
             Kind::Read | Kind::CompareSwap | Kind::FetchAdd => false,
@@ -118,7 +123,7 @@ impl Ideal {
         let Some((_, context, peer, r)) = self.turn(q) else {
             return false;
         };
-        is_atomic(r.kind()) && !is_misaligned(r) && is_request_granted(r, context, peer)
+        is_atomic(r.request.shape.kind) && !is_misaligned(r) && is_request_granted(r, context, peer)
     }
 
     pub(crate) fn may_read(&self, q: &ObjName) -> bool
@@ -127,7 +132,7 @@ impl Ideal {
         let Some((_, context, peer, r)) = self.turn(q) else {
             return false;
         };
-        is_read(r.kind()) && is_request_granted(r, context, peer)
+        is_read(r.request.shape.kind) && is_request_granted(r, context, peer)
     }
 
     pub(crate) fn may_refuse(&self, q: &ObjName, why: Why) -> bool
@@ -139,9 +144,12 @@ impl Ideal {
         match why {
             Why::Invalid => is_misaligned(r),
             Why::Access => {
-                !is_misaligned(r) && !is_send(r.kind()) && !is_request_granted(r, context, peer)
+                !is_misaligned(r)
+                    && !is_send(r.request.shape.kind)
+                    && !is_request_granted(r, context, peer)
             }
-            Why::Length => is_send(r.kind()) && overflows(peer.receive_for(), r.length()),
+            Why::Length => is_send(r.request.shape.kind)
+                && overflows(peer.receive_for(), r.request.shape.length),
         }
     }
 
@@ -154,8 +162,8 @@ impl Ideal {
         if !peer.unused.is_empty() {
             return false;
         }
-        match r.kind() {
-            Kind::Write => r.imm().is_some() && is_request_granted(r, context, peer),
+        match r.request.shape.kind {
+            Kind::Write => r.request.shape.imm.is_some() && is_request_granted(r, context, peer),
             Kind::Send => end.into == 0,
             Kind::Read | Kind::CompareSwap | Kind::FetchAdd => false,
         }

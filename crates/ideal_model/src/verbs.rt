@@ -20,20 +20,12 @@ use crate::region::{KeyKind, KeyedRange, Region, bytes_at};
 use rdma_types::{Completion, Name, ObjName, Receive, Request, Rights, Terms, WcKind, WcStatus};
 use std::alloc::{AllocError, Global};
 
-/// A number of a list is the given one.
-#[tactic(auto)]
-fn is_given(used: &[u32], given: u32) -> bool
-    ensures { result ≡ list_any (λ n. given == n) used.now }
-{
-    used.iter().any(|n| given == *n)
-}
-
 /// No number of a list is the given one.
 #[tactic(auto, unfolding(crate::specs::Verbs::is_fresh))]
 pub fn is_fresh(used: &[u32], given: u32) -> bool
     ensures { result ≡ is_fresh used.now given }
 {
-    !is_given(used, given)
+    !used.contains(&given)
 }
 
 /// A copy of a list with one more number.
@@ -51,7 +43,10 @@ fn take(alloc: Global, context: &Context, r: &Request) -> Result<IdealRequest, A
     ensures { IfOk result (λ p. p ≡ record { request = r.now; payload = (if lands r.now.shape.kind then [] else bytes_at local_key r.now.lkey r.now.local r.now.shape.length context.now.regions) }) }
 {
     if lands(r.shape.kind) {
-        return Ok(IdealRequest::make(*r, Vec::new(alloc)));
+        return Ok(IdealRequest {
+            request: *r,
+            payload: Vec::new(alloc),
+        });
     }
     let place = KeyedRange {
         kind: KeyKind::Local,
@@ -60,7 +55,10 @@ fn take(alloc: Global, context: &Context, r: &Request) -> Result<IdealRequest, A
         count: r.shape.length as usize,
     };
     let payload = bytes_at(alloc, &context.regions, &place)?;
-    Ok(IdealRequest::make(*r, payload))
+    Ok(IdealRequest {
+        request: *r,
+        payload,
+    })
 }
 
 impl Ideal {
@@ -244,7 +242,7 @@ impl Ideal {
         let taken = queue.oldest(alloc, max)?;
         let left = queue.others(alloc, max)?;
         if let Some(queue) = self.queue_mut(cq.context, cq.name) {
-            queue.set_entries(left);
+            queue.entries = left;
         }
         Ok(taken)
     }
