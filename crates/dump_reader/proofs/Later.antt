@@ -17,7 +17,7 @@ use Rattle.dump_reader.specs.declared.heads.RequestHead.{RequestHead}
 use Rattle.dump_reader.specs.declared.lists.ReadState.{ReadState}
 use Rattle.dump_reader.specs.Ahead.{opening_field}
 use Rattle.dump_reader.specs.Groups.{region_head_field, queue_head_field, end_head_field, peer_field, numbers_field, waiting_field, message_field, link_head_field, request_head_field, request_places_field}
-use Rattle.dump_reader.specs.Steps.{Alike}
+use Rattle.dump_reader.specs.Steps.{Alike, IsLeft}
 
 -- ---- groups of fields
 
@@ -112,11 +112,13 @@ pub read_goes : {A : Type 0} {r : Reader A} {x : A} {p : ℕ} {bs : List ℕ} {p
 read_goes {r = r} {p = p} {bs = bs} h e = goes_by (r p bs) (h.goes p bs) e
 
 -- the bytes behind it
-pub left_behind : {p : ℕ} {bs : List ℕ} {p' : ℕ} {bs' : List ℕ} → GoesOn p bs p' bs' → bs' ≡ drop (p' - p) bs
-left_behind {p = p} {bs = bs} {p' = p'} h =
+pub left_behind : {p : ℕ} {bs : List ℕ} {p' : ℕ} {bs' : List ℕ} → GoesOn p bs p' bs' → IsLeft p bs p' bs'
+left_behind {p = p} {bs = bs} {p' = p'} {bs' = bs'} h =
     let m = h.place in
+    let within = h.within in
     let n : h.count ≡ p' - p = omega arith in
-    h.left ∙ ap (λ (k : ℕ). drop k bs) n
+    let long : length bs' ≡ length bs - h.count = ap length h.left ∙ length-drop h.count bs in
+    record { left = h.left ∙ ap (λ (k : ℕ). drop k bs) n; fits = omega arith }
 
 -- one thing read after another
 pub goes_twice : {p : ℕ} {bs : List ℕ} {p' : ℕ} {bs' : List ℕ} {p'' : ℕ} {bs'' : List ℕ} → GoesOn p bs p' bs' → GoesOn p' bs' p'' bs'' → GoesOn p bs p'' bs''

@@ -34,7 +34,7 @@ begins bs o s next p left e entered =
           dump_opens (bs ++ later)
           ∙ (opened_by (opening_field 0 (bs ++ later)) (read_alike opening_steady e later)
           ∙ (ap (λ (r : Reader ContextImage). r p (left ++ later)) (sym entered)
-          ∙ ap (λ (x : List ℕ). ahead o s next p (x ++ later)) (left_behind goes ∙ ap (λ (n : ℕ). drop n bs) from_first)));
+          ∙ ap (λ (x : List ℕ). ahead o s next p (x ++ later)) ((left_behind goes).left ∙ ap (λ (n : ℕ). drop n bs) from_first)));
     }
 
 -- one step more

@@ -6,7 +6,7 @@ ghost use Rattle.protocol.specs.Images.{name_at};
 ghost use Rattle.dump_reader.specs.Groups.{came, link_of_head, end_of_head, regions_of, payload_length};
 ghost use Rattle.rdma_types.specs.Kinds.{lands};
 ghost use Rattle.dump_reader.specs.Ahead.{ahead, more_ends, more_kept, more_untold, more_receives, untold_list, unused_list, linked_list, after_head, queues_of, linked_of, first_of, passed, may_be_untold, may_be_unused, weight};
-ghost use Rattle.dump_reader.specs.Steps.{Alike, Moves, is_wanting};
+ghost use Rattle.dump_reader.specs.Steps.{Alike, IsLeft, Moves, is_wanting};
 
 use crate::cursor::{Cursor, Offence};
 use crate::fault::DumpFault;
@@ -54,13 +54,11 @@ pub fn end_count_step(
     lists: &mut Lists,
     c: &mut Cursor<'_>,
 ) -> Result<ReadState, DumpFault>
-    requires { c.old.place + length c.old.bytes.now < 2 ^ 64 }
     ensures moves { Moves (ahead opened.now lists.old ReadState.EndCount c.old.place c.old.bytes.now) (λ next. ahead opened.now lists.new next c.new.place c.new.bytes.now) result }
     ensures with_more_bytes { IfOk result (λ next. Alike (ahead opened.now lists.old ReadState.EndCount) c.old.place c.old.bytes.now (ahead opened.now lists.new next) c.new.place c.new.bytes.now) }
-    ensures left { IfOk result (λ next. c.new.bytes.now ≡ drop (c.new.place - c.old.place) c.old.bytes.now) }
+    ensures left { IfOk result (λ next. IsLeft c.old.place c.old.bytes.now c.new.place c.new.bytes.now) }
     ensures same { IfErr result (λ e. is_wanting e ≡ true → lists.new ≡ lists.old) }
     ensures passed { IfOk result (λ next. c.old.place < c.new.place) }
-    ensures fits { c.new.place + length c.new.bytes.now ≡ c.old.place + length c.old.bytes.now }
 {
     let count = groups::read_count(c, 64)?;
     lists.ends = Vec::new(lists.alloc);
@@ -87,13 +85,11 @@ pub fn end_step(
     c: &mut Cursor<'_>,
     more: u16,
 ) -> Result<ReadState, DumpFault>
-    requires { c.old.place + length c.old.bytes.now < 2 ^ 64 }
     ensures moves { Moves (ahead opened.now lists.old (ReadState.End more) c.old.place c.old.bytes.now) (λ next. ahead opened.now lists.new next c.new.place c.new.bytes.now) result }
     ensures with_more_bytes { IfOk result (λ next. Alike (ahead opened.now lists.old (ReadState.End more)) c.old.place c.old.bytes.now (ahead opened.now lists.new next) c.new.place c.new.bytes.now) }
-    ensures left { IfOk result (λ next. c.new.bytes.now ≡ drop (c.new.place - c.old.place) c.old.bytes.now) }
+    ensures left { IfOk result (λ next. IsLeft c.old.place c.old.bytes.now c.new.place c.new.bytes.now) }
     ensures same { IfErr result (λ e. is_wanting e ≡ true → lists.new ≡ lists.old) }
     ensures passed { IfOk result (λ next. c.old.place < c.new.place) }
-    ensures fits { c.new.place + length c.new.bytes.now ≡ c.old.place + length c.old.bytes.now }
 {
     let domains = lists.domains.len();
     let head = groups::read_end(c, domains, lists.queues.len(), &lists.ends)?;
@@ -147,13 +143,11 @@ pub fn kept_step(
     more: u8,
     after: u16,
 ) -> Result<ReadState, DumpFault>
-    requires { c.old.place + length c.old.bytes.now < 2 ^ 64 }
     ensures moves { Moves (ahead opened.now lists.old (ReadState.Kept head.now link.now more after) c.old.place c.old.bytes.now) (λ next. ahead opened.now lists.new next c.new.place c.new.bytes.now) result }
     ensures with_more_bytes { IfOk result (λ next. Alike (ahead opened.now lists.old (ReadState.Kept head.now link.now more after)) c.old.place c.old.bytes.now (ahead opened.now lists.new next) c.new.place c.new.bytes.now) }
-    ensures left { IfOk result (λ next. c.new.bytes.now ≡ drop (c.new.place - c.old.place) c.old.bytes.now) }
+    ensures left { IfOk result (λ next. IsLeft c.old.place c.old.bytes.now c.new.place c.new.bytes.now) }
     ensures same { IfErr result (λ e. is_wanting e ≡ true → lists.new ≡ lists.old) }
     ensures passed { IfOk result (λ next. c.old.place < c.new.place) }
-    ensures fits { c.new.place + length c.new.bytes.now ≡ c.old.place + length c.old.bytes.now }
 {
     let reply = groups::read_kept(c, link.waiting.expected, &lists.kept)?;
     push(&mut lists.kept, reply)?;
@@ -196,13 +190,11 @@ fn read_untold_count(
     depth: u16,
     link: &Option<LinkImageHead>,
 ) -> Result<u16, Offence>
-    requires { c.old.place + length c.old.bytes.now < 2 ^ 64 }
     ensures count { count_by 2 depth (may_be_untold link.now) c.old.place c.old.bytes.now ≡ came result c.new.place c.new.bytes.now }
     ensures passed { IfOk result (λ x. c.old.place < c.new.place) }
-    ensures fits { c.new.place + length c.new.bytes.now ≡ c.old.place + length c.old.bytes.now }
 {
     let count = c.u16()?;
-    c.count(count <= depth)?;
+    c.keep_or(DumpWhy::Count, count <= depth)?;
     c.keep(untold_rule(link, count))?;
     Ok(count)
 }
@@ -222,13 +214,11 @@ fn read_unused_count(
     depth: u16,
     link: &Option<LinkImageHead>,
 ) -> Result<u16, Offence>
-    requires { c.old.place + length c.old.bytes.now < 2 ^ 64 }
     ensures count { count_by 2 depth (may_be_unused link.now) c.old.place c.old.bytes.now ≡ came result c.new.place c.new.bytes.now }
     ensures passed { IfOk result (λ x. c.old.place < c.new.place) }
-    ensures fits { c.new.place + length c.new.bytes.now ≡ c.old.place + length c.old.bytes.now }
 {
     let count = c.u16()?;
-    c.count(count <= depth)?;
+    c.keep_or(DumpWhy::Count, count <= depth)?;
     c.keep(unused_rule(link, count))?;
     Ok(count)
 }
@@ -243,13 +233,11 @@ pub fn link_step(
     head: &EndImageHead,
     after: u16,
 ) -> Result<ReadState, DumpFault>
-    requires { c.old.place + length c.old.bytes.now < 2 ^ 64 }
     ensures moves { Moves (ahead opened.now lists.old (ReadState.Link head.now after) c.old.place c.old.bytes.now) (λ next. ahead opened.now lists.new next c.new.place c.new.bytes.now) result }
     ensures with_more_bytes { IfOk result (λ next. Alike (ahead opened.now lists.old (ReadState.Link head.now after)) c.old.place c.old.bytes.now (ahead opened.now lists.new next) c.new.place c.new.bytes.now) }
-    ensures left { IfOk result (λ next. c.new.bytes.now ≡ drop (c.new.place - c.old.place) c.old.bytes.now) }
+    ensures left { IfOk result (λ next. IsLeft c.old.place c.old.bytes.now c.new.place c.new.bytes.now) }
     ensures same { IfErr result (λ e. is_wanting e ≡ true → lists.new ≡ lists.old) }
     ensures passed { IfOk result (λ next. c.old.place < c.new.place) }
-    ensures fits { c.new.place + length c.new.bytes.now ≡ c.old.place + length c.old.bytes.now }
 {
     let link = places::read_link(c, &scope_of(lists, head), head.state == 2)?;
     lists.kept = Vec::new(lists.alloc);
@@ -267,13 +255,11 @@ pub fn untold_step(
     link: &Option<LinkImageHead>,
     after: u16,
 ) -> Result<ReadState, DumpFault>
-    requires { c.old.place + length c.old.bytes.now < 2 ^ 64 }
     ensures moves { Moves (ahead opened.now lists.old (ReadState.Untold head.now link.now after) c.old.place c.old.bytes.now) (λ next. ahead opened.now lists.new next c.new.place c.new.bytes.now) result }
     ensures with_more_bytes { IfOk result (λ next. Alike (ahead opened.now lists.old (ReadState.Untold head.now link.now after)) c.old.place c.old.bytes.now (ahead opened.now lists.new next) c.new.place c.new.bytes.now) }
-    ensures left { IfOk result (λ next. c.new.bytes.now ≡ drop (c.new.place - c.old.place) c.old.bytes.now) }
+    ensures left { IfOk result (λ next. IsLeft c.old.place c.old.bytes.now c.new.place c.new.bytes.now) }
     ensures same { IfErr result (λ e. is_wanting e ≡ true → lists.new ≡ lists.old) }
     ensures passed { IfOk result (λ next. c.old.place < c.new.place) }
-    ensures fits { c.new.place + length c.new.bytes.now ≡ c.old.place + length c.old.bytes.now }
 {
     let count = read_untold_count(c, head.send_depth, link)?;
     lists.untold = Vec::new(lists.alloc);
@@ -377,13 +363,11 @@ pub fn request_step(
     more: u16,
     after: u16,
 ) -> Result<ReadState, DumpFault>
-    requires { c.old.place + length c.old.bytes.now < 2 ^ 64 }
     ensures moves { Moves (ahead opened.now lists.old (ReadState.Request head.now link.now before.now more after) c.old.place c.old.bytes.now) (λ next. ahead opened.now lists.new next c.new.place c.new.bytes.now) result }
     ensures with_more_bytes { IfOk result (λ next. Alike (ahead opened.now lists.old (ReadState.Request head.now link.now before.now more after)) c.old.place c.old.bytes.now (ahead opened.now lists.new next) c.new.place c.new.bytes.now) }
-    ensures left { IfOk result (λ next. c.new.bytes.now ≡ drop (c.new.place - c.old.place) c.old.bytes.now) }
+    ensures left { IfOk result (λ next. IsLeft c.old.place c.old.bytes.now c.new.place c.new.bytes.now) }
     ensures same { IfErr result (λ e. is_wanting e ≡ true → lists.new ≡ lists.old) }
     ensures passed { IfOk result (λ next. c.old.place < c.new.place) }
-    ensures fits { c.new.place + length c.new.bytes.now ≡ c.old.place + length c.old.bytes.now }
 {
     let start = requests::read_request_head(c, link, &standing_of(opened, before, more))?;
     let request = requests::read_request_places(c, &scope_of(lists, head), &start)?;
@@ -406,14 +390,12 @@ pub fn payload_step(
     request: Request,
     missing: u32,
 ) -> Result<ReadState, DumpFault>
-    requires { c.old.place + length c.old.bytes.now < 2 ^ 64 }
     ensures moves { Moves (ahead opened.now lists.old (ReadState.Payload head.now link.now before.now count after request missing) c.old.place c.old.bytes.now) (λ next. ahead opened.now lists.new next c.new.place c.new.bytes.now) result }
     ensures with_more_bytes { IfOk result (λ next. Alike (ahead opened.now lists.old (ReadState.Payload head.now link.now before.now count after request missing)) c.old.place c.old.bytes.now (ahead opened.now lists.new next) c.new.place c.new.bytes.now) }
-    ensures left { IfOk result (λ next. c.new.bytes.now ≡ drop (c.new.place - c.old.place) c.old.bytes.now) }
+    ensures left { IfOk result (λ next. IsLeft c.old.place c.old.bytes.now c.new.place c.new.bytes.now) }
     ensures same { IfErr result (λ e. is_wanting e ≡ true → lists.new ≡ lists.old) }
     ensures weightless { IfOk result (λ next. weight next ≡ 0) }
     ensures passed { IfOk result (λ next. c.old.place ≤ c.new.place) }
-    ensures fits { c.new.place + length c.new.bytes.now ≡ c.old.place + length c.old.bytes.now }
 {
     let bytes = c.raw(missing as usize)?;
     lists.run.append(lists.alloc, bytes)?;
@@ -517,13 +499,11 @@ pub fn unused_step(
     link: &Option<LinkImageHead>,
     after: u16,
 ) -> Result<ReadState, DumpFault>
-    requires { c.old.place + length c.old.bytes.now < 2 ^ 64 }
     ensures moves { Moves (ahead opened.now lists.old (ReadState.Unused head.now link.now after) c.old.place c.old.bytes.now) (λ next. ahead opened.now lists.new next c.new.place c.new.bytes.now) result }
     ensures with_more_bytes { IfOk result (λ next. Alike (ahead opened.now lists.old (ReadState.Unused head.now link.now after)) c.old.place c.old.bytes.now (ahead opened.now lists.new next) c.new.place c.new.bytes.now) }
-    ensures left { IfOk result (λ next. c.new.bytes.now ≡ drop (c.new.place - c.old.place) c.old.bytes.now) }
+    ensures left { IfOk result (λ next. IsLeft c.old.place c.old.bytes.now c.new.place c.new.bytes.now) }
     ensures same { IfErr result (λ e. is_wanting e ≡ true → lists.new ≡ lists.old) }
     ensures passed { IfOk result (λ next. c.old.place < c.new.place) }
-    ensures fits { c.new.place + length c.new.bytes.now ≡ c.old.place + length c.old.bytes.now }
 {
     let count = read_unused_count(c, head.recv_depth, link)?;
     lists.unused = Vec::new(lists.alloc);
@@ -542,13 +522,11 @@ pub fn receive_step(
     more: u16,
     after: u16,
 ) -> Result<ReadState, DumpFault>
-    requires { c.old.place + length c.old.bytes.now < 2 ^ 64 }
     ensures moves { Moves (ahead opened.now lists.old (ReadState.Receive head.now link.now more after) c.old.place c.old.bytes.now) (λ next. ahead opened.now lists.new next c.new.place c.new.bytes.now) result }
     ensures with_more_bytes { IfOk result (λ next. Alike (ahead opened.now lists.old (ReadState.Receive head.now link.now more after)) c.old.place c.old.bytes.now (ahead opened.now lists.new next) c.new.place c.new.bytes.now) }
-    ensures left { IfOk result (λ next. c.new.bytes.now ≡ drop (c.new.place - c.old.place) c.old.bytes.now) }
+    ensures left { IfOk result (λ next. IsLeft c.old.place c.old.bytes.now c.new.place c.new.bytes.now) }
     ensures same { IfErr result (λ e. is_wanting e ≡ true → lists.new ≡ lists.old) }
     ensures passed { IfOk result (λ next. c.old.place < c.new.place) }
-    ensures fits { c.new.place + length c.new.bytes.now ≡ c.old.place + length c.old.bytes.now }
 {
     let receive = places::read_receive(c, &scope_of(lists, head), 0)?;
     push(&mut lists.unused, receive)?;

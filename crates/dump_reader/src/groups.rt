@@ -10,7 +10,7 @@ ghost use Rattle.rdma_types.specs.declared.names.Name.{Name};
 
 use crate::cursor::{Cursor, Offence};
 use crate::heads::{EndImageHead, Numbers, Peer, PlacedQueue, QueueHead, RegionImageHead, Waiting};
-use protocol::{EndImage, KeptReply, RegionImage};
+use protocol::{DumpWhy, EndImage, KeptReply, RegionImage};
 use rdma_types::{Address, Completion, Keys, Name, Rights, Terms, WcKind, WcStatus};
 
 fn may_be_number(n: u32) -> bool
@@ -66,27 +66,40 @@ fn completed_status(n: u8) -> WcStatus
     }
 }
 
+#[tactic(auto, unfolding(protocol::specs::Dumps::after, protocol::specs::Dumps::judged))]
+fn read_qp(c: &mut Cursor<'_>) -> Result<u32, Offence>
+    ensures number { number 4 (is_number) c.old.place c.old.bytes.now ≡ came result c.new.place c.new.bytes.now }
+    ensures passed { IfOk result (λ x. c.old.place < c.new.place) }
+{
+    let n = c.u32()?;
+    c.keep(may_be_number(n))?;
+    Ok(n)
+}
+
+#[tactic(auto, unfolding(protocol::specs::Dumps::after, protocol::specs::Dumps::judged))]
+fn read_status(c: &mut Cursor<'_>) -> Result<u8, Offence>
+    ensures number { number 1 (is_status) c.old.place c.old.bytes.now ≡ came result c.new.place c.new.bytes.now }
+    ensures passed { IfOk result (λ x. c.old.place < c.new.place) }
+{
+    let n = c.u8()?;
+    c.keep(may_be_status(n))?;
+    Ok(n)
+}
+
 /// A completion. Errors: the first fault of its fields, with its place: `Short` or `Field`.
 #[tactic(auto, unfolding(protocol::specs::Dumps::after, protocol::specs::Dumps::judged, protocol::specs::Dumps::entry_field))]
 pub fn read_entry(c: &mut Cursor<'_>) -> Result<Completion, Offence>
-    requires { c.old.place + length c.old.bytes.now < 2 ^ 64 }
     ensures entry { entry_field [] c.old.place c.old.bytes.now ≡ came result c.new.place c.new.bytes.now }
     ensures passed { IfOk result (λ x. c.old.place < c.new.place) }
-    ensures fits { c.new.place + length c.new.bytes.now ≡ c.old.place + length c.old.bytes.now }
 {
-    let qp = c.u32()?;
-    c.keep(may_be_number(qp))?;
+    let qp = read_qp(c)?;
     let id = c.u64()?;
-    let kind = c.u8()?;
-    c.keep(kind <= 6)?;
-    let status = c.u8()?;
-    c.keep(may_be_status(status))?;
+    let kind = c.u8_up_to(6)?;
+    let status = read_status(c)?;
     let length = c.u32()?;
     c.keep(length <= 1_048_576)?;
-    let flag = c.u8()?;
-    c.keep(flag <= 1)?;
-    let imm = c.u32()?;
-    c.keep(flag == 1 || imm == 0)?;
+    let flag = c.u8_up_to(1)?;
+    let imm = c.u32_if(flag == 1)?;
     Ok(Completion {
         qp,
         id,
@@ -100,22 +113,16 @@ pub fn read_entry(c: &mut Cursor<'_>) -> Result<Completion, Offence>
 /// The terms of a connection. Errors: the first fault of its fields, with its place: `Short` or `Field`.
 #[tactic(auto, unfolding(protocol::specs::Dumps::after, protocol::specs::Dumps::judged, protocol::specs::Dumps::terms_field))]
 pub fn read_terms(c: &mut Cursor<'_>) -> Result<Terms, Offence>
-    requires { c.old.place + length c.old.bytes.now < 2 ^ 64 }
     ensures mtu { IfOk result (λ t. 1 ≤ t.mtu) }
     ensures terms { terms_field c.old.place c.old.bytes.now ≡ came result c.new.place c.new.bytes.now }
     ensures passed { IfOk result (λ x. c.old.place < c.new.place) }
-    ensures fits { c.new.place + length c.new.bytes.now ≡ c.old.place + length c.old.bytes.now }
 {
     let mtu = c.u16()?;
     c.keep(may_be_mtu(mtu))?;
-    let own_start = c.u32()?;
-    c.keep(own_start < 0x100_0000)?;
-    let peer_start = c.u32()?;
-    c.keep(peer_start < 0x100_0000)?;
-    let retry = c.u8()?;
-    c.keep(retry <= 7)?;
-    let rnr = c.u8()?;
-    c.keep(rnr <= 7)?;
+    let own_start = c.u32_below(0x100_0000)?;
+    let peer_start = c.u32_below(0x100_0000)?;
+    let retry = c.u8_up_to(7)?;
+    let rnr = c.u8_up_to(7)?;
     let reads = c.u8()?;
     c.keep((1..=16).contains(&reads))?;
     Ok(Terms {
@@ -131,19 +138,15 @@ pub fn read_terms(c: &mut Cursor<'_>) -> Result<Terms, Offence>
 /// The partner of a connected end. Errors: the first fault of its fields, with its place: `Short` or `Field`.
 #[tactic(auto, unfolding(protocol::specs::Dumps::after, protocol::specs::Dumps::judged, crate::specs::Groups::peer_field))]
 pub fn read_peer(c: &mut Cursor<'_>, ended: bool) -> Result<Peer, Offence>
-    requires { c.old.place + length c.old.bytes.now < 2 ^ 64 }
     ensures peer { peer_field ended c.old.place c.old.bytes.now ≡ came result c.new.place c.new.bytes.now }
     ensures passed { IfOk result (λ x. c.old.place < c.new.place) }
-    ensures fits { c.new.place + length c.new.bytes.now ≡ c.old.place + length c.old.bytes.now }
 {
-    let peer = c.u32()?;
-    c.keep(peer < 0x100_0000)?;
+    let peer = c.u32_below(0x100_0000)?;
     let ip = c.u32()?;
     let port = c.u16()?;
     let moves = c.u16()?;
     let partner_moves = c.u16()?;
-    let resuming = c.u8()?;
-    c.keep(resuming <= if ended { 0 } else { 1 })?;
+    let resuming = c.u8_up_to(if ended { 0 } else { 1 })?;
     Ok(Peer {
         peer,
         partner: Address { ip, port },
@@ -159,22 +162,27 @@ fn follows_number(ended: bool, low: u64, n: u64) -> bool
     n < 1 << 62 && if ended { n == low } else { low <= n }
 }
 
+#[tactic(auto, unfolding(protocol::specs::Dumps::after, protocol::specs::Dumps::judged))]
+fn read_following(c: &mut Cursor<'_>, ended: bool, low: u64) -> Result<u64, Offence>
+    ensures number { number 8 (follows ended low) c.old.place c.old.bytes.now ≡ came result c.new.place c.new.bytes.now }
+    ensures passed { IfOk result (λ x. c.old.place < c.new.place) }
+{
+    let n = c.u64()?;
+    c.keep(follows_number(ended, low, n))?;
+    Ok(n)
+}
+
 /// The numbers of the requester. Errors: the first fault of its fields, with its place: `Short` or `Field`.
 #[tactic(auto, unfolding(protocol::specs::Dumps::after, protocol::specs::Dumps::judged, crate::specs::Groups::numbers_field))]
 pub fn read_numbers(c: &mut Cursor<'_>, ended: bool) -> Result<Numbers, Offence>
-    requires { c.old.place + length c.old.bytes.now < 2 ^ 64 }
     ensures numbers { numbers_field ended c.old.place c.old.bytes.now ≡ came result c.new.place c.new.bytes.now }
     ensures passed { IfOk result (λ x. c.old.place < c.new.place) }
-    ensures fits { c.new.place + length c.new.bytes.now ≡ c.old.place + length c.old.bytes.now }
 {
-    let first = c.u64()?;
-    c.keep(first < 1 << 62)?;
+    let first = c.u64_below(1 << 62)?;
     let una = c.u64()?;
     c.keep(una < 1 << 62 && first <= una)?;
-    let next = c.u64()?;
-    c.keep(follows_number(ended, una, next))?;
-    let top = c.u64()?;
-    c.keep(follows_number(ended, next, top))?;
+    let next = read_following(c, ended, una)?;
+    let top = read_following(c, ended, next)?;
     Ok(Numbers {
         first,
         una,
@@ -186,23 +194,16 @@ pub fn read_numbers(c: &mut Cursor<'_>, ended: bool) -> Result<Numbers, Offence>
 /// What both halves of an end wait for. Errors: the first fault of its fields, with its place: `Short` or `Field`.
 #[tactic(auto, unfolding(protocol::specs::Dumps::after, protocol::specs::Dumps::judged, crate::specs::Groups::waiting_field))]
 pub fn read_waiting(c: &mut Cursor<'_>, terms: &Terms) -> Result<Waiting, Offence>
-    requires { c.old.place + length c.old.bytes.now < 2 ^ 64 }
     ensures waiting { waiting_field terms.now c.old.place c.old.bytes.now ≡ came result c.new.place c.new.bytes.now }
     ensures passed { IfOk result (λ x. c.old.place < c.new.place) }
-    ensures fits { c.new.place + length c.new.bytes.now ≡ c.old.place + length c.old.bytes.now }
 {
-    let spent = c.u8()?;
-    c.keep(spent <= terms.retry)?;
+    let spent = c.u8_up_to(terms.retry)?;
     let waits = c.u8()?;
     c.keep(terms.rnr == 7 || waits <= terms.rnr)?;
-    let rnr_wait = c.u8()?;
-    c.keep(rnr_wait <= 1)?;
-    let expected = c.u64()?;
-    c.keep(expected < 1 << 62)?;
-    let nak_sent = c.u8()?;
-    c.keep(nak_sent <= 1)?;
-    let msn = c.u32()?;
-    c.keep(msn < 0x100_0000)?;
+    let rnr_wait = c.u8_up_to(1)?;
+    let expected = c.u64_below(1 << 62)?;
+    let nak_sent = c.u8_up_to(1)?;
+    let msn = c.u32_below(0x100_0000)?;
     Ok(Waiting {
         spent,
         waits,
@@ -229,10 +230,8 @@ pub fn read_kept(
     expected: u64,
     seen: &[KeptReply],
 ) -> Result<KeptReply, Offence>
-    requires { c.old.place + length c.old.bytes.now < 2 ^ 64 }
     ensures kept { kept_field expected seen.now c.old.place c.old.bytes.now ≡ came result c.new.place c.new.bytes.now }
     ensures passed { IfOk result (λ x. c.old.place < c.new.place) }
-    ensures fits { c.new.place + length c.new.bytes.now ≡ c.old.place + length c.old.bytes.now }
 {
     let number = c.u64()?;
     c.keep(rises_above(seen, number) && number < expected)?;
@@ -250,10 +249,8 @@ fn has_domain(seen: &[Name], text: &[u8]) -> bool
 /// name or stands in the list already.
 #[tactic(auto, unfolding(protocol::specs::Dumps::judged_name))]
 pub fn read_name(c: &mut Cursor<'_>, seen: &[Name]) -> Result<Name, Offence>
-    requires { c.old.place + length c.old.bytes.now < 2 ^ 64 }
     ensures name { name_field seen.now c.old.place c.old.bytes.now ≡ came result c.new.place c.new.bytes.now }
     ensures passed { IfOk result (λ x. c.old.place < c.new.place) }
-    ensures fits { c.new.place + length c.new.bytes.now ≡ c.old.place + length c.old.bytes.now }
 {
     let text = c.text()?;
     c.name(text, has_domain(seen, text))
@@ -278,10 +275,8 @@ fn is_new_key(seen: &[RegionImage], key: u32) -> bool
 }
 
 fn read_key(c: &mut Cursor<'_>, seen: &[RegionImage]) -> Result<u32, Offence>
-    requires { c.old.place + length c.old.bytes.now < 2 ^ 64 }
     ensures key { number 4 (λ n. is_local_key n && not (some (λ r. r.keys.local == n) seen.now)) c.old.place c.old.bytes.now ≡ came result c.new.place c.new.bytes.now }
     ensures passed { IfOk result (λ x. c.old.place < c.new.place) }
-    ensures fits { c.new.place + length c.new.bytes.now ≡ c.old.place + length c.old.bytes.now }
 {
     let key = c.u32()?;
     c.keep(is_new_key(seen, key))?;
@@ -295,21 +290,16 @@ pub fn read_region(
     domains: usize,
     seen: &[RegionImage],
 ) -> Result<RegionImageHead, Offence>
-    requires { c.old.place + length c.old.bytes.now < 2 ^ 64 }
     ensures region { region_head_field domains seen.now c.old.place c.old.bytes.now ≡ came result c.new.place c.new.bytes.now }
     ensures passed { IfOk result (λ x. c.old.place < c.new.place) }
-    ensures fits { c.new.place + length c.new.bytes.now ≡ c.old.place + length c.old.bytes.now }
 {
     let text = c.text()?;
     let name = c.name(text, has_region(seen, text))?;
-    let domain = c.u16()?;
-    c.keep((domain as usize) < domains)?;
+    let domain = c.u16_below(domains)?;
     let base = c.u64()?;
     c.keep(base <= 1 << 63)?;
-    let length = c.u32()?;
-    c.keep((1..=16_777_216).contains(&length))?;
-    let rights = c.u8()?;
-    c.keep(rights <= 15)?;
+    let length = c.u32_within(1, 16_777_216)?;
+    let rights = c.u8_up_to(15)?;
     let local = read_key(c, seen)?;
     let remote = c.u32()?;
     c.keep(remote as u64 == local as u64 + 1)?;
@@ -332,13 +322,11 @@ fn has_queue(seen: &[PlacedQueue], text: &[u8]) -> bool
 
 #[tactic(auto, unfolding(protocol::specs::Dumps::after, protocol::specs::Dumps::judged))]
 fn read_count_u32(c: &mut Cursor<'_>, limit: u32) -> Result<u32, Offence>
-    requires { c.old.place + length c.old.bytes.now < 2 ^ 64 }
     ensures count { count_field 4 limit c.old.place c.old.bytes.now ≡ came result c.new.place c.new.bytes.now }
     ensures passed { IfOk result (λ x. c.old.place < c.new.place) }
-    ensures fits { c.new.place + length c.new.bytes.now ≡ c.old.place + length c.old.bytes.now }
 {
     let count = c.u32()?;
-    c.count(count <= limit)?;
+    c.keep_or(DumpWhy::Count, count <= limit)?;
     Ok(count)
 }
 
@@ -346,16 +334,13 @@ fn read_count_u32(c: &mut Cursor<'_>, limit: u32) -> Result<u32, Offence>
 /// `Field` or `Count`.
 #[tactic(auto, unfolding(protocol::specs::Dumps::after, protocol::specs::Dumps::judged, protocol::specs::Dumps::judged_name, crate::specs::Groups::queue_head_field))]
 pub fn read_queue(c: &mut Cursor<'_>, seen: &[PlacedQueue]) -> Result<QueueHead, Offence>
-    requires { c.old.place + length c.old.bytes.now < 2 ^ 64 }
     ensures queue { queue_head_field (map placed seen.now) c.old.place c.old.bytes.now ≡ came result c.new.place c.new.bytes.now }
     ensures passed { IfOk result (λ x. c.old.place < c.new.place) }
-    ensures fits { c.new.place + length c.new.bytes.now ≡ c.old.place + length c.old.bytes.now }
 {
     let text = c.text()?;
     let name = c.name(text, has_queue(seen, text))?;
     let place = c.place;
-    let capacity = c.u32()?;
-    c.keep((1..=16_384).contains(&capacity))?;
+    let capacity = c.u32_within(1, 16_384)?;
     let count = read_count_u32(c, capacity)?;
     Ok(QueueHead {
         name,
@@ -384,10 +369,8 @@ fn is_new_number(seen: &[EndImage], number: u32) -> bool
 }
 
 fn read_number(c: &mut Cursor<'_>, seen: &[EndImage]) -> Result<u32, Offence>
-    requires { c.old.place + length c.old.bytes.now < 2 ^ 64 }
     ensures number { number 4 (λ n. is_number n && not (some (λ e. e.number == n) seen.now)) c.old.place c.old.bytes.now ≡ came result c.new.place c.new.bytes.now }
     ensures passed { IfOk result (λ x. c.old.place < c.new.place) }
-    ensures fits { c.new.place + length c.new.bytes.now ≡ c.old.place + length c.old.bytes.now }
 {
     let number = c.u32()?;
     c.keep(is_new_number(seen, number))?;
@@ -402,26 +385,18 @@ pub fn read_end(
     queues: usize,
     seen: &[EndImage],
 ) -> Result<EndImageHead, Offence>
-    requires { c.old.place + length c.old.bytes.now < 2 ^ 64 }
     ensures end { end_head_field domains queues seen.now c.old.place c.old.bytes.now ≡ came result c.new.place c.new.bytes.now }
     ensures passed { IfOk result (λ x. c.old.place < c.new.place) }
-    ensures fits { c.new.place + length c.new.bytes.now ≡ c.old.place + length c.old.bytes.now }
 {
     let text = c.text()?;
     let name = c.name(text, has_end(seen, text))?;
     let number = read_number(c, seen)?;
-    let domain = c.u16()?;
-    c.keep((domain as usize) < domains)?;
-    let send_cq = c.u16()?;
-    c.keep((send_cq as usize) < queues)?;
-    let recv_cq = c.u16()?;
-    c.keep((recv_cq as usize) < queues)?;
-    let send_depth = c.u16()?;
-    c.keep((1..=256).contains(&send_depth))?;
-    let recv_depth = c.u16()?;
-    c.keep((1..=256).contains(&recv_depth))?;
-    let state = c.u8()?;
-    c.keep(state <= 2)?;
+    let domain = c.u16_below(domains)?;
+    let send_cq = c.u16_below(queues)?;
+    let recv_cq = c.u16_below(queues)?;
+    let send_depth = c.u16_within(1, 256)?;
+    let recv_depth = c.u16_within(1, 256)?;
+    let state = c.u8_up_to(2)?;
     Ok(EndImageHead {
         name,
         number,
@@ -438,12 +413,10 @@ pub fn read_end(
 /// over the limit.
 #[tactic(auto, unfolding(protocol::specs::Dumps::after, protocol::specs::Dumps::judged))]
 pub fn read_count(c: &mut Cursor<'_>, limit: u16) -> Result<u16, Offence>
-    requires { c.old.place + length c.old.bytes.now < 2 ^ 64 }
     ensures count { count_field 2 limit c.old.place c.old.bytes.now ≡ came result c.new.place c.new.bytes.now }
     ensures passed { IfOk result (λ x. c.old.place < c.new.place) }
-    ensures fits { c.new.place + length c.new.bytes.now ≡ c.old.place + length c.old.bytes.now }
 {
     let count = c.u16()?;
-    c.count(count <= limit)?;
+    c.keep_or(DumpWhy::Count, count <= limit)?;
     Ok(count)
 }

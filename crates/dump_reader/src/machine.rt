@@ -5,7 +5,7 @@ ghost use Rattle.protocol.specs.Dumps.{Good, Bad, read_dump};
 ghost use Rattle.dump_reader.specs.Fields.{IsMagic, IsNoMagic};
 ghost use Rattle.dump_reader.specs.Groups.{came};
 ghost use Rattle.dump_reader.specs.Ahead.{ahead, opening_field, more_domains, image_of, queues_of, weight, IsOpen};
-ghost use Rattle.dump_reader.specs.Steps.{Alike, Moves, IsFault, is_wanting};
+ghost use Rattle.dump_reader.specs.Steps.{Alike, IsLeft, Moves, IsFault, is_wanting};
 
 use crate::cursor::{Cursor, Offence};
 use crate::fault::DumpFault;
@@ -16,11 +16,9 @@ use protocol::DumpWhy;
 
 #[tactic(auto, unfolding(protocol::specs::Dumps::is_magic, protocol::specs::Dumps::after))]
 fn read_magic(c: &mut Cursor<'_>) -> Result<(), Offence>
-    requires { c.old.place + length c.old.bytes.now < 2 ^ 64 }
     ensures ok { IfOk result (λ u. IsMagic c.old.place c.old.bytes.now c.new.place c.new.bytes.now) }
     ensures bad { IfErr result (λ e. IsNoMagic c.old.place c.old.bytes.now e.place e.why) }
     ensures passed { IfOk result (λ x. c.old.place < c.new.place) }
-    ensures fits { c.new.place + length c.new.bytes.now ≡ c.old.place + length c.old.bytes.now }
 {
     let bytes = c.raw(8)?;
     if bytes == b"MIGDUMP\0".as_slice() {
@@ -43,14 +41,12 @@ fn is_version(n: u16) -> bool
 /// `Magic`, `Version`, `Name` or `Count`.
 #[tactic(auto, unfolding(protocol::specs::Dumps::after, protocol::specs::Dumps::judged, crate::specs::Ahead::opening_field))]
 pub fn read_opening(c: &mut Cursor<'_>) -> Result<Opened, Offence>
-    requires { c.old.place + length c.old.bytes.now < 2 ^ 64 }
     ensures opened { opening_field c.old.place c.old.bytes.now ≡ came result c.new.place c.new.bytes.now }
     ensures passed { IfOk result (λ x. c.old.place < c.new.place) }
-    ensures fits { c.new.place + length c.new.bytes.now ≡ c.old.place + length c.old.bytes.now }
 {
     read_magic(c)?;
     let version = c.u16()?;
-    c.version(is_version(version))?;
+    c.keep_or(DumpWhy::Version, is_version(version))?;
     let name = groups::read_name(c, &[])?;
     let count = groups::read_count(c, 64)?;
     Ok(Opened {
@@ -69,14 +65,12 @@ pub fn step(
     c: &mut Cursor<'_>,
     place: &ReadState,
 ) -> Result<ReadState, DumpFault>
-    requires open { IsOpen place.now }
-    requires place { c.old.place + length c.old.bytes.now < 2 ^ 64 }
+    requires { IsOpen place.now }
     ensures moves { Moves (ahead opened.now lists.old place.now c.old.place c.old.bytes.now) (λ next. ahead opened.now lists.new next c.new.place c.new.bytes.now) result }
     ensures with_more_bytes { IfOk result (λ next. Alike (ahead opened.now lists.old place.now) c.old.place c.old.bytes.now (ahead opened.now lists.new next) c.new.place c.new.bytes.now) }
-    ensures left { IfOk result (λ next. c.new.bytes.now ≡ drop (c.new.place - c.old.place) c.old.bytes.now) }
+    ensures left { IfOk result (λ next. IsLeft c.old.place c.old.bytes.now c.new.place c.new.bytes.now) }
     ensures same { IfErr result (λ e. is_wanting e ≡ true → lists.new ≡ lists.old) }
     ensures less { IfOk result (λ next. 2 * length c.new.bytes.now + weight next < 2 * length c.old.bytes.now + weight place.now) }
-    ensures fits { c.new.place + length c.new.bytes.now ≡ c.old.place + length c.old.bytes.now }
 {
     match place {
         ReadState::Domain(more) => steps::domain_step(opened, lists, c, *more),

@@ -12,7 +12,7 @@ ghost use Rattle.rdma_types.specs.Limits.{most_kept};
 use crate::cursor::{Cursor, Offence};
 use crate::groups::{read_numbers, read_peer, read_terms, read_waiting};
 use crate::heads::LinkImageHead;
-use protocol::{Progress, RegionImage};
+use protocol::{DumpWhy, Progress, RegionImage};
 use rdma_types::{Name, Receive};
 
 /// The regions of an image and the domain of an end.
@@ -102,10 +102,8 @@ fn receives(scope: &Scope<'_>, done: u32, r: &Receive) -> bool
 /// A receive with `done` of its bytes used. Errors: the first fault of its fields, with its place: `Short` or `Field`.
 #[tactic(auto, unfolding(protocol::specs::Dumps::after, protocol::specs::Dumps::judged, protocol::specs::Dumps::receive_field))]
 pub fn read_receive(c: &mut Cursor<'_>, scope: &Scope<'_>, done: u32) -> Result<Receive, Offence>
-    requires { c.old.place + length c.old.bytes.now < 2 ^ 64 }
     ensures receive { receive_field (regions_of scope.now.domains.now scope.now.regions.now) scope.now.domain.now done c.old.place c.old.bytes.now ≡ came result c.new.place c.new.bytes.now }
     ensures passed { IfOk result (λ x. c.old.place < c.new.place) }
-    ensures fits { c.new.place + length c.new.bytes.now ≡ c.old.place + length c.old.bytes.now }
 {
     let id = c.u64()?;
     let lkey = c.u32()?;
@@ -156,11 +154,9 @@ fn is_pieces(mtu: u32, n: u32) -> bool
 /// A SEND in progress.
 #[tactic(auto, unfolding(protocol::specs::Dumps::after, protocol::specs::Dumps::judged))]
 fn read_send(c: &mut Cursor<'_>, scope: &Scope<'_>, mtu: u32) -> Result<Progress, Offence>
-    requires place { c.old.place + length c.old.bytes.now < 2 ^ 64 }
-    requires mtu { 1 ≤ mtu }
+    requires { 1 ≤ mtu }
     ensures send { send_field (regions_of scope.now.domains.now scope.now.regions.now) scope.now.domain.now mtu c.old.place c.old.bytes.now ≡ came result c.new.place c.new.bytes.now }
     ensures passed { IfOk result (λ x. c.old.place < c.new.place) }
-    ensures fits { c.new.place + length c.new.bytes.now ≡ c.old.place + length c.old.bytes.now }
 {
     let done = c.u32()?;
     c.keep(is_pieces(mtu, done))?;
@@ -178,11 +174,9 @@ fn fits_region(scope: &Scope<'_>, region: u16, off: u32, length: u32) -> bool
 /// A WRITE in progress.
 #[tactic(auto, unfolding(protocol::specs::Dumps::after, protocol::specs::Dumps::judged))]
 fn read_write(c: &mut Cursor<'_>, scope: &Scope<'_>, mtu: u32) -> Result<Progress, Offence>
-    requires place { c.old.place + length c.old.bytes.now < 2 ^ 64 }
-    requires mtu { 1 ≤ mtu }
+    requires { 1 ≤ mtu }
     ensures write { write_field (regions_of scope.now.domains.now scope.now.regions.now) scope.now.domain.now mtu c.old.place c.old.bytes.now ≡ came result c.new.place c.new.bytes.now }
     ensures passed { IfOk result (λ x. c.old.place < c.new.place) }
-    ensures fits { c.new.place + length c.new.bytes.now ≡ c.old.place + length c.old.bytes.now }
 {
     let region = c.u16()?;
     c.keep(may_write(scope, region))?;
@@ -207,14 +201,11 @@ pub fn read_message(
     mtu: u32,
     ended: bool,
 ) -> Result<Progress, Offence>
-    requires place { c.old.place + length c.old.bytes.now < 2 ^ 64 }
-    requires mtu { 1 ≤ mtu }
+    requires { 1 ≤ mtu }
     ensures message { message_field (regions_of scope.now.domains.now scope.now.regions.now) scope.now.domain.now mtu ended c.old.place c.old.bytes.now ≡ came result c.new.place c.new.bytes.now }
     ensures passed { IfOk result (λ x. c.old.place < c.new.place) }
-    ensures fits { c.new.place + length c.new.bytes.now ≡ c.old.place + length c.old.bytes.now }
 {
-    let code = c.u8()?;
-    c.keep(code <= if ended { 0 } else { 2 })?;
+    let code = c.u8_up_to(if ended { 0 } else { 2 })?;
     match code {
         1 => read_send(c, scope, mtu),
         2 => read_write(c, scope, mtu),
@@ -230,11 +221,9 @@ pub fn read_link(
     scope: &Scope<'_>,
     ended: bool,
 ) -> Result<LinkImageHead, Offence>
-    requires { c.old.place + length c.old.bytes.now < 2 ^ 64 }
     ensures link { link_head_field (regions_of scope.now.domains.now scope.now.regions.now) scope.now.domain.now ended c.old.place c.old.bytes.now ≡ came result c.new.place c.new.bytes.now }
     ensures mtu { IfOk result (λ h. 1 ≤ h.terms.mtu) }
     ensures passed { IfOk result (λ x. c.old.place < c.new.place) }
-    ensures fits { c.new.place + length c.new.bytes.now ≡ c.old.place + length c.old.bytes.now }
 {
     let peer = read_peer(c, ended)?;
     let terms = read_terms(c)?;
@@ -242,7 +231,7 @@ pub fn read_link(
     let waiting = read_waiting(c, &terms)?;
     let progress = read_message(c, scope, terms.mtu, ended)?;
     let count = c.u8()?;
-    c.count(count <= 16)?;
+    c.keep_or(DumpWhy::Count, count <= 16)?;
     Ok(LinkImageHead {
         ended,
         peer,

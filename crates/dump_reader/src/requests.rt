@@ -119,20 +119,16 @@ pub fn read_request_head(
     link: &LinkImageHead,
     standing: &Standing,
 ) -> Result<RequestHead, Offence>
-    requires { c.old.place + length c.old.bytes.now < 2 ^ 64 }
     ensures head { request_head_field standing.now.version (link_of_head link.now []) standing.now.count standing.now.index standing.now.low standing.now.landing c.old.place c.old.bytes.now ≡ came result c.new.place c.new.bytes.now }
     ensures limit { IfOk result (λ h. standing.now.low + shape_of_length h.kind h.length link.now.terms.mtu < 2 ^ 62) }
     ensures passed { IfOk result (λ x. c.old.place < c.new.place) }
-    ensures fits { c.new.place + length c.new.bytes.now ≡ c.old.place + length c.old.bytes.now }
 {
     let id = c.u64()?;
-    let code = c.u8()?;
-    c.keep(code <= 4)?;
+    let code = c.u8_up_to(4)?;
     let kind = kind_of_byte(code);
     let flags = c.u8()?;
     c.keep(flags_fit(standing, link.numbers.top, kind, flags))?;
-    let imm = c.u32()?;
-    c.keep(flags / 2 % 2 == 1 || imm == 0)?;
+    let imm = c.u32_if(flags / 2 % 2 == 1)?;
     let length = c.u32()?;
     c.keep(length_fits(link, standing, kind, length))?;
     Ok(RequestHead {
@@ -162,12 +158,10 @@ pub fn read_request_places(
     scope: &Scope<'_>,
     head: &RequestHead,
 ) -> Result<Request, Offence>
-    requires { c.old.place + length c.old.bytes.now < 2 ^ 64 }
     ensures kind { IfOk result (λ r. r.shape.kind ≡ head.now.kind) }
     ensures length { IfOk result (λ r. r.shape.length ≡ head.now.length) }
     ensures request { request_places_field (regions_of scope.now.domains.now scope.now.regions.now) scope.now.domain.now head.now c.old.place c.old.bytes.now ≡ came result c.new.place c.new.bytes.now }
     ensures passed { IfOk result (λ x. c.old.place < c.new.place) }
-    ensures fits { c.new.place + length c.new.bytes.now ≡ c.old.place + length c.old.bytes.now }
 {
     let kind = head.kind;
     let lkey = c.u32()?;
@@ -179,14 +173,10 @@ pub fn read_request_places(
         lands: lands_bytes(kind),
     };
     c.keep(is_place_granted(scope, &asked))?;
-    let remote = c.u64()?;
-    c.keep(names_remote(kind) || remote == 0)?;
-    let rkey = c.u32()?;
-    c.keep(names_remote(kind) || rkey == 0)?;
-    let swap_add = c.u64()?;
-    c.keep(is_atomic_kind(kind) || swap_add == 0)?;
-    let compare = c.u64()?;
-    c.keep(compares(kind) || compare == 0)?;
+    let remote = c.u64_if(names_remote(kind))?;
+    let rkey = c.u32_if(names_remote(kind))?;
+    let swap_add = c.u64_if(is_atomic_kind(kind))?;
+    let compare = c.u64_if(compares(kind))?;
     let flags = head.flags;
     let shape = Shape {
         kind,

@@ -4,7 +4,7 @@ ghost use Rattle.std.specs.Prelude.{◌≡◌, ℕ, suc, ◌+◌, ◌-◌, ◌<�
 ghost use Rattle.protocol.specs.Dumps.{then_read, items, entry_field, raw, region_field};
 ghost use Rattle.dump_reader.specs.Groups.{region_of_head, queue_of_head};
 ghost use Rattle.dump_reader.specs.Ahead.{ahead, more_domains, more_regions, more_queues, more_entries, more_ends, queues_of, weight};
-ghost use Rattle.dump_reader.specs.Steps.{Alike, Moves, is_wanting};
+ghost use Rattle.dump_reader.specs.Steps.{Alike, IsLeft, Moves, is_wanting};
 
 use crate::cursor::Cursor;
 use crate::fault::DumpFault;
@@ -36,13 +36,11 @@ pub fn domain_step(
     c: &mut Cursor<'_>,
     more: u16,
 ) -> Result<ReadState, DumpFault>
-    requires { c.old.place + length c.old.bytes.now < 2 ^ 64 }
     ensures moves { Moves (ahead opened.now lists.old (ReadState.Domain more) c.old.place c.old.bytes.now) (λ next. ahead opened.now lists.new next c.new.place c.new.bytes.now) result }
     ensures with_more_bytes { IfOk result (λ next. Alike (ahead opened.now lists.old (ReadState.Domain more)) c.old.place c.old.bytes.now (ahead opened.now lists.new next) c.new.place c.new.bytes.now) }
-    ensures left { IfOk result (λ next. c.new.bytes.now ≡ drop (c.new.place - c.old.place) c.old.bytes.now) }
+    ensures left { IfOk result (λ next. IsLeft c.old.place c.old.bytes.now c.new.place c.new.bytes.now) }
     ensures same { IfErr result (λ e. is_wanting e ≡ true → lists.new ≡ lists.old) }
     ensures passed { IfOk result (λ next. c.old.place < c.new.place) }
-    ensures fits { c.new.place + length c.new.bytes.now ≡ c.old.place + length c.old.bytes.now }
 {
     let name = groups::read_name(c, &lists.domains)?;
     push(&mut lists.domains, name)?;
@@ -69,13 +67,11 @@ pub fn region_count_step(
     lists: &mut Lists,
     c: &mut Cursor<'_>,
 ) -> Result<ReadState, DumpFault>
-    requires { c.old.place + length c.old.bytes.now < 2 ^ 64 }
     ensures moves { Moves (ahead opened.now lists.old ReadState.RegionCount c.old.place c.old.bytes.now) (λ next. ahead opened.now lists.new next c.new.place c.new.bytes.now) result }
     ensures with_more_bytes { IfOk result (λ next. Alike (ahead opened.now lists.old ReadState.RegionCount) c.old.place c.old.bytes.now (ahead opened.now lists.new next) c.new.place c.new.bytes.now) }
-    ensures left { IfOk result (λ next. c.new.bytes.now ≡ drop (c.new.place - c.old.place) c.old.bytes.now) }
+    ensures left { IfOk result (λ next. IsLeft c.old.place c.old.bytes.now c.new.place c.new.bytes.now) }
     ensures same { IfErr result (λ e. is_wanting e ≡ true → lists.new ≡ lists.old) }
     ensures passed { IfOk result (λ next. c.old.place < c.new.place) }
-    ensures fits { c.new.place + length c.new.bytes.now ≡ c.old.place + length c.old.bytes.now }
 {
     let count = groups::read_count(c, 256)?;
     lists.regions = Vec::new(lists.alloc);
@@ -107,14 +103,12 @@ pub fn bytes_step(
     missing: u32,
     after: u16,
 ) -> Result<ReadState, DumpFault>
-    requires { c.old.place + length c.old.bytes.now < 2 ^ 64 }
     ensures moves { Moves (ahead opened.now lists.old (ReadState.Bytes head.now missing after) c.old.place c.old.bytes.now) (λ next. ahead opened.now lists.new next c.new.place c.new.bytes.now) result }
     ensures with_more_bytes { IfOk result (λ next. Alike (ahead opened.now lists.old (ReadState.Bytes head.now missing after)) c.old.place c.old.bytes.now (ahead opened.now lists.new next) c.new.place c.new.bytes.now) }
-    ensures left { IfOk result (λ next. c.new.bytes.now ≡ drop (c.new.place - c.old.place) c.old.bytes.now) }
+    ensures left { IfOk result (λ next. IsLeft c.old.place c.old.bytes.now c.new.place c.new.bytes.now) }
     ensures same { IfErr result (λ e. is_wanting e ≡ true → lists.new ≡ lists.old) }
     ensures weightless { IfOk result (λ next. weight next ≡ 0) }
     ensures passed { IfOk result (λ next. c.old.place ≤ c.new.place) }
-    ensures fits { c.new.place + length c.new.bytes.now ≡ c.old.place + length c.old.bytes.now }
 {
     let bytes = c.raw(missing as usize)?;
     lists.run.append(lists.alloc, bytes)?;
@@ -132,13 +126,11 @@ pub fn region_step(
     c: &mut Cursor<'_>,
     more: u16,
 ) -> Result<ReadState, DumpFault>
-    requires { c.old.place + length c.old.bytes.now < 2 ^ 64 }
     ensures moves { Moves (ahead opened.now lists.old (ReadState.Region more) c.old.place c.old.bytes.now) (λ next. ahead opened.now lists.new next c.new.place c.new.bytes.now) result }
     ensures with_more_bytes { IfOk result (λ next. Alike (ahead opened.now lists.old (ReadState.Region more)) c.old.place c.old.bytes.now (ahead opened.now lists.new next) c.new.place c.new.bytes.now) }
-    ensures left { IfOk result (λ next. c.new.bytes.now ≡ drop (c.new.place - c.old.place) c.old.bytes.now) }
+    ensures left { IfOk result (λ next. IsLeft c.old.place c.old.bytes.now c.new.place c.new.bytes.now) }
     ensures same { IfErr result (λ e. is_wanting e ≡ true → lists.new ≡ lists.old) }
     ensures passed { IfOk result (λ next. c.old.place < c.new.place) }
-    ensures fits { c.new.place + length c.new.bytes.now ≡ c.old.place + length c.old.bytes.now }
 {
     let head = groups::read_region(c, lists.domains.len(), &lists.regions)?;
     lists.run = ByteRun::make(lists.alloc);
@@ -165,13 +157,11 @@ pub fn queue_count_step(
     lists: &mut Lists,
     c: &mut Cursor<'_>,
 ) -> Result<ReadState, DumpFault>
-    requires { c.old.place + length c.old.bytes.now < 2 ^ 64 }
     ensures moves { Moves (ahead opened.now lists.old ReadState.QueueCount c.old.place c.old.bytes.now) (λ next. ahead opened.now lists.new next c.new.place c.new.bytes.now) result }
     ensures with_more_bytes { IfOk result (λ next. Alike (ahead opened.now lists.old ReadState.QueueCount) c.old.place c.old.bytes.now (ahead opened.now lists.new next) c.new.place c.new.bytes.now) }
-    ensures left { IfOk result (λ next. c.new.bytes.now ≡ drop (c.new.place - c.old.place) c.old.bytes.now) }
+    ensures left { IfOk result (λ next. IsLeft c.old.place c.old.bytes.now c.new.place c.new.bytes.now) }
     ensures same { IfErr result (λ e. is_wanting e ≡ true → lists.new ≡ lists.old) }
     ensures passed { IfOk result (λ next. c.old.place < c.new.place) }
-    ensures fits { c.new.place + length c.new.bytes.now ≡ c.old.place + length c.old.bytes.now }
 {
     let count = groups::read_count(c, 64)?;
     lists.queues = Vec::new(lists.alloc);
@@ -215,13 +205,11 @@ pub fn queue_step(
     c: &mut Cursor<'_>,
     more: u16,
 ) -> Result<ReadState, DumpFault>
-    requires { c.old.place + length c.old.bytes.now < 2 ^ 64 }
     ensures moves { Moves (ahead opened.now lists.old (ReadState.Queue more) c.old.place c.old.bytes.now) (λ next. ahead opened.now lists.new next c.new.place c.new.bytes.now) result }
     ensures with_more_bytes { IfOk result (λ next. Alike (ahead opened.now lists.old (ReadState.Queue more)) c.old.place c.old.bytes.now (ahead opened.now lists.new next) c.new.place c.new.bytes.now) }
-    ensures left { IfOk result (λ next. c.new.bytes.now ≡ drop (c.new.place - c.old.place) c.old.bytes.now) }
+    ensures left { IfOk result (λ next. IsLeft c.old.place c.old.bytes.now c.new.place c.new.bytes.now) }
     ensures same { IfErr result (λ e. is_wanting e ≡ true → lists.new ≡ lists.old) }
     ensures passed { IfOk result (λ next. c.old.place < c.new.place) }
-    ensures fits { c.new.place + length c.new.bytes.now ≡ c.old.place + length c.old.bytes.now }
 {
     let head = groups::read_queue(c, &lists.queues)?;
     lists.entries = Vec::new(lists.alloc);
@@ -239,13 +227,11 @@ pub fn entry_step(
     more: u32,
     after: u16,
 ) -> Result<ReadState, DumpFault>
-    requires { c.old.place + length c.old.bytes.now < 2 ^ 64 }
     ensures moves { Moves (ahead opened.now lists.old (ReadState.Entry head.now more after) c.old.place c.old.bytes.now) (λ next. ahead opened.now lists.new next c.new.place c.new.bytes.now) result }
     ensures with_more_bytes { IfOk result (λ next. Alike (ahead opened.now lists.old (ReadState.Entry head.now more after)) c.old.place c.old.bytes.now (ahead opened.now lists.new next) c.new.place c.new.bytes.now) }
-    ensures left { IfOk result (λ next. c.new.bytes.now ≡ drop (c.new.place - c.old.place) c.old.bytes.now) }
+    ensures left { IfOk result (λ next. IsLeft c.old.place c.old.bytes.now c.new.place c.new.bytes.now) }
     ensures same { IfErr result (λ e. is_wanting e ≡ true → lists.new ≡ lists.old) }
     ensures passed { IfOk result (λ next. c.old.place < c.new.place) }
-    ensures fits { c.new.place + length c.new.bytes.now ≡ c.old.place + length c.old.bytes.now }
 {
     let entry = groups::read_entry(c)?;
     push(&mut lists.entries, entry)?;

@@ -7,12 +7,12 @@ use Rattle.dump_reader.proofs.read_progress.ReadProgress.go_one_step.Goals as go
 pub returns-in-Ok-clause-stands : goal.returns-in-Ok-clause-stands
 returns-in-Ok-clause-stands c =
     let way = c.args.self.now in
-    goes_on way c.args.bytes.now _ c.step.new.lists c.in-Ok.next c.step.new.c.place c.step.new.c.bytes.now c.requires.stands (slice_from c.args.bytes.now way.at) c.in-Ok.ensures.with_more_bytes c.in-Ok.ensures.left c.in-Ok.ensures.fits
+    goes_on way c.args.bytes.now _ c.step.new.lists c.in-Ok.next c.step.new.c.place c.step.new.c.bytes.now c.requires.stands (slice_from c.args.bytes.now way.at) c.in-Ok.ensures.with_more_bytes c.in-Ok.ensures.left.left c.in-Ok.ensures.left.fits
 
 pub returns-in-Ok-clause-less : goal.returns-in-Ok-clause-less
 returns-in-Ok-clause-less c =
     let way = c.args.self.now in
-    fewer (length c.args.bytes.now) way.at c.step.new.c.place _ (length c.step.new.c.bytes.now) (weight way.place) (weight c.in-Ok.next) c.requires.stands.within (ap length (slice_from c.args.bytes.now way.at) ∙ length-drop way.at c.args.bytes.now) c.in-Ok.ensures.fits c.in-Ok.ensures.less
+    fewer (length c.args.bytes.now) way.at c.step.new.c.place _ (length c.step.new.c.bytes.now) (weight way.place) (weight c.in-Ok.next) c.requires.stands.within (ap length (slice_from c.args.bytes.now way.at) ∙ length-drop way.at c.args.bytes.now) c.in-Ok.ensures.left.fits c.in-Ok.ensures.less
 
 pub returns-in-Err-clause-same : goal.returns-in-Err-clause-same
 returns-in-Err-clause-same c = λ wanting. stands_same c.args.self.now c.args.bytes.now c.step.new.lists c.requires.stands (c.in-Err.ensures.same wanting)
