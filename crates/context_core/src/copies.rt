@@ -1,6 +1,6 @@
 //! Equal contexts over memory of their own.
 
-ghost use Rattle.std.specs.Prelude.{◌≡◌, IfOk};
+ghost use Rattle.std.specs.Prelude.{◌≡◌, [], IfOk, OnOk};
 
 use crate::state::{ContextState, EndSlot};
 use completion_queue::Cq;
@@ -8,42 +8,47 @@ use indexmap::{IndexMap, IndexSet};
 use rdma_types::Name;
 use std::alloc::{AllocError, Global};
 
-/// Equal domains.
-fn copy_domains(alloc: Global, domains: &IndexSet<Name>) -> Result<IndexSet<Name>, AllocError>
-    ensures { IfOk result (λ copy. copy.keys ≡ domains.now.keys) }
+/// Puts equal domains into an empty set.
+fn copy_domains(copy: &mut IndexSet<Name>, domains: &IndexSet<Name>) -> Result<(), AllocError>
+    requires { copy.old.keys ≡ [] }
+    ensures { OnOk result (copy.new.keys ≡ domains.now.keys) }
 {
-    let mut copy = IndexSet::new(alloc);
     for i in 0..domains.len() {
         copy.insert(*domains.get_index(i).unwrap())?;
     }
-    Ok(copy)
+    Ok(())
 }
 
-/// Equal completion queues.
-fn copy_queues(alloc: Global, queues: &IndexMap<Name, Cq>) -> Result<IndexMap<Name, Cq>, AllocError>
-    ensures { IfOk result (λ copy. copy.entries ≡ queues.now.entries) }
+/// Puts equal completion queues into an empty map.
+fn copy_queues(
+    alloc: Global,
+    copy: &mut IndexMap<Name, Cq>,
+    queues: &IndexMap<Name, Cq>,
+) -> Result<(), AllocError>
+    requires { copy.old.entries ≡ [] }
+    ensures { OnOk result (copy.new.entries ≡ queues.now.entries) }
 {
-    let mut copy = IndexMap::new(alloc);
     for i in 0..queues.len() {
         let (name, queue) = queues.get_index(i).unwrap();
         copy.insert(*name, queue.copy(alloc)?)?;
     }
-    Ok(copy)
+    Ok(())
 }
 
-/// Equal queue pairs, for a copy of the pool of their payloads.
+/// Puts equal queue pairs into an empty map, for a copy of the pool of their payloads.
 fn copy_ends(
     alloc: Global,
+    copy: &mut IndexMap<Name, EndSlot>,
     ends: &IndexMap<Name, EndSlot>,
-) -> Result<IndexMap<Name, EndSlot>, AllocError>
-    ensures { IfOk result (λ copy. copy.entries ≡ ends.now.entries) }
+) -> Result<(), AllocError>
+    requires { copy.old.entries ≡ [] }
+    ensures { OnOk result (copy.new.entries ≡ ends.now.entries) }
 {
-    let mut copy = IndexMap::new(alloc);
     for i in 0..ends.len() {
         let (name, slot) = ends.get_index(i).unwrap();
         copy.insert(*name, slot.copy(alloc)?)?;
     }
-    Ok(copy)
+    Ok(())
 }
 
 impl EndSlot {
@@ -60,15 +65,29 @@ impl EndSlot {
 }
 
 impl ContextState {
+    ghost use Rattle.context_core.specs.Context.{no_holding};
+
+    /// Puts all else of a context into one that has its regions alone.
+    fn fill(&mut self, alloc: Global, other: &ContextState) -> Result<(), AllocError>
+        requires { self.old ≡ record no_holding { regions = other.now.regions } }
+        ensures { OnOk result (self.new ≡ other.now) }
+    {
+        copy_domains(&mut self.domains, &other.domains)?;
+        copy_queues(alloc, &mut self.queues, &other.queues)?;
+        copy_ends(alloc, &mut self.ends, &other.ends)
+    }
+
     /// An equal context, for a copy of the pool where its bytes lie. Errors: `AllocError` when out of memory.
     pub fn copy(&self, alloc: Global) -> Result<ContextState, AllocError>
         ensures { IfOk result (λ s. s ≡ self.now) }
     {
-        Ok(ContextState {
-            domains: copy_domains(alloc, &self.domains)?,
+        let mut copy = ContextState {
+            domains: IndexSet::new(alloc),
             regions: self.regions.copy(alloc)?,
-            queues: copy_queues(alloc, &self.queues)?,
-            ends: copy_ends(alloc, &self.ends)?,
-        })
+            queues: IndexMap::new(alloc),
+            ends: IndexMap::new(alloc),
+        };
+        copy.fill(alloc, self)?;
+        Ok(copy)
     }
 }

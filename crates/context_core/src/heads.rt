@@ -24,7 +24,7 @@ use rdma_types::Name;
 const MOST_MOVES: u16 = 65_535;
 
 /// A queue pair, by its name and number; `link` is None in Init.
-#[derive(Clone, Copy, Debug, PartialEq, Eq)]
+#[derive(Clone, Copy)]
 pub struct EndHead {
     pub name: Name,
     pub number: u32,
@@ -32,7 +32,7 @@ pub struct EndHead {
 }
 
 /// What is told of a connected end.
-#[derive(Clone, Copy, Debug, PartialEq, Eq)]
+#[derive(Clone, Copy)]
 pub struct LinkHead {
     /// It is in Error, and else in Rts.
     pub ended: bool,

@@ -17,7 +17,7 @@ use rdma_types::{Name, ObjName};
 use std::alloc::AllocError;
 
 /// What settling looks at of a connected end.
-#[derive(Clone, Copy, Debug)]
+#[derive(Clone, Copy)]
 pub struct LinkView {
     /// It is in Error, and else in Rts.
     pub ended: bool,
@@ -40,7 +40,7 @@ pub struct LinkView {
 }
 
 /// A live end: its name, and its link, which is None in Init.
-#[derive(Clone, Copy, Debug)]
+#[derive(Clone, Copy)]
 pub struct LiveEnd {
     pub name: ObjName,
     pub link: Option<LinkView>,

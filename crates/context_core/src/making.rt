@@ -20,7 +20,7 @@ use rdma_types::{Address, Name, Refusal, Terms};
 use std::alloc::Global;
 
 /// What is asked of a new queue pair. A domain or completion queue that is named in another context is None.
-#[derive(Clone, Copy, Debug)]
+#[derive(Clone, Copy)]
 pub struct NewEnd {
     pub name: Name,
     pub domain: Option<Name>,

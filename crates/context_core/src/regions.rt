@@ -29,7 +29,7 @@ use std::alloc::Global;
 
 /// What is asked of a new region of `length` bytes from the address `base` on. A domain that is named in another context
 /// is None.
-#[derive(Clone, Copy, Debug)]
+#[derive(Clone, Copy)]
 pub struct NewRegion {
     pub name: Name,
     pub domain: Option<Name>,

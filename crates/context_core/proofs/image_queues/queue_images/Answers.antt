@@ -1,6 +1,7 @@
-use Rattle.std.proofs.Common.{◌≡◌, ◌++◌, ◌∷◌, [], ap, ◌∙◌, arith}
+use Rattle.std.proofs.Common.{◌≡◌, ◌++◌, ◌∷◌, [], ap, sym, ◌∙◌}
 use Rattle.std.specs.Prelude.{Some, slice_get}
-use Rattle.std.proofs.lemmas.Grind.{common_steps}
+use Rattle.std.specs.Option.{option_map}
+use Rattle.std.specs.Map.Iter.{deref_pair}
 use Rattle.rdma_types.specs.Objects.{CompletionQueue}
 use Rattle.rdma_types.specs.declared.names.Name.{Name}
 use Rattle.completion_queue.specs.Queue.{Queue}
@@ -13,5 +14,5 @@ shown q = record { name = q.0; capacity = q.1.capacity; entries = q.1.entries }
 
 pub loop-i-preserved : goal.loop-i-preserved
 loop-i-preserved c =
-    let there : slice_get c.args.queues.now.entries c.loop-i.i ≡ Some (c.unwrap.result.0.now, c.unwrap.result.1.now) = grind (arith, common_steps) in
+    let there : slice_get c.args.queues.now.entries c.loop-i.i ≡ Some (c.unwrap.result.0.now, c.unwrap.result.1.now) = sym c.get_index.ensures.entry ∙ ap (option_map deref_pair) c.unwrap.ensures in
     c.in_ok-push.ensures.items ∙ (ap (λ xs. xs ++ c.in_ok-image.image ∷ []) c.loop-i.invariant ∙ both_of queue_image shown c.args.queues.now.entries c.loop-i.i (c.unwrap.result.0.now, c.unwrap.result.1.now) c.in_ok-image.image there c.in_ok-image.ensures)
