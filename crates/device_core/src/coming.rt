@@ -16,6 +16,7 @@ ghost use Rattle.device_core.specs.Leaving.{placed};
 use crate::Device;
 use crate::device::answered;
 use crate::index::{EndLocation, put_location};
+use crate::named::put_named;
 use context_core::{ContextFault, ContextState};
 use indexmap::IndexMap;
 use protocol::{ContextImage, EndImage, Event, Outcome, RegionImage};
@@ -99,7 +100,7 @@ fn put_context(contexts: &mut IndexMap<Name, ContextState>, name: Name, state: C
     requires room { 0 < spare contexts.old }
     ensures { contexts.new.entries ≡ contexts.old.entries ++ (name, state) ∷ [] }
 {
-    let _ = contexts.insert(name, state).unwrap();
+    put_named(contexts, name, state).unwrap();
 }
 
 /// Which cause of a restore counts, apart from too few free pages.

@@ -5,6 +5,7 @@ ghost use Rattle.std.specs.Prelude.{◌≡◌, IfOk};
 use crate::Device;
 use crate::husks::HuskEntry;
 use crate::index::EndLocation;
+use crate::named::put_named;
 use context_core::ContextState;
 use indexmap::IndexMap;
 use rdma_types::{Items, Name};
@@ -20,7 +21,7 @@ fn copy_contexts(
     let mut copy = IndexMap::new(alloc);
     for i in 0..contexts.len() {
         let (name, state) = contexts.get_index(i).unwrap();
-        copy.insert(*name, state.copy(alloc)?)?;
+        put_named(&mut copy, *name, state.copy(alloc)?)?;
     }
     Ok(copy)
 }
@@ -36,7 +37,7 @@ fn copy_husks(
     for i in 0..husks.len() {
         let (name, entries) = husks.get_index(i).unwrap();
         let left = Vec::from_slice(alloc, entries.as_slice())?;
-        copy.insert(*name, Items::new(left))?;
+        put_named(&mut copy, *name, Items::new(left))?;
     }
     Ok(copy)
 }
@@ -68,9 +69,9 @@ impl Device {
             qp_count: self.qp_count,
             key_count: self.key_count,
             pool: self.pool.copy(alloc)?,
-            contexts: copy_contexts(alloc, &self.contexts)?,
             husks: copy_husks(alloc, &self.husks)?,
             index: copy_index(alloc, &self.index)?,
+            contexts: copy_contexts(alloc, &self.contexts)?,
         })
     }
 }

@@ -20,6 +20,7 @@ ghost use Rattle.device_core.specs.Parts.{entry_of};
 use crate::Device;
 use crate::husks::HuskEntry;
 use crate::index::{EndLocation, drop_location, move_location};
+use crate::named::put_named;
 use context_core::{ContextFault, ContextState};
 use indexmap::IndexMap;
 use protocol::{ContextImage, Event, Outcome};
@@ -143,7 +144,7 @@ fn put_husk(husks: &mut IndexMap<Name, Items<HuskEntry>>, name: Name, entries: I
     requires room { 0 < spare husks.old }
     ensures { husks.new.entries ≡ husks.old.entries ++ (name, entries) ∷ [] }
 {
-    let _ = husks.insert(name, entries).unwrap();
+    put_named(husks, name, entries).unwrap();
 }
 
 impl Device {

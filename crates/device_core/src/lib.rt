@@ -14,6 +14,7 @@ mod leaving;
 mod lives;
 mod making;
 mod moving;
+mod named;
 mod readers;
 mod running;
 mod telling;

@@ -11,6 +11,7 @@ ghost use Rattle.device_core.specs.Index.{noted};
 
 use crate::Device;
 use crate::index::{EndLocation, put_location};
+use crate::named::put_named;
 use crate::telling::{counted, told, told_number};
 use context_core::{ContextFault, ContextState, NewEnd};
 use indexmap::IndexMap;
@@ -32,8 +33,8 @@ pub(crate) fn add_context(
     ensures err { OnErr result (contexts.new.entries ≡ contexts.old.entries) }
     ensures memory { OnErr result (result ≡ Err ContextFault.OutOfMemory) }
 {
-    match contexts.insert(name, state) {
-        Ok(_) => Ok(()),
+    match put_named(contexts, name, state) {
+        Ok(()) => Ok(()),
         Err(_) => Err(ContextFault::OutOfMemory),
     }
 }

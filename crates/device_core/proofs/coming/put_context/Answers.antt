@@ -5,4 +5,4 @@ use Rattle.device_core.proofs.Pairs.{on-ok}
 use Rattle.device_core.proofs.coming.put_context.Goals as goal
 
 pub returns : goal.returns
-returns c = on-ok c.insert.result c.unwrap.result c.unwrap.ensures c.insert.ensures.entries ∙ insert_entry-new bytes_eq c.args.contexts.now c.args.name _ c.requires.absent
+returns c = on-ok c.put_named.result c.unwrap.result c.unwrap.ensures c.put_named.ensures.ok ∙ insert_entry-new bytes_eq c.args.contexts.now c.args.name _ c.requires.absent

@@ -6,6 +6,6 @@ use Rattle.device_core.proofs.copying.copy_contexts.Goals as goal
 
 pub loop-i-preserved : goal.loop-i-preserved
 loop-i-preserved c =
-    rw (c.in_ok-insert.ensures.entries, c.loop-i.invariant)
+    rw (c.in_ok-put_named.ensures.ok, c.loop-i.invariant)
     (entry_more _ _ _ _ c.len-i-end.ensures.unique
     (rw c.in_ok-copy.ensures (sym c.get_index.ensures.entry ∙ ap (option_map deref_pair) c.unwrap.ensures)))
