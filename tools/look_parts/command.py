@@ -1,0 +1,47 @@
+"""The words of tools/look."""
+import argparse
+import os
+import sys
+
+from .errors import LookError
+from .program import INSTALLED, VARIABLE, Program, find_program
+from .side import side
+
+SCRIPT_HELP = "the script's file, or - for standard input"
+
+
+def parser():
+    top = argparse.ArgumentParser(
+        prog="look", description="Looks at what a script of the program does.",
+        epilog=f"The program is the one of --program, else of the variable {VARIABLE}, else the one built in this repository, else {INSTALLED} on the path.")
+    top.add_argument("--program", metavar="PATH", help="the program to run")
+    kinds = top.add_subparsers(dest="kind", metavar="SUBCOMMAND")
+    add_side(kinds)
+    return top
+
+
+def add_side(kinds):
+    words = kinds.add_parser("side", help="each line with its answers", description="Shows each line of a script with its number and its answers, and says of each refusal and bad line what to look at. It ends with the status of the program: 0, 3 for a bad line, 8 where memory ran out.")
+    words.add_argument("script", help=SCRIPT_HELP)
+    words.add_argument("--json", action="store_true", help="the same as JSON")
+    words.add_argument("--wide", action="store_true", help="cut no long line and no long answer")
+    words.set_defaults(call=side)
+
+
+def main(words):
+    top = parser()
+    asked = top.parse_args(words)
+    if asked.kind is None:
+        top.print_usage(sys.stderr)
+        return 2
+    try:
+        return asked.call(Program(find_program(asked.program)), asked)
+    except LookError as fault:
+        sys.stdout.flush()
+        print(f"look: {fault}", file=sys.stderr)
+        return 1
+    except BrokenPipeError:
+        os.dup2(os.open(os.devnull, os.O_WRONLY), sys.stdout.fileno())
+        return 1
+    except KeyboardInterrupt:
+        return 130
