@@ -4,6 +4,7 @@ import os
 import sys
 
 from .errors import LookError
+from .pictures import ladder
 from .program import INSTALLED, VARIABLE, Program, find_program
 from .side import side
 
@@ -17,6 +18,7 @@ def parser():
     top.add_argument("--program", metavar="PATH", help="the program to run")
     kinds = top.add_subparsers(dest="kind", metavar="SUBCOMMAND")
     add_side(kinds)
+    add_ladder(kinds)
     return top
 
 
@@ -26,6 +28,17 @@ def add_side(kinds):
     words.add_argument("--json", action="store_true", help="the same as JSON")
     words.add_argument("--wide", action="store_true", help="cut no long line and no long answer")
     words.set_defaults(call=side)
+
+
+def add_ladder(kinds):
+    words = kinds.add_parser("ladder", help="a sequence diagram", description="Draws devices, contexts and datagrams as a Mermaid sequence diagram, or as SVG. A dotted arrow is a datagram that `settle` delivered: its answer does not tell what the datagram did.")
+    words.add_argument("script", nargs="?", help=SCRIPT_HELP)
+    words.add_argument("--svg", metavar="FILE", help="draw SVG into the file (needs mscgen)")
+    words.add_argument("--first", metavar="LINE", type=int, default=1, help="draw what this line of the script and later ones did")
+    words.add_argument("--last", metavar="LINE", type=int, help="draw what this line and earlier ones did")
+    words.add_argument("--check", metavar="FILE", nargs="+", help="see that the ladders in documents are current")
+    words.add_argument("--refresh", metavar="FILE", nargs="+", help="write the ladders in documents anew")
+    words.set_defaults(call=ladder)
 
 
 def main(words):
