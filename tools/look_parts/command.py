@@ -7,6 +7,7 @@ from .errors import LookError
 from .pictures import ladder
 from .program import INSTALLED, VARIABLE, Program, find_program
 from .side import side
+from .stats import stats
 
 SCRIPT_HELP = "the script's file, or - for standard input"
 
@@ -19,6 +20,7 @@ def parser():
     kinds = top.add_subparsers(dest="kind", metavar="SUBCOMMAND")
     add_side(kinds)
     add_ladder(kinds)
+    add_stats(kinds)
     return top
 
 
@@ -39,6 +41,14 @@ def add_ladder(kinds):
     words.add_argument("--check", metavar="FILE", nargs="+", help="see that the ladders in documents are current")
     words.add_argument("--refresh", metavar="FILE", nargs="+", help="write the ladders in documents anew")
     words.set_defaults(call=ladder)
+
+
+def add_stats(kinds):
+    words = kinds.add_parser("stats", help="counts, and what moves took", description="Counts the datagrams of a script by kind, what they did, expiries and waits, completions and refusals, and tells of each move its pages, its dump's bytes, and the datagrams and lines until the ends run again.")
+    words.add_argument("script", nargs="?", help=SCRIPT_HELP)
+    words.add_argument("--bulk", nargs=4, type=int, metavar=("SEED", "CONNECTIONS", "MESSAGES", "MOVES"), help="the generated script of docs/generated.md")
+    words.add_argument("--json", action="store_true", help="the same as JSON")
+    words.set_defaults(call=stats)
 
 
 def main(words):
