@@ -3,9 +3,11 @@ import argparse
 import os
 import sys
 
+from .dump import dump
 from .errors import LookError
+from .pcap import pcap
 from .pictures import ladder
-from .program import INSTALLED, VARIABLE, Program, find_program
+from .program import INSTALLED, VARIABLE, Program
 from .side import side
 from .stats import stats
 
@@ -21,6 +23,8 @@ def parser():
     add_side(kinds)
     add_ladder(kinds)
     add_stats(kinds)
+    add_dump(kinds)
+    add_pcap(kinds)
     return top
 
 
@@ -51,6 +55,27 @@ def add_stats(kinds):
     words.set_defaults(call=stats)
 
 
+def add_dump(kinds):
+    words = kinds.add_parser("dump", help="the fields of a dump", description="Shows every field of a dump: the place where it begins, its bytes and its value. The dump is a file of a depot, a line `dump N HEX` of answers, or hexadecimal digits. Of several dumps each is shown.")
+    words.add_argument("source", nargs="?", help="the file, or - for standard input")
+    words.add_argument("--play", action="store_true", help="the file is a script: play it, and take the dumps of its answers")
+    words.add_argument("--pick", metavar="N", type=int, help="the N-th of several dumps")
+    words.add_argument("--json", action="store_true", help="the image as JSON")
+    words.add_argument("--lines", action="store_true", help="the lines that show-dump writes")
+    words.add_argument("--wide", action="store_true", help="cut no long bytes")
+    words.add_argument("--out", metavar="FILE", help="write the bytes of the dump into the file")
+    words.add_argument("--from-json", nargs=2, metavar=("FILE", "OUT"), help="write the dump of an image in JSON into OUT")
+    words.add_argument("--unchecked", action="store_true", help="with --from-json: also an image that breaks a rule of dumps")
+    words.set_defaults(call=dump)
+
+
+def add_pcap(kinds):
+    words = kinds.add_parser("pcap", help="a capture for Wireshark", description="Writes every datagram of a script into a capture file, in the order in which they were sent. Line 17 of the script sends at second 17. tools/jichurpa.lua lets Wireshark read the messages of moving.")
+    words.add_argument("script", help=SCRIPT_HELP)
+    words.add_argument("file", help="the capture's file, or - for standard output")
+    words.set_defaults(call=pcap)
+
+
 def main(words):
     top = parser()
     asked = top.parse_args(words)
@@ -58,7 +83,7 @@ def main(words):
         top.print_usage(sys.stderr)
         return 2
     try:
-        return asked.call(Program(find_program(asked.program)), asked)
+        return asked.call(Program(asked.program), asked)
     except LookError as fault:
         sys.stdout.flush()
         print(f"look: {fault}", file=sys.stderr)

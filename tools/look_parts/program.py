@@ -39,14 +39,16 @@ def find_program(named=None):
 
 
 class Program:
-    """The program, and how often it was run."""
+    """The program, which is looked for at its first run, and how often it was run."""
 
-    def __init__(self, path):
-        self.path = path
+    def __init__(self, named=None):
+        self.named = named
+        self.path = None
         self.runs = 0
 
     def run(self, words, given=b"", folder=None):
         """The status and the bytes that the program wrote."""
+        self.path = self.path or find_program(self.named)
         self.runs += 1
         try:
             ended = subprocess.run(
