@@ -8,6 +8,7 @@ from .errors import LookError
 from .pcap import pcap
 from .pictures import ladder
 from .program import INSTALLED, VARIABLE, Program
+from .prompt import interact
 from .side import side
 from .stats import stats
 
@@ -19,6 +20,7 @@ def parser():
         prog="look", description="Looks at what a script of the program does.",
         epilog=f"The program is the one of --program, else of the variable {VARIABLE}, else the one built in this repository, else {INSTALLED} on the path.")
     top.add_argument("--program", metavar="PATH", help="the program to run")
+    top.add_argument("-i", dest="prompt", nargs="?", const="", metavar="SCRIPT", help="a prompt that answers line by line, behind the lines of a script if one is named")
     kinds = top.add_subparsers(dest="kind", metavar="SUBCOMMAND")
     add_side(kinds)
     add_ladder(kinds)
@@ -79,10 +81,12 @@ def add_pcap(kinds):
 def main(words):
     top = parser()
     asked = top.parse_args(words)
-    if asked.kind is None:
+    if (asked.kind is None) == (asked.prompt is None):
         top.print_usage(sys.stderr)
         return 2
     try:
+        if asked.prompt is not None:
+            return interact(Program(asked.program), asked.prompt)
         return asked.call(Program(asked.program), asked)
     except LookError as fault:
         sys.stdout.flush()
