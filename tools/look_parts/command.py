@@ -1,16 +1,11 @@
 """The words of tools/look."""
 import argparse
+import importlib
 import os
 import sys
 
-from .dump import dump
 from .errors import LookError
-from .pcap import pcap
-from .pictures import ladder
 from .program import INSTALLED, VARIABLE, Program
-from .prompt import interact
-from .side import side
-from .stats import stats
 
 SCRIPT_HELP = "the script's file, or - for standard input"
 
@@ -35,7 +30,7 @@ def add_side(kinds):
     words.add_argument("script", help=SCRIPT_HELP)
     words.add_argument("--json", action="store_true", help="the same as JSON")
     words.add_argument("--wide", action="store_true", help="cut no long line and no long answer")
-    words.set_defaults(call=side)
+    words.set_defaults(part="side", call="side")
 
 
 def add_ladder(kinds):
@@ -46,7 +41,7 @@ def add_ladder(kinds):
     words.add_argument("--last", metavar="LINE", type=int, help="draw what this line and earlier ones did")
     words.add_argument("--check", metavar="FILE", nargs="+", help="see that the ladders in documents are current")
     words.add_argument("--refresh", metavar="FILE", nargs="+", help="write the ladders in documents anew")
-    words.set_defaults(call=ladder)
+    words.set_defaults(part="pictures", call="ladder")
 
 
 def add_stats(kinds):
@@ -54,7 +49,7 @@ def add_stats(kinds):
     words.add_argument("script", nargs="?", help=SCRIPT_HELP)
     words.add_argument("--bulk", nargs=4, type=int, metavar=("SEED", "CONNECTIONS", "MESSAGES", "MOVES"), help="the generated script of docs/generated.md")
     words.add_argument("--json", action="store_true", help="the same as JSON")
-    words.set_defaults(call=stats)
+    words.set_defaults(part="stats", call="stats")
 
 
 def add_dump(kinds):
@@ -68,14 +63,14 @@ def add_dump(kinds):
     words.add_argument("--out", metavar="FILE", help="write the bytes of the dump into the file")
     words.add_argument("--from-json", nargs=2, metavar=("FILE", "OUT"), help="write the dump of an image in JSON into OUT")
     words.add_argument("--unchecked", action="store_true", help="with --from-json: also an image that breaks a rule of dumps")
-    words.set_defaults(call=dump)
+    words.set_defaults(part="dump", call="dump")
 
 
 def add_pcap(kinds):
     words = kinds.add_parser("pcap", help="a capture for Wireshark", description="Writes every datagram of a script into a capture file, in the order in which they were sent. Line 17 of the script sends at second 17. tools/jichurpa.lua lets Wireshark read the messages of moving.")
     words.add_argument("script", help=SCRIPT_HELP)
     words.add_argument("file", help="the capture's file, or - for standard output")
-    words.set_defaults(call=pcap)
+    words.set_defaults(part="pcap", call="pcap")
 
 
 def main(words):
@@ -84,10 +79,10 @@ def main(words):
     if (asked.kind is None) == (asked.prompt is None):
         top.print_usage(sys.stderr)
         return 2
+    part, call = ("prompt", "prompt") if asked.kind is None else (asked.part, asked.call)
     try:
-        if asked.prompt is not None:
-            return interact(Program(asked.program), asked.prompt)
-        return asked.call(Program(asked.program), asked)
+        # Only the part that is asked for is read.
+        return getattr(importlib.import_module(f".{part}", __package__), call)(Program(asked.program), asked)
     except LookError as fault:
         sys.stdout.flush()
         print(f"look: {fault}", file=sys.stderr)

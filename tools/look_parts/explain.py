@@ -128,17 +128,15 @@ def bad_state(world, verb, rest):
 
 
 def depth_full(world, verb, rest, at, what):
-    end = world.end(rest[0])
-    depth = end.depths[at] if end else "its"
-    return f"`{rest[0]}` has room for {depth} {what}, and so many wait: see that some finish first."
+    kind = ("send", "receive")[at]
+    return f"The {kind} depth of `{rest[0]}` is {world.end(rest[0]).depths[at]}, and so many {what}: see that one finishes first."
 
 
 def cq_full(world, verb, rest):
     end = world.end(rest[0])
-    name = end.queues[verb == "recv"] if end else "its queue"
-    queue = end.context.queues.get(name) if end else None
-    capacity = f" of {queue.words[0]}" if queue else ""
-    return f"Entries and reserved entries fill the capacity{capacity} of `{name}`: poll it, or let posted work finish."
+    name = end.queues[verb == "recv"]
+    capacity = end.context.queues[name].words[0]
+    return f"Entries and reserved entries fill the capacity of {capacity} of `{name}`: poll it, or let posted work finish."
 
 
 def bad_key(world, verb, rest):
@@ -195,8 +193,8 @@ REFUSALS = {
     "NumberTaken": number_taken,
     "TooMany": too_many,
     "BadState": bad_state,
-    "SqFull": lambda w, v, r: depth_full(w, v, r, 0, "unfinished requests"),
-    "RqFull": lambda w, v, r: depth_full(w, v, r, 1, "unused receives"),
+    "SqFull": lambda w, v, r: depth_full(w, v, r, 0, "requests are unfinished"),
+    "RqFull": lambda w, v, r: depth_full(w, v, r, 1, "receives are unused"),
     "CqFull": cq_full,
     "BadKey": bad_key,
     "TooLong": lambda w, v, r: f"The message has {number_of(v, r, 'length'):,} bytes; the most is {MOST_MESSAGE:,}.",
@@ -263,7 +261,7 @@ def bad_line(ending):
     wanted = place_words(line.verb, at - 1) or "an immediate of eight hexadecimal digits behind `imm`"
     if why == "missing":
         return f"Here must stand {wanted}; the form is `{form}`."
-    return f"`{word}` stands where {wanted} must stand; the form is `{form}`."
+    return f"In the place of `{word}` must stand {wanted}; the form is `{form}`."
 
 
 def ascii_sentence(byte, column, is_last):

@@ -10,9 +10,9 @@ LOCAL_A, LOCAL_B, REMOTE_B = "01000002", "02000002", "02000003"
 RANGES = (("SEED", 0, MASK_64), ("CONNECTIONS", 1, 8), ("MESSAGES", 1, 2000), ("MOVES", 0, 16))
 
 
-def words_of(seed):
-    """The words of the generator: PCG XSH RR 64/32 from a seed and stream 1."""
-    increment = 2 * STREAM + 1
+def words_of(seed, stream=STREAM):
+    """The words of the generator: PCG XSH RR 64/32 from a seed and a stream."""
+    increment = 2 * stream + 1
     state = (seed + increment) * MULTIPLIER + increment & MASK_64
     while True:
         mixed = (state >> 18 ^ state) >> 27 & MASK_32

@@ -163,16 +163,16 @@ class Prompt:
             print(f"{len(self.lines)} lines were not saved, and {path} cannot be written: {fault.strerror}")
 
 
-def interact(program, name):
-    """The prompt, after the lines of a script if one is named."""
-    lines = [line.raw for line in lines_of(read_bytes(name))] if name else []
-    prompt, history = Prompt(program, lines), History()
+def prompt(program, asked):
+    """The prompt, behind the lines of a script if one is named."""
+    lines = [line.raw for line in lines_of(read_bytes(asked.prompt))] if asked.prompt else []
+    session, history = Prompt(program, lines), History()
     if lines:
-        played = prompt.play()
+        played = session.play()
         print_table(played, wide=False)
         if played.ending:
-            raise LookError(f"{name} is not played to its end, so no line can follow it")
-    prompt.run()
+            raise LookError(f"{asked.prompt} is not played to its end, so no line can follow it")
+    session.run()
     history.keep()
-    prompt.leave()
+    session.leave()
     return 0
