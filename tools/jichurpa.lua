@@ -3,7 +3,8 @@
 --     tshark -X lua_script:tools/jichurpa.lua -r FILE
 --
 -- Wireshark's own reader of RoCEv2 (infiniband) reads the rest. This one adds what stands in a vendor's opcodes and in a
--- vendor's NAK code, behind what that one read. It also finds RoCEv2 between ports other than 4791.
+-- vendor's NAK code, behind what that one read. It also finds RoCEv2 between ports other than 4791, and shows the payloads
+-- as bytes, where Wireshark would guess at what they are. It knows the datagrams by their CRC, which is 0.
 
 local RESUME, RESUME_ACK, ACKNOWLEDGE = 0x1E, 0x1F, 0x11
 local NAK_STOPPED = 0x65
@@ -26,6 +27,7 @@ local opcode_field = Field.new("infiniband.bth.opcode")
 local dest_field = Field.new("infiniband.bth.destqp")
 local syndrome_field = Field.new("infiniband.aeth.syndrome")
 local count_field = Field.new("infiniband.aeth.msn")
+local datagram_field = Field.new("udp.payload")
 
 local function tell(pinfo, name, dest, rest)
     pinfo.cols.info:set(string.format("%s QP=0x%06x %s", name, dest, rest))
@@ -75,7 +77,7 @@ end
 
 register_postdissector(jichurpa, true)
 
--- A datagram between other ports: whole words, a known opcode, version 0, P_Key FFFF, the zero byte, and a CRC of 0.
+-- A datagram as this project writes it: whole words, a known opcode, version 0, P_Key FFFF, the zero byte, and a CRC of 0.
 local function is_datagram(buffer)
     local length = buffer:len()
     if length < BASE + CRC or length % 4 ~= 0 then
@@ -86,12 +88,22 @@ local function is_datagram(buffer)
         and buffer(1, 1):bitfield(4, 4) == 0 and buffer(2, 3):uint() == 0xFFFF00 and buffer(length - CRC, CRC):uint() == 0
 end
 
-local roce = Proto("jichurpa_ports", "RoCEv2 between ports other than 4791")
-roce:register_heuristic("udp", function(buffer, pinfo, tree)
+local ports = Proto("jichurpa_ports", "RoCEv2 between ports other than 4791")
+ports:register_heuristic("udp", function(buffer, pinfo, tree)
     local reader = DissectorTable.get("udp.port"):get_dissector(ROCE_PORT)
     if not reader or not is_datagram(buffer) then
         return false
     end
     reader:call(buffer, pinfo, tree)
+    return true
+end)
+
+local payloads = Proto("jichurpa_payloads", "Payloads of Jichurpa datagrams")
+payloads:register_heuristic("infiniband.payload", function(buffer, pinfo, tree)
+    local datagram = datagram_field()
+    if not datagram or not is_datagram(datagram.range) then
+        return false
+    end
+    Dissector.get("data"):call(buffer:range():tvb(), pinfo, tree)
     return true
 end)
