@@ -22,6 +22,7 @@ def parser():
     add_stats(kinds)
     add_dump(kinds)
     add_pcap(kinds)
+    add_unfold(kinds)
     return top
 
 
@@ -71,6 +72,13 @@ def add_pcap(kinds):
     words.add_argument("script", help=SCRIPT_HELP)
     words.add_argument("file", help="the capture's file, or - for standard output")
     words.set_defaults(part="pcap", call="pcap")
+
+
+def add_unfold(kinds):
+    words = kinds.add_parser("unfold", help="lines in the place of each settle", description="Writes the script with lines `go`, `deliver`, `rnr` and `expire` in the place of each `settle`, as far as the program confirms them: the same answers, and the same datagrams byte for byte.")
+    words.add_argument("script", help=SCRIPT_HELP)
+    words.add_argument("file", nargs="?", default="-", help="the file to write (else standard output)")
+    words.set_defaults(part="unfold", call="unfold")
 
 
 def main(words):

@@ -204,6 +204,7 @@ class Story:
         self.find_bytes()
         self.world = World()
         self.last = 0  # the number of the datagram sent last
+        self.settled = {}  # the number of a line `settle` -> the datagrams that it delivered, in that order
         self.pending = {}  # the datagrams that are neither lost nor delivered
         self.tops = {}  # the number of an end -> one past the highest packet number that it sent, not cut to 24 bits
         self.resumes = set()  # the messages of moving so far: the number of the end, and the bytes
@@ -268,6 +269,8 @@ class Story:
                 self.sends(answer, flight.receiver)
 
     def is_delivered(self, flight, line, did):
+        if did is None:
+            self.settled.setdefault(line, []).append(flight)
         flight.deliveries.append(Delivery(line, did))
         self.pending.pop(flight.number, None)
 
@@ -323,6 +326,7 @@ class Story:
         for flight in list(self.pending.values()):
             if flight.number > self.last - KEPT:
                 self.is_delivered(flight, line, None)
+        self.settled.get(line, []).sort(key=lambda flight: flight.number)
 
     def reached_husk(self, flight, answer, device):
         """The datagram is the one that a husk on the device answers, if none before it is."""

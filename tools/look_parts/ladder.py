@@ -226,7 +226,7 @@ class Maker:
 
     def do_settle(self, answered):
         line = answered.line.number
-        flights = [f for f in self.story.flights.values() if any(d.line == line and d.did is None for d in f.deliveries)]
+        flights = self.story.settled.get(line, [])
         places = self.all_here()
         left = [answer.removeprefix("left ") for answer in answered.answers[1:]]
         text = f"settle: {answered.first}" + "".join(f", {words}" for words in left)

@@ -60,6 +60,18 @@ def capture(flights):
     return b"".join(parts)
 
 
+def write_output(name, data, told):
+    """Writes a file, or standard output where the name is a hyphen, and says what was written."""
+    if name == "-":
+        sys.stdout.buffer.write(data)
+        return
+    try:
+        Path(name).write_bytes(data)
+    except OSError as fault:
+        raise LookError(f"{name}: {fault.strerror}") from None
+    print(f"{name}: {told}")
+
+
 def pcap(program, asked):
     """The subcommand."""
     story = Story(program, read_bytes(asked.script))
@@ -67,14 +79,5 @@ def pcap(program, asked):
     data = capture(known)
     left = len(story.flights) - len(known)
     note = f", and {left} that the network kept no more are left out" if left else ""
-    told = f"{asked.file}: {len(known)} datagrams{note}"
-    if asked.file == "-":
-        sys.stdout.buffer.write(data)
-        print(told.removeprefix("-: "), file=sys.stderr)
-        return 0
-    try:
-        Path(asked.file).write_bytes(data)
-    except OSError as fault:
-        raise LookError(f"{asked.file}: {fault.strerror}") from None
-    print(told)
+    write_output(asked.file, data, f"{len(known)} datagrams{note}")
     return 0
