@@ -8,6 +8,7 @@ from .errors import LookError
 from .program import INSTALLED, VARIABLE, Program
 
 SCRIPT_HELP = "the script's file, or - for standard input"
+UNFOLD_HELP = "put lines in the place of each settle first, as unfold does; lines are then those of that script"
 
 
 def parser():
@@ -37,6 +38,7 @@ def add_side(kinds):
 def add_ladder(kinds):
     words = kinds.add_parser("ladder", help="a sequence diagram", description="Draws devices, contexts and datagrams as a Mermaid sequence diagram, or as SVG. A dotted arrow is a datagram that `settle` delivered: its answer does not tell what the datagram did.")
     words.add_argument("script", nargs="?", help=SCRIPT_HELP)
+    words.add_argument("--unfold", action="store_true", help=UNFOLD_HELP)
     words.add_argument("--svg", metavar="FILE", help="draw SVG into the file (needs mscgen)")
     words.add_argument("--first", metavar="LINE", type=int, default=1, help="draw what this line of the script and later ones did")
     words.add_argument("--last", metavar="LINE", type=int, help="draw what this line and earlier ones did")
@@ -49,6 +51,7 @@ def add_stats(kinds):
     words = kinds.add_parser("stats", help="counts, and what moves took", description="Counts the datagrams of a script by kind, what they did, expiries and waits, completions and refusals, and tells of each move its pages, its dump's bytes, and the datagrams and lines until the ends run again.")
     words.add_argument("script", nargs="?", help=SCRIPT_HELP)
     words.add_argument("--bulk", nargs=4, type=int, metavar=("SEED", "CONNECTIONS", "MESSAGES", "MOVES"), help="the generated script of docs/generated.md")
+    words.add_argument("--unfold", action="store_true", help=UNFOLD_HELP)
     words.add_argument("--json", action="store_true", help="the same as JSON")
     words.set_defaults(part="stats", call="stats")
 

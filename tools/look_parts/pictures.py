@@ -19,6 +19,7 @@ from .flights import Story
 from .ladder import Maker
 from .program import TOP
 from .script import read_bytes
+from .unfold import script_to_show
 
 BEGIN = re.compile(r"<!-- ladder of (?P<path>\S+?)(?:, lines (?P<first>\d+) to (?P<last>\d+))? -->\s*$")
 END = "<!-- end of the ladder -->"
@@ -78,7 +79,7 @@ def ladder(program, asked):
         return check_documents(program, asked.check or asked.refresh, bool(asked.refresh))
     if asked.script is None:
         raise LookError("ladder wants a script, or --check with documents")
-    drawn = ladder_of(program, read_bytes(asked.script), asked.first, asked.last)
+    drawn = ladder_of(program, script_to_show(program, asked), asked.first, asked.last)
     if asked.svg:
         write_svg(drawn, asked.svg)
     else:

@@ -6,7 +6,7 @@ from .errors import LookError
 from .flights import Story
 from .generated import generated_script
 from .moves import moves_of, weigh
-from .script import read_bytes
+from .unfold import script_to_show, unfold_script
 
 NOT_TOLD = "not told (settle)"
 
@@ -162,8 +162,9 @@ def stats(program, asked):
     summary = None
     if asked.bulk:
         script, summary = bulk_script(program, asked.bulk)
+        script = unfold_script(program, script) if asked.unfold else script
     else:
-        script = read_bytes(asked.script)
+        script = script_to_show(program, asked)
     told = statistics(program, script)
     if summary:
         told = {"bulk": summary, **told}

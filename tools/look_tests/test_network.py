@@ -5,10 +5,11 @@ import xml.etree.ElementTree
 
 from look_parts.datagrams import shown_address
 from look_parts.flights import Story
+from look_parts.generated import generated_script
 from look_parts.ladder import Arrow, Maker
 from look_parts.program import TOP, Program
 
-from .running import EXAMPLES, SCRIPTS, LookTest, found, need
+from .running import EXAMPLES, SCRIPTS, LookTest, found, need, play
 
 DOCUMENTS = [TOP / "README.md", TOP / "docs" / "moves.md"]
 
@@ -220,3 +221,35 @@ class Stats(LookTest):
             "answered by an RNR NAK": 1, "waits begun by an RNR NAK": 1})
         self.assertEqual(told["refusals"], {"NoSuch": 1, "Stopped": 1})
         self.assertEqual((told["moves"][0]["restore"], told["moves"][0]["running"], told["moves"][0]["pages"]), (None, None, 2))
+
+
+class Unfolding(LookTest):
+    @need("program")
+    def test_settlings_in_lines(self):
+        """By docs/settling.md: the moved end resumes, the sender sends again, and once more after its RNR timer, which helps only
+        once without a receive. With the receive the timer is stepped again."""
+        path = EXAMPLES / "evicted_while_waiting.script"
+        lines = path.read_text().splitlines()
+        first = "go b.q, deliver 3, deliver 4, go a.q, deliver 5, deliver 6, rnr a.q, go a.q, deliver 7, deliver 8"
+        second = "rnr a.q, go a.q, deliver 9, deliver 10"
+        self.assertEqual(self.look("unfold", path).splitlines(), [
+            *lines[:24], "# The settle of line 25 answered: quiet 1, left a.q noreceive", *first.split(", "), lines[25],
+            "# The settle of line 27 answered: quiet 0", *second.split(", "), *lines[27:]])
+
+    @need("program")
+    def test_an_unfolded_script_does_the_same(self):
+        """A generated script with moves: its other lines answer the same, and so does `wire`."""
+        script = generated_script(11, 3, 120, 4).decode()
+        new = self.look("unfold", "-", given=script)
+        self.assertNotIn("\nsettle", new)
+        wires = "".join(f"wire {k}\n" for k in range(1, 2000))
+        old_answers, new_answers = play(script + wires), play(new + wires)
+        self.assertEqual(old_answers[-1999:], new_answers[-1999:])
+        polled = [[a for a in answers if a.startswith(("wc ", "none"))] for answers in (old_answers, new_answers)]
+        self.assertEqual(polled[0], polled[1])
+
+    @need("program")
+    def test_statistics_of_an_unfolded_script_tell_all(self):
+        told = json.loads(self.look("stats", EXAMPLES / "evicted_while_waiting.script", "--unfold", "--json"))
+        self.assertEqual(told["effects"], {"acked": 1, "ack": 1, "notready": 3, "resumed": 1, "running": 1, "waits": 3})
+        self.assertEqual((told["timers"]["RNR timer over"], told["not told"]), (2, []))
