@@ -94,20 +94,6 @@ class Packet:
         """The address in a message of moving: an IPv4 address as a number, and a port."""
         return self.fields["ip"], self.fields["port"]
 
-    def named_fields(self):
-        """The fields beside those of the base header, as words."""
-        told = {}
-        for name, value in self.fields.items():
-            if name == "ip":
-                told["address"] = shown_address(self.address)
-            elif name in ("rkey", "imm"):
-                told[name] = f"{value:08x}"
-            elif name == "syndrome":
-                told[name] = f"{value:02x}"
-            elif name not in ("port", "zero") and not (name == "compare" and self.opcode == FETCH_ADD):
-                told[name] = value
-        return told
-
 
 def shown_address(address, always=False):
     """An address as scripts write it; the port 4791 is left out unless it is always to stand."""

@@ -70,7 +70,7 @@ def no_such(world, verb, rest):
     if verb == "context":
         return missing_device(world, rest[1])
     if verb == "dump":
-        return missing_context(world, rest[0]) or f"Context `{rest[0]}` is live on device {world.contexts[rest[0]].device}; a dump is shown of a stopped context."
+        return missing_context(world, rest[0]) or not_stopped(world.contexts[rest[0]])
     if verb in ("restore", "release"):
         return missing_device(world, rest[1]) or no_such_move(world, verb, rest)
     count = 2 if verb == "connect" else 1
@@ -85,6 +85,10 @@ def no_such(world, verb, rest):
         if sentence:
             return sentence
     return None
+
+
+def not_stopped(context):
+    return f"Context `{context.name}` is live on device {context.device}; a dump is shown of a stopped context."
 
 
 def no_such_move(world, verb, rest):
@@ -148,7 +152,8 @@ def bad_key(world, verb, rest):
     context, end = world.context(rest[0]), world.end(rest[0])
     region = next((r for r in context.regions.values() if r.keys[0] == key), None)
     if region is None:
-        return f"No region of context `{context.name}` has the local key {key}; they have: {listed([f'{r.name} {r.keys[0]}' for r in context.regions.values()])}."
+        keys = [f"{r.name} {r.keys[0]}" for r in context.regions.values()]
+        return f"No region of context `{context.name}` has the local key {key}; they have: {listed(keys)}."
     if end and region.words[0] != end.domain:
         return f"Region `{region.name}` is of domain `{region.words[0]}`, and `{end.name}` of `{end.domain}`."
     if verb in ("read", "cas", "add", "recv") and "l" not in region.words[3]:

@@ -98,7 +98,7 @@ class Copy:
                 extra.setdefault(number, []).append(words)
                 end += 1
             if end == at:
-                raise LookError(f"the script has {self.size:,} bytes without its blank lines, which leaves no room below {MOST_BYTES:,} for a line `wire`")
+                raise LookError(f"the script has {self.size:,} bytes without its blank lines, and {MOST_BYTES:,} leave no room for a line `wire`")
             answers = self.ask(extra)
             told += [answer for number in sorted(extra) for answer in answers[number]]
             at = end

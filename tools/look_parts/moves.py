@@ -4,7 +4,6 @@ from dataclasses import dataclass
 from .datagrams import RESUME_ACK_OPCODE, RESUME_OPCODE
 from .world import PAGE
 
-MOST_PAGES = 8192
 LARGEST = 4096  # pages of the largest region
 
 

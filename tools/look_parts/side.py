@@ -55,7 +55,8 @@ def print_ending(played, show, places):
     print(f"{'':{places}}  -> {ending_sentence(played.ending)}")
     left = len(played.unplayed) - 1
     if left > 0:
-        print(f"{'':{places}}  -> The {left} lines behind it were not played." if left > 1 else f"{'':{places}}  -> The line behind it was not played.")
+        behind = "line behind it was" if left == 1 else f"{left} lines behind it were"
+        print(f"{'':{places}}  -> The {behind} not played.")
 
 
 def as_json(played):

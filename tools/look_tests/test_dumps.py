@@ -215,7 +215,8 @@ class DumpWords(LookTest):
             (lambda j: j["regions"][0].update(length=5), "regions[0]: length is 5, and there are 288 bytes"),
             (lambda j: j["regions"][0].update(rights="x"), "regions[0].rights: `-` or some of the letters l, w, r, a must stand here"),
             (lambda j: j["queue_pairs"][1].update(state="rts"), "queue_pairs[1]: connection is null where the state is init, and nowhere else"),
-            (lambda j: j["queue_pairs"][0].update(number="000002"), f"bad dump {len(joined(BUSY[:10])) + 2} field: the fault is at queue_pairs[0].number"),
+            (lambda j: j["queue_pairs"][0].update(number="000002"),
+             f"bad dump {len(joined(BUSY[:10])) + 2} field: the fault is at queue_pairs[0].number"),
         ]:
             image = copy.deepcopy(BUSY_JSON)
             change(image)

@@ -38,7 +38,8 @@ class Pairing(unittest.TestCase):
 
     def test_polls_in_a_row_are_cut_by_queue_and_count(self):
         script = "qp a.q a.p a.c a.d 8 8\npoll a.c 2\npoll a.c 256\n\n# four lines of one queue pair\npoll a.d 256\npoll a.d 1\npoll a.c 1\n"
-        entries = ["wc 010001 1 write 0 4", "wc 010001 2 cas 0 8", "wc 010001 3 read 0 4", "wc 010001 9 recv 0 4", "wc 010001 10 recvimm 0 4 imm 0000002a"]
+        kinds = ["1 write 0 4", "2 cas 0 8", "3 read 0 4", "9 recv 0 4", "10 recvimm 0 4 imm 0000002a"]
+        entries = [f"wc 010001 {kind}" for kind in kinds]
         self.assertEqual(
             self.paired(script, ["qp 010001", *entries, "refused Stopped", "none"]),
             [["qp 010001"], entries[:2], entries[2:3], [], [], entries[3:], ["refused Stopped"], ["none"]])
@@ -91,14 +92,19 @@ class Side(LookTest):
             ("", "region a.m a.p 0 8 l", "NumberTaken", "Line 7 made a region `a.m` already."),
             ("", "go a.q", "BadState", "`a.q` is not connected; a `connect` line comes first."),
             (CONNECT, CONNECT.strip(), "BadState", "Line 14 connected `a.q` to `b.q` already."),
-            (CONNECT, f"read a.q 1 {other} 4096 4 8192 02000003", "BadKey", f"No region of context `a` has the local key {other}; they have: a.m {key}."),
+            (CONNECT, f"read a.q 1 {other} 4096 4 8192 02000003", "BadKey",
+             f"No region of context `a` has the local key {other}; they have: a.m {key}."),
             (CONNECT, f"recv a.q 1 {key} 4100 64", "BadKey", "Region `a.m` holds 4096 to 4159, and the line names 4100 to 4163."),
             ("", "load b.n 8191 1", "BadKey", "Region `b.n` holds 8192 to 8255, and the line names 8191 to 8191."),
-            (CONNECT, f"write a.q 1 {key} 4096 1048577 8192 02000003", "TooLong", "The message has 1,048,577 bytes; the most is 1,048,576."),
-            (CONNECT + f"recv a.q 1 {key} 4096 8\n", f"recv a.q 1 {key} 4096 8", "RqFull", "The receive depth of `a.q` is 1, and so many receives are unused: see that one finishes first."),
-            (CONNECT + f"send a.q 1 {key} 4096 8\n" * 2, f"send a.q 3 {key} 4096 8", "SqFull", "The send depth of `a.q` is 2, and so many requests are unfinished: see that one finishes first."),
+            (CONNECT, f"write a.q 1 {key} 4096 1048577 8192 02000003", "TooLong",
+             "The message has 1,048,577 bytes; the most is 1,048,576."),
+            (CONNECT + f"recv a.q 1 {key} 4096 8\n", f"recv a.q 1 {key} 4096 8", "RqFull",
+             "The receive depth of `a.q` is 1, and so many receives are unused: see that one finishes first."),
+            (CONNECT + f"send a.q 1 {key} 4096 8\n" * 2, f"send a.q 3 {key} 4096 8", "SqFull",
+             "The send depth of `a.q` is 2, and so many requests are unfinished: see that one finishes first."),
             ("stop b\n", "load b.n 8192 1", "Stopped", "Line 14 stopped context `b`; `restore b ID` comes first."),
-            (CONNECT + "stop b\n", "stop a", "PeerMoving", "The partner `b.q` is carried since line 15; restore it and let it run first."),
+            (CONNECT + "stop b\n", "stop a", "PeerMoving",
+             "The partner `b.q` is carried since line 15; restore it and let it run first."),
             ("stop b\n", "restore b 2", "NumberTaken", "Device 2 still has the husk that line 14 left; `release b 2` comes first."),
             ("stop b\nrestore b 1\n", "restore b 1", "Spent", "Line 15 restored the last image of `b` already; it lives on device 1."),
             ("", "release b 2", "NoSuch", "Device 2 has no husk of `b`; devices with one: none."),

@@ -39,7 +39,8 @@ class Flights(LookTest):
     def test_addresses_follow_moves(self):
         """Datagram, sending line, kind, from, to, and what it did where; `None` is a settling."""
         told = [
-            (f.number, f.line, f.packet.kind, shown_address(f.from_address)[-1] + shown_address(f.to_address)[-1], [(d.line, d.did) for d in f.deliveries])
+            (f.number, f.line, f.packet.kind, shown_address(f.from_address)[-1] + shown_address(f.to_address)[-1],
+             [(d.line, d.did) for d in f.deliveries])
             for f in story_of(EXAMPLES / "move_in_a_message.script").flights.values()]
         self.assertEqual(told, [
             (1, 18, "WRITE First", "12", [(21, "acted")]),
@@ -68,22 +69,27 @@ class Flights(LookTest):
         """The husk on device 2 answers what was sent to it before, to where that came from."""
         lines = (EXAMPLES / "move_in_a_message.script").read_text().splitlines()
         path = self.file("script", "\n".join([*lines[:22], "settle"]) + "\n")
-        told = [(f.number, f.packet.kind, shown_address(f.from_address), shown_address(f.to_address), f.packet.psn) for f in story_of(path).flights.values()]
-        self.assertEqual(told[3:], [(4, "NAK_STOPPED", "10.0.0.2", "10.0.0.1", 101), (5, "NAK_STOPPED", "10.0.0.2", "10.0.0.1", 102)])
+        told = [
+            (f.number, f.packet.kind, shown_address(f.from_address), shown_address(f.to_address), f.packet.psn)
+            for f in story_of(path).flights.values()]
+        self.assertEqual(told[3:], [
+            (4, "NAK_STOPPED", "10.0.0.2", "10.0.0.1", 101), (5, "NAK_STOPPED", "10.0.0.2", "10.0.0.1", 102)])
 
     @need("program")
     def test_settles_in_a_row_are_told_apart(self):
-        """A SEND of 5,000 bytes at an MTU of 256 is 20 packets, and the last alone asks for an answer. By the documents a First and
-        a Middle ask where their number mod 8 is 7: those numbered 103 and 111 (100 is the first) as 7 = 103 mod 8 = 111 mod 8."""
+        """A WRITE of 5,000 bytes at an MTU of 256 is 20 packets. The Last asks for an acknowledgement, and so do those whose
+        number mod 8 is 7, which are 103 and 111."""
         lines = (EXAMPLES / "one_write.script").read_text().replace(" 64 lwra", " 8192 lwra").splitlines()[:15]
-        script = [*lines, "settle", "write a.q 1 01000002 4096 5000 8192 02000003", "settle", "settle", "read a.q 2 01000002 4096 256 8192 02000003", "settle", "settle"]
+        write, read = "write a.q 1 01000002 4096 5000 8192 02000003", "read a.q 2 01000002 4096 256 8192 02000003"
+        script = [*lines, "settle", write, "settle", "settle", read, "settle", "settle"]
         path = self.file("script", "\n".join(script) + "\n")
         counts = {}
         for flight in story_of(path).flights.values():
             counts.setdefault((flight.line, flight.packet.kind), []).append(flight.packet.psn)
         self.assertEqual(counts[18, "WRITE First"] + counts[18, "WRITE Middle"] + counts[18, "WRITE Last"], list(range(100, 120)))
         self.assertEqual(counts[18, "ACK"], [103, 111, 119])
-        self.assertEqual({key: len(found) for key, found in counts.items() if key[0] != 18}, {(21, "READ request"): 1, (21, "READ response Only"): 1})
+        others = {key: len(numbers) for key, numbers in counts.items() if key[0] != 18}
+        self.assertEqual(others, {(21, "READ request"): 1, (21, "READ response Only"): 1})
 
 
 class Ladders(LookTest):
@@ -164,12 +170,14 @@ class Ladders(LookTest):
         import look_parts.drawings as drawings
         kept, drawings.TOOL = drawings.TOOL, "no_such_tool"
         self.addCleanup(setattr, drawings, "TOOL", kept)
-        self.assertEqual(self.one_line("ladder", EXAMPLES / "one_write.script", "--svg", "x.svg"), "--svg needs no_such_tool, which is not on the path (Debian package mscgen)")
+        told = self.one_line("ladder", EXAMPLES / "one_write.script", "--svg", "x.svg")
+        self.assertEqual(told, "--svg needs no_such_tool, which is not on the path (Debian package mscgen)")
 
     @need("program")
     def test_long_settlings_are_summed_up(self):
         lines = (EXAMPLES / "one_write.script").read_text().replace(" 64 lwra", " 8192 lwra").splitlines()[:15]
-        path = self.file("script", "\n".join([*lines, *(f"write a.q {i} 01000002 4096 4096 8192 02000003" for i in range(8)), "settle"]) + "\n")
+        writes = [f"write a.q {i} 01000002 4096 4096 8192 02000003" for i in range(8)]
+        path = self.file("script", "\n".join([*lines, *writes, "settle"]) + "\n")
         steps = Maker(story_of(path)).make().steps
         # 8 WRITEs of 16 packets from 100 on. Of each 16 numbers two are 7 mod 8 and ask for an acknowledgement, and so does the
         # Last, whose number is 3 mod 8: 8 times 16 and 3. The first 40 are drawn.
@@ -202,7 +210,8 @@ class Stats(LookTest):
     @need("program")
     def test_lost_repeated_and_settled(self):
         told = self.statistics("lost_packet")
-        self.assertEqual(told["datagrams"]["WRITE Last"], {"sent": 1, "sent again": 0, "lost": 0, "deliveries": 3, "delivered again": 2, "never delivered": 0})
+        self.assertEqual(told["datagrams"]["WRITE Last"], {
+            "sent": 1, "sent again": 0, "lost": 0, "deliveries": 3, "delivered again": 2, "never delivered": 0})
         told = self.statistics("read_in_two_moves")
         self.assertEqual(told["datagrams"]["READ response Last"]["lost"], 2)
         self.assertEqual(told["datagrams"]["READ request"]["sent again"], 2)
