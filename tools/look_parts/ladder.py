@@ -44,9 +44,9 @@ class Ladder:
     steps: list
 
 
-def shown_kind(packet):
+def shown_kind(packet, to):
     """A datagram in a few words."""
-    told = packet.kind
+    told = packet.kind + to
     if packet.is_moving:
         return f"{told}, moved {packet.fields['count']}, at {shown_address(packet.address)}"
     if packet.is_nak_stopped:
@@ -54,8 +54,9 @@ def shown_kind(packet):
     return f"{told}, PSN {packet.psn}"
 
 
-def shown_flight(flight):
-    told = shown_kind(flight.packet) if flight.packet else "bytes no longer kept"
+def shown_flight(flight, names_receiver):
+    to = f" to {flight.receiver.name}" if names_receiver else ""
+    told = shown_kind(flight.packet, to) if flight.packet else "bytes no longer kept" + to
     return f"{flight.number} {told}" + (", sent again" if flight.again else "")
 
 
@@ -75,6 +76,8 @@ class Maker:
         self.left = {}  # a context -> the device that it left last
         self.unsent = []  # datagrams of `go` lines just played, with no note so far
         self.connected = {name: context for name, context in story.world.contexts.items() if any(e.partner for e in context.ends.values())}
+        # Where a context has more connected queue pairs than one, an arrow names the one that it is for.
+        self.names_receivers = any(sum(bool(e.partner) for e in c.ends.values()) > 1 for c in self.connected.values())
         self.lines = [a for a in story.played.answered if not a.line.is_blank]
 
     def make(self):
@@ -125,7 +128,8 @@ class Maker:
     def arrow(self, line, flight, style, did):
         start, end = self.ends_of(flight)
         if start and end:
-            self.steps.append(Arrow(line, start, end, style, shown_flight(flight) + (f": {did}" if did else "")))
+            told = shown_flight(flight, self.names_receivers)
+            self.steps.append(Arrow(line, start, end, style, told + (f": {did}" if did else "")))
 
     def note_sent(self, following):
         """A note on what `go` lines sent, unless all that is delivered by the next line."""

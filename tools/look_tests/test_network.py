@@ -138,6 +138,13 @@ class Ladders(LookTest):
         self.assertEqual(told[-1], "    p1--)p2: 3 WRITE Last, PSN 102: never delivered")
 
     @need("program")
+    def test_a_receiver_is_named_among_several(self):
+        lines = (EXAMPLES / "one_write.script").read_text().splitlines()
+        more = ["qp a.r a.p a.c a.c 8 8", "qp b.r b.p b.c b.c 8 8", "connect a.r b.r mtu 256 psn 7 9 retry 7 rnr 7 reads 4"]
+        told = self.look("ladder", self.file("script", "\n".join([*lines[:17], *more, "deliver 1"]) + "\n")).splitlines()
+        self.assertEqual(told[-2:], ["    p1->>p2: 1 WRITE Only to b.q, PSN 100: ack, sends 2", "    p2--)p1: 2 ACK to a.q, PSN 100: never delivered"])
+
+    @need("program")
     def test_each_line_is_mermaid(self):
         for path in SCRIPTS:
             for line in self.look("ladder", path).splitlines():
