@@ -216,7 +216,7 @@ def refusal(world, answered):
     cause = answered.words[1]
     explain = REFUSALS.get(cause)
     sentence = explain and explain(world, answered.line.verb, answered.line.rest)
-    return sentence or f"docs/scripts.md says when a line is refused with {cause}."
+    return sentence or f"docs/answers.md says when a line is refused with {cause}."
 
 
 # ---- bad lines

@@ -16,7 +16,12 @@ from look_parts.program import TOP, VARIABLE, find_program
 
 LOOK = TOP / "tools" / "look"
 EXAMPLES = TOP / "examples"
-SCRIPTS = sorted(EXAMPLES.glob("*.script"))
+SCRIPTS = sorted(EXAMPLES.rglob("*.script"))
+
+# The examples whose datagrams are counted by hand, by their answers.
+COUNTS = {
+    "dump": 0, "evicted_while_waiting": 10, "lost_packet": 4, "move_in_a_message": 11, "one_write": 2, "read_and_atomic": 4,
+    "read_in_two_moves": 17}
 
 found = {"program": None}
 

@@ -3,7 +3,7 @@ import subprocess
 
 from look_parts.program import TOP
 
-from .running import EXAMPLES, SCRIPTS, LookTest, found, need, play
+from .running import COUNTS, EXAMPLES, SCRIPTS, LookTest, found, need, play
 
 READER = TOP / "tools" / "jichurpa.lua"
 
@@ -15,6 +15,7 @@ SECOND_FRAME = (
     "4500 0030 0002 4000 4011 26b9 0a000002 0a000001"
     "12b7 12b7 001c 0000"
     "1100ffff00010001000000641f00000100000000")
+HEAD_BYTES = 24
 HEAD = "d4c3b2a1 0200 0400 00000000 00000000 ffff0000 01000000"
 
 # What tshark tells of a frame, and how many bytes each has on the wire, in the order of the wire.
@@ -37,8 +38,10 @@ def read_by_tshark(path):
     """A row of fields for each frame."""
     names = BASE + [name for name, _ in EXTENSIONS] + MOVING + OTHERS
     words = [word for name in names for word in ("-e", name)]
+    # Of a field that stands in a frame twice, such as the immediate and its header, the first is told.
+    told = ["-T", "fields", "-E", "occurrence=f", *words]
     ended = subprocess.run(
-        [found["tshark"], "-X", f"lua_script:{READER}", "-o", "ip.check_checksum:TRUE", "-r", str(path), "-T", "fields", *words],
+        [found["tshark"], "-X", f"lua_script:{READER}", "-o", "ip.check_checksum:TRUE", "-r", str(path), *told],
         capture_output=True, text=True, check=True)
     return [dict(zip(names, line.split("\t"))) for line in ended.stdout.splitlines()]
 
@@ -56,24 +59,26 @@ class Captures(LookTest):
         self.assertEqual(self.look("pcap", EXAMPLES / "one_write.script", path), f"{path}: 2 datagrams\n")
         data = path.read_bytes()
         second = bytes.fromhex(SECOND_FRAME)
-        self.assertEqual(data[:24].hex(), HEAD.replace(" ", ""))
+        self.assertEqual(data[:HEAD_BYTES].hex(), HEAD.replace(" ", ""))
         self.assertEqual(data[-len(second):].hex(), second.hex())
 
     @need("program")
     @need("tshark")
     def test_tshark_reads_every_datagram_of_the_examples(self):
-        count = 0
+        """The captures of all examples are put into one file, so that tshark is run once."""
+        shown, frames = {script: wires(script) for script in SCRIPTS}, b""
         for script in SCRIPTS:
-            path = self.folder / f"{script.stem}.pcap"
+            path = self.folder / "one.pcap"
             self.look("pcap", script, path)
-            rows, shown = read_by_tshark(path), wires(script)
-            self.assertEqual(len(rows), len(shown), script.name)
-            for row, digits in zip(rows, shown):
+            data = path.read_bytes()
+            frames = (frames or data[:HEAD_BYTES]) + data[HEAD_BYTES:]
+        rows = iter(read_by_tshark(self.file("all.pcap", frames)))
+        for script, digits_of in shown.items():
+            for digits in digits_of:
                 with self.subTest(f"{script.stem}: {digits[:24]}"):
-                    self.same(row, digits)
-            count += len(rows)
-        # By the answers of the examples: none, 10, 4, 11, 2, 4 and 17.
-        self.assertEqual(count, 48)
+                    self.same(next(rows), digits)
+        self.assertEqual(list(rows), [])
+        self.assertEqual({name: len(shown[EXAMPLES / f"{name}.script"]) for name in COUNTS}, COUNTS)
 
     def same(self, row, digits):
         """What tshark read puts the bytes of `wire` together again."""
@@ -95,8 +100,8 @@ class Captures(LookTest):
         elif opcode < 0x1E:
             self.assertEqual(row["jichurpa.message"], "")
         extension += row["infiniband.immdt"].replace(":", "") + row["data.data"].replace(":", "")
-        pad = "00" * (int(digits[2], 16) & 3)
-        self.assertEqual((f"{begin}{extension}{pad}00000000", crc), (digits, 0))
+        # The payload that tshark shows has its padding with it.
+        self.assertEqual((f"{begin}{extension}00000000", crc), (digits, 0))
 
     @need("program")
     @need("tshark")

@@ -1,0 +1,32 @@
+# Completions for the program jichurpa, loaded by bash. tools/install puts this file into PREFIX/share/bash-completion/completions.
+
+# The words that may stand in the place of the last one, one on a line.
+_jichurpa_words() {
+    local dump LC_ALL=C
+    if [ "$COMP_CWORD" = 1 ]; then
+        printf '%s\n' play bulk show-dump --help -h --version
+        return
+    fi
+    case "${COMP_WORDS[1]} $COMP_CWORD" in
+    'bulk 3') seq 1 8 ;;
+    'bulk 5') seq 0 16 ;;
+    'show-dump 2')
+        for dump in depot/*; do
+            [ -f "$dump" ] && [[ ${dump#depot/} =~ ^[a-z][a-z0-9_]{0,15}$ ]] && echo "${dump#depot/}"
+        done
+        ;;
+    esac
+}
+
+_jichurpa() {
+    local word=${COMP_WORDS[COMP_CWORD]} before=${COMP_WORDS[COMP_CWORD - 1]}
+    case $before in
+    '<' | '>' | '>>')
+        compopt -o filenames 2>/dev/null
+        mapfile -t COMPREPLY < <(compgen -f -- "$word")
+        ;;
+    *) mapfile -t COMPREPLY < <(compgen -W "$(_jichurpa_words)" -- "$word") ;;
+    esac
+}
+
+complete -F _jichurpa jichurpa
