@@ -12,7 +12,10 @@ local SYNDROME_MASK = 0x7F  -- bit 7 of the syndrome is ignored
 local BASE, CRC, BODY = 12, 4, 12
 local ROCE_PORT = 4791
 
-local jichurpa = Proto("jichurpa", "Jichurpa messages of moving")
+local is_new, jichurpa = pcall(Proto, "jichurpa", "Jichurpa messages of moving")
+if not is_new then
+    return  -- it is installed and loaded already
+end
 local fields = {
     message = ProtoField.string("jichurpa.message", "Message"),
     moves = ProtoField.uint32("jichurpa.moves", "Move count"),
@@ -28,6 +31,17 @@ local dest_field = Field.new("infiniband.bth.destqp")
 local syndrome_field = Field.new("infiniband.aeth.syndrome")
 local count_field = Field.new("infiniband.aeth.msn")
 local datagram_field = Field.new("udp.payload")
+
+-- A datagram as this project writes it: whole words, a known opcode, version 0, P_Key FFFF, the zero byte, and a CRC of 0.
+local function is_datagram(buffer)
+    local length = buffer:len()
+    if length < BASE + CRC or length % 4 ~= 0 then
+        return false
+    end
+    local opcode = buffer(0, 1):uint()
+    return (opcode <= 0x14 or opcode == RESUME or opcode == RESUME_ACK)
+        and buffer(1, 1):bitfield(4, 4) == 0 and buffer(2, 3):uint() == 0xFFFF00 and buffer(length - CRC, CRC):uint() == 0
+end
 
 local function tell(pinfo, name, dest, rest)
     pinfo.cols.info:set(string.format("%s QP=0x%06x %s", name, dest, rest))
@@ -63,8 +77,8 @@ local function stopped(pinfo, tree)
 end
 
 function jichurpa.dissector(buffer, pinfo, tree)
-    local opcode = opcode_field()
-    if not opcode then
+    local opcode, datagram = opcode_field(), datagram_field()
+    if not opcode or not datagram or not is_datagram(datagram.range) then
         return
     elseif opcode.value == RESUME then
         resume("RESUME", opcode.offset, buffer, pinfo, tree)
@@ -76,17 +90,6 @@ function jichurpa.dissector(buffer, pinfo, tree)
 end
 
 register_postdissector(jichurpa, true)
-
--- A datagram as this project writes it: whole words, a known opcode, version 0, P_Key FFFF, the zero byte, and a CRC of 0.
-local function is_datagram(buffer)
-    local length = buffer:len()
-    if length < BASE + CRC or length % 4 ~= 0 then
-        return false
-    end
-    local opcode = buffer(0, 1):uint()
-    return (opcode <= 0x14 or opcode == RESUME or opcode == RESUME_ACK)
-        and buffer(1, 1):bitfield(4, 4) == 0 and buffer(2, 3):uint() == 0xFFFF00 and buffer(length - CRC, CRC):uint() == 0
-end
 
 local ports = Proto("jichurpa_ports", "RoCEv2 between ports other than 4791")
 ports:register_heuristic("udp", function(buffer, pinfo, tree)

@@ -114,3 +114,19 @@ class Captures(LookTest):
         rows = read_by_tshark(path)
         self.assertEqual([number(row["infiniband.bth.opcode"]) for row in rows], [6, 7, 8, 0x11, 0x1E, 0x1F, 6, 0x11, 7, 8, 0x11])
         self.assertEqual((rows[4]["jichurpa.address"], rows[4]["jichurpa.port"]), ("10.0.0.3", "4803"))
+
+    @need("program")
+    @need("tshark")
+    def test_datagrams_of_others_are_left_alone(self):
+        """RESUME_ACK is the sixth datagram. In the copy all CRCs are 1, as no datagram of this project has it."""
+        path = self.folder / "move.pcap"
+        self.look("pcap", EXAMPLES / "move_in_a_message.script", path)
+        data, at, frames = path.read_bytes(), HEAD_BYTES, b""
+        while at < len(data):
+            end = at + 16 + int.from_bytes(data[at + 8:at + 12], "little")
+            frames += data[at:end - 4] + b"\0\0\0\1"
+            at = end
+        messages = {name: [row["jichurpa.message"] for row in read_by_tshark(self.file(name, data[:HEAD_BYTES] + body))]
+                    for name, body in (("ours", data[HEAD_BYTES:]), ("others", frames))}
+        self.assertEqual(messages["ours"][3:6], ["NAK_STOPPED", "RESUME", "RESUME_ACK"])
+        self.assertEqual(messages["others"], [""] * 11)
