@@ -1,0 +1,1 @@
+"""The parts of tools/look, which docs/look.md describes."""

@@ -1,0 +1,87 @@
+"""look ladder: the ladder of a script, and the ladders that stand in documents.
+
+A ladder stands in a document between two lines; the path is one from the top of the repository:
+
+    <!-- ladder of examples/NAME.script -->
+    ```mermaid
+    ..
+    ```
+    <!-- end of the ladder -->
+
+Behind the path may stand `lines A to B`, so that only what these lines did is drawn.
+"""
+import re
+from pathlib import Path
+
+from .drawings import mermaid, write_svg
+from .errors import LookError
+from .flights import Story
+from .ladder import Maker
+from .program import TOP
+from .script import read_bytes
+from .unfold import script_to_show
+
+BEGIN = re.compile(r"<!-- ladder of (?P<path>\S+?)(?:, lines (?P<first>\d+) to (?P<last>\d+))? -->\s*$")
+END = "<!-- end of the ladder -->"
+OPENING, CLOSING = "```mermaid", "```"
+
+
+def ladder_of(program, script, first=1, last=None):
+    return Maker(Story(program, script), first, last).make()
+
+
+def block_of(program, begin):
+    """The lines of the block that a line of a document asks for."""
+    script = read_bytes(TOP / begin["path"])
+    last = int(begin["last"]) if begin["last"] else None
+    return [OPENING, *mermaid(ladder_of(program, script, int(begin["first"] or 1), last)), CLOSING]
+
+
+def refreshed(program, name, text):
+    """The document with its ladders as they should be, and how many it has."""
+    lines, out, count, at = text.split("\n"), [], 0, 0
+    while at < len(lines):
+        out.append(lines[at])
+        begin = BEGIN.match(lines[at])
+        at += 1
+        if not begin:
+            continue
+        end = next((i for i in range(at, len(lines)) if lines[i].strip() == END), None)
+        if end is None:
+            raise LookError(f"{name}:{at}: no line {END} follows")
+        out += [*block_of(program, begin), lines[end]]
+        count, at = count + 1, end + 1
+    return "\n".join(out), count
+
+
+def check_documents(program, names, write):
+    """Compares the ladders of documents, or writes them anew. The status is 1 where one is not current."""
+    stale = 0
+    for name in names:
+        text = read_bytes(name).decode("utf-8")
+        new, count = refreshed(program, name, text)
+        if new == text:
+            print(f"{name}: ladders: {count}, current")
+        elif write:
+            Path(name).write_text(new, encoding="utf-8")
+            print(f"{name}: ladders: {count}, written anew")
+        else:
+            stale += 1
+            print(f"{name}: a ladder is not current; tools/look ladder --refresh {name} writes it anew")
+    return 1 if stale else 0
+
+
+def ladder(program, asked):
+    """The subcommand."""
+    if asked.check or asked.refresh:
+        if asked.script or asked.svg:
+            raise LookError("--check and --refresh take documents alone")
+        return check_documents(program, asked.check or asked.refresh, bool(asked.refresh))
+    if asked.script is None:
+        raise LookError("ladder wants a script, or --check with documents")
+    drawn = ladder_of(program, script_to_show(program, asked), asked.first, asked.last)
+    if asked.svg:
+        write_svg(drawn, asked.svg)
+    else:
+        print("\n".join(mermaid(drawn)))
+    return 0
