@@ -12,7 +12,7 @@ ghost use Rattle.world_core.specs.Sites.{is_rts, put_back, view_moves};
 
 use crate::World;
 use crate::index::note_home;
-use crate::running::{number, send_all};
+use crate::running::send_outcome;
 use device_core::{ContextImage, Device, Event, Outcome};
 use protocol::EndImage;
 use rdma_types::{Answer, EndState, EndView, Name, Refusal};
@@ -154,10 +154,8 @@ impl World {
             image: _,
         } = outcome;
         let from = self.devices[place].address();
-        let next = self.fabric.next();
-        send_all(&mut self.fabric, from, sent);
+        let answer = send_outcome(&mut self.fabric, from, answer, sent);
         note_home(&mut self.homes, self.devices.as_slice(), Some(name));
-        let answer = number(answer, next);
         if let Answer::Done = answer {
             self.carried.remove(spot);
         }

@@ -12,7 +12,7 @@ ghost use Rattle.world_core.specs.Kept.{IsReady, Makes};
 ghost use Rattle.world_core.specs.Sites.{IsDelivery};
 
 use crate::World;
-use crate::running::{number, send_all};
+use crate::running::send_outcome;
 use device_core::{Device, Outcome};
 use fabric::{Fabric, Look};
 use rdma_types::{Answer, Items, SilentWhy, Took};
@@ -145,9 +145,7 @@ impl World {
         } = outcome;
         let from = self.devices[place].address();
         self.fabric.took(k);
-        let next = self.fabric.next();
-        send_all(&mut self.fabric, from, sent);
-        Ok(number(answer, next))
+        Ok(send_outcome(&mut self.fabric, from, answer, sent))
     }
 
     /// Datagram k is lost.

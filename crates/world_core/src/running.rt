@@ -19,7 +19,7 @@ use rdma_types::{Address, Answer, Items, Name, Sent};
 use std::alloc::{AllocError, Global};
 
 /// Sends datagrams in their order.
-pub(crate) fn send_all(fabric: &mut Fabric, from: Address, sent: Items<Sent>)
+fn send_all(fabric: &mut Fabric, from: Address, sent: Items<Sent>)
     requires kept { forgetting fabric.old ≡ fabric.old }
     requires bounded { length fabric.old + length sent < 2 ^ 63 }
     ensures { fabric.new ≡ forgetting (sending fabric.old from sent) }
@@ -30,7 +30,7 @@ pub(crate) fn send_all(fabric: &mut Fabric, from: Address, sent: Items<Sent>)
 }
 
 /// The answer of a device with the number of the first datagram that it sent.
-pub(crate) fn number(answer: Answer, next: u64) -> Answer
+fn number(answer: Answer, next: u64) -> Answer
     ensures { result ≡ numbered next answer }
 {
     match answer {
@@ -42,6 +42,22 @@ pub(crate) fn number(answer: Answer, next: u64) -> Answer
         Answer::Sent { first: _ } => Answer::Sent { first: next },
         other => other,
     }
+}
+
+/// Sends the datagrams of a step, and gives its answer with the number of the first.
+pub(crate) fn send_outcome(
+    fabric: &mut Fabric,
+    from: Address,
+    answer: Answer,
+    sent: Items<Sent>,
+) -> Answer
+    requires { length fabric.old + length sent < 2 ^ 63 }
+    ensures sent { fabric.new ≡ forgetting (sending fabric.old from sent) }
+    ensures answer { result ≡ numbered (length fabric.old + 1) answer }
+{
+    let next = fabric.next();
+    send_all(fabric, from, sent);
+    number(answer, next)
 }
 
 /// An image is carried, behind all others, and its context was stopped.
@@ -82,14 +98,13 @@ impl World {
             image,
         } = outcome;
         let from = self.devices[place].address();
-        let next = self.fabric.next();
-        send_all(&mut self.fabric, from, sent);
+        let answer = send_outcome(&mut self.fabric, from, answer, sent);
         carry(&mut self.carried, &mut self.stopped, image);
         note_home(
             &mut self.homes,
             self.devices.as_slice(),
             moved_context(event),
         );
-        Ok(number(answer, next))
+        Ok(answer)
     }
 }

@@ -55,12 +55,13 @@ impl World {
     pub fn make(alloc: Global) -> Result<World, AllocError>
         ensures { IfOk result (λ w. w ≡ empty_world) }
     {
+        let fabric = Fabric::make(alloc)?;
         Ok(World {
             devices: Vec::new(alloc),
             ids: IndexMap::new(alloc),
             ports: IndexMap::new(alloc),
             homes: IndexMap::new(alloc),
-            fabric: Fabric::make(alloc)?,
+            fabric,
             carried: Vec::new(alloc),
             stopped: Vec::new(alloc),
         })

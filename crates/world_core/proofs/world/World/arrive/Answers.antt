@@ -32,9 +32,9 @@ returns-clause-ok c = λ f d kept h.
     let there : c.index.result.now ≡ c.reach.new.device = read_set ds c.args.place c.reach.new.device c.index.result.now lt c.index.ensures in
     let step : device_step c.index_mut.result.now e ≡ record { device = c.reach.new.device; outcome = c.in_ok-outcome.outcome } = c.in_ok-outcome.ensures.ok f (ap (λ (w : World). kept_flight w.sent c.args.k) c.self.view_is ∙ kept) in
     let bare : c.in_ok-outcome.outcome.image ≡ None = sym (ap (λ (s : device.Step). s.outcome.image) step) ∙ arrives_bare c.index_mut.result.now f.from f.bytes in
-    ran_all _ (with_taken c.args.self.now c.args.k) _ c.args.place d c.index_mut.result.now c.reach.new.device e c.in_ok-outcome.outcome c.number.result c.address-from.result c.next-next.result
+    ran_all _ (with_taken c.args.self.now c.args.k) _ c.args.place d c.index_mut.result.now c.reach.new.device e c.in_ok-outcome.outcome c.send_outcome.result c.address-from.result (length c.took.new.self + 1)
     (ap (λ (w : World). with_taken w c.args.k) c.self.view_is) c.self.invariant.ids here step c.reach.ensures.same.0
     refl (c.address-from.ensures ∙ ap (λ x. x.address) there)
-    (c.send_all.ensures ∙ ap (λ s. forgetting (sending s c.address-from.result c.in_ok-outcome.outcome.sent)) c.took.ensures.taken)
+    (c.send_outcome.ensures.sent ∙ ap (λ s. forgetting (sending s c.address-from.result c.in_ok-outcome.outcome.sent)) c.took.ensures.taken)
     (bare_carried c.self.inside.carried.items c.in_ok-outcome.outcome.image bare) (bare_stopped (reverse c.self.inside.stopped.items) c.in_ok-outcome.outcome.image bare)
-    (c.next-next.ensures.number ∙ ap (λ s. length s + 1) c.took.ensures.taken) c.number.ensures h
+    (ap (λ s. length s + 1) c.took.ensures.taken) c.send_outcome.ensures.answer h

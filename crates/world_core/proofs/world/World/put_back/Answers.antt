@@ -1,5 +1,5 @@
 -- What the restore did is done to the parts, and the image is carried no more where it is done.
-use Rattle.std.proofs.Common.{◌≡◌, ◌<◌, ◌∙◌, ap, sym, subst, slice_get, Some, None, refl, length, reverse, inl, inr}
+use Rattle.std.proofs.Common.{◌≡◌, ◌<◌, ◌+◌, ◌∙◌, ap, sym, subst, slice_get, Some, None, refl, length, reverse, inl, inr}
 use Rattle.std.proofs.lemmas.Option.{slice_get_read}
 use Rattle.std.proofs.Math.ListN.{set}
 use Rattle.protocol.specs.DeviceStep as device
@@ -45,15 +45,15 @@ returns-clause-ok c = λ d x h k.
     let image : c.index-image.result.now ≡ x = same_thing c.index-image.result.now x (sym (slice_get_read is (length is) c.args.spot c.index-image.result.now refl within c.index-image.ensures) ∙ (ap (λ (w : World). slice_get w.carried c.args.spot) c.self.view_is ∙ k)) in
     let step : device_step c.index_mut.result.now (event.Restore x) ≡ record { device = c.restore.new.self; outcome = o } = subst (λ y. device_step c.index_mut.result.now (event.Restore y) ≡ record { device = c.restore.new.self; outcome = o }) image c.in_ok-outcome.ensures.ok in
     let bare : o.image ≡ None = sym (ap (λ (s : device.Step). s.outcome.image) step) ∙ restore_bare c.index_mut.result.now x in
-    let mid : World = record { devices = set ds c.args.place c.restore.new.self; sent = c.send_all.new.fabric; carried = is; stopped = reverse c.self.inside.stopped.items } in
-    let made : Makes (runs c.args.self.now d (event.Restore x)) c.number-answer.result mid =
-    ran_all _ c.args.self.now mid c.args.place d c.index_mut.result.now c.restore.new.self (event.Restore x) o c.number-answer.result c.address-from.result c.next-next.result
+    let mid : World = record { devices = set ds c.args.place c.restore.new.self; sent = c.send_outcome-answer.new.fabric; carried = is; stopped = reverse c.self.inside.stopped.items } in
+    let made : Makes (runs c.args.self.now d (event.Restore x)) c.send_outcome-answer.result mid =
+    ran_all _ c.args.self.now mid c.args.place d c.index_mut.result.now c.restore.new.self (event.Restore x) o c.send_outcome-answer.result c.address-from.result (length c.self.inside.fabric + 1)
     c.self.view_is c.self.invariant.ids here step c.restore.ensures.id
-    refl (c.address-from.ensures ∙ ap (λ y. y.address) there) c.send_all.ensures
+    refl (c.address-from.ensures ∙ ap (λ y. y.address) there) c.send_outcome-answer.ensures.sent
     (bare_carried is o.image bare) (bare_stopped (reverse c.self.inside.stopped.items) o.image bare)
-    c.next-next.ensures.number c.number-answer.ensures h in
-    put_makes mid c.match-answer.self c.args.spot (runs c.args.self.now d (event.Restore x)) c.number-answer.result made
+    refl c.send_outcome-answer.ensures.answer h in
+    put_makes mid c.match-answer.self c.args.spot (runs c.args.self.now d (event.Restore x)) c.send_outcome-answer.result made
     (elim c.match-answer.branch [
       | in-Done z ↦ inl (ap (λ a. is_done a) z.in-Done.is, z.self-is ∙ ap (λ xs. record mid { carried = xs }) z.remove.ensures.items)
-      | in_default z ↦ inr (not_done c.number-answer.result z.in_default.not-Done, z.self-is)
+      | in_default z ↦ inr (not_done c.send_outcome-answer.result z.in_default.not-Done, z.self-is)
     ])

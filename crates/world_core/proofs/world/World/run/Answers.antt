@@ -1,5 +1,5 @@
 -- What the step did is done to the parts.
-use Rattle.std.proofs.Common.{◌≡◌, ◌<◌, ◌∙◌, ◌++◌, ap, sym, subst, slice_get, Some, refl, length, reverse}
+use Rattle.std.proofs.Common.{◌≡◌, ◌<◌, ◌+◌, ◌∙◌, ◌++◌, ap, sym, subst, slice_get, Some, refl, length, reverse}
 use Rattle.std.proofs.lemmas.Option.{slice_get_read}
 use Rattle.std.proofs.Math.ListN.{set}
 use Rattle.protocol.specs.State.{World}
@@ -25,9 +25,9 @@ returns-clause-ok c = λ d h.
     let lt : c.args.place < length ds = subst (λ (w : World). c.args.place < length w.devices) (sym c.self.view_is) c.requires.place in
     let here : slice_get ds c.args.place ≡ Some c.index_mut.result.now = slice_get_read ds (length ds) c.args.place c.index_mut.result.now refl lt c.index_mut.ensures.value in
     let there : c.index.result.now ≡ c.step.new.self = read_set ds c.args.place c.step.new.self c.index.result.now lt c.index.ensures in
-    ran_all _ c.args.self.now _ c.args.place d c.index_mut.result.now c.step.new.self c.args.event.now c.in_ok-outcome.outcome c.number.result c.address-from.result c.next-next.result
+    ran_all _ c.args.self.now _ c.args.place d c.index_mut.result.now c.step.new.self c.args.event.now c.in_ok-outcome.outcome c.send_outcome-answer.result c.address-from.result (length c.self.inside.fabric + 1)
     c.self.view_is c.self.invariant.ids here c.in_ok-outcome.ensures.ok c.step.ensures.id
-    refl (c.address-from.ensures ∙ ap (λ x. x.address) there) c.send_all.ensures
+    refl (c.address-from.ensures ∙ ap (λ x. x.address) there) c.send_outcome-answer.ensures.sent
     (c.carry.ensures.carried ∙ ap (λ xs. xs ++ images_of c.in_ok-outcome.outcome.image) c.reserve-2.ensures.items)
     (ap (λ xs. reverse xs) (c.carry.ensures.stopped ∙ ap (λ xs. xs ++ names_of c.in_ok-outcome.outcome.image) c.reserve-3.ensures.items) ∙ names_reversed c.self.inside.stopped.items c.in_ok-outcome.outcome.image)
-    c.next-next.ensures.number c.number.ensures h
+    refl c.send_outcome-answer.ensures.answer h
