@@ -1,19 +1,55 @@
 //! Runs over the seam of two pages.
 
 use byte_run::ByteRun;
+use std::alloc::{AllocError, Global};
 use std::test::Fail;
+
+/// A run of these bytes.
+pub(crate) fn run_of(alloc: Global, bytes: &[u8]) -> Result<ByteRun, AllocError> {
+    let mut run = ByteRun::make(alloc);
+    run.append(alloc, bytes)?;
+    Ok(run)
+}
+
+/// The first two bytes of a run; None where it has fewer.
+pub(crate) fn two_of(run: &ByteRun) -> Option<[u8; 2]> {
+    if run.len() < 2 {
+        return None;
+    }
+    let mut out = [0; 2];
+    run.read(0, &mut out);
+    Some(out)
+}
+
+/// Four bytes of a run from `at` on; None where it has fewer.
+fn four_at(run: &ByteRun, at: u64) -> Option<[u8; 4]> {
+    if run.len() < 4 || run.len() - 4 < at {
+        return None;
+    }
+    let mut out = [9; 4];
+    run.read(at, &mut out);
+    Some(out)
+}
+
+/// Whether the piece of a run from `at` on has these bytes.
+fn is_piece(run: &ByteRun, at: u64, wanted: &[u8]) -> bool {
+    at < run.len() && run.piece(at) == wanted
+}
+
+/// A copy of a run that was made of two parts.
+fn joined(alloc: Global, front: &[u8], back: &[u8]) -> Result<ByteRun, AllocError> {
+    let mut run = run_of(alloc, front)?;
+    run.append(alloc, back)?;
+    run.copy(alloc)
+}
 
 #[test]
 fn bytes_over_two_pages(rt: HostRuntime) -> Result<(), Fail> {
-    let mut run = ByteRun::make(rt.alloc());
-    run.append(rt.alloc(), &[0; 4095])?;
-    run.append(rt.alloc(), &[1, 2, 3])?;
-    let copy = run.copy(rt.alloc())?;
-    assert_eq!(rt; copy.len(), 4098);
-    let mut out = [9; 4];
-    copy.read(4094, &mut out);
-    assert_eq!(rt; out, [0, 1, 2, 3]);
-    assert_eq!(rt; copy.piece(4095), [1].as_slice());
-    assert_eq!(rt; copy.piece(4096), [2, 3].as_slice());
+    let run = joined(rt.alloc(), &[0; 4095], &[1, 2, 3])?;
+    assert_eq!(rt;
+        (run.len(), four_at(&run, 4094)),
+        (4098, Some([0, 1, 2, 3]))
+    );
+    assert!(rt; is_piece(&run, 4095, &[1]) && is_piece(&run, 4096, &[2, 3]));
     Ok(())
 }

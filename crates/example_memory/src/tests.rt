@@ -1,10 +1,11 @@
 //! A region of 64 bytes, and its bytes, where memory is ample.
 
-ghost use Rattle.std.specs.Prelude.{◌≡◌, ◌<◌, ◌+◌, IfOk, IfSome, None};
-ghost use Rattle.memory_keys.specs.Regions.{AreHeld, held_at};
+ghost use Rattle.std.specs.Prelude.{◌≡◌, ◌<◌, ◌+◌, length, IfOk, IfSome, None};
+ghost use Rattle.page_pool.specs.Pool.{IsIn};
+ghost use Rattle.memory_keys.specs.Regions.{AreHeld, IsSpot, held_at};
 
-use memory_keys::{RegionHead, Regions, regions_stay_whatever_their_bytes};
-use page_pool::{ByteRun, PagePool};
+use memory_keys::{MemFault, RegionHead, Regions, Spot, regions_stay_whatever_their_bytes};
+use page_pool::{ByteRun, PagePool, Payload};
 use rdma_types::{Keys, Name, Rights};
 use std::alloc::Global;
 use std::test::Fail;
@@ -41,6 +42,38 @@ fn memory(alloc: Global, pages: u32) -> Result<(PagePool, Regions), Fail>
     Ok((pool, regions))
 }
 
+/// The bytes of a spot as they were when others were stored over them.
+fn overwritten(
+    alloc: Global,
+    pool: &mut PagePool,
+    regions: &mut Regions,
+    spot: Spot,
+    bytes: &[u8],
+) -> Result<Payload, MemFault>
+    requires held { AreHeld pool.old regions.old }
+    requires spot { IsSpot regions.old spot }
+    requires length { length bytes.now ≡ spot.length }
+    ensures { IfOk result (λ payload. IsIn pool.new payload.list) }
+{
+    let payload = regions.snapshot(pool, alloc, spot)?;
+    regions.store(pool, spot, bytes);
+    Ok(payload)
+}
+
+/// The first four bytes of a payload; None where its list has fewer.
+fn four_of(pool: &PagePool, payload: &Payload) -> Option<[u8; 4]>
+    requires { IsIn pool.now payload.now.list }
+{
+    let size = pool.size(&payload.list);
+    let first = u64::from(payload.first);
+    if size < 4 || size - 4 < first {
+        return None;
+    }
+    let mut bytes = [1; 4];
+    pool.read(&payload.list, first, &mut bytes);
+    Some(bytes)
+}
+
 #[test]
 fn a_snapshot_stays(rt: HostRuntime) -> Result<(), Fail> {
     let (mut pool, mut regions) = memory(rt.alloc(), 2)?;
@@ -48,11 +81,8 @@ fn a_snapshot_stays(rt: HostRuntime) -> Result<(), Fail> {
     let place = regions.check_local(p, 2, 8192, 4, true);
     let spot = place.ok_or("granted")?;
     regions.store(&mut pool, spot, &[0xde, 0xad, 0xbe, 0xef]);
-    let payload = regions.snapshot(&mut pool, rt.alloc(), spot)?;
-    regions.store(&mut pool, spot, &[0; 4]);
-    let mut bytes = [1; 4];
-    pool.read(&payload.list, u64::from(payload.first), &mut bytes);
-    assert_eq!(rt; bytes, [0xde, 0xad, 0xbe, 0xef]);
+    let payload = overwritten(rt.alloc(), &mut pool, &mut regions, spot, &[0; 4])?;
+    assert_eq!(rt; four_of(&pool, &payload), Some([0xde, 0xad, 0xbe, 0xef]));
     Ok(())
 }
 
