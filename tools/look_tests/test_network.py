@@ -11,7 +11,7 @@ from look_parts.program import TOP, Program
 
 from .running import EXAMPLES, SCRIPTS, LookTest, found, need, play
 
-DOCUMENTS = [TOP / "README.md", TOP / "docs" / "moves.md"]
+DOCUMENTS = [TOP / "README.md", TOP / "docs" / "moves.md", TOP / "docs" / "settling.md", *sorted((TOP / "examples" / "tour").glob("[0-9]*.md"))]
 
 OPENING = """\
 sequenceDiagram
