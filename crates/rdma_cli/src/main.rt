@@ -2,33 +2,17 @@
 #![tactic(auto)]
 
 mod folder_depot;
+mod help;
 mod streams;
 
 use folder_depot::FolderDepot;
+use help::about;
 use mig_ports::{Failed, write_all_of};
 use rdma_cli_calls::run_serial;
 use std::io::{BufReader, BufWriter};
 use std::process::ExitCode;
 use std::{env, io};
 use streams::{StdSink, StdSource};
-
-const HELP: &str = "\
-jichurpa COMMAND
-
-  play                                    answers the lines of a script from standard input
-  bulk SEED CONNECTIONS MESSAGES MOVES    plays a generated script, and sums it up in one line
-  show-dump NAME                          tells what the dump in the file depot/NAME holds
-  --help, -h                              writes this text
-  --version                               writes the version
-
-A bulk run has a seed below 2^64, 1 to 8 connections, 1 to 2000 messages and at most 16 moves.
-
-The status is 0 where all is done, 2 for other words, 3 for a bad line or dump, 4, 5 and 7 where
-the input, the output and the depot fail, 8 where memory runs out, 9 for an input of more than
-1048576 bytes, and 12 for a name of which the depot holds no dump.
-";
-
-const VERSION: &str = "jichurpa 0.1.0\n";
 
 /// The words of the command, without the program's name. Words that are no text are of no command.
 ///
@@ -40,18 +24,6 @@ fn words_of(rt: &HostRuntime) -> io::Result<Vec<String>> {
         Ok(words) => Ok(words.skip(1).collect(rt.alloc())?),
         Err(error) if error.kind() == io::ErrorKind::OutOfMemory => Err(error),
         Err(_) => Ok(Vec::new(rt.alloc())),
-    }
-}
-
-/// What a single word asks to be told of the program.
-fn about(words: &[String]) -> Option<&'static str> {
-    match words {
-        [word] => match word.as_bytes() {
-            b"--help" | b"-h" => Some(HELP),
-            b"--version" => Some(VERSION),
-            _ => None,
-        },
-        _ => None,
     }
 }
 

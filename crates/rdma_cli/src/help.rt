@@ -1,0 +1,101 @@
+//! What the program tells of itself.
+
+const HELP: &str = "\
+jichurpa COMMAND
+
+  play                                    answers the lines of a script from standard input
+  bulk SEED CONNECTIONS MESSAGES MOVES    plays a generated script, and sums it up in one line
+  show-dump NAME                          tells what the dump in the file depot/NAME holds
+  COMMAND --help                          tells the words, the limits and the statuses of a command
+  --help, -h                              writes this text
+  --version                               writes the version
+
+The status is 0 where all is done, 2 for other words, 3 for a bad line or dump, 4, 5 and 7 where
+the input, the output and the depot fail, 8 where memory runs out, 9 for an input of more than
+1048576 bytes, and 12 for a name of which the depot holds no dump.
+";
+
+const PLAY: &str = "\
+jichurpa play
+
+Answers the lines of a script from standard input, one after the other, on standard output. The
+input is read to its end first, and has at most 1048576 bytes.
+
+  0   every line is answered
+  3   a line is bad: those before it are answered, and the last line names it
+  4   the input cannot be read
+  5   the output cannot be written
+  8   memory runs out
+  9   the input is too long: nothing is answered
+
+Example: jichurpa play < hello.script
+";
+
+const BULK: &str = "\
+jichurpa bulk SEED CONNECTIONS MESSAGES MOVES
+
+Plays the generated script of a seed, and sums its answers up in one line: how many lines it has,
+how many completions came, how many of them had status 0, and how many queue pairs the last settling
+left with requests.
+
+  SEED          0 to 18446744073709551615
+  CONNECTIONS   1 to 8
+  MESSAGES      1 to 2000
+  MOVES         0 to 16
+
+Numbers are decimal digits, without a sign or a leading zero.
+
+  0   the script is summed up
+  2   a number is out of its range
+  5   the output cannot be written
+  8   memory runs out
+
+Example: jichurpa bulk 7 4 1000 5
+";
+
+const SHOW_DUMP: &str = "\
+jichurpa show-dump NAME
+
+Tells what the dump in the file depot/NAME holds, one thing a line. A name has 1 to 16 letters a to
+z, digits and underscores, and begins with a letter.
+
+  0   the dump is told
+  2   the word is no name
+  3   the file holds no dump: the last line names the first wrong byte
+  5   the output cannot be written
+  7   the file cannot be read
+  8   memory runs out
+  12  there is no such file
+
+Example: jichurpa show-dump b
+";
+
+const VERSION: &str = "jichurpa 0.1.0\n";
+
+/// Whether the word asks for help.
+fn asks_for_help(word: &String) -> bool {
+    matches!(word.as_bytes(), b"--help" | b"-h")
+}
+
+/// The help text of a command.
+fn help_of(command: &String) -> Option<&'static str> {
+    match command.as_bytes() {
+        b"play" => Some(PLAY),
+        b"bulk" => Some(BULK),
+        b"show-dump" => Some(SHOW_DUMP),
+        _ => None,
+    }
+}
+
+/// What the words ask to be told of the program, or of a command.
+pub(crate) fn about(words: &[String]) -> Option<&'static str> {
+    match words {
+        [word] if asks_for_help(word) => Some(HELP),
+        [word] => match word.as_bytes() {
+            b"--version" => Some(VERSION),
+            _ => None,
+        },
+        [command, word] if asks_for_help(word) => help_of(command),
+        _ => None,
+    }
+}
