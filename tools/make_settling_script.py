@@ -1,9 +1,9 @@
 #!/usr/bin/env python3
-"""Writes the script that the program show_settling is run on: tools/make_settling_script.py > crates/show_settling/stdin.
+"""Writes the large script of settling: tools/make_settling_script.py > examples/large/settling.script.
 
 It has 16 devices, 64 contexts and 512 connections of all kinds of terms, requests of all kinds, some of which find no
 receive, and a network that delivers some datagrams, loses some and forgets about the rest. Two contexts move in the middle,
-and one is carried at the end. The same script is written each time.
+and one is carried when the last line settles all that is left. The same script is written each time.
 """
 import random
 
@@ -113,6 +113,7 @@ class Writer:
         self.say(f'restore c{second} {(second + 9) % DEVICES + 1}')
         self.carry(400)
         self.say(f'stop c{third}')
+        self.say('settle')
 
     def apart(self):
         """Three contexts of which no two are partners."""
