@@ -5,7 +5,7 @@ use Rattle.rdma_types.specs.declared.answers.Why.TheVariants as whys
 use Rattle.rdma_types.specs.declared.verbs.Verb.TheVariants.{Context, Connect, MakeDomain, MakeRegion, MakeCq, MakeQp, Store, PostSend, PostRecv}
 use Rattle.ideal_model.specs.Machine.{empty}
 use Rattle.ideal_model.specs.Evaluate.{ran_to}
-use Rattle.law_sim_relation.specs.Carries as carries
+use Rattle.law_simulation.specs.Carries as carries
 use Rattle.example_machine.specs.Opening.{object, word_a, word_b, word_c, word_m, word_n, word_p, word_q}
 use Rattle.example_relation.specs.Opening.{a_q, b_q}
 use Rattle.ideal_model.specs.declared.steps.IdealStep.TheVariants as steps

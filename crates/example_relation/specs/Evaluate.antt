@@ -3,11 +3,11 @@ use Rattle.std.specs.Prelude.{Bool, ◌&&◌}
 use Rattle.rdma_types.specs.declared.names.ObjName.{ObjName}
 use Rattle.protocol.specs.State.{World}
 use Rattle.ideal_model.specs.Machine.{Machine}
-use Rattle.law_sim_relation.specs.Views as in_views
-use Rattle.law_sim_relation.specs.Packets as in_packets
-use Rattle.law_sim_relation.specs.Carries as in_carries
-use Rattle.law_sim_relation.specs.Joined as in_joined
-use Rattle.law_sim_relation.specs.Facts as in_facts
+use Rattle.law_simulation.specs.Views as in_views
+use Rattle.law_simulation.specs.Packets as in_packets
+use Rattle.law_simulation.specs.Carries as in_carries
+use Rattle.law_simulation.specs.Joined as in_joined
+use Rattle.law_simulation.specs.Facts as in_facts
 use Rattle.example_relation.specs.Tests as in_tests
 use Rattle.example_relation.specs.Tests.{same_numbers, same_context, in_domains, all_sent}
 

@@ -15,11 +15,11 @@ use Rattle.ideal_model.specs.declared.reply.Reply.{Reply}
 use Rattle.ideal_model.specs.declared.reply.Reply.TheVariants.{OldValue, Denied}
 use Rattle.ideal_model.specs.Machine.{Machine}
 use Rattle.ideal_model.specs.Numbers.{due, oldest}
-use Rattle.law_sim_relation.specs.Packets.{Class, class_of, IsRequest, IsReadResponse, IsAtomicResponse, IsAck, IsSequenceNak, IsRefusal, IsReceiverNotReady, IsStopped, IsResume, IsResumeAck}
-use Rattle.law_sim_relation.specs.Views.{Owned, owned, owned_there, context_of, link_of, name_of, is_carried, place_of, in_rts}
-use Rattle.law_sim_relation.specs.Joined.{lands_untold_before, last_of, old_values}
-use Rattle.law_sim_relation.specs.Facts.{past_packet, request_for, is_access_denied}
-use Rattle.law_sim_relation.specs.Carries.{is_at}
+use Rattle.law_simulation.specs.Packets.{Class, class_of, IsRequest, IsReadResponse, IsAtomicResponse, IsAck, IsSequenceNak, IsRefusal, IsReceiverNotReady, IsStopped, IsResume, IsResumeAck}
+use Rattle.law_simulation.specs.Views.{Owned, owned, owned_there, context_of, link_of, name_of, is_carried, place_of, in_rts}
+use Rattle.law_simulation.specs.Joined.{lands_untold_before, last_of, old_values}
+use Rattle.law_simulation.specs.Facts.{past_packet, request_for, is_access_denied}
+use Rattle.law_simulation.specs.Carries.{is_at}
 
 -- the peer of an end, by the machine
 abbrev pub peer : Machine → ObjName → ObjName

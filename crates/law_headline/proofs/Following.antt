@@ -18,10 +18,10 @@ use Rattle.ideal_model.specs.declared.steps.IdealStep.{IdealStep}
 use Rattle.ideal_model.specs.Legal.{IsLegalFrom, IsRun, after, effect, seen, seen_of}
 use Rattle.ideal_model.specs.Machine.{Machine}
 use Rattle.script_lang.specs.declared.lines.Line.{Line}
-use Rattle.law_sim_relation.specs.Kept.{kept_of, kept_verb, verb_in, verb_of}
-use Rattle.law_sim_relation.specs.Law.{AlwaysFollows, Follows, FollowsRun, IsEventInRange, IsInRange, Law, joined_steps, kept}
-use Rattle.law_sim_relation.specs.Stands.{Stands}
-use Rattle.law_settle_steps.specs.Settling.{ComesOf, IsSettling, IsTurn, SettlingFollows, SettlingIsEvents}
+use Rattle.law_simulation.specs.Kept.{kept_of, kept_verb, verb_in, verb_of}
+use Rattle.law_simulation.specs.Law.{AlwaysFollows, Follows, FollowsRun, IsEventInRange, IsInRange, Law, joined_steps, kept}
+use Rattle.law_simulation.specs.Stands.{Stands}
+use Rattle.law_settling.specs.Settling.{ComesOf, IsSettling, IsTurn, SettlingFollows, SettlingIsEvents}
 use Rattle.law_headline.specs.Does.{IsLineInRange, IsWithin, IsWithinOf, before, happening_of, happenings_of}
 use Rattle.law_headline.specs.Follows.{FollowsAll, FollowsBy}
 use Rattle.law_headline.specs.Left.{ReachesAll}

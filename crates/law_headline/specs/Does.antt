@@ -9,7 +9,7 @@ use Rattle.protocol.specs.Events.{IsLawfulWorldEvent}
 use Rattle.protocol.specs.Script.{Happening, Event, Dump, Settles}
 use Rattle.script_lang.specs.declared.lines.Line.{Line}
 use Rattle.script_lang.specs.declared.lines.Line.TheVariants as line
-use Rattle.law_sim_relation.specs.Law.{IsInRange}
+use Rattle.law_simulation.specs.Law.{IsInRange}
 
 -- the event that a verb is; the verb of a new context names no device, and no line says it
 abbrev pub event_of : Verb → Option WorldEvent

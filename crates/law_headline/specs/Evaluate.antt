@@ -12,7 +12,7 @@ use Rattle.script_lang.specs.Scripts as in_scripts
 use Rattle.script_lang.specs.Texts as in_texts
 use Rattle.script_lang.specs.Verbs as in_verbs
 use Rattle.script_lang.specs.Words as in_words
-use Rattle.law_sim_relation.specs.Kept as in_kept
+use Rattle.law_simulation.specs.Kept as in_kept
 use Rattle.law_headline.specs.Script.{Script, answers_text, heard, script_of}
 
 -- what a text says

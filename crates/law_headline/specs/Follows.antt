@@ -8,10 +8,10 @@ use Rattle.protocol.specs.WorldStep.{world_step, world_after}
 use Rattle.ideal_model.specs.declared.steps.IdealStep.{IdealStep}
 use Rattle.ideal_model.specs.Legal.{IsRun, after, seen}
 use Rattle.ideal_model.specs.Machine.{Machine}
-use Rattle.law_sim_relation.specs.Carries.{Allows}
-use Rattle.law_sim_relation.specs.Law.{AllowsAll, inner_of, joined_steps}
-use Rattle.law_sim_relation.specs.Stands.{Stands}
-use Rattle.law_settle_steps.specs.Settling.{IsSettling}
+use Rattle.law_simulation.specs.Carries.{Allows}
+use Rattle.law_simulation.specs.Law.{AllowsAll, inner_of, joined_steps}
+use Rattle.law_simulation.specs.Stands.{Stands}
+use Rattle.law_settling.specs.Settling.{IsSettling}
 use Rattle.law_headline.specs.Script.{heard_of}
 
 -- the steps are those that a settling may cause: part by part those of its deliveries, transmissions, expiries and ends of

@@ -5,7 +5,7 @@ use Rattle.protocol.specs.State.{World, empty_world}
 use Rattle.ideal_model.specs.declared.steps.IdealStep.{IdealStep}
 use Rattle.ideal_model.specs.Legal.{IsRun, after, seen}
 use Rattle.ideal_model.specs.Machine.{Machine, empty}
-use Rattle.law_sim_relation.specs.Stands.{Stands}
+use Rattle.law_simulation.specs.Stands.{Stands}
 use Rattle.law_kept_datagrams.specs.Alike.{with_kept_datagrams}
 use Rattle.law_headline.specs.Script.{happenings, heard_from, world_left}
 

@@ -11,7 +11,7 @@ use Rattle.script_lang.specs.declared.lines.Offence.{Offence}
 use Rattle.script_lang.specs.Lines.{reading_of}
 use Rattle.script_lang.specs.Printed.{printed}
 use Rattle.script_lang.specs.Scripts.{lines_of}
-use Rattle.law_sim_relation.specs.Kept.{kept_of}
+use Rattle.law_simulation.specs.Kept.{kept_of}
 use Rattle.law_headline.specs.Does.{happenings_of}
 
 -- ---- lines

@@ -10,9 +10,9 @@ ghost use Rattle.protocol.specs.Script.{Happening};
 ghost use Rattle.ideal_model.specs.Legal.{IsLegal};
 ghost use Rattle.ideal_model.specs.Machine.{Machine, empty};
 ghost use Rattle.script_lang.specs.declared.lines.Line.{Line};
-ghost use Rattle.law_settle_steps.specs.Settling.{IsSettling};
-ghost use Rattle.law_sim_relation.specs.Law.{IsInRange};
-ghost use Rattle.law_sim_relation.specs.Stands.{Stands};
+ghost use Rattle.law_settling.specs.Settling.{IsSettling};
+ghost use Rattle.law_simulation.specs.Law.{IsInRange};
+ghost use Rattle.law_simulation.specs.Stands.{Stands};
 ghost use Rattle.script_lang.specs.Lines.{reading_of};
 ghost use Rattle.script_lang.specs.Ranges.{IsLawfulLine};
 ghost use Rattle.law_headline.specs.Does.{IsLineInRange, IsWithin, MayBeAskedOf, happening_of, happenings_of};
@@ -23,8 +23,8 @@ ghost use Rattle.law_headline.specs.Script.{happenings, heard_from};
 
 mod playing;
 
-use law_settle_steps::{settling_follows, settling_is_events};
-use law_sim_runs::law_holds;
+use law_settling::steps::{settling_follows, settling_is_events};
+use law_simulation::runs::law_holds;
 pub use playing::{
     answers_stand_in_order, scripts_are_played_line_by_line, scripts_say_their_lines,
 };

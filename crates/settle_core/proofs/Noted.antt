@@ -9,7 +9,7 @@ use Rattle.protocol.specs.State.{World}
 use Rattle.protocol.specs.WorldStep.{world_step}
 use Rattle.protocol.specs.Settle.{Settling, marks, same_marks, settle_step, transmit}
 use Rattle.law_kept_datagrams.specs.Alike.{with_kept_datagrams}
-use Rattle.law_settle_steps.specs.Settling.{IsSettling}
+use Rattle.law_settling.specs.Settling.{IsSettling}
 use Rattle.world_core.specs.Kept.{Makes}
 use Rattle.world_core.specs.Lives.{live_list}
 use Rattle.world_core.specs.Places.{HaveOwnIds}

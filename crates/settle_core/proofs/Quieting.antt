@@ -10,14 +10,14 @@ use Rattle.protocol.specs.State.{World}
 use Rattle.protocol.specs.Settle as settle
 use Rattle.protocol.specs.Settle.{settled}
 use Rattle.ideal_model.specs.Machine.{Machine}
-use Rattle.law_sim_relation.specs.Quiet.{AreReasons, IsQuiet, reason_of, unfinished}
-use Rattle.law_sim_relation.specs.Stands.{Stands}
-use Rattle.law_sim_relation.specs.Views.{context_of, contexts_of, end_of}
+use Rattle.law_simulation.specs.Quiet.{AreReasons, IsQuiet, reason_of, unfinished}
+use Rattle.law_simulation.specs.Stands.{Stands}
+use Rattle.law_simulation.specs.Views.{context_of, contexts_of, end_of}
 use Rattle.fabric.proofs.Histories.{pending-forgetting}
 use Rattle.law_kept_datagrams.specs.Alike.{AreAlike, with_kept_datagrams}
 use Rattle.law_kept_datagrams.proofs.Rounds.{line_alike}
-use Rattle.law_settle_steps.specs.Settling.{ComesOf, SettlingFollows, SettlingIsEvents}
-use Rattle.law_settle_unfinished.specs.Leaves.{SettlingLeaves}
+use Rattle.law_settling.specs.Settling.{ComesOf, SettlingFollows, SettlingIsEvents}
+use Rattle.law_settling.specs.Leaves.{SettlingLeaves}
 use Rattle.world_core.specs.Settled.{IsSettled}
 use Rattle.world_core.specs.declared.settling.Quiet.{Quiet}
 use Rattle.settle_core.specs.Quieted.{IsQuieted, Quiets}

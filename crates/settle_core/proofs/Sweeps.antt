@@ -7,8 +7,8 @@ use Rattle.protocol.specs.Fabric.{first_of, is_kept, kept_flight, look, look_at,
 use Rattle.protocol.specs.State.{Flight, World}
 use Rattle.protocol.specs.WorldStep.{delivers, delivers_by, now_of, world_step}
 use Rattle.protocol.specs.Settle.{Mark, Settling, delivering, marks, pass, same_marks, settle_step, stepped_to}
-use Rattle.law_settle_draining.proofs.Pending.{changed_other, get_append_left, kept_is, kept_when}
-use Rattle.law_settle_draining.proofs.Arrivals.{IsDelivered, delivered, grows}
+use Rattle.law_settling.proofs.draining.Pending.{changed_other, get_append_left, kept_is, kept_when}
+use Rattle.law_settling.proofs.draining.Arrivals.{IsDelivered, delivered, grows}
 use Rattle.world_core.specs.Lives.{is_open, is_pending}
 use Rattle.settle_core.specs.Steps.{delivered_at, sweeping}
 

@@ -16,7 +16,7 @@ use Rattle.protocol.specs.State.{Context, Device, End, Link, World, context_at, 
 use Rattle.protocol.specs.DeviceStep as device
 use Rattle.protocol.specs.WorldStep.{by_refusal, context_causes, home, or_none, ran, runs, steps_at, with_device, with_image, with_sent, world_step}
 use Rattle.protocol.specs.Settle.{Mark, live_ends, mark_of, marks, transmit}
-use Rattle.law_sim_relation.proofs.Tables.{flat_map-store, map-store, name-named_there, named-absent}
+use Rattle.law_simulation.proofs.relation.Tables.{flat_map-store, map-store, name-named_there, named-absent}
 use Rattle.world_core.specs.Places.{HaveOwnIds}
 use Rattle.settle_core.proofs.Listed.{map_flat}
 use Rattle.settle_core.proofs.Turns.{first_apart, none_passes, refused}

@@ -12,7 +12,7 @@ use Rattle.protocol.specs.Settle.{Settling, begun, last_wait, live_ends, marks, 
 use Rattle.fabric.proofs.Histories.{forgetting-forgetting}
 use Rattle.law_kept_datagrams.specs.Alike.{AreAlike, StepAlike, with_kept_datagrams}
 use Rattle.law_kept_datagrams.proofs.Steps.{step_alike}
-use Rattle.law_settle_steps.specs.Settling.{IsSettling}
+use Rattle.law_settling.specs.Settling.{IsSettling}
 use Rattle.world_core.specs.Settled.{IsLeft}
 use Rattle.world_core.specs.Kept.{Makes}
 use Rattle.settle_core.specs.Shown.{Comes, HasSeen, Shows, wait_of}

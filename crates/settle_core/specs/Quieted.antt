@@ -5,10 +5,10 @@ use Rattle.rdma_types.specs.declared.names.ObjName.{ObjName}
 use Rattle.protocol.specs.State.{World}
 use Rattle.protocol.specs.Settle.{settled}
 use Rattle.ideal_model.specs.Machine.{Machine}
-use Rattle.law_sim_relation.specs.Law.{FollowsRun}
-use Rattle.law_sim_relation.specs.Quiet.{IsQuiet}
-use Rattle.law_sim_relation.specs.Stands.{Stands}
-use Rattle.law_settle_steps.specs.Settling.{ComesOf}
+use Rattle.law_simulation.specs.Law.{FollowsRun}
+use Rattle.law_simulation.specs.Quiet.{IsQuiet}
+use Rattle.law_simulation.specs.Stands.{Stands}
+use Rattle.law_settling.specs.Settling.{ComesOf}
 use Rattle.law_kept_datagrams.specs.Alike.{with_kept_datagrams}
 
 -- the whole world w settles by events of settling, and from m the machine follows them to a state for which the settled world stands;

@@ -7,8 +7,8 @@ ghost use Rattle.settle_core.specs.Quieted.{IsQuieted};
 ghost use Rattle.world_core.specs.Settled.{IsSettled};
 ghost use Rattle.world_core.specs.declared.settling.Quiet.{Quiet};
 
-use law_settle_steps::{settling_follows, settling_is_events};
-use law_settle_unfinished::settling_leaves;
+use law_settling::steps::{settling_follows, settling_is_events};
+use law_settling::unfinished::settling_leaves;
 
 /// What a `Settler` leaves, whichever it is, is quiet, where the carried images keep the rules: the packetless machine follows
 /// the settling of each whole world whose last datagrams the old one keeps; nothing is pending; and each end with untold

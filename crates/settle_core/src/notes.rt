@@ -4,7 +4,7 @@ ghost use Rattle.std.specs.Prelude.{◌≡◌, map, IfOk, IfSome, OnOk};
 ghost use Rattle.protocol.specs.Events.{IsLawfulWorldEvent};
 ghost use Rattle.protocol.specs.Settle.{Settling, marks, same_marks, settle_step, transmit};
 ghost use Rattle.protocol.specs.WorldStep.{world_step};
-ghost use Rattle.law_settle_steps.specs.Settling.{IsSettling};
+ghost use Rattle.law_settling.specs.Settling.{IsSettling};
 ghost use Rattle.settle_core.specs.Shown.{Comes, Settles, Shows};
 ghost use Rattle.settle_core.specs.Marks.{same_mark, view_code, view_mark};
 ghost use Rattle.world_core.specs.Places.{HaveOwnIds};

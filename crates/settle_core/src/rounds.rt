@@ -109,7 +109,7 @@ impl Notes {
 
 impl Settler for Rounds {
     /// Settles a world by rounds, at most 32 for each unit of the load. Where the world stands for a state of the packetless
-    /// machine, nothing changes in the last of them and no timer is stepped (`law_settle_bound::settling_ends`). The packetless
+    /// machine, nothing changes in the last of them and no timer is stepped (`law_settling::bound::settling_ends`). The packetless
     /// machine follows it, and the world is then quiet: nothing is pending, and each end with untold requests is listed with
     /// the first reason that holds. That is so of every settler ([`settled_worlds_are_quiet`]).
     ///

@@ -22,7 +22,7 @@ use Rattle.protocol.specs.State.{Context, Device, End, Link, World, context_at, 
 use Rattle.protocol.specs.WorldStep as rules
 use Rattle.protocol.specs.WorldStep.{Step, answers, connect_causes, connects_one, end_of, exchanged, has_live_end, home, live_context, ran, runs, with_device, with_image, with_sent}
 use Rattle.fabric.specs.Store.{forgetting}
-use Rattle.law_sim_relation.proofs.Tables.{has_name-map, map-store, name-named_there}
+use Rattle.law_simulation.proofs.relation.Tables.{has_name-map, map-store, name-named_there}
 use Rattle.law_kept_datagrams.specs.Alike.{with_kept_datagrams}
 use Rattle.world_core.specs.declared.making.EndAddress.{EndAddress}
 use Rattle.world_core.specs.Kept.{Makes}

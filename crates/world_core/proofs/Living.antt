@@ -12,7 +12,7 @@ use Rattle.rdma_types.specs.declared.requests.Request.{Request}
 use Rattle.rdma_types.specs.Causes.{Cause, cause, first_cause}
 use Rattle.rdma_types.specs.Lists.{has_name, without}
 use Rattle.rdma_types.proofs.Tables.{has_name-store, name_is, same_name}
-use Rattle.law_sim_relation.proofs.Tables.{has_name-push, name-named_there}
+use Rattle.law_simulation.proofs.relation.Tables.{has_name-push, name-named_there}
 use Rattle.protocol.specs.declared.events.Event.{Event}
 use Rattle.protocol.specs.declared.events.Event.TheVariants as event
 use Rattle.protocol.specs.DeviceStep as device

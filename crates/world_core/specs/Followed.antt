@@ -5,8 +5,8 @@ use Rattle.protocol.specs.declared.events.WorldEvent.{WorldEvent}
 use Rattle.protocol.specs.State.{World}
 use Rattle.protocol.specs.WorldStep.{world_step}
 use Rattle.ideal_model.specs.Machine.{Machine}
-use Rattle.law_sim_relation.specs.Law.{IsInRange, Reaches}
-use Rattle.law_sim_relation.specs.Stands.{Stands}
+use Rattle.law_simulation.specs.Law.{IsInRange, Reaches}
+use Rattle.law_simulation.specs.Stands.{Stands}
 use Rattle.law_kept_datagrams.specs.Alike.{with_kept_datagrams}
 
 -- the machine comes from m, by steps that the event allows, to a state for which the whole world's next one stands, and the

@@ -4,7 +4,7 @@ use Rattle.protocol.specs.declared.events.WorldEvent.{WorldEvent}
 use Rattle.protocol.specs.State.{World}
 use Rattle.protocol.specs.WorldStep.{world_after}
 use Rattle.protocol.specs.Settle.{settled, unfinished}
-use Rattle.law_settle_steps.specs.Settling.{IsSettling}
+use Rattle.law_settling.specs.Settling.{IsSettling}
 use Rattle.law_kept_datagrams.specs.Alike.{with_kept_datagrams}
 use Rattle.world_core.specs.declared.settling.Quiet.{Quiet}
 

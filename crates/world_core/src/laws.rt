@@ -8,7 +8,7 @@ ghost use Rattle.world_core.specs.Followed.{IsFollowed};
 ghost use Rattle.world_core.specs.Kept.{Makes};
 
 use law_kept_datagrams::alike_worlds_are_answered_alike;
-use law_sim_runs::events_follow;
+use law_simulation::runs::events_follow;
 
 /// A call that makes the rules' step of a world makes it of each whole world whose last datagrams this one keeps, and the
 /// packetless machine follows it.

@@ -1,7 +1,7 @@
 -- The kept part of a whole world is answered as the whole one.
 use Rattle.std.proofs.Common.{◌∙◌, sym, subst}
 use Rattle.protocol.specs.WorldStep.{world_step}
-use Rattle.law_sim_relation.specs.Law.{Reaches}
+use Rattle.law_simulation.specs.Law.{Reaches}
 use Rattle.law_kept_datagrams.specs.Alike.{StepAlike, with_kept_datagrams}
 use Rattle.world_core.proofs.Worlds.{alike_kept_datagrams}
 use Rattle.world_core.proofs.laws.steps_are_followed.Goals as goal

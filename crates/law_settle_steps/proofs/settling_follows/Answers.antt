@@ -1,5 +1,0 @@
-use Rattle.law_settle_steps.proofs.Following.{all_follow}
-use Rattle.law_settle_steps.proofs.settling_follows.Goals as goal
-
-pub returns : goal.returns
-returns c = all_follow c.runs_follow.ensures.run c.events_follow.ensures

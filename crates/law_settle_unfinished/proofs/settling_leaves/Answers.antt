@@ -1,5 +1,0 @@
-use Rattle.law_settle_unfinished.proofs.Leaving.{leaves}
-use Rattle.law_settle_unfinished.proofs.settling_leaves.Goals as goal
-
-pub returns : goal.returns
-returns c = leaves c.settling_rests.ensures c.settling_tells.ensures c.settling_wants.ensures

@@ -1,0 +1,11 @@
+pub mod Drained
+pub mod Weights
+pub mod Settling
+pub mod Ends
+pub mod Rests
+pub mod Stops
+pub mod Told
+pub mod Spares
+pub mod Tells
+pub mod Wants
+pub mod Leaves

@@ -1,5 +1,0 @@
-use Rattle.law_sim_delivery.proofs.EachKind.{kind_follows}
-use Rattle.law_sim_delivery.proofs.kind_follows.Goals as goal
-
-pub returns : goal.returns
-returns c = λ kind husks owed k w m s is. kind_follows kind husks owed k w m s is

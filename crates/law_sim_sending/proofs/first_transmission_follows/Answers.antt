@@ -1,6 +1,0 @@
-use Rattle.ideal_model.specs.Machine.{empty}
-use Rattle.protocol.specs.State.{empty_world}
-use Rattle.law_sim_sending.proofs.first_transmission_follows.Goals as goal
-
-pub returns : goal.returns
-returns c = λ o. c.sending_follows.ensures.transmit o empty_world empty tt c.starts.ensures
