@@ -35,7 +35,7 @@ pub struct Spot {
 
 /// What is told of a region: its name, its protection domain, the address of its first byte, how many bytes it has, what
 /// may be done with it, and its keys.
-#[derive(Clone, Copy, Debug)]
+#[derive(Clone, Copy)]
 pub struct RegionHead {
     pub name: Name,
     pub domain: Name,

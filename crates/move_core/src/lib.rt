@@ -13,7 +13,7 @@ use rdma_types::Address;
 const MOST_MOVES: u32 = 65_535;
 
 /// What a connected end may do.
-#[derive(Clone, Copy, Debug, PartialEq, Eq)]
+#[derive(Clone, Copy)]
 pub enum Phase {
     /// It sends and executes.
     Running,
@@ -24,7 +24,7 @@ pub enum Phase {
 }
 
 /// A message of moving.
-#[derive(Clone, Copy, Debug, PartialEq, Eq)]
+#[derive(Clone, Copy)]
 pub enum Control {
     /// NAK_STOPPED: the partner was stopped when it had moved this often.
     Stopped { count: u32 },
@@ -35,7 +35,7 @@ pub enum Control {
 }
 
 /// What a message of moving did.
-#[derive(Clone, Copy, Debug, PartialEq, Eq)]
+#[derive(Clone, Copy)]
 pub enum MoveTook {
     /// The end is paused.
     Paused,
@@ -50,7 +50,7 @@ pub enum MoveTook {
 }
 
 /// The moves of a connected end.
-#[derive(Clone, Copy, Debug, PartialEq, Eq)]
+#[derive(Clone, Copy)]
 pub struct MoveState {
     pub phase: Phase,
     /// How often this end has moved.

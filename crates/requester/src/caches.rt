@@ -15,7 +15,7 @@ use segmenter::span_of;
 use work_queues::SendQueue;
 
 /// Places in the queue and counts of what is in flight.
-#[derive(Clone, Copy, Debug)]
+#[derive(Clone, Copy)]
 pub struct Caches {
     /// The number past the last request.
     pub end: u64,

@@ -10,7 +10,7 @@ use segmenter::span_of;
 use work_queues::SendQueue;
 
 /// A place in a queue, and how many numbers the requests before it take.
-#[derive(Clone, Copy, Debug)]
+#[derive(Clone, Copy)]
 pub struct Mark {
     pub index: usize,
     pub offset: u64,
@@ -70,7 +70,7 @@ fn seek_landing(queue: &SendQueue, mtu: u32, from: Mark) -> Mark
 }
 
 /// A number of a Read or atomic, counted from the front of the queue, and its request; or the end of the queue.
-#[derive(Clone, Copy, Debug)]
+#[derive(Clone, Copy)]
 pub struct Landing {
     pub number: u64,
     pub at: Mark,

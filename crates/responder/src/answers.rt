@@ -28,7 +28,7 @@ pub enum Reply {
 }
 
 /// The message that arrives in pieces.
-#[derive(Clone, Copy, Debug, PartialEq, Eq)]
+#[derive(Clone, Copy)]
 pub enum Flow {
     /// There is none.
     Idle,
@@ -39,7 +39,7 @@ pub enum Flow {
 }
 
 /// What a responder says of itself, but for the kept replies.
-#[derive(Clone, Copy, Debug, PartialEq, Eq)]
+#[derive(Clone, Copy)]
 pub struct ResponderParts {
     /// The number of the next packet to execute.
     pub expected: u64,

@@ -5,7 +5,7 @@ ghost use Rattle.protocol.specs.Responder as words;
 ghost use Rattle.responder.specs.Kinds.{part_in};
 
 /// Which packet of a message it is; READ requests and atomics are of none.
-#[derive(Clone, Copy, Debug, PartialEq, Eq)]
+#[derive(Clone, Copy)]
 pub enum Part {
     First,
     Middle,
