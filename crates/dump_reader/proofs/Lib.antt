@@ -6,4 +6,6 @@ pub mod Ends
 pub mod Whole
 pub mod Dumped
 pub mod Later
+pub mod Onward
+pub mod Opens
 pub mod ReadSteps

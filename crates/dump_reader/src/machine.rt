@@ -5,7 +5,7 @@ ghost use Rattle.protocol.specs.Dumps.{Good, Bad, read_dump};
 ghost use Rattle.dump_reader.specs.Fields.{IsMagic, IsNoMagic};
 ghost use Rattle.dump_reader.specs.Groups.{came};
 ghost use Rattle.dump_reader.specs.Ahead.{ahead, opening_field, more_domains, image_of, queues_of, weight, IsOpen};
-ghost use Rattle.dump_reader.specs.Steps.{Alike, IsLeft, Moves, IsFault, is_wanting};
+ghost use Rattle.dump_reader.specs.Steps.{Steps};
 
 use crate::cursor::{Cursor, Offence};
 use crate::fault::DumpFault;
@@ -66,11 +66,7 @@ pub fn step(
     place: &ReadState,
 ) -> Result<ReadState, DumpFault>
     requires { IsOpen place.now }
-    ensures moves { Moves (ahead opened.now lists.old place.now c.old.place c.old.bytes.now) (λ next. ahead opened.now lists.new next c.new.place c.new.bytes.now) result }
-    ensures with_more_bytes { IfOk result (λ next. Alike (ahead opened.now lists.old place.now) c.old.place c.old.bytes.now (ahead opened.now lists.new next) c.new.place c.new.bytes.now) }
-    ensures left { IfOk result (λ next. IsLeft c.old.place c.old.bytes.now c.new.place c.new.bytes.now) }
-    ensures same { IfErr result (λ e. is_wanting e ≡ true → lists.new ≡ lists.old) }
-    ensures less { IfOk result (λ next. 2 * length c.new.bytes.now + weight next < 2 * length c.old.bytes.now + weight place.now) }
+    ensures { Steps opened.now place.now lists.old lists.new c.old c.new result }
 {
     match place {
         ReadState::Domain(more) => steps::domain_step(opened, lists, c, *more),

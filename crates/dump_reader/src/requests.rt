@@ -5,7 +5,7 @@ ghost use Rattle.rdma_types.specs.Kinds.{takes_bytes, is_atomic, lands};
 ghost use Rattle.rdma_types.specs.Shapes.{has_remote, is_swap};
 ghost use Rattle.rdma_types.specs.Memory.{is_granted, landing_right, local_key};
 ghost use Rattle.protocol.specs.Dumps.{kind_of, has_flag, keeps_numbers, shape_of_length};
-ghost use Rattle.dump_reader.specs.Groups.{came, regions_of, link_of_head, may_be_flags, may_be_length, request_head_field, request_places_field, payload_length};
+ghost use Rattle.dump_reader.specs.Groups.{came, regions_of, link_of_head, may_be_flags, may_be_length, request_head_field, request_places_field, request_start_field, payload_length};
 
 use crate::cursor::{Cursor, Offence};
 use crate::heads::{LinkImageHead, RequestHead, Standing};
@@ -112,9 +112,9 @@ fn length_fits(link: &LinkImageHead, standing: &Standing, kind: Kind, length: u3
     }
 }
 
-/// A request up to its length. Errors: the first fault of its fields, with its place: `Short` or `Field`.
+/// A request up to its length.
 #[tactic(auto, unfolding(protocol::specs::Dumps::after, protocol::specs::Dumps::judged, crate::specs::Groups::request_head_field))]
-pub fn read_request_head(
+fn read_request_head(
     c: &mut Cursor<'_>,
     link: &LinkImageHead,
     standing: &Standing,
@@ -151,9 +151,9 @@ fn imm_of(head: &RequestHead) -> Option<u32>
     }
 }
 
-/// The places and operands of a request. Errors: the first fault of its fields, with its place: `Short` or `Field`.
+/// The places and operands of a request.
 #[tactic(auto, unfolding(protocol::specs::Dumps::after, protocol::specs::Dumps::judged, crate::specs::Groups::request_places_field))]
-pub fn read_request_places(
+fn read_request_places(
     c: &mut Cursor<'_>,
     scope: &Scope<'_>,
     head: &RequestHead,
@@ -195,6 +195,22 @@ pub fn read_request_places(
         signaled: flags % 2 == 1,
         fence: flags / 4 % 2 == 1,
     })
+}
+
+/// A request up to its payload. Errors: the first fault of its fields, with its place: `Short` or `Field`.
+#[tactic(auto, unfolding(protocol::specs::Dumps::after))]
+pub fn read_request(
+    c: &mut Cursor<'_>,
+    link: &LinkImageHead,
+    standing: &Standing,
+    scope: &Scope<'_>,
+) -> Result<Request, Offence>
+    ensures request { request_start_field standing.now (link_of_head link.now []) (regions_of scope.now.domains.now scope.now.regions.now) scope.now.domain.now c.old.place c.old.bytes.now ≡ came result c.new.place c.new.bytes.now }
+    ensures limit { IfOk result (λ r. standing.now.low + shape_of_length r.shape.kind r.shape.length link.now.terms.mtu < 2 ^ 62) }
+    ensures passed { IfOk result (λ x. c.old.place < c.new.place) }
+{
+    let head = read_request_head(c, link, standing)?;
+    read_request_places(c, scope, &head)
 }
 
 /// How many bytes a request took.
