@@ -1,21 +1,16 @@
 -- Groups of fields are read alike where more bytes come.
-use Rattle.std.proofs.Common.{◌≡◌, ℕ, ◌+◌, ◌-◌, ◌≤◌, Bool, List, ◌++◌, length, drop, refl, ap, ◌∙◌, subst, arith, length-drop}
+use Rattle.std.proofs.Common.{◌≡◌, ℕ, ◌+◌, ◌-◌, Bool, List, ◌++◌, length, drop, ap, ◌∙◌, subst, arith, length-drop}
 use Rattle.std.proofs.lemmas.List.{drop-drop}
-use Rattle.std.specs.Prelude.{Option, Result, Ok, Err, IfOk}
 use Rattle.rdma_types.specs.declared.names.Name.{Name}
 use Rattle.rdma_types.specs.declared.requests.Terms.{Terms}
-use Rattle.rdma_types.specs.Limits.{most_kept}
 use Rattle.rdma_types.specs.Objects.{Region}
-use Rattle.protocol.specs.declared.images.ContextImage.{ContextImage}
 use Rattle.protocol.specs.declared.images.EndImage.{EndImage}
 use Rattle.protocol.specs.declared.images.LinkImage.{LinkImage}
 use Rattle.protocol.specs.declared.images.RegionImage.{RegionImage}
-use Rattle.protocol.specs.Dumps.{Reading, Reader, Good, ReadQueue, after, then_read, progress_by, count_field}
-use Rattle.law_dump_round_trip.proofs.Steady.{IsSteady, Stays, Goes, GoesOn, then_steady, gives_steady, raw_steady, magic_steady, number_steady, count_steady, name_steady, placed_steady, receive_steady, progress_steady, terms_steady}
-use Rattle.dump_reader.specs.declared.fault.DumpFault.{DumpFault}
+use Rattle.protocol.specs.Dumps.{Reading, Reader, Good, ReadQueue, count_field}
+use Rattle.law_dump_round_trip.proofs.Steady.{IsSteady, Stays, Goes, GoesOn, then_steady, gives_steady, raw_steady, magic_steady, number_steady, name_steady, placed_steady, progress_steady, terms_steady}
 use Rattle.dump_reader.specs.declared.heads.RequestHead.{RequestHead}
 use Rattle.dump_reader.specs.declared.heads.Standing.{Standing}
-use Rattle.dump_reader.specs.declared.lists.ReadState.{ReadState}
 use Rattle.dump_reader.specs.Ahead.{opening_field}
 use Rattle.dump_reader.specs.Groups.{region_head_field, queue_head_field, end_head_field, peer_field, numbers_field, waiting_field, message_field, link_head_field, request_head_field, request_places_field, request_start_field}
 use Rattle.dump_reader.specs.Steps.{IsLeft}

@@ -1,5 +1,4 @@
 pub mod Seen
-pub mod Read
 pub mod Split
 pub mod Reserved
 pub mod Ends
@@ -9,3 +8,4 @@ pub mod Later
 pub mod Onward
 pub mod Opens
 pub mod ReadSteps
+pub mod Latched

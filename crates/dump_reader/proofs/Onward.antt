@@ -1,10 +1,9 @@
 -- One step: a group of fields is read, and the next place is entered.
-use Rattle.std.proofs.Common.{◌≡◌, ℕ, zero, suc, ◌+◌, ◌*◌, ◌≤◌, ◌<◌, List, [], ◌∷◌, ◌++◌, length, map, true, false, refl, ap, sym, ◌∙◌, subst, arith}
-use Rattle.std.specs.Prelude.{Result, Ok, Err, IfOk, IsErrAnd, ⊤}
+use Rattle.std.proofs.Common.{◌≡◌, ℕ, ◌+◌, ◌*◌, ◌≤◌, ◌<◌, List, ◌++◌, length, true, refl, ap, sym, ◌∙◌, subst, arith}
+use Rattle.std.specs.Prelude.{Result, Ok, Err, IfOk, IsErrAnd}
 use Rattle.protocol.specs.declared.dumps.DumpWhy.{DumpWhy}
 use Rattle.protocol.specs.declared.images.ContextImage.{ContextImage}
 use Rattle.protocol.specs.Dumps.{Reading, Reader, Good, Bad, after, then_read}
-use Rattle.law_dump_round_trip.specs.Later.{is_short}
 use Rattle.law_dump_round_trip.proofs.Steady.{IsSteady, GoesOn}
 use Rattle.dump_reader.specs.declared.cursor.Cursor.{Cursor}
 use Rattle.dump_reader.specs.declared.cursor.Offence.{Offence}

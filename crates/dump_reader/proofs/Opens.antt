@@ -1,15 +1,12 @@
 -- What is ahead at a place, as the group of fields that is read there and what follows it.
-use Rattle.std.proofs.Common.{◌≡◌, ℕ, suc, ◌-◌, List, [], ◌∷◌, ◌++◌, length, map, refl, ap, sym, ◌∙◌}
+use Rattle.std.proofs.Common.{◌≡◌, ℕ, suc, ◌-◌, List, [], ◌∷◌, ◌++◌, length, refl, ap, sym, ◌∙◌}
 use Rattle.std.specs.Prelude.{Option, ◌==◌}
 use Rattle.rdma_types.specs.declared.requests.Completion.{Completion}
-use Rattle.rdma_types.specs.declared.requests.Receive.{Receive}
 use Rattle.rdma_types.specs.declared.requests.Request.{Request}
 use Rattle.rdma_types.specs.Limits.{most_regions, most_queues, most_ends}
-use Rattle.protocol.specs.declared.images.ContextImage.{ContextImage}
-use Rattle.protocol.specs.declared.images.KeptReply.{KeptReply}
 use Rattle.protocol.specs.declared.images.RegionImage.{RegionImage}
 use Rattle.protocol.specs.Images.{name_at}
-use Rattle.protocol.specs.Dumps.{Reading, Reader, ReadQueue, after, then_read, raw, items, count_field, count_by, name_field, region_field, queue_field, entry_field, kept_field, receive_field}
+use Rattle.protocol.specs.Dumps.{Reading, ReadQueue, after, then_read, raw, items, count_field, count_by, name_field, entry_field, kept_field, receive_field}
 use Rattle.dump_reader.specs.declared.heads.Before.{Before}
 use Rattle.dump_reader.specs.declared.heads.EndImageHead.{EndImageHead}
 use Rattle.dump_reader.specs.declared.heads.LinkImageHead.{LinkImageHead}

@@ -1,13 +1,11 @@
 -- How far a dump was read, and what one step more comes to.
 use Rattle.std.proofs.Common.{◌≡◌, ℕ, ◌+◌, ◌-◌, ◌*◌, ◌≤◌, ◌<◌, List, [], ◌∷◌, ◌++◌, length, take, drop, refl, ap, sym, ◌∙◌, subst, arith, length-drop, append-nil}
 use Rattle.std.proofs.lemmas.List.{drop-drop, take_all}
-use Rattle.std.specs.Prelude.{⊤, Err}
 use Rattle.protocol.specs.declared.dumps.DumpWhy.TheVariants as dump_why
 use Rattle.protocol.specs.declared.images.ContextImage.{ContextImage}
 use Rattle.protocol.specs.Dumps.{Reading, Reader, Good, Bad, after, at_end, read_dump}
 use Rattle.law_dump_round_trip.proofs.Steady.{GoesOn}
 use Rattle.dump_reader.specs.declared.fault.DumpFault.{DumpFault}
-use Rattle.dump_reader.specs.declared.fault.DumpFault.TheVariants.{BadDump, OutOfMemory}
 use Rattle.dump_reader.specs.declared.heads.Opened.{Opened}
 use Rattle.dump_reader.specs.declared.lists.Lists.{Lists}
 use Rattle.dump_reader.specs.declared.lists.ReadState.{ReadState}

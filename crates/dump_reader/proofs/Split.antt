@@ -1,9 +1,7 @@
 -- Readers as their groups.
-use Rattle.std.proofs.Common.{◌≡◌, ℕ, List, [], ◌∷◌, ◌++◌, length, map, add-zero, false, nat_lt, arith, subst, refl, ap, sym, ◌∙◌}
+use Rattle.std.proofs.Common.{◌≡◌, ℕ, List, [], ◌∷◌, ◌++◌, length, map, add-zero, false, nat_lt, arith, refl, ap, sym, ◌∙◌}
 use Rattle.protocol.specs.declared.images.ContextImage.{ContextImage}
-use Rattle.dump_reader.specs.declared.lists.ReadState.{ReadState}
-use Rattle.dump_reader.specs.declared.fault.DumpFault.{DumpFault}
-use Rattle.std.specs.Prelude.{Bool, Result}
+use Rattle.std.specs.Prelude.{Bool}
 use Rattle.std.proofs.lemmas.Bool.Decides.{nat_tests}
 use Rattle.rdma_types.specs.declared.names.Name.{Name}
 use Rattle.rdma_types.specs.Kinds.{lands}

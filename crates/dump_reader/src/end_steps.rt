@@ -3,13 +3,15 @@
 ghost use Rattle.std.specs.Prelude.{◌≡◌, ℕ, List, suc, ◌+◌, ◌-◌, ◌<◌, ◌≤◌, ◌^◌, ◌==◌, ◌++◌, ◌∷◌, length, [], map, drop, Some, None, IfOk, IfErr, true, false, not, ◌||◌, if◌then◌else◌};
 ghost use Rattle.protocol.specs.Dumps.{then_read, items, raw, shape_of_length, count_by, is_untold_count, is_ended};
 ghost use Rattle.protocol.specs.Images.{name_at};
-ghost use Rattle.dump_reader.specs.Groups.{came, link_of_head, end_of_head, regions_of, payload_length};
+ghost use Rattle.dump_reader.specs.Latched.{Parsed};
+ghost use Rattle.dump_reader.specs.Groups.{link_of_head, end_of_head, regions_of, payload_length};
 ghost use Rattle.rdma_types.specs.Kinds.{lands};
 ghost use Rattle.dump_reader.specs.Ahead.{ahead, more_ends, more_kept, more_untold, more_receives, untold_list, unused_list, linked_list, after_head, queues_of, linked_of, first_of, passed, may_be_untold, may_be_unused, weight};
 ghost use Rattle.dump_reader.specs.Steps.{Enters, Steps};
 
 use crate::cursor::{Cursor, Offence};
 use crate::fault::DumpFault;
+use crate::fields::Fields;
 use crate::groups;
 use crate::heads::{Before, EndImageHead, LinkImageHead, Opened, Standing};
 use crate::lists::{Lists, ReadState, push};
@@ -162,19 +164,18 @@ fn untold_rule(link: &Option<LinkImageHead>, count: u16) -> bool
     }
 }
 
-#[tactic(auto, unfolding(protocol::specs::Dumps::after, protocol::specs::Dumps::judged))]
 fn read_untold_count(
     c: &mut Cursor<'_>,
     depth: u16,
     link: &Option<LinkImageHead>,
 ) -> Result<u16, Offence>
-    ensures count { count_by 2 depth (may_be_untold link.now) c.old.place c.old.bytes.now ≡ came result c.new.place c.new.bytes.now }
-    ensures passed { IfOk result (λ x. c.old.place < c.new.place) }
+    ensures { Parsed (count_by 2 depth (may_be_untold link.now)) c.old c.new result }
 {
-    let count = c.u16()?;
-    c.keep_or(DumpWhy::Count, count <= depth)?;
-    c.keep(untold_rule(link, count))?;
-    Ok(count)
+    let mut fields = Fields::of(c);
+    let count = fields.u16();
+    fields.keep_or(DumpWhy::Count, count <= depth);
+    fields.keep(untold_rule(link, count));
+    fields.end(c, count)
 }
 
 fn unused_rule(link: &Option<LinkImageHead>, count: u16) -> bool
@@ -186,19 +187,18 @@ fn unused_rule(link: &Option<LinkImageHead>, count: u16) -> bool
     }
 }
 
-#[tactic(auto, unfolding(protocol::specs::Dumps::after, protocol::specs::Dumps::judged))]
 fn read_unused_count(
     c: &mut Cursor<'_>,
     depth: u16,
     link: &Option<LinkImageHead>,
 ) -> Result<u16, Offence>
-    ensures count { count_by 2 depth (may_be_unused link.now) c.old.place c.old.bytes.now ≡ came result c.new.place c.new.bytes.now }
-    ensures passed { IfOk result (λ x. c.old.place < c.new.place) }
+    ensures { Parsed (count_by 2 depth (may_be_unused link.now)) c.old c.new result }
 {
-    let count = c.u16()?;
-    c.keep_or(DumpWhy::Count, count <= depth)?;
-    c.keep(unused_rule(link, count))?;
-    Ok(count)
+    let mut fields = Fields::of(c);
+    let count = fields.u16();
+    fields.keep_or(DumpWhy::Count, count <= depth);
+    fields.keep(unused_rule(link, count));
+    fields.end(c, count)
 }
 
 /// What a connected end has, up to its kept replies. Errors: `BadDump` with the first fault of the bytes, or
@@ -467,7 +467,7 @@ pub fn receive_step(
 ) -> Result<ReadState, DumpFault>
     ensures { Steps opened.now (ReadState.Receive head.now link.now more after) lists.old lists.new c.old c.new result }
 {
-    let receive = places::read_receive(c, &scope_of(lists, head), 0)?;
+    let receive = places::read_waiting_receive(c, &scope_of(lists, head))?;
     push(&mut lists.unused, receive)?;
     enter_receives(opened, lists, head, link, more, after)
 }

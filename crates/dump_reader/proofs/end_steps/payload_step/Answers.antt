@@ -1,18 +1,9 @@
-use Rattle.std.proofs.Common.{ℕ, List, [], ◌∷◌, ◌++◌, map, refl, ap, sym, ◌∙◌}
-use Rattle.std.specs.Prelude.{None, Some}
-use Rattle.rdma_types.specs.declared.requests.Completion.{Completion}
-use Rattle.rdma_types.specs.declared.requests.Receive.{Receive}
-use Rattle.protocol.specs.declared.images.EndImage.{EndImage}
-use Rattle.protocol.specs.declared.images.KeptReply.{KeptReply}
-use Rattle.protocol.specs.declared.images.RegionImage.{RegionImage}
-use Rattle.protocol.specs.Dumps.{then_read, raw}
-use Rattle.dump_reader.specs.declared.heads.Before.{Before}
-use Rattle.dump_reader.specs.declared.heads.PlacedQueue.{PlacedQueue}
+use Rattle.std.proofs.Common.{ℕ, List, [], ◌∷◌, ◌++◌, refl, ap, sym}
 use Rattle.dump_reader.specs.declared.lists.ReadState.TheVariants as place
-use Rattle.dump_reader.specs.Groups.{placed, region_of_head, link_of_head, payload_length}
-use Rattle.dump_reader.specs.Ahead.{ahead, more_regions, more_queues, more_entries, more_ends, more_kept, more_untold, more_receives, unused_list, linked_of, queues_of}
+use Rattle.dump_reader.specs.Groups.{link_of_head}
+use Rattle.dump_reader.specs.Ahead.{more_untold, queues_of}
 use Rattle.law_dump_round_trip.proofs.Steady.{raw_steady}
-use Rattle.dump_reader.proofs.Onward.{goes, goes_light, into, into_light, refused}
+use Rattle.dump_reader.proofs.Onward.{into_light, refused}
 use Rattle.dump_reader.proofs.Opens.{opens_payload}
 use Rattle.dump_reader.proofs.end_steps.payload_step.Goals as goal
 

@@ -1,27 +1,18 @@
-use Rattle.std.proofs.Common.{ℕ, List, [], ◌∷◌, ◌++◌, map, refl, ap, sym, ◌∙◌}
-use Rattle.std.specs.Prelude.{None, Some}
+use Rattle.std.proofs.Common.{List, ap, sym}
 use Rattle.rdma_types.specs.declared.requests.Completion.{Completion}
-use Rattle.rdma_types.specs.declared.requests.Receive.{Receive}
-use Rattle.protocol.specs.declared.images.EndImage.{EndImage}
-use Rattle.protocol.specs.declared.images.KeptReply.{KeptReply}
-use Rattle.protocol.specs.declared.images.RegionImage.{RegionImage}
-use Rattle.protocol.specs.Dumps.{then_read, raw}
-use Rattle.dump_reader.specs.declared.heads.Before.{Before}
-use Rattle.dump_reader.specs.declared.heads.PlacedQueue.{PlacedQueue}
 use Rattle.dump_reader.specs.declared.lists.ReadState.TheVariants as place
-use Rattle.dump_reader.specs.Groups.{placed, region_of_head, link_of_head, payload_length}
-use Rattle.dump_reader.specs.Ahead.{ahead, more_regions, more_queues, more_entries, more_ends, more_kept, more_untold, more_receives, unused_list, linked_of, queues_of}
+use Rattle.dump_reader.specs.Ahead.{more_entries, queues_of}
 use Rattle.dump_reader.proofs.Later.{queue_head_steady}
-use Rattle.dump_reader.proofs.Onward.{goes, goes_light, into, into_light, refused}
+use Rattle.dump_reader.proofs.Onward.{into, refused}
 use Rattle.dump_reader.proofs.Opens.{opens_queue}
 use Rattle.dump_reader.proofs.steps.queue_step.Goals as goal
 
 pub returns : goal.returns
 returns c =
-    let read = rw c.deref.ensures.value at c.in_ok-head.ensures.queue in
+    let read = rw c.deref.ensures.value at c.in_ok-head.ensures.read in
     into c.args.opened.now (place.Queue c.args.more) c.args.lists.now c.args.c.now _ _ (opens_queue c.args.opened.now c.args.lists.now c.args.more) c.read_queue.new.c _ (queue_head_steady _) read c.enter_entries.result c.in_ok-head.ensures.passed _ (ap (λ (es : List Completion). more_entries c.args.opened.now c.args.lists.now.domains.items c.args.lists.now.regions.items (queues_of c.args.lists.now) c.args.more c.in_ok-head.head c.in_ok-head.head.count es) (sym c.new.ensures.items)) c.enter_entries.ensures
 
 pub returns-in_err-head : goal.returns-in_err-head
 returns-in_err-head c =
-    let read = rw c.deref.ensures.value at c.in_err-head.ensures.queue in
+    let read = rw c.deref.ensures.value at c.in_err-head.ensures.read in
     refused c.args.opened.now (place.Queue c.args.more) c.args.lists.now c.args.c.now _ _ (opens_queue c.args.opened.now c.args.lists.now c.args.more) c.read_queue.new.c c.in_err-head.field-0.0 c.from_residual.result c.from_residual.ensures.1 read

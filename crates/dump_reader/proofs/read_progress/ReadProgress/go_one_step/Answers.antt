@@ -1,4 +1,4 @@
-use Rattle.std.proofs.Common.{◌∙◌, ap, length, arith, length-drop}
+use Rattle.std.proofs.Common.{◌∙◌, ap, length, length-drop}
 use Rattle.dump_reader.proofs.ReadSteps.{goes_on, slice_from, fewer, fault_of_step, stands_same}
 use Rattle.dump_reader.proofs.Onward.{same_of_step, fault_of_went}
 use Rattle.dump_reader.specs.Ahead.{weight}
