@@ -66,7 +66,6 @@ pub fn read_opening(c: &mut Cursor<'_>) -> Result<Opened, Offence>
 
 /// One group of fields. Errors: `BadDump` with the first fault of the group, or `OutOfMemory`. After `Short` the lists
 /// are as they were.
-#[tactic(auto, unfolding(crate::specs::Ahead::ahead))]
 pub fn step(
     opened: &Opened,
     lists: &mut Lists,
