@@ -215,20 +215,43 @@ fn feed(reader: &mut DumpReader, piece: &[u8]) -> Option<DumpFault> {
     reader.feed(piece).err()
 }
 
-/// A reader finds a fault in the bytes of a dump, and answers it ever after.
-fn keeps_fault(rt: &impl Abort, alloc: Global, bytes: &[u8], fault: DumpFault) {
-    let mut reader = DumpReader::make(alloc);
-    let mut found = None;
-    for piece in bytes.chunks(5) {
-        let read = feed(&mut reader, piece);
-        assert!(rt; found.is_none() || found == read, "{fault:?}");
-        found = read;
-    }
-    let later = [feed(&mut reader, b""), feed(&mut reader, b"MIGDUMP")];
-    assert_eq!(rt; (found, later), (Some(fault), [Some(fault); 2]));
-    assert_eq!(rt; reader.finish().err(), Some(fault));
+/// The fault that a reader ends with.
+fn finish(reader: DumpReader) -> Option<DumpFault> {
+    reader.finish().err()
 }
 
+/// The fault that a reader finds in bytes, five at a time, if it answered it from there on.
+fn feed_in_fives(reader: &mut DumpReader, bytes: &[u8]) -> Option<DumpFault> {
+    let mut found = None;
+    let mut same = true;
+    for piece in bytes.chunks(5) {
+        let read = feed(reader, piece);
+        same &= found.is_none() || found == read;
+        found = read;
+    }
+    if same { found } else { None }
+}
+
+/// What a reader answers of bytes: at the piece with the fault, at two more pieces and at the end.
+fn answers_of(alloc: Global, bytes: &[u8]) -> [Option<DumpFault>; 4] {
+    let mut reader = DumpReader::make(alloc);
+    let found = feed_in_fives(&mut reader, bytes);
+    let none = feed(&mut reader, b"");
+    let more = feed(&mut reader, b"MIGDUMP");
+    [found, none, more, finish(reader)]
+}
+
+/// The same of a dump and a byte more, with one byte of it changed.
+fn answers_of_changed(alloc: Global, at: usize, value: u8) -> Result<[Option<DumpFault>; 4], Fail> {
+    let mut bytes = bytes_of(alloc, &ENDS)?;
+    bytes.push(0)?;
+    if let Some(byte) = bytes.get_mut(at) {
+        *byte = value;
+    }
+    Ok(answers_of(alloc, &bytes))
+}
+
+/// A reader that found a fault in the bytes of a dump answers it ever after.
 #[test]
 fn faults_are_kept(rt: HostRuntime) -> Result<(), Fail> {
     for (at, value, place, why) in [
@@ -239,12 +262,9 @@ fn faults_are_kept(rt: HostRuntime) -> Result<(), Fail> {
         (22, 1, 21, DumpWhy::Field),
         (290, 0, 290, DumpWhy::Trailing),
     ] {
-        let mut bytes = bytes_of(rt.alloc(), &ENDS)?;
-        bytes.push(0)?;
-        if let Some(byte) = bytes.get_mut(at) {
-            *byte = value;
-        }
-        keeps_fault(&rt, rt.alloc(), &bytes, DumpFault::BadDump { place, why });
+        let answers = answers_of_changed(rt.alloc(), at, value)?;
+        let fault = Some(DumpFault::BadDump { place, why });
+        assert_eq!(rt; answers, [fault; 4]);
     }
     Ok(())
 }
