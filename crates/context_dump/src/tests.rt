@@ -122,27 +122,32 @@ fn decode_in_pieces(alloc: Global, bytes: &[u8], size: usize) -> Result<ContextI
     reader.finish()
 }
 
-/// What was read: the bytes of the image as they are written again, or the fault.
-#[derive(Debug, PartialEq, Drop)]
-struct Read {
-    written: Vec<u8>,
-    fault: Option<DumpFault>,
-}
-
-fn tell(alloc: Global, read: Result<ContextImage, DumpFault>) -> Result<Read, AllocError>
+/// What was read: the bytes of the image as they are written again, and the fault.
+fn tell(
+    alloc: Global,
+    read: Result<ContextImage, DumpFault>,
+) -> Result<(Vec<u8>, Option<DumpFault>), AllocError>
     requires { IfOk read IsLawful }
 {
     match read {
-        Ok(image) => Ok(Read {
-            written: encode_dump(alloc, &image)?,
-            fault: None,
-        }),
+        Ok(image) => Ok((encode_dump(alloc, &image)?, None)),
         Err(DumpFault::OutOfMemory) => Err(AllocError),
-        Err(fault) => Ok(Read {
-            written: Vec::new(alloc),
-            fault: Some(fault),
-        }),
+        Err(fault) => Ok((Vec::new(alloc), Some(fault))),
     }
+}
+
+fn read_whole(alloc: Global, bytes: &[u8]) -> Result<(Vec<u8>, Option<DumpFault>), AllocError> {
+    tell(alloc, decode_dump(alloc, bytes))
+}
+
+fn read_in_pieces(
+    alloc: Global,
+    bytes: &[u8],
+    size: usize,
+) -> Result<(Vec<u8>, Option<DumpFault>), AllocError>
+    requires { 0 < size }
+{
+    tell(alloc, decode_in_pieces(alloc, bytes, size))
 }
 
 fn short(place: usize) -> Option<DumpFault> {
@@ -155,10 +160,14 @@ fn short(place: usize) -> Option<DumpFault> {
 /// Each prefix of a dump but the whole is too short, read in one piece and in pieces.
 fn fronts_are_short(rt: &impl Abort, alloc: Global, dump: &[u8]) -> Result<(), Fail> {
     for count in 0..dump.len() {
-        let whole = tell(alloc, decode_dump(alloc, &dump[..count]))?;
-        assert_eq!(rt; whole.fault, short(count), "{count} bytes");
-        let pieced = tell(alloc, decode_in_pieces(alloc, &dump[..count], 7))?;
-        assert_eq!(rt; pieced.fault, short(count), "{count} bytes in pieces");
+        let front = &dump[..count];
+        let (_, whole) = read_whole(alloc, front)?;
+        let (_, pieced) = read_in_pieces(alloc, front, 7)?;
+        assert_eq!(rt;
+            [whole, pieced],
+            [short(count), short(count)],
+            "{count} bytes"
+        );
     }
     Ok(())
 }
@@ -184,9 +193,9 @@ fn compare_changed(
     if let Some(byte) = changed.get_mut(at) {
         *byte = value;
     }
-    let whole = tell(alloc, decode_dump(alloc, &changed))?;
-    let pieced = tell(alloc, decode_in_pieces(alloc, &changed, 3))?;
-    assert_eq!(rt; whole, pieced, "{value} at {at}");
+    let whole = read_whole(alloc, &changed)?;
+    let pieced = read_in_pieces(alloc, &changed, 3)?;
+    assert!(rt; whole == pieced, "{value} at {at}");
     Ok(())
 }
 
@@ -201,21 +210,48 @@ fn changed_dumps_are_read_alike(rt: HostRuntime) -> Result<(), Fail> {
     Ok(())
 }
 
-/// A reader finds a fault in the bytes of a dump, and answers it ever after.
-fn keeps_fault(rt: &impl Abort, alloc: Global, bytes: &[u8], fault: DumpFault) {
-    let mut reader = DumpReader::make(alloc);
-    let mut found = None;
-    for piece in bytes.chunks(5) {
-        let read = reader.feed(piece).err();
-        assert!(rt; found.is_none() || found == read, "{fault:?}");
-        found = read;
-    }
-    assert_eq!(rt; found, Some(fault));
-    assert_eq!(rt; reader.feed(b""), Err(fault));
-    assert_eq!(rt; reader.feed(b"MIGDUMP"), Err(fault));
-    assert_eq!(rt; reader.finish().err(), Some(fault));
+/// The fault that a reader finds, if any.
+fn feed(reader: &mut DumpReader, piece: &[u8]) -> Option<DumpFault> {
+    reader.feed(piece).err()
 }
 
+/// The fault that a reader ends with.
+fn finish(reader: DumpReader) -> Option<DumpFault> {
+    reader.finish().err()
+}
+
+/// The fault that a reader finds in bytes, five at a time, if it answered it from there on.
+fn feed_in_fives(reader: &mut DumpReader, bytes: &[u8]) -> Option<DumpFault> {
+    let mut found = None;
+    let mut same = true;
+    for piece in bytes.chunks(5) {
+        let read = feed(reader, piece);
+        same &= found.is_none() || found == read;
+        found = read;
+    }
+    if same { found } else { None }
+}
+
+/// What a reader answers of bytes: at the piece with the fault, at two more pieces and at the end.
+fn answers_of(alloc: Global, bytes: &[u8]) -> [Option<DumpFault>; 4] {
+    let mut reader = DumpReader::make(alloc);
+    let found = feed_in_fives(&mut reader, bytes);
+    let none = feed(&mut reader, b"");
+    let more = feed(&mut reader, b"MIGDUMP");
+    [found, none, more, finish(reader)]
+}
+
+/// The same of a dump and a byte more, with one byte of it changed.
+fn answers_of_changed(alloc: Global, at: usize, value: u8) -> Result<[Option<DumpFault>; 4], Fail> {
+    let mut bytes = bytes_of(alloc, &ENDS)?;
+    bytes.push(0)?;
+    if let Some(byte) = bytes.get_mut(at) {
+        *byte = value;
+    }
+    Ok(answers_of(alloc, &bytes))
+}
+
+/// A reader that found a fault in the bytes of a dump answers it ever after.
 #[test]
 fn faults_are_kept(rt: HostRuntime) -> Result<(), Fail> {
     for (at, value, place, why) in [
@@ -226,12 +262,9 @@ fn faults_are_kept(rt: HostRuntime) -> Result<(), Fail> {
         (22, 1, 21, DumpWhy::Field),
         (290, 0, 290, DumpWhy::Trailing),
     ] {
-        let mut bytes = bytes_of(rt.alloc(), &ENDS)?;
-        bytes.push(0)?;
-        if let Some(byte) = bytes.get_mut(at) {
-            *byte = value;
-        }
-        keeps_fault(&rt, rt.alloc(), &bytes, DumpFault::BadDump { place, why });
+        let answers = answers_of_changed(rt.alloc(), at, value)?;
+        let fault = Some(DumpFault::BadDump { place, why });
+        assert_eq!(rt; answers, [fault; 4]);
     }
     Ok(())
 }
@@ -250,23 +283,33 @@ fn written_in_fives(alloc: Global, image: &ContextImage, most: usize) -> Result<
     Ok(bytes)
 }
 
+/// The bytes of a dump that was read and written again, whole and five at a time.
+fn written_again(alloc: Global, dump: &[u8]) -> Result<(Vec<u8>, Vec<u8>), Fail> {
+    let image = decode_dump(alloc, dump)?;
+    let whole = encode_dump(alloc, &image)?;
+    Ok((whole, written_in_fives(alloc, &image, dump.len())?))
+}
+
 #[test]
 fn an_image_goes_both_ways(rt: HostRuntime) -> Result<(), Fail> {
-    let alloc = rt.alloc();
-    let dump = bytes_of(alloc, &BUSY)?;
-    let image = decode_dump(alloc, &dump)?;
-    assert_eq!(rt; encode_dump(alloc, &image)?, dump);
-    assert_eq!(rt; written_in_fives(alloc, &image, dump.len())?, dump);
-    let pieced = decode_in_pieces(alloc, &dump, 1)?;
-    assert_eq!(rt; encode_dump(alloc, &pieced)?, dump);
+    let dump = bytes_of(rt.alloc(), &BUSY)?;
+    let (whole, in_fives) = written_again(rt.alloc(), &dump)?;
+    let (pieced, fault) = read_in_pieces(rt.alloc(), &dump, 1)?;
+    let same = [whole == dump, in_fives == dump, pieced == dump];
+    assert_eq!(rt; (same, fault), ([true; 3], None));
     Ok(())
+}
+
+/// A dump in lines.
+fn lines_of(alloc: Global, dump: &[u8]) -> Result<Vec<u8>, Fail> {
+    let image = decode_dump(alloc, dump)?;
+    Ok(dump_text(alloc, &image)?)
 }
 
 #[test]
 fn an_image_is_told_in_lines(rt: HostRuntime) -> Result<(), Fail> {
     let alloc = rt.alloc();
-    let image = decode_dump(alloc, &bytes_of(alloc, &BUSY)?)?;
-    let lines = dump_text(alloc, &image)?;
+    let lines = lines_of(alloc, &bytes_of(alloc, &BUSY)?)?;
     let wanted =
         b"context a\ndomain o\ndomain p\nregion m 01000002 01000003 16384 288\ncq c 16 2\nqp p 010002 rts 4 1 2\nqp q 010003 init 0 0 0\n";
     assert_eq!(rt; lines.as_slice(), wanted.as_slice());

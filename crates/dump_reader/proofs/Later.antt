@@ -1,23 +1,19 @@
 -- Groups of fields are read alike where more bytes come.
-use Rattle.std.proofs.Common.{◌≡◌, ℕ, ◌+◌, ◌-◌, ◌≤◌, Bool, List, ◌++◌, length, drop, refl, ap, ◌∙◌, subst, arith, length-drop}
+use Rattle.std.proofs.Common.{◌≡◌, ℕ, ◌+◌, ◌-◌, Bool, List, ◌++◌, length, drop, ap, ◌∙◌, subst, arith, length-drop}
 use Rattle.std.proofs.lemmas.List.{drop-drop}
-use Rattle.std.specs.Prelude.{Option, Result, Ok, Err, IfOk}
 use Rattle.rdma_types.specs.declared.names.Name.{Name}
 use Rattle.rdma_types.specs.declared.requests.Terms.{Terms}
-use Rattle.rdma_types.specs.Limits.{most_kept}
 use Rattle.rdma_types.specs.Objects.{Region}
-use Rattle.protocol.specs.declared.images.ContextImage.{ContextImage}
 use Rattle.protocol.specs.declared.images.EndImage.{EndImage}
 use Rattle.protocol.specs.declared.images.LinkImage.{LinkImage}
 use Rattle.protocol.specs.declared.images.RegionImage.{RegionImage}
-use Rattle.protocol.specs.Dumps.{Reading, Reader, Good, ReadQueue, after, then_read, progress_by, count_field}
-use Rattle.law_dump_round_trip.proofs.Steady.{IsSteady, Stays, Goes, GoesOn, then_steady, gives_steady, raw_steady, magic_steady, number_steady, count_steady, name_steady, placed_steady, receive_steady, progress_steady, terms_steady}
-use Rattle.dump_reader.specs.declared.fault.DumpFault.{DumpFault}
+use Rattle.protocol.specs.Dumps.{Reading, Reader, Good, ReadQueue, count_field}
+use Rattle.law_dump_round_trip.proofs.Steady.{IsSteady, Stays, Goes, GoesOn, then_steady, gives_steady, raw_steady, magic_steady, number_steady, name_steady, placed_steady, progress_steady, terms_steady}
 use Rattle.dump_reader.specs.declared.heads.RequestHead.{RequestHead}
-use Rattle.dump_reader.specs.declared.lists.ReadState.{ReadState}
+use Rattle.dump_reader.specs.declared.heads.Standing.{Standing}
 use Rattle.dump_reader.specs.Ahead.{opening_field}
-use Rattle.dump_reader.specs.Groups.{region_head_field, queue_head_field, end_head_field, peer_field, numbers_field, waiting_field, message_field, link_head_field, request_head_field, request_places_field}
-use Rattle.dump_reader.specs.Steps.{Alike, IsLeft}
+use Rattle.dump_reader.specs.Groups.{region_head_field, queue_head_field, end_head_field, peer_field, numbers_field, waiting_field, message_field, link_head_field, request_head_field, request_places_field, request_start_field}
+use Rattle.dump_reader.specs.Steps.{IsLeft}
 
 -- ---- groups of fields
 
@@ -99,11 +95,6 @@ good_by more a b h e = subst (λ (r : Reading _). Stays more r b) e h
 pub read_alike : {A : Type 0} {r : Reader A} {x : A} {p : ℕ} {bs : List ℕ} {p' : ℕ} {bs' : List ℕ} → IsSteady r → r p bs ≡ Good x p' bs' → (later : List ℕ) → r p (bs ++ later) ≡ Good x p' (bs' ++ later)
 read_alike {r = r} {p = p} {bs = bs} h e later = good_by later (r p bs) (r p (bs ++ later)) (h.stays p bs later) e
 
--- what comes to the same as something that goes on alike
-pub alike_from : (a b : Reader ContextImage) (p : ℕ) (bs : List ℕ) (p' : ℕ) (bs' : List ℕ) (next : ReadState → Reader ContextImage) (p'' : ℕ) (bs'' : List ℕ) (r : Result ReadState DumpFault) → Alike a p bs b p' bs' → IfOk r (λ n. Alike b p' bs' (next n) p'' bs'') → IfOk r (λ n. Alike a p bs (next n) p'' bs'')
-alike_from a b p bs p' bs' next p'' bs'' (Ok n) h k = λ later. h later ∙ k later
-alike_from a b p bs p' bs' next p'' bs'' (Err e) h k = k
-
 goes_by : {A : Type 0} {x : A} {p : ℕ} {bs : List ℕ} {p' : ℕ} {bs' : List ℕ} (a : Reading A) → Goes p bs a → a ≡ Good x p' bs' → GoesOn p bs p' bs'
 goes_by {p = p} {bs = bs} a h e = subst (λ (r : Reading _). Goes p bs r) e h
 
@@ -131,7 +122,5 @@ goes_twice {p = p} {bs = bs} {p' = p'} {bs' = bs'} {p'' = p''} h g =
       left = g.left ∙ (ap (drop g.count) h.left ∙ drop-drop g.count h.count bs);
     }
 
--- what holds of whatever comes
-pub ok_any : {P : Type 0} (r : Result ReadState DumpFault) → P → IfOk r (λ n. P)
-ok_any (Ok n) h = h
-ok_any (Err e) h = tt
+pub request_start_steady : (at : Standing) (l : LinkImage) (regions : List Region) (domain : Name) → IsSteady (request_start_field at l regions domain)
+request_start_steady at l regions domain = then_steady (request_head_steady _ _ _ _ _ _) λ h. request_places_steady _ _ _

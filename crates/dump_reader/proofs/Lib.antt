@@ -1,9 +1,11 @@
 pub mod Seen
-pub mod Read
 pub mod Split
 pub mod Reserved
 pub mod Ends
 pub mod Whole
 pub mod Dumped
 pub mod Later
+pub mod Onward
+pub mod Opens
 pub mod ReadSteps
+pub mod Latched

@@ -1,20 +1,18 @@
 -- How far a dump was read, and what one step more comes to.
 use Rattle.std.proofs.Common.{◌≡◌, ℕ, ◌+◌, ◌-◌, ◌*◌, ◌≤◌, ◌<◌, List, [], ◌∷◌, ◌++◌, length, take, drop, refl, ap, sym, ◌∙◌, subst, arith, length-drop, append-nil}
 use Rattle.std.proofs.lemmas.List.{drop-drop, take_all}
-use Rattle.std.specs.Prelude.{⊤, Err}
 use Rattle.protocol.specs.declared.dumps.DumpWhy.TheVariants as dump_why
 use Rattle.protocol.specs.declared.images.ContextImage.{ContextImage}
 use Rattle.protocol.specs.Dumps.{Reading, Reader, Good, Bad, after, at_end, read_dump}
 use Rattle.law_dump_round_trip.proofs.Steady.{GoesOn}
 use Rattle.dump_reader.specs.declared.fault.DumpFault.{DumpFault}
-use Rattle.dump_reader.specs.declared.fault.DumpFault.TheVariants.{BadDump, OutOfMemory}
 use Rattle.dump_reader.specs.declared.heads.Opened.{Opened}
 use Rattle.dump_reader.specs.declared.lists.Lists.{Lists}
 use Rattle.dump_reader.specs.declared.lists.ReadState.{ReadState}
 use Rattle.dump_reader.specs.declared.lists.ReadState.TheVariants as place
 use Rattle.dump_reader.specs.declared.read_progress.ReadProgress.{ReadProgress}
 use Rattle.dump_reader.specs.Ahead.{ahead, more_domains, opening_field}
-use Rattle.dump_reader.specs.Steps.{Alike, IsFault, Moves}
+use Rattle.dump_reader.specs.Steps.{IsFault}
 use Rattle.dump_reader.specs.ReadProgress.{Stands, IsWhole, image_at}
 use Rattle.dump_reader.proofs.Later.{opening_steady, read_alike, read_goes, left_behind}
 use Rattle.dump_reader.proofs.Whole.{dump_opens}
@@ -38,7 +36,7 @@ begins bs o s next p left e entered =
     }
 
 -- one step more
-pub goes_on : (way : ReadProgress) (bs front : List ℕ) (s : Lists) (next : ReadState) (p : ℕ) (left : List ℕ) → Stands way bs → front ≡ drop way.at bs → Alike (ahead way.opened way.lists way.place) way.at front (ahead way.opened s next) p left → left ≡ drop (p - way.at) front → p + length left ≡ way.at + length front → Stands (record { opened = way.opened; lists = s; place = next; at = p }) bs
+pub goes_on : (way : ReadProgress) (bs front : List ℕ) (s : Lists) (next : ReadState) (p : ℕ) (left : List ℕ) → Stands way bs → front ≡ drop way.at bs → ((later : List ℕ) → ahead way.opened way.lists way.place way.at (front ++ later) ≡ ahead way.opened s next p (left ++ later)) → left ≡ drop (p - way.at) front → p + length left ≡ way.at + length front → Stands (record { opened = way.opened; lists = s; place = next; at = p }) bs
 goes_on way bs front s next p left h front_is alike behind fits =
     let within = h.within in
     let all : length front ≡ length bs - way.at = ap length front_is ∙ length-drop way.at bs in
@@ -110,8 +108,3 @@ whole way bs h e past =
 -- nothing was read
 pub stands_same : (way : ReadProgress) (bs : List ℕ) (s : Lists) → Stands way bs → s ≡ way.lists → Stands (record { opened = way.opened; lists = s; place = way.place; at = way.at }) bs
 stands_same way bs s h e = subst (λ (x : Lists). Stands (record { opened = way.opened; lists = x; place = way.place; at = way.at }) bs) (sym e) h
-
--- the fault of a step
-pub fault_of_move : (b : Reading ContextImage) (next : ReadState → Reading ContextImage) (e : DumpFault) → Moves b next (Err e) → IsFault b e
-fault_of_move b next (BadDump at why) h = h
-fault_of_move b next OutOfMemory h = tt

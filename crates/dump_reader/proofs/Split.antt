@@ -1,10 +1,7 @@
 -- Readers as their groups.
-use Rattle.std.proofs.Common.{◌≡◌, ℕ, List, [], ◌∷◌, ◌++◌, length, map, add-zero, false, nat_lt, arith, subst, refl, ap, sym, ◌∙◌}
+use Rattle.std.proofs.Common.{◌≡◌, ℕ, List, [], ◌∷◌, ◌++◌, length, map, add-zero, false, nat_lt, arith, refl, ap, sym, ◌∙◌}
 use Rattle.protocol.specs.declared.images.ContextImage.{ContextImage}
-use Rattle.dump_reader.specs.declared.lists.ReadState.{ReadState}
-use Rattle.dump_reader.specs.declared.fault.DumpFault.{DumpFault}
-use Rattle.dump_reader.specs.Steps.{Moves}
-use Rattle.std.specs.Prelude.{Bool, Result}
+use Rattle.std.specs.Prelude.{Bool}
 use Rattle.std.proofs.lemmas.Bool.Decides.{nat_tests}
 use Rattle.rdma_types.specs.declared.names.Name.{Name}
 use Rattle.rdma_types.specs.Kinds.{lands}
@@ -130,7 +127,3 @@ raw_none p bs = rw (none_below (length bs), add-zero p) refl
 pub skip : (n p : ℕ) (bs : List ℕ) (k : List ℕ → Reader ContextImage) (x : List ℕ) → n ≡ 0 → x ≡ [] → after (raw n p bs) k ≡ k x p bs
 unfolding after
 skip n p bs k x e x_is = rw (e, raw_none p bs) (ap (λ (y : List ℕ). k y p bs) (sym x_is))
-
--- what is known of the one is known of the other
-pub moves_from : (a b : Reading ContextImage) (next : ReadState → Reading ContextImage) (r : Result ReadState DumpFault) → a ≡ b → Moves b next r → Moves a next r
-moves_from a b next r e h = subst (λ (x : Reading ContextImage). Moves x next r) (sym e) h

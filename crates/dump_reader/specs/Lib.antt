@@ -5,3 +5,4 @@ pub mod Steps
 pub mod Faults
 pub mod Overfull
 pub mod ReadProgress
+pub mod Latched

@@ -3,15 +3,17 @@
 ghost use Rattle.std.specs.Prelude.{◌≡◌, ℕ, List, suc, ◌+◌, ◌-◌, ◌<◌, ◌≤◌, ◌^◌, ◌==◌, ◌++◌, ◌∷◌, length, [], map, drop, Some, None, IfOk, IfErr, true, false, not, ◌||◌, if◌then◌else◌};
 ghost use Rattle.protocol.specs.Dumps.{then_read, items, raw, shape_of_length, count_by, is_untold_count, is_ended};
 ghost use Rattle.protocol.specs.Images.{name_at};
-ghost use Rattle.dump_reader.specs.Groups.{came, link_of_head, end_of_head, regions_of, payload_length};
+ghost use Rattle.dump_reader.specs.Latched.{Parsed};
+ghost use Rattle.dump_reader.specs.Groups.{link_of_head, end_of_head, regions_of, payload_length};
 ghost use Rattle.rdma_types.specs.Kinds.{lands};
 ghost use Rattle.dump_reader.specs.Ahead.{ahead, more_ends, more_kept, more_untold, more_receives, untold_list, unused_list, linked_list, after_head, queues_of, linked_of, first_of, passed, may_be_untold, may_be_unused, weight};
-ghost use Rattle.dump_reader.specs.Steps.{Alike, IsLeft, Moves, is_wanting};
+ghost use Rattle.dump_reader.specs.Steps.{Enters, Steps};
 
 use crate::cursor::{Cursor, Offence};
 use crate::fault::DumpFault;
+use crate::fields::Fields;
 use crate::groups;
-use crate::heads::{Before, EndImageHead, LinkImageHead, Opened, RequestHead, Standing};
+use crate::heads::{Before, EndImageHead, LinkImageHead, Opened, Standing};
 use crate::lists::{Lists, ReadState, push};
 use crate::overfull::find_overfull;
 use crate::places::{self, Scope};
@@ -24,15 +26,8 @@ use std::mem;
 /// So many queue pairs are next, or the image is whole. Errors: `BadDump` with `Field` at a completion queue that lacks
 /// room for its entries and for what the queue pairs will put there. It is never `Short`.
 #[tactic(auto, unfolding(protocol::specs::Dumps::after, protocol::specs::Dumps::items, crate::specs::Ahead::ahead, crate::specs::Ahead::more_ends, crate::specs::Ahead::finished))]
-pub fn enter_ends(
-    opened: &Opened,
-    lists: &Lists,
-    c: &Cursor<'_>,
-    count: u16,
-) -> Result<ReadState, DumpFault>
-    ensures moves { Moves (more_ends opened.now lists.now.domains.items lists.now.regions.items (queues_of lists.now) count lists.now.ends.items c.now.place c.now.bytes.now) (λ next. ahead opened.now lists.now next c.now.place c.now.bytes.now) result }
-    ensures with_more_bytes { IfOk result (λ next. Alike (more_ends opened.now lists.now.domains.items lists.now.regions.items (queues_of lists.now) count lists.now.ends.items) c.now.place c.now.bytes.now (ahead opened.now lists.now next) c.now.place c.now.bytes.now) }
-    ensures never { IfErr result (λ e. is_wanting e ≡ false) }
+pub fn enter_ends(opened: &Opened, lists: &Lists, count: u16) -> Result<ReadState, DumpFault>
+    ensures { Enters (more_ends opened.now lists.now.domains.items lists.now.regions.items (queues_of lists.now) count lists.now.ends.items) (ahead opened.now lists.now) result }
 {
     if count > 0 {
         return Ok(ReadState::End(count - 1));
@@ -48,21 +43,16 @@ pub fn enter_ends(
 
 /// The count of queue pairs. Errors: `BadDump` with the first fault of the bytes, or `OutOfMemory`. After `Short` the
 /// lists are as they were.
-#[tactic(auto, unfolding(protocol::specs::Dumps::after, protocol::specs::Dumps::items, crate::specs::Ahead::ahead))]
 pub fn end_count_step(
     opened: &Opened,
     lists: &mut Lists,
     c: &mut Cursor<'_>,
 ) -> Result<ReadState, DumpFault>
-    ensures moves { Moves (ahead opened.now lists.old ReadState.EndCount c.old.place c.old.bytes.now) (λ next. ahead opened.now lists.new next c.new.place c.new.bytes.now) result }
-    ensures with_more_bytes { IfOk result (λ next. Alike (ahead opened.now lists.old ReadState.EndCount) c.old.place c.old.bytes.now (ahead opened.now lists.new next) c.new.place c.new.bytes.now) }
-    ensures left { IfOk result (λ next. IsLeft c.old.place c.old.bytes.now c.new.place c.new.bytes.now) }
-    ensures same { IfErr result (λ e. is_wanting e ≡ true → lists.new ≡ lists.old) }
-    ensures passed { IfOk result (λ next. c.old.place < c.new.place) }
+    ensures { Steps opened.now ReadState.EndCount lists.old lists.new c.old c.new result }
 {
     let count = groups::read_count(c, 64)?;
     lists.ends = Vec::new(lists.alloc);
-    enter_ends(opened, lists, c, count)
+    enter_ends(opened, lists, count)
 }
 
 /// Behind the head of a queue pair.
@@ -78,18 +68,13 @@ pub fn enter_end(opened: &Opened, lists: &Lists, head: &EndImageHead, after: u16
 
 /// A queue pair, up to its state. Errors: `BadDump` with the first fault of the bytes, or `OutOfMemory`. After `Short`
 /// the lists are as they were.
-#[tactic(auto, unfolding(protocol::specs::Dumps::after, protocol::specs::Dumps::items, crate::specs::Ahead::ahead), using(crate::proofs::Ends::placed_begin))]
 pub fn end_step(
     opened: &Opened,
     lists: &mut Lists,
     c: &mut Cursor<'_>,
     more: u16,
 ) -> Result<ReadState, DumpFault>
-    ensures moves { Moves (ahead opened.now lists.old (ReadState.End more) c.old.place c.old.bytes.now) (λ next. ahead opened.now lists.new next c.new.place c.new.bytes.now) result }
-    ensures with_more_bytes { IfOk result (λ next. Alike (ahead opened.now lists.old (ReadState.End more)) c.old.place c.old.bytes.now (ahead opened.now lists.new next) c.new.place c.new.bytes.now) }
-    ensures left { IfOk result (λ next. IsLeft c.old.place c.old.bytes.now c.new.place c.new.bytes.now) }
-    ensures same { IfErr result (λ e. is_wanting e ≡ true → lists.new ≡ lists.old) }
-    ensures passed { IfOk result (λ next. c.old.place < c.new.place) }
+    ensures { Steps opened.now (ReadState.End more) lists.old lists.new c.old c.new result }
 {
     let domains = lists.domains.len();
     let head = groups::read_end(c, domains, lists.queues.len(), &lists.ends)?;
@@ -133,7 +118,6 @@ pub fn enter_kept(
 
 /// A kept reply. Errors: `BadDump` with the first fault of the bytes, or `OutOfMemory`. After `Short` the lists are as
 /// they were.
-#[tactic(auto, unfolding(protocol::specs::Dumps::after, protocol::specs::Dumps::items, crate::specs::Ahead::ahead, crate::specs::Ahead::more_kept))]
 pub fn kept_step(
     opened: &Opened,
     lists: &mut Lists,
@@ -143,11 +127,7 @@ pub fn kept_step(
     more: u8,
     after: u16,
 ) -> Result<ReadState, DumpFault>
-    ensures moves { Moves (ahead opened.now lists.old (ReadState.Kept head.now link.now more after) c.old.place c.old.bytes.now) (λ next. ahead opened.now lists.new next c.new.place c.new.bytes.now) result }
-    ensures with_more_bytes { IfOk result (λ next. Alike (ahead opened.now lists.old (ReadState.Kept head.now link.now more after)) c.old.place c.old.bytes.now (ahead opened.now lists.new next) c.new.place c.new.bytes.now) }
-    ensures left { IfOk result (λ next. IsLeft c.old.place c.old.bytes.now c.new.place c.new.bytes.now) }
-    ensures same { IfErr result (λ e. is_wanting e ≡ true → lists.new ≡ lists.old) }
-    ensures passed { IfOk result (λ next. c.old.place < c.new.place) }
+    ensures { Steps opened.now (ReadState.Kept head.now link.now more after) lists.old lists.new c.old c.new result }
 {
     let reply = groups::read_kept(c, link.waiting.expected, &lists.kept)?;
     push(&mut lists.kept, reply)?;
@@ -184,19 +164,18 @@ fn untold_rule(link: &Option<LinkImageHead>, count: u16) -> bool
     }
 }
 
-#[tactic(auto, unfolding(protocol::specs::Dumps::after, protocol::specs::Dumps::judged))]
 fn read_untold_count(
     c: &mut Cursor<'_>,
     depth: u16,
     link: &Option<LinkImageHead>,
 ) -> Result<u16, Offence>
-    ensures count { count_by 2 depth (may_be_untold link.now) c.old.place c.old.bytes.now ≡ came result c.new.place c.new.bytes.now }
-    ensures passed { IfOk result (λ x. c.old.place < c.new.place) }
+    ensures { Parsed (count_by 2 depth (may_be_untold link.now)) c.old c.new result }
 {
-    let count = c.u16()?;
-    c.keep_or(DumpWhy::Count, count <= depth)?;
-    c.keep(untold_rule(link, count))?;
-    Ok(count)
+    let mut fields = Fields::of(c);
+    let count = fields.u16();
+    fields.keep_or(DumpWhy::Count, count <= depth);
+    fields.keep(untold_rule(link, count));
+    fields.end(c, count)
 }
 
 fn unused_rule(link: &Option<LinkImageHead>, count: u16) -> bool
@@ -208,24 +187,22 @@ fn unused_rule(link: &Option<LinkImageHead>, count: u16) -> bool
     }
 }
 
-#[tactic(auto, unfolding(protocol::specs::Dumps::after, protocol::specs::Dumps::judged))]
 fn read_unused_count(
     c: &mut Cursor<'_>,
     depth: u16,
     link: &Option<LinkImageHead>,
 ) -> Result<u16, Offence>
-    ensures count { count_by 2 depth (may_be_unused link.now) c.old.place c.old.bytes.now ≡ came result c.new.place c.new.bytes.now }
-    ensures passed { IfOk result (λ x. c.old.place < c.new.place) }
+    ensures { Parsed (count_by 2 depth (may_be_unused link.now)) c.old c.new result }
 {
-    let count = c.u16()?;
-    c.keep_or(DumpWhy::Count, count <= depth)?;
-    c.keep(unused_rule(link, count))?;
-    Ok(count)
+    let mut fields = Fields::of(c);
+    let count = fields.u16();
+    fields.keep_or(DumpWhy::Count, count <= depth);
+    fields.keep(unused_rule(link, count));
+    fields.end(c, count)
 }
 
 /// What a connected end has, up to its kept replies. Errors: `BadDump` with the first fault of the bytes, or
 /// `OutOfMemory`. After `Short` the lists are as they were.
-#[tactic(auto, unfolding(protocol::specs::Dumps::after, protocol::specs::Dumps::items, crate::specs::Ahead::ahead), using(crate::proofs::Ends::linked_begins))]
 pub fn link_step(
     opened: &Opened,
     lists: &mut Lists,
@@ -233,11 +210,7 @@ pub fn link_step(
     head: &EndImageHead,
     after: u16,
 ) -> Result<ReadState, DumpFault>
-    ensures moves { Moves (ahead opened.now lists.old (ReadState.Link head.now after) c.old.place c.old.bytes.now) (λ next. ahead opened.now lists.new next c.new.place c.new.bytes.now) result }
-    ensures with_more_bytes { IfOk result (λ next. Alike (ahead opened.now lists.old (ReadState.Link head.now after)) c.old.place c.old.bytes.now (ahead opened.now lists.new next) c.new.place c.new.bytes.now) }
-    ensures left { IfOk result (λ next. IsLeft c.old.place c.old.bytes.now c.new.place c.new.bytes.now) }
-    ensures same { IfErr result (λ e. is_wanting e ≡ true → lists.new ≡ lists.old) }
-    ensures passed { IfOk result (λ next. c.old.place < c.new.place) }
+    ensures { Steps opened.now (ReadState.Link head.now after) lists.old lists.new c.old c.new result }
 {
     let link = places::read_link(c, &scope_of(lists, head), head.state == 2)?;
     lists.kept = Vec::new(lists.alloc);
@@ -246,7 +219,6 @@ pub fn link_step(
 
 /// The count of untold requests. Errors: `BadDump` with the first fault of the bytes, or `OutOfMemory`. After `Short`
 /// the lists are as they were.
-#[tactic(auto, unfolding(protocol::specs::Dumps::after, protocol::specs::Dumps::items, crate::specs::Ahead::ahead), using(crate::proofs::Ends::untold_opens))]
 pub fn untold_step(
     opened: &Opened,
     lists: &mut Lists,
@@ -255,11 +227,7 @@ pub fn untold_step(
     link: &Option<LinkImageHead>,
     after: u16,
 ) -> Result<ReadState, DumpFault>
-    ensures moves { Moves (ahead opened.now lists.old (ReadState.Untold head.now link.now after) c.old.place c.old.bytes.now) (λ next. ahead opened.now lists.new next c.new.place c.new.bytes.now) result }
-    ensures with_more_bytes { IfOk result (λ next. Alike (ahead opened.now lists.old (ReadState.Untold head.now link.now after)) c.old.place c.old.bytes.now (ahead opened.now lists.new next) c.new.place c.new.bytes.now) }
-    ensures left { IfOk result (λ next. IsLeft c.old.place c.old.bytes.now c.new.place c.new.bytes.now) }
-    ensures same { IfErr result (λ e. is_wanting e ≡ true → lists.new ≡ lists.old) }
-    ensures passed { IfOk result (λ next. c.old.place < c.new.place) }
+    ensures { Steps opened.now (ReadState.Untold head.now link.now after) lists.old lists.new c.old c.new result }
 {
     let count = read_untold_count(c, head.send_depth, link)?;
     lists.untold = Vec::new(lists.alloc);
@@ -277,14 +245,15 @@ pub fn untold_step(
 }
 
 /// What stands before the request after one.
-fn advanced(link: &LinkImageHead, before: &Before, head: &RequestHead) -> Before
-    requires { before.now.low + shape_of_length head.now.kind head.now.length link.now.terms.mtu < 2 ^ 62 }
-    ensures { result ≡ record before.now { low = before.now.low + shape_of_length head.now.kind head.now.length link.now.terms.mtu; landing = before.now.landing || lands head.now.kind } }
+fn advanced(link: &LinkImageHead, before: &Before, request: &Request) -> Before
+    requires { before.now.low + shape_of_length request.now.shape.kind request.now.shape.length link.now.terms.mtu < 2 ^ 62 }
+    ensures { result ≡ passed (link_of_head link.now []) before.now request.now }
 {
+    let shape = &request.shape;
     Before {
         count: before.count,
-        low: before.low + span_of(head.kind, head.length, link.terms.mtu),
-        landing: before.landing || lands_bytes(head.kind),
+        low: before.low + span_of(shape.kind, shape.length, link.terms.mtu),
+        landing: before.landing || lands_bytes(shape.kind),
     }
 }
 
@@ -306,7 +275,6 @@ fn standing_of(opened: &Opened, before: &Before, more: u16) -> Standing
 pub fn take_request(
     opened: &Opened,
     lists: &mut Lists,
-    c: &Cursor<'_>,
     head: &EndImageHead,
     link: &LinkImageHead,
     before: &Before,
@@ -315,9 +283,7 @@ pub fn take_request(
     request: Request,
 ) -> Result<ReadState, DumpFault>
     ensures weightless { IfOk result (λ next. weight next ≡ 0) }
-    ensures moves { Moves (more_untold opened.now lists.old.domains.items lists.old.regions.items (queues_of lists.old) lists.old.ends.items after head.now (link_of_head link.now lists.old.kept.items) before.now count (lists.old.untold.items ++ record { request = request; payload = lists.old.run } ∷ []) c.now.place c.now.bytes.now) (λ next. ahead opened.now lists.new next c.now.place c.now.bytes.now) result }
-    ensures with_more_bytes { IfOk result (λ next. Alike (more_untold opened.now lists.old.domains.items lists.old.regions.items (queues_of lists.old) lists.old.ends.items after head.now (link_of_head link.now lists.old.kept.items) before.now count (lists.old.untold.items ++ record { request = request; payload = lists.old.run } ∷ [])) c.now.place c.now.bytes.now (ahead opened.now lists.new next) c.now.place c.now.bytes.now) }
-    ensures never { IfErr result (λ e. is_wanting e ≡ false) }
+    ensures enters { Enters (more_untold opened.now lists.old.domains.items lists.old.regions.items (queues_of lists.old) lists.old.ends.items after head.now (link_of_head link.now lists.old.kept.items) before.now count (lists.old.untold.items ++ record { request = request; payload = lists.old.run } ∷ [])) (ahead opened.now lists.new) result }
 {
     let payload = mem::replace(&mut lists.run, ByteRun::make(lists.alloc));
     push(&mut lists.untold, PostedImage { request, payload })?;
@@ -330,7 +296,6 @@ pub fn take_request(
 pub fn enter_payload(
     opened: &Opened,
     lists: &mut Lists,
-    c: &Cursor<'_>,
     head: &EndImageHead,
     link: &LinkImageHead,
     before: &Before,
@@ -338,21 +303,18 @@ pub fn enter_payload(
     after: u16,
     request: Request,
 ) -> Result<ReadState, DumpFault>
-    ensures moves { Moves (then_read (raw (payload_length request)) (λ payload. more_untold opened.now lists.old.domains.items lists.old.regions.items (queues_of lists.old) lists.old.ends.items after head.now (link_of_head link.now lists.old.kept.items) before.now count (lists.old.untold.items ++ record { request = request; payload = payload } ∷ [])) c.now.place c.now.bytes.now) (λ next. ahead opened.now lists.new next c.now.place c.now.bytes.now) result }
-    ensures with_more_bytes { IfOk result (λ next. Alike (then_read (raw (payload_length request)) (λ payload. more_untold opened.now lists.old.domains.items lists.old.regions.items (queues_of lists.old) lists.old.ends.items after head.now (link_of_head link.now lists.old.kept.items) before.now count (lists.old.untold.items ++ record { request = request; payload = payload } ∷ []))) c.now.place c.now.bytes.now (ahead opened.now lists.new next) c.now.place c.now.bytes.now) }
-    ensures never { IfErr result (λ e. is_wanting e ≡ false) }
+    ensures { Enters (then_read (raw (payload_length request)) (λ payload. more_untold opened.now lists.old.domains.items lists.old.regions.items (queues_of lists.old) lists.old.ends.items after head.now (link_of_head link.now lists.old.kept.items) before.now count (lists.old.untold.items ++ record { request = request; payload = payload } ∷ []))) (ahead opened.now lists.new) result }
 {
     lists.run = ByteRun::make(lists.alloc);
     let missing = payload_len(&request);
     if missing > 0 {
         return Ok(ReadState::Payload(*head, *link, *before, count, after, request, missing));
     }
-    take_request(opened, lists, c, head, link, before, count, after, request)
+    take_request(opened, lists, head, link, before, count, after, request)
 }
 
 /// An untold request, up to its payload. Errors: `BadDump` with the first fault of the bytes, or `OutOfMemory`. After
 /// `Short` the lists are as they were.
-#[tactic(auto, unfolding(protocol::specs::Dumps::after, protocol::specs::Dumps::items, crate::specs::Ahead::ahead), using(crate::proofs::Ends::request_begins))]
 pub fn request_step(
     opened: &Opened,
     lists: &mut Lists,
@@ -363,21 +325,16 @@ pub fn request_step(
     more: u16,
     after: u16,
 ) -> Result<ReadState, DumpFault>
-    ensures moves { Moves (ahead opened.now lists.old (ReadState.Request head.now link.now before.now more after) c.old.place c.old.bytes.now) (λ next. ahead opened.now lists.new next c.new.place c.new.bytes.now) result }
-    ensures with_more_bytes { IfOk result (λ next. Alike (ahead opened.now lists.old (ReadState.Request head.now link.now before.now more after)) c.old.place c.old.bytes.now (ahead opened.now lists.new next) c.new.place c.new.bytes.now) }
-    ensures left { IfOk result (λ next. IsLeft c.old.place c.old.bytes.now c.new.place c.new.bytes.now) }
-    ensures same { IfErr result (λ e. is_wanting e ≡ true → lists.new ≡ lists.old) }
-    ensures passed { IfOk result (λ next. c.old.place < c.new.place) }
+    ensures { Steps opened.now (ReadState.Request head.now link.now before.now more after) lists.old lists.new c.old c.new result }
 {
-    let start = requests::read_request_head(c, link, &standing_of(opened, before, more))?;
-    let request = requests::read_request_places(c, &scope_of(lists, head), &start)?;
-    let before = advanced(link, before, &start);
-    enter_payload(opened, lists, c, head, link, &before, more, after, request)
+    let standing = standing_of(opened, before, more);
+    let request = requests::read_request(c, link, &standing, &scope_of(lists, head))?;
+    let before = advanced(link, before, &request);
+    enter_payload(opened, lists, head, link, &before, more, after, request)
 }
 
 /// The payload of a request, all that is missing. Errors: `BadDump` with the first fault of the bytes, or
 /// `OutOfMemory`. After `Short` the lists are as they were.
-#[tactic(auto, unfolding(protocol::specs::Dumps::after, protocol::specs::Dumps::items, crate::specs::Ahead::ahead))]
 pub fn payload_step(
     opened: &Opened,
     lists: &mut Lists,
@@ -390,16 +347,11 @@ pub fn payload_step(
     request: Request,
     missing: u32,
 ) -> Result<ReadState, DumpFault>
-    ensures moves { Moves (ahead opened.now lists.old (ReadState.Payload head.now link.now before.now count after request missing) c.old.place c.old.bytes.now) (λ next. ahead opened.now lists.new next c.new.place c.new.bytes.now) result }
-    ensures with_more_bytes { IfOk result (λ next. Alike (ahead opened.now lists.old (ReadState.Payload head.now link.now before.now count after request missing)) c.old.place c.old.bytes.now (ahead opened.now lists.new next) c.new.place c.new.bytes.now) }
-    ensures left { IfOk result (λ next. IsLeft c.old.place c.old.bytes.now c.new.place c.new.bytes.now) }
-    ensures same { IfErr result (λ e. is_wanting e ≡ true → lists.new ≡ lists.old) }
-    ensures weightless { IfOk result (λ next. weight next ≡ 0) }
-    ensures passed { IfOk result (λ next. c.old.place ≤ c.new.place) }
+    ensures { Steps opened.now (ReadState.Payload head.now link.now before.now count after request missing) lists.old lists.new c.old c.new result }
 {
     let bytes = c.raw(missing as usize)?;
     lists.run.append(lists.alloc, bytes)?;
-    take_request(opened, lists, c, head, link, before, count, after, request)
+    take_request(opened, lists, head, link, before, count, after, request)
 }
 
 /// What a queue pair has of its link.
@@ -470,27 +422,23 @@ fn end_image(lists: &mut Lists, head: &EndImageHead, link: &Option<LinkImageHead
 pub fn enter_receives(
     opened: &Opened,
     lists: &mut Lists,
-    c: &Cursor<'_>,
     head: &EndImageHead,
     link: &Option<LinkImageHead>,
     count: u16,
     after: u16,
 ) -> Result<ReadState, DumpFault>
-    ensures moves { Moves (more_receives opened.now lists.old.domains.items lists.old.regions.items (queues_of lists.old) lists.old.ends.items after head.now (linked_of link.now lists.old.kept.items) lists.old.untold.items count lists.old.unused.items c.now.place c.now.bytes.now) (λ next. ahead opened.now lists.new next c.now.place c.now.bytes.now) result }
-    ensures with_more_bytes { IfOk result (λ next. Alike (more_receives opened.now lists.old.domains.items lists.old.regions.items (queues_of lists.old) lists.old.ends.items after head.now (linked_of link.now lists.old.kept.items) lists.old.untold.items count lists.old.unused.items) c.now.place c.now.bytes.now (ahead opened.now lists.new next) c.now.place c.now.bytes.now) }
-    ensures never { IfErr result (λ e. is_wanting e ≡ false) }
+    ensures { Enters (more_receives opened.now lists.old.domains.items lists.old.regions.items (queues_of lists.old) lists.old.ends.items after head.now (linked_of link.now lists.old.kept.items) lists.old.untold.items count lists.old.unused.items) (ahead opened.now lists.new) result }
 {
     if count > 0 {
         return Ok(ReadState::Receive(*head, *link, count - 1, after));
     }
     let end = end_image(lists, head, link);
     push(&mut lists.ends, end)?;
-    enter_ends(opened, lists, c, after)
+    enter_ends(opened, lists, after)
 }
 
 /// The count of unused receives. Errors: `BadDump` with the first fault of the bytes, or `OutOfMemory`. After `Short`
 /// the lists are as they were.
-#[tactic(auto, unfolding(protocol::specs::Dumps::after, protocol::specs::Dumps::items, crate::specs::Ahead::ahead), using(crate::proofs::Ends::unused_opens))]
 pub fn unused_step(
     opened: &Opened,
     lists: &mut Lists,
@@ -499,20 +447,15 @@ pub fn unused_step(
     link: &Option<LinkImageHead>,
     after: u16,
 ) -> Result<ReadState, DumpFault>
-    ensures moves { Moves (ahead opened.now lists.old (ReadState.Unused head.now link.now after) c.old.place c.old.bytes.now) (λ next. ahead opened.now lists.new next c.new.place c.new.bytes.now) result }
-    ensures with_more_bytes { IfOk result (λ next. Alike (ahead opened.now lists.old (ReadState.Unused head.now link.now after)) c.old.place c.old.bytes.now (ahead opened.now lists.new next) c.new.place c.new.bytes.now) }
-    ensures left { IfOk result (λ next. IsLeft c.old.place c.old.bytes.now c.new.place c.new.bytes.now) }
-    ensures same { IfErr result (λ e. is_wanting e ≡ true → lists.new ≡ lists.old) }
-    ensures passed { IfOk result (λ next. c.old.place < c.new.place) }
+    ensures { Steps opened.now (ReadState.Unused head.now link.now after) lists.old lists.new c.old c.new result }
 {
     let count = read_unused_count(c, head.recv_depth, link)?;
     lists.unused = Vec::new(lists.alloc);
-    enter_receives(opened, lists, c, head, link, count, after)
+    enter_receives(opened, lists, head, link, count, after)
 }
 
 /// An unused receive. Errors: `BadDump` with the first fault of the bytes, or `OutOfMemory`. After `Short` the lists
 /// are as they were.
-#[tactic(auto, unfolding(protocol::specs::Dumps::after, protocol::specs::Dumps::items, crate::specs::Ahead::ahead, crate::specs::Ahead::more_receives))]
 pub fn receive_step(
     opened: &Opened,
     lists: &mut Lists,
@@ -522,13 +465,9 @@ pub fn receive_step(
     more: u16,
     after: u16,
 ) -> Result<ReadState, DumpFault>
-    ensures moves { Moves (ahead opened.now lists.old (ReadState.Receive head.now link.now more after) c.old.place c.old.bytes.now) (λ next. ahead opened.now lists.new next c.new.place c.new.bytes.now) result }
-    ensures with_more_bytes { IfOk result (λ next. Alike (ahead opened.now lists.old (ReadState.Receive head.now link.now more after)) c.old.place c.old.bytes.now (ahead opened.now lists.new next) c.new.place c.new.bytes.now) }
-    ensures left { IfOk result (λ next. IsLeft c.old.place c.old.bytes.now c.new.place c.new.bytes.now) }
-    ensures same { IfErr result (λ e. is_wanting e ≡ true → lists.new ≡ lists.old) }
-    ensures passed { IfOk result (λ next. c.old.place < c.new.place) }
+    ensures { Steps opened.now (ReadState.Receive head.now link.now more after) lists.old lists.new c.old c.new result }
 {
-    let receive = places::read_receive(c, &scope_of(lists, head), 0)?;
+    let receive = places::read_waiting_receive(c, &scope_of(lists, head))?;
     push(&mut lists.unused, receive)?;
-    enter_receives(opened, lists, c, head, link, more, after)
+    enter_receives(opened, lists, head, link, more, after)
 }

@@ -1,14 +1,16 @@
 //! The readers of the groups of fields.
 
-ghost use Rattle.std.specs.Prelude.{◌≡◌, ℕ, ◌+◌, ◌<◌, ◌≤◌, ◌^◌, ◌==◌, ◌&&◌, ◌||◌, not, length, [], nat_lt, nat_le, map, true, IfOk};
+ghost use Rattle.std.specs.Prelude.{◌≡◌, ℕ, ◌+◌, ◌<◌, ◌≤◌, ◌^◌, ◌==◌, ◌&&◌, ◌||◌, not, length, [], nat_lt, nat_le, map, true, if◌then◌else◌};
 ghost use Rattle.rdma_types.specs.Lists.{has_word, some};
 ghost use Rattle.rdma_types.specs.Limits.{is_mtu};
-ghost use Rattle.protocol.specs.Dumps.{number, any, count_field, then_read, gives, is_24, is_below_limit, is_status, name_field, terms_field, entry_field, kept_field, judged_name, rises, follows, region_names, queue_names, completed_of, status_of};
+ghost use Rattle.protocol.specs.Dumps.{within, number, any, count_field, then_read, gives, is_24, is_below_limit, is_status, name_field, terms_field, entry_field, kept_field, judged_name, rises, follows, region_names, queue_names, completed_of, status_of};
 ghost use Rattle.protocol.specs.Lawful.{is_number, is_local_key};
-ghost use Rattle.dump_reader.specs.Groups.{came, region_head_field, queue_head_field, end_head_field, peer_field, numbers_field, waiting_field, message_field, link_head_field, placed};
+ghost use Rattle.dump_reader.specs.Latched.{Parsed, Reads};
+ghost use Rattle.dump_reader.specs.Groups.{region_head_field, queue_head_field, end_head_field, peer_field, numbers_field, waiting_field, message_field, link_head_field, placed};
 ghost use Rattle.rdma_types.specs.declared.names.Name.{Name};
 
 use crate::cursor::{Cursor, Offence};
+use crate::fields::Fields;
 use crate::heads::{EndImageHead, Numbers, Peer, PlacedQueue, QueueHead, RegionImageHead, Waiting};
 use protocol::{DumpWhy, EndImage, KeptReply, RegionImage};
 use rdma_types::{Address, Completion, Keys, Name, Rights, Terms, WcKind, WcStatus};
@@ -26,8 +28,7 @@ fn may_be_local_key(n: u32) -> bool
 }
 
 fn may_be_mtu(n: u16) -> bool
-    ensures test { result ≡ is_mtu n }
-    ensures some { result ≡ true → 1 ≤ n }
+    ensures { result ≡ is_mtu n }
 {
     matches!(n, 256 | 512 | 1024 | 2048 | 4096)
 }
@@ -36,6 +37,12 @@ fn may_be_status(n: u8) -> bool
     ensures { result ≡ is_status n }
 {
     matches!(n, 0 | 1 | 5 | 9 | 10 | 12 | 13)
+}
+
+fn may_be_reads(n: u8) -> bool
+    ensures { result ≡ within 1 16 n }
+{
+    (1..=16).contains(&n)
 }
 
 fn completed_kind(n: u8) -> WcKind
@@ -66,94 +73,78 @@ fn completed_status(n: u8) -> WcStatus
     }
 }
 
-#[tactic(auto, unfolding(protocol::specs::Dumps::after, protocol::specs::Dumps::judged))]
-fn read_qp(c: &mut Cursor<'_>) -> Result<u32, Offence>
-    ensures number { number 4 (is_number) c.old.place c.old.bytes.now ≡ came result c.new.place c.new.bytes.now }
-    ensures passed { IfOk result (λ x. c.old.place < c.new.place) }
-{
-    let n = c.u32()?;
-    c.keep(may_be_number(n))?;
-    Ok(n)
-}
-
-#[tactic(auto, unfolding(protocol::specs::Dumps::after, protocol::specs::Dumps::judged))]
-fn read_status(c: &mut Cursor<'_>) -> Result<u8, Offence>
-    ensures number { number 1 (is_status) c.old.place c.old.bytes.now ≡ came result c.new.place c.new.bytes.now }
-    ensures passed { IfOk result (λ x. c.old.place < c.new.place) }
-{
-    let n = c.u8()?;
-    c.keep(may_be_status(n))?;
-    Ok(n)
-}
-
 /// A completion. Errors: the first fault of its fields, with its place: `Short` or `Field`.
-#[tactic(auto, unfolding(protocol::specs::Dumps::after, protocol::specs::Dumps::judged, protocol::specs::Dumps::entry_field))]
 pub fn read_entry(c: &mut Cursor<'_>) -> Result<Completion, Offence>
-    ensures entry { entry_field [] c.old.place c.old.bytes.now ≡ came result c.new.place c.new.bytes.now }
-    ensures passed { IfOk result (λ x. c.old.place < c.new.place) }
+    ensures { Parsed (entry_field []) c.old c.new result }
 {
-    let qp = read_qp(c)?;
-    let id = c.u64()?;
-    let kind = c.u8_up_to(6)?;
-    let status = read_status(c)?;
-    let length = c.u32()?;
-    c.keep(length <= 1_048_576)?;
-    let flag = c.u8_up_to(1)?;
-    let imm = c.u32_if(flag == 1)?;
-    Ok(Completion {
+    let mut fields = Fields::of(c);
+    let qp = fields.u32();
+    fields.keep(may_be_number(qp));
+    let id = fields.u64();
+    let kind = fields.u8_up_to(6);
+    let status = fields.u8();
+    fields.keep(may_be_status(status));
+    let length = fields.u32();
+    fields.keep(length <= 1_048_576);
+    let flag = fields.u8_up_to(1);
+    let imm = fields.u32_if(flag == 1);
+    let entry = Completion {
         qp,
         id,
         kind: completed_kind(kind),
         status: completed_status(status),
         length,
         imm: if flag == 1 { Some(imm) } else { None },
-    })
+    };
+    fields.end(c, entry)
 }
 
-/// The terms of a connection. Errors: the first fault of its fields, with its place: `Short` or `Field`.
-#[tactic(auto, unfolding(protocol::specs::Dumps::after, protocol::specs::Dumps::judged, protocol::specs::Dumps::terms_field))]
-pub fn read_terms(c: &mut Cursor<'_>) -> Result<Terms, Offence>
-    ensures mtu { IfOk result (λ t. 1 ≤ t.mtu) }
-    ensures terms { terms_field c.old.place c.old.bytes.now ≡ came result c.new.place c.new.bytes.now }
-    ensures passed { IfOk result (λ x. c.old.place < c.new.place) }
+/// The terms of a connection. Faults: `Short` or `Field`.
+pub fn read_terms(fields: &mut Fields<'_>) -> Terms
+    ensures { Reads terms_field fields.old fields.new result }
 {
-    let mtu = c.u16()?;
-    c.keep(may_be_mtu(mtu))?;
-    let own_start = c.u32_below(0x100_0000)?;
-    let peer_start = c.u32_below(0x100_0000)?;
-    let retry = c.u8_up_to(7)?;
-    let rnr = c.u8_up_to(7)?;
-    let reads = c.u8()?;
-    c.keep((1..=16).contains(&reads))?;
-    Ok(Terms {
+    let mtu = fields.u16();
+    fields.keep(may_be_mtu(mtu));
+    let own_start = fields.u32_below(0x100_0000);
+    let peer_start = fields.u32_below(0x100_0000);
+    let retry = fields.u8_up_to(7);
+    let rnr = fields.u8_up_to(7);
+    let reads = fields.u8();
+    fields.keep(may_be_reads(reads));
+    Terms {
         mtu: mtu as u32,
         own_start,
         peer_start,
         retry,
         rnr,
         reads,
-    })
+    }
 }
 
-/// The partner of a connected end. Errors: the first fault of its fields, with its place: `Short` or `Field`.
-#[tactic(auto, unfolding(protocol::specs::Dumps::after, protocol::specs::Dumps::judged, crate::specs::Groups::peer_field))]
-pub fn read_peer(c: &mut Cursor<'_>, ended: bool) -> Result<Peer, Offence>
-    ensures peer { peer_field ended c.old.place c.old.bytes.now ≡ came result c.new.place c.new.bytes.now }
-    ensures passed { IfOk result (λ x. c.old.place < c.new.place) }
+/// The most that a field may be: 0 of an end that is in Error.
+pub fn most_unless(ended: bool, most: u8) -> u8
+    ensures { result ≡ (if ended then 0 else most) }
 {
-    let peer = c.u32_below(0x100_0000)?;
-    let ip = c.u32()?;
-    let port = c.u16()?;
-    let moves = c.u16()?;
-    let partner_moves = c.u16()?;
-    let resuming = c.u8_up_to(if ended { 0 } else { 1 })?;
-    Ok(Peer {
+    if ended { 0 } else { most }
+}
+
+/// The partner of a connected end. Faults: `Short` or `Field`.
+pub fn read_peer(fields: &mut Fields<'_>, ended: bool) -> Peer
+    ensures { Reads (peer_field ended) fields.old fields.new result }
+{
+    let peer = fields.u32_below(0x100_0000);
+    let ip = fields.u32();
+    let port = fields.u16();
+    let moves = fields.u16();
+    let partner_moves = fields.u16();
+    let resuming = fields.u8_up_to(most_unless(ended, 1));
+    Peer {
         peer,
         partner: Address { ip, port },
         moves,
         partner_moves,
         resuming: resuming == 1,
-    })
+    }
 }
 
 fn follows_number(ended: bool, low: u64, n: u64) -> bool
@@ -162,56 +153,50 @@ fn follows_number(ended: bool, low: u64, n: u64) -> bool
     n < 1 << 62 && if ended { n == low } else { low <= n }
 }
 
-#[tactic(auto, unfolding(protocol::specs::Dumps::after, protocol::specs::Dumps::judged))]
-fn read_following(c: &mut Cursor<'_>, ended: bool, low: u64) -> Result<u64, Offence>
-    ensures number { number 8 (follows ended low) c.old.place c.old.bytes.now ≡ came result c.new.place c.new.bytes.now }
-    ensures passed { IfOk result (λ x. c.old.place < c.new.place) }
+/// The numbers of the requester. Faults: `Short` or `Field`.
+pub fn read_numbers(fields: &mut Fields<'_>, ended: bool) -> Numbers
+    ensures { Reads (numbers_field ended) fields.old fields.new result }
 {
-    let n = c.u64()?;
-    c.keep(follows_number(ended, low, n))?;
-    Ok(n)
-}
-
-/// The numbers of the requester. Errors: the first fault of its fields, with its place: `Short` or `Field`.
-#[tactic(auto, unfolding(protocol::specs::Dumps::after, protocol::specs::Dumps::judged, crate::specs::Groups::numbers_field))]
-pub fn read_numbers(c: &mut Cursor<'_>, ended: bool) -> Result<Numbers, Offence>
-    ensures numbers { numbers_field ended c.old.place c.old.bytes.now ≡ came result c.new.place c.new.bytes.now }
-    ensures passed { IfOk result (λ x. c.old.place < c.new.place) }
-{
-    let first = c.u64_below(1 << 62)?;
-    let una = c.u64()?;
-    c.keep(una < 1 << 62 && first <= una)?;
-    let next = read_following(c, ended, una)?;
-    let top = read_following(c, ended, next)?;
-    Ok(Numbers {
+    let first = fields.u64_below(1 << 62);
+    let una = fields.u64();
+    fields.keep(follows_number(false, first, una));
+    let next = fields.u64();
+    fields.keep(follows_number(ended, una, next));
+    let top = fields.u64();
+    fields.keep(follows_number(ended, next, top));
+    Numbers {
         first,
         una,
         next,
         top,
-    })
+    }
 }
 
-/// What both halves of an end wait for. Errors: the first fault of its fields, with its place: `Short` or `Field`.
-#[tactic(auto, unfolding(protocol::specs::Dumps::after, protocol::specs::Dumps::judged, crate::specs::Groups::waiting_field))]
-pub fn read_waiting(c: &mut Cursor<'_>, terms: &Terms) -> Result<Waiting, Offence>
-    ensures waiting { waiting_field terms.now c.old.place c.old.bytes.now ≡ came result c.new.place c.new.bytes.now }
-    ensures passed { IfOk result (λ x. c.old.place < c.new.place) }
+fn may_wait(terms: &Terms, waits: u8) -> bool
+    ensures { result ≡ (terms.now.rnr == 7 || nat_le waits terms.now.rnr) }
 {
-    let spent = c.u8_up_to(terms.retry)?;
-    let waits = c.u8()?;
-    c.keep(terms.rnr == 7 || waits <= terms.rnr)?;
-    let rnr_wait = c.u8_up_to(1)?;
-    let expected = c.u64_below(1 << 62)?;
-    let nak_sent = c.u8_up_to(1)?;
-    let msn = c.u32_below(0x100_0000)?;
-    Ok(Waiting {
+    terms.rnr == 7 || waits <= terms.rnr
+}
+
+/// What both halves of an end wait for. Faults: `Short` or `Field`.
+pub fn read_waiting(fields: &mut Fields<'_>, terms: &Terms) -> Waiting
+    ensures { Reads (waiting_field terms.now) fields.old fields.new result }
+{
+    let spent = fields.u8_up_to(terms.retry);
+    let waits = fields.u8();
+    fields.keep(may_wait(terms, waits));
+    let rnr_wait = fields.u8_up_to(1);
+    let expected = fields.u64_below(1 << 62);
+    let nak_sent = fields.u8_up_to(1);
+    let msn = fields.u32_below(0x100_0000);
+    Waiting {
         spent,
         waits,
         rnr_wait: rnr_wait == 1,
         expected,
         nak_sent: nak_sent == 1,
         msn,
-    })
+    }
 }
 
 fn rises_above(seen: &[KeptReply], n: u64) -> bool
@@ -223,20 +208,25 @@ fn rises_above(seen: &[KeptReply], n: u64) -> bool
     }
 }
 
+fn may_be_kept(expected: u64, seen: &[KeptReply], n: u64) -> bool
+    ensures { result ≡ (rises seen.now n && nat_lt n expected) }
+{
+    rises_above(seen, n) && n < expected
+}
+
 /// A kept reply. Errors: the first fault of its fields, with its place: `Short` or `Field`.
-#[tactic(auto, unfolding(protocol::specs::Dumps::after, protocol::specs::Dumps::judged, protocol::specs::Dumps::kept_field))]
 pub fn read_kept(
     c: &mut Cursor<'_>,
     expected: u64,
     seen: &[KeptReply],
 ) -> Result<KeptReply, Offence>
-    ensures kept { kept_field expected seen.now c.old.place c.old.bytes.now ≡ came result c.new.place c.new.bytes.now }
-    ensures passed { IfOk result (λ x. c.old.place < c.new.place) }
+    ensures { Parsed (kept_field expected seen.now) c.old c.new result }
 {
-    let number = c.u64()?;
-    c.keep(rises_above(seen, number) && number < expected)?;
-    let old = c.u64()?;
-    Ok(KeptReply { number, old })
+    let mut fields = Fields::of(c);
+    let number = fields.u64();
+    fields.keep(may_be_kept(expected, seen, number));
+    let old = fields.u64();
+    fields.end(c, KeptReply { number, old })
 }
 
 fn has_domain(seen: &[Name], text: &[u8]) -> bool
@@ -249,8 +239,7 @@ fn has_domain(seen: &[Name], text: &[u8]) -> bool
 /// name or stands in the list already.
 #[tactic(auto, unfolding(protocol::specs::Dumps::judged_name))]
 pub fn read_name(c: &mut Cursor<'_>, seen: &[Name]) -> Result<Name, Offence>
-    ensures name { name_field seen.now c.old.place c.old.bytes.now ≡ came result c.new.place c.new.bytes.now }
-    ensures passed { IfOk result (λ x. c.old.place < c.new.place) }
+    ensures { Parsed (name_field seen.now) c.old c.new result }
 {
     let text = c.text()?;
     c.name(text, has_domain(seen, text))
@@ -274,43 +263,42 @@ fn is_new_key(seen: &[RegionImage], key: u32) -> bool
     may_be_local_key(key) && !has_key(seen, key)
 }
 
-fn read_key(c: &mut Cursor<'_>, seen: &[RegionImage]) -> Result<u32, Offence>
-    ensures key { number 4 (λ n. is_local_key n && not (some (λ r. r.keys.local == n) seen.now)) c.old.place c.old.bytes.now ≡ came result c.new.place c.new.bytes.now }
-    ensures passed { IfOk result (λ x. c.old.place < c.new.place) }
+#[tactic(auto, unfolding(protocol::specs::Dumps::judged_name))]
+fn read_region_name(c: &mut Cursor<'_>, seen: &[RegionImage]) -> Result<Name, Offence>
+    ensures { Parsed (name_field (region_names seen.now)) c.old c.new result }
 {
-    let key = c.u32()?;
-    c.keep(is_new_key(seen, key))?;
-    Ok(key)
+    let text = c.text()?;
+    c.name(text, has_region(seen, text))
 }
 
 /// A region without its bytes. Errors: the first fault of its fields, with its place: `Short`, `Name` or `Field`.
-#[tactic(auto, unfolding(protocol::specs::Dumps::after, protocol::specs::Dumps::judged, protocol::specs::Dumps::judged_name, crate::specs::Groups::region_head_field))]
 pub fn read_region(
     c: &mut Cursor<'_>,
     domains: usize,
     seen: &[RegionImage],
 ) -> Result<RegionImageHead, Offence>
-    ensures region { region_head_field domains seen.now c.old.place c.old.bytes.now ≡ came result c.new.place c.new.bytes.now }
-    ensures passed { IfOk result (λ x. c.old.place < c.new.place) }
+    ensures { Parsed (region_head_field domains seen.now) c.old c.new result }
 {
-    let text = c.text()?;
-    let name = c.name(text, has_region(seen, text))?;
-    let domain = c.u16_below(domains)?;
-    let base = c.u64()?;
-    c.keep(base <= 1 << 63)?;
-    let length = c.u32_within(1, 16_777_216)?;
-    let rights = c.u8_up_to(15)?;
-    let local = read_key(c, seen)?;
-    let remote = c.u32()?;
-    c.keep(remote as u64 == local as u64 + 1)?;
-    Ok(RegionImageHead {
+    let name = read_region_name(c, seen)?;
+    let mut fields = Fields::of(c);
+    let domain = fields.u16_below(domains);
+    let base = fields.u64();
+    fields.keep(base <= 1 << 63);
+    let length = fields.u32_within(1, 16_777_216);
+    let rights = fields.u8_up_to(15);
+    let local = fields.u32();
+    fields.keep(is_new_key(seen, local));
+    let remote = fields.u32();
+    fields.keep(remote as u64 == local as u64 + 1);
+    let head = RegionImageHead {
         name,
         domain,
         base,
         length,
         rights: Rights(rights),
         keys: Keys { local, remote },
-    })
+    };
+    fields.end(c, head)
 }
 
 fn has_queue(seen: &[PlacedQueue], text: &[u8]) -> bool
@@ -320,34 +308,32 @@ fn has_queue(seen: &[PlacedQueue], text: &[u8]) -> bool
         .any(|placed| placed.queue.name.as_bytes() == text)
 }
 
-#[tactic(auto, unfolding(protocol::specs::Dumps::after, protocol::specs::Dumps::judged))]
-fn read_count_u32(c: &mut Cursor<'_>, limit: u32) -> Result<u32, Offence>
-    ensures count { count_field 4 limit c.old.place c.old.bytes.now ≡ came result c.new.place c.new.bytes.now }
-    ensures passed { IfOk result (λ x. c.old.place < c.new.place) }
+#[tactic(auto, unfolding(protocol::specs::Dumps::judged_name))]
+fn read_queue_name(c: &mut Cursor<'_>, seen: &[PlacedQueue]) -> Result<Name, Offence>
+    ensures { Parsed (name_field (queue_names (map placed seen.now))) c.old c.new result }
 {
-    let count = c.u32()?;
-    c.keep_or(DumpWhy::Count, count <= limit)?;
-    Ok(count)
+    let text = c.text()?;
+    c.name(text, has_queue(seen, text))
 }
 
 /// A completion queue without its entries. Errors: the first fault of its fields, with its place: `Short`, `Name`,
 /// `Field` or `Count`.
-#[tactic(auto, unfolding(protocol::specs::Dumps::after, protocol::specs::Dumps::judged, protocol::specs::Dumps::judged_name, crate::specs::Groups::queue_head_field))]
 pub fn read_queue(c: &mut Cursor<'_>, seen: &[PlacedQueue]) -> Result<QueueHead, Offence>
-    ensures queue { queue_head_field (map placed seen.now) c.old.place c.old.bytes.now ≡ came result c.new.place c.new.bytes.now }
-    ensures passed { IfOk result (λ x. c.old.place < c.new.place) }
+    ensures { Parsed (queue_head_field (map placed seen.now)) c.old c.new result }
 {
-    let text = c.text()?;
-    let name = c.name(text, has_queue(seen, text))?;
+    let name = read_queue_name(c, seen)?;
     let place = c.place;
-    let capacity = c.u32_within(1, 16_384)?;
-    let count = read_count_u32(c, capacity)?;
-    Ok(QueueHead {
+    let mut fields = Fields::of(c);
+    let capacity = fields.u32_within(1, 16_384);
+    let count = fields.u32();
+    fields.keep_or(DumpWhy::Count, count <= capacity);
+    let head = QueueHead {
         name,
         capacity,
         place,
         count,
-    })
+    };
+    fields.end(c, head)
 }
 
 fn has_end(seen: &[EndImage], text: &[u8]) -> bool
@@ -368,36 +354,34 @@ fn is_new_number(seen: &[EndImage], number: u32) -> bool
     may_be_number(number) && !has_number(seen, number)
 }
 
-fn read_number(c: &mut Cursor<'_>, seen: &[EndImage]) -> Result<u32, Offence>
-    ensures number { number 4 (λ n. is_number n && not (some (λ e. e.number == n) seen.now)) c.old.place c.old.bytes.now ≡ came result c.new.place c.new.bytes.now }
-    ensures passed { IfOk result (λ x. c.old.place < c.new.place) }
+#[tactic(auto, unfolding(protocol::specs::Dumps::judged_name))]
+fn read_end_name(c: &mut Cursor<'_>, seen: &[EndImage]) -> Result<Name, Offence>
+    ensures { Parsed (name_field (map (λ e. e.name) seen.now)) c.old c.new result }
 {
-    let number = c.u32()?;
-    c.keep(is_new_number(seen, number))?;
-    Ok(number)
+    let text = c.text()?;
+    c.name(text, has_end(seen, text))
 }
 
 /// A queue pair up to its state. Errors: the first fault of its fields, with its place: `Short`, `Name` or `Field`.
-#[tactic(auto, unfolding(protocol::specs::Dumps::after, protocol::specs::Dumps::judged, protocol::specs::Dumps::judged_name, crate::specs::Groups::end_head_field))]
 pub fn read_end(
     c: &mut Cursor<'_>,
     domains: usize,
     queues: usize,
     seen: &[EndImage],
 ) -> Result<EndImageHead, Offence>
-    ensures end { end_head_field domains queues seen.now c.old.place c.old.bytes.now ≡ came result c.new.place c.new.bytes.now }
-    ensures passed { IfOk result (λ x. c.old.place < c.new.place) }
+    ensures { Parsed (end_head_field domains queues seen.now) c.old c.new result }
 {
-    let text = c.text()?;
-    let name = c.name(text, has_end(seen, text))?;
-    let number = read_number(c, seen)?;
-    let domain = c.u16_below(domains)?;
-    let send_cq = c.u16_below(queues)?;
-    let recv_cq = c.u16_below(queues)?;
-    let send_depth = c.u16_within(1, 256)?;
-    let recv_depth = c.u16_within(1, 256)?;
-    let state = c.u8_up_to(2)?;
-    Ok(EndImageHead {
+    let name = read_end_name(c, seen)?;
+    let mut fields = Fields::of(c);
+    let number = fields.u32();
+    fields.keep(is_new_number(seen, number));
+    let domain = fields.u16_below(domains);
+    let send_cq = fields.u16_below(queues);
+    let recv_cq = fields.u16_below(queues);
+    let send_depth = fields.u16_within(1, 256);
+    let recv_depth = fields.u16_within(1, 256);
+    let state = fields.u8_up_to(2);
+    let head = EndImageHead {
         name,
         number,
         domain,
@@ -406,17 +390,17 @@ pub fn read_end(
         send_depth,
         recv_depth,
         state,
-    })
+    };
+    fields.end(c, head)
 }
 
 /// A count of two bytes within its limit. Errors: `Short` where fewer bytes are left, or `Count` where the count is
 /// over the limit.
-#[tactic(auto, unfolding(protocol::specs::Dumps::after, protocol::specs::Dumps::judged))]
 pub fn read_count(c: &mut Cursor<'_>, limit: u16) -> Result<u16, Offence>
-    ensures count { count_field 2 limit c.old.place c.old.bytes.now ≡ came result c.new.place c.new.bytes.now }
-    ensures passed { IfOk result (λ x. c.old.place < c.new.place) }
+    ensures { Parsed (count_field 2 limit) c.old c.new result }
 {
-    let count = c.u16()?;
-    c.keep_or(DumpWhy::Count, count <= limit)?;
-    Ok(count)
+    let mut fields = Fields::of(c);
+    let count = fields.u16();
+    fields.keep_or(DumpWhy::Count, count <= limit);
+    fields.end(c, count)
 }

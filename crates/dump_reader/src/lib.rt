@@ -5,6 +5,7 @@ mod cursor;
 mod decode;
 mod end_steps;
 mod fault;
+mod fields;
 mod groups;
 mod heads;
 mod lists;

@@ -1,14 +1,15 @@
 //! Dumps, group by group.
 
 ghost use Rattle.std.specs.Prelude.{◌≡◌, ℕ, suc, ◌||◌, ◌+◌, ◌*◌, ◌-◌, ◌<◌, ◌≤◌, ◌^◌, ◌==◌, ◌++◌, ◌∷◌, length, [], map, drop, Some, None, IfOk, IfErr, true, false};
-ghost use Rattle.protocol.specs.Dumps.{Good, Bad, read_dump};
+ghost use Rattle.protocol.specs.Dumps.{Good, Bad, read_dump, number_by};
 ghost use Rattle.dump_reader.specs.Fields.{IsMagic, IsNoMagic};
-ghost use Rattle.dump_reader.specs.Groups.{came};
+ghost use Rattle.dump_reader.specs.Latched.{Parsed};
 ghost use Rattle.dump_reader.specs.Ahead.{ahead, opening_field, more_domains, image_of, queues_of, weight, IsOpen};
-ghost use Rattle.dump_reader.specs.Steps.{Alike, IsLeft, Moves, IsFault, is_wanting};
+ghost use Rattle.dump_reader.specs.Steps.{Steps};
 
 use crate::cursor::{Cursor, Offence};
 use crate::fault::DumpFault;
+use crate::fields::Fields;
 use crate::heads::Opened;
 use crate::lists::{Lists, ReadState};
 use crate::{end_steps, groups, steps};
@@ -37,16 +38,23 @@ fn is_version(n: u16) -> bool
     n == 1 || n == 2
 }
 
+fn read_version(c: &mut Cursor<'_>) -> Result<u16, Offence>
+    ensures { Parsed (number_by DumpWhy.Version 2 (λ n. n == 1 || n == 2)) c.old c.new result }
+{
+    let mut fields = Fields::of(c);
+    let version = fields.u16();
+    fields.keep_or(DumpWhy::Version, is_version(version));
+    fields.end(c, version)
+}
+
 /// The first fields, up to the count of domains. Errors: the first fault of its fields, with its place: `Short`,
 /// `Magic`, `Version`, `Name` or `Count`.
-#[tactic(auto, unfolding(protocol::specs::Dumps::after, protocol::specs::Dumps::judged, crate::specs::Ahead::opening_field))]
+#[tactic(auto, unfolding(protocol::specs::Dumps::after, crate::specs::Ahead::opening_field))]
 pub fn read_opening(c: &mut Cursor<'_>) -> Result<Opened, Offence>
-    ensures opened { opening_field c.old.place c.old.bytes.now ≡ came result c.new.place c.new.bytes.now }
-    ensures passed { IfOk result (λ x. c.old.place < c.new.place) }
+    ensures { Parsed opening_field c.old c.new result }
 {
     read_magic(c)?;
-    let version = c.u16()?;
-    c.keep_or(DumpWhy::Version, is_version(version))?;
+    let version = read_version(c)?;
     let name = groups::read_name(c, &[])?;
     let count = groups::read_count(c, 64)?;
     Ok(Opened {
@@ -58,7 +66,6 @@ pub fn read_opening(c: &mut Cursor<'_>) -> Result<Opened, Offence>
 
 /// One group of fields. Errors: `BadDump` with the first fault of the group, or `OutOfMemory`. After `Short` the lists
 /// are as they were.
-#[tactic(auto, unfolding(crate::specs::Ahead::ahead))]
 pub fn step(
     opened: &Opened,
     lists: &mut Lists,
@@ -66,11 +73,7 @@ pub fn step(
     place: &ReadState,
 ) -> Result<ReadState, DumpFault>
     requires { IsOpen place.now }
-    ensures moves { Moves (ahead opened.now lists.old place.now c.old.place c.old.bytes.now) (λ next. ahead opened.now lists.new next c.new.place c.new.bytes.now) result }
-    ensures with_more_bytes { IfOk result (λ next. Alike (ahead opened.now lists.old place.now) c.old.place c.old.bytes.now (ahead opened.now lists.new next) c.new.place c.new.bytes.now) }
-    ensures left { IfOk result (λ next. IsLeft c.old.place c.old.bytes.now c.new.place c.new.bytes.now) }
-    ensures same { IfErr result (λ e. is_wanting e ≡ true → lists.new ≡ lists.old) }
-    ensures less { IfOk result (λ next. 2 * length c.new.bytes.now + weight next < 2 * length c.old.bytes.now + weight place.now) }
+    ensures { Steps opened.now place.now lists.old lists.new c.old c.new result }
 {
     match place {
         ReadState::Domain(more) => steps::domain_step(opened, lists, c, *more),

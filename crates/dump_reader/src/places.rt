@@ -6,11 +6,13 @@ ghost use Rattle.rdma_types.specs.declared.names.Name.{Name};
 ghost use Rattle.protocol.specs.Dumps.{number, any, then_read, gives, within, receive_field, progress_by, may_write_at, length_at, count_field};
 ghost use Rattle.protocol.specs.Lawful.{is_whole_pieces};
 ghost use Rattle.protocol.specs.Images.{region_of_image, name_at};
-ghost use Rattle.dump_reader.specs.Groups.{came, regions_of, send_field, write_field, message_field, link_head_field};
+ghost use Rattle.dump_reader.specs.Latched.{Onward, Parsed, Reads};
+ghost use Rattle.dump_reader.specs.Groups.{regions_of, send_field, write_field, message_field, link_head_field};
 ghost use Rattle.rdma_types.specs.Limits.{most_kept};
 
 use crate::cursor::{Cursor, Offence};
-use crate::groups::{read_numbers, read_peer, read_terms, read_waiting};
+use crate::fields::Fields;
+use crate::groups::{most_unless, read_numbers, read_peer, read_terms, read_waiting};
 use crate::heads::LinkImageHead;
 use protocol::{DumpWhy, Progress, RegionImage};
 use rdma_types::{Name, Receive};
@@ -99,24 +101,31 @@ fn receives(scope: &Scope<'_>, done: u32, r: &Receive) -> bool
     (done..=1_048_576).contains(&r.length) && is_place_granted(scope, &asked)
 }
 
-/// A receive with `done` of its bytes used. Errors: the first fault of its fields, with its place: `Short` or `Field`.
-#[tactic(auto, unfolding(protocol::specs::Dumps::after, protocol::specs::Dumps::judged, protocol::specs::Dumps::receive_field))]
-pub fn read_receive(c: &mut Cursor<'_>, scope: &Scope<'_>, done: u32) -> Result<Receive, Offence>
-    ensures receive { receive_field (regions_of scope.now.domains.now scope.now.regions.now) scope.now.domain.now done c.old.place c.old.bytes.now ≡ came result c.new.place c.new.bytes.now }
-    ensures passed { IfOk result (λ x. c.old.place < c.new.place) }
+/// A receive with `done` of its bytes used. Faults: `Short` or `Field`.
+fn read_receive(fields: &mut Fields<'_>, scope: &Scope<'_>, done: u32) -> Receive
+    ensures { Reads (receive_field (regions_of scope.now.domains.now scope.now.regions.now) scope.now.domain.now done) fields.old fields.new result }
 {
-    let id = c.u64()?;
-    let lkey = c.u32()?;
-    let local = c.u64()?;
-    let length = c.u32()?;
+    let id = fields.u64();
+    let lkey = fields.u32();
+    let local = fields.u64();
+    let length = fields.u32();
     let receive = Receive {
         id,
         lkey,
         local,
         length,
     };
-    c.keep(receives(scope, done, &receive))?;
-    Ok(receive)
+    fields.keep(receives(scope, done, &receive));
+    receive
+}
+
+/// A receive that waits. Errors: the first fault of its fields, with its place: `Short` or `Field`.
+pub fn read_waiting_receive(c: &mut Cursor<'_>, scope: &Scope<'_>) -> Result<Receive, Offence>
+    ensures { Parsed (receive_field (regions_of scope.now.domains.now scope.now.regions.now) scope.now.domain.now 0) c.old c.new result }
+{
+    let mut fields = Fields::of(c);
+    let receive = read_receive(&mut fields, scope, 0);
+    fields.end(c, receive)
 }
 
 #[tactic(auto, unfolding(rdma_types::specs::Memory::allows))]
@@ -145,23 +154,9 @@ fn length_of(scope: &Scope<'_>, i: u16) -> u32
 }
 
 fn is_pieces(mtu: u32, n: u32) -> bool
-    requires { 1 ≤ mtu }
     ensures { result ≡ is_whole_pieces mtu n }
 {
-    n != 0 && n % mtu == 0
-}
-
-/// A SEND in progress.
-#[tactic(auto, unfolding(protocol::specs::Dumps::after, protocol::specs::Dumps::judged))]
-fn read_send(c: &mut Cursor<'_>, scope: &Scope<'_>, mtu: u32) -> Result<Progress, Offence>
-    requires { 1 ≤ mtu }
-    ensures send { send_field (regions_of scope.now.domains.now scope.now.regions.now) scope.now.domain.now mtu c.old.place c.old.bytes.now ≡ came result c.new.place c.new.bytes.now }
-    ensures passed { IfOk result (λ x. c.old.place < c.new.place) }
-{
-    let done = c.u32()?;
-    c.keep(is_pieces(mtu, done))?;
-    let receive = read_receive(c, scope, done)?;
-    Ok(Progress::Send { done, receive })
+    n != 0 && n.checked_rem(mtu).unwrap_or(n) == 0
 }
 
 fn fits_region(scope: &Scope<'_>, region: u16, off: u32, length: u32) -> bool
@@ -171,68 +166,78 @@ fn fits_region(scope: &Scope<'_>, region: u16, off: u32, length: u32) -> bool
         && (length == 0 || off as u64 + length as u64 <= length_of(scope, region) as u64)
 }
 
-/// A WRITE in progress.
-#[tactic(auto, unfolding(protocol::specs::Dumps::after, protocol::specs::Dumps::judged))]
-fn read_write(c: &mut Cursor<'_>, scope: &Scope<'_>, mtu: u32) -> Result<Progress, Offence>
-    requires { 1 ≤ mtu }
-    ensures write { write_field (regions_of scope.now.domains.now scope.now.regions.now) scope.now.domain.now mtu c.old.place c.old.bytes.now ≡ came result c.new.place c.new.bytes.now }
-    ensures passed { IfOk result (λ x. c.old.place < c.new.place) }
+/// A SEND in progress.
+fn read_send(fields: &mut Fields<'_>, scope: &Scope<'_>, mtu: u32) -> Progress
+    ensures { Reads (send_field (regions_of scope.now.domains.now scope.now.regions.now) scope.now.domain.now mtu) fields.old fields.new result }
 {
-    let region = c.u16()?;
-    c.keep(may_write(scope, region))?;
-    let off = c.u32()?;
-    let length = c.u32()?;
-    c.keep(fits_region(scope, region, off, length))?;
-    let done = c.u32()?;
-    c.keep(is_pieces(mtu, done) && done < length)?;
-    Ok(Progress::Write {
+    let done = fields.u32();
+    fields.keep(is_pieces(mtu, done));
+    let receive = read_receive(fields, scope, done);
+    Progress::Send { done, receive }
+}
+
+fn is_part(mtu: u32, length: u32, n: u32) -> bool
+    ensures { result ≡ (is_whole_pieces mtu n && nat_lt n length) }
+{
+    is_pieces(mtu, n) && n < length
+}
+
+/// A WRITE in progress.
+fn read_write(fields: &mut Fields<'_>, scope: &Scope<'_>, mtu: u32) -> Progress
+    ensures { Reads (write_field (regions_of scope.now.domains.now scope.now.regions.now) scope.now.domain.now mtu) fields.old fields.new result }
+{
+    let region = fields.u16();
+    fields.keep(may_write(scope, region));
+    let off = fields.u32();
+    let length = fields.u32();
+    fields.keep(fits_region(scope, region, off, length));
+    let done = fields.u32();
+    fields.keep(is_part(mtu, length, done));
+    Progress::Write {
         region,
         off,
         length,
         done,
-    })
+    }
 }
 
-/// The message in progress. Errors: the first fault of its fields, with its place: `Short` or `Field`.
-#[tactic(auto, unfolding(protocol::specs::Dumps::after, protocol::specs::Dumps::judged, protocol::specs::Dumps::progress_by, crate::specs::Groups::message_field))]
-pub fn read_message(
-    c: &mut Cursor<'_>,
-    scope: &Scope<'_>,
-    mtu: u32,
-    ended: bool,
-) -> Result<Progress, Offence>
-    requires { 1 ≤ mtu }
-    ensures message { message_field (regions_of scope.now.domains.now scope.now.regions.now) scope.now.domain.now mtu ended c.old.place c.old.bytes.now ≡ came result c.new.place c.new.bytes.now }
-    ensures passed { IfOk result (λ x. c.old.place < c.new.place) }
+/// The message in progress that a code names.
+fn read_progress(fields: &mut Fields<'_>, scope: &Scope<'_>, mtu: u32, code: u8) -> Progress
+    ensures { Onward (progress_by (regions_of scope.now.domains.now scope.now.regions.now) scope.now.domain.now mtu code) fields.old fields.new result }
 {
-    let code = c.u8_up_to(if ended { 0 } else { 2 })?;
     match code {
-        1 => read_send(c, scope, mtu),
-        2 => read_write(c, scope, mtu),
-        _ => Ok(Progress::Idle),
+        1 => read_send(fields, scope, mtu),
+        2 => read_write(fields, scope, mtu),
+        _ => Progress::Idle,
     }
+}
+
+/// The message in progress. Faults: `Short` or `Field`.
+fn read_message(fields: &mut Fields<'_>, scope: &Scope<'_>, mtu: u32, ended: bool) -> Progress
+    ensures { Reads (message_field (regions_of scope.now.domains.now scope.now.regions.now) scope.now.domain.now mtu ended) fields.old fields.new result }
+{
+    let code = fields.u8_up_to(most_unless(ended, 2));
+    read_progress(fields, scope, mtu, code)
 }
 
 /// What a connected end has, up to the count of its kept replies. Errors: the first fault of its fields, with its
 /// place: `Short`, `Field` or `Count`.
-#[tactic(auto, unfolding(protocol::specs::Dumps::after, protocol::specs::Dumps::judged, crate::specs::Groups::link_head_field))]
 pub fn read_link(
     c: &mut Cursor<'_>,
     scope: &Scope<'_>,
     ended: bool,
 ) -> Result<LinkImageHead, Offence>
-    ensures link { link_head_field (regions_of scope.now.domains.now scope.now.regions.now) scope.now.domain.now ended c.old.place c.old.bytes.now ≡ came result c.new.place c.new.bytes.now }
-    ensures mtu { IfOk result (λ h. 1 ≤ h.terms.mtu) }
-    ensures passed { IfOk result (λ x. c.old.place < c.new.place) }
+    ensures { Parsed (link_head_field (regions_of scope.now.domains.now scope.now.regions.now) scope.now.domain.now ended) c.old c.new result }
 {
-    let peer = read_peer(c, ended)?;
-    let terms = read_terms(c)?;
-    let numbers = read_numbers(c, ended)?;
-    let waiting = read_waiting(c, &terms)?;
-    let progress = read_message(c, scope, terms.mtu, ended)?;
-    let count = c.u8()?;
-    c.keep_or(DumpWhy::Count, count <= 16)?;
-    Ok(LinkImageHead {
+    let mut fields = Fields::of(c);
+    let peer = read_peer(&mut fields, ended);
+    let terms = read_terms(&mut fields);
+    let numbers = read_numbers(&mut fields, ended);
+    let waiting = read_waiting(&mut fields, &terms);
+    let progress = read_message(&mut fields, scope, terms.mtu, ended);
+    let count = fields.u8();
+    fields.keep_or(DumpWhy::Count, count <= 16);
+    let head = LinkImageHead {
         ended,
         peer,
         terms,
@@ -240,5 +245,6 @@ pub fn read_link(
         waiting,
         progress,
         count,
-    })
+    };
+    fields.end(c, head)
 }

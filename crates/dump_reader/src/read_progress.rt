@@ -16,6 +16,7 @@ use crate::steps::enter_domains;
 use protocol::{ContextImage, CqImage, DumpWhy};
 use rdma_types::Items;
 use std::alloc::{AllocError, Global};
+use std::mem;
 
 /// The completion queues without the places of their capacities.
 fn bare_queues(alloc: Global, queues: Vec<PlacedQueue>) -> Result<Vec<CqImage>, AllocError>
@@ -28,25 +29,26 @@ fn bare_queues(alloc: Global, queues: Vec<PlacedQueue>) -> Result<Vec<CqImage>, 
     Ok(bare)
 }
 
+/// The image of what was read, with its completion queues by themselves.
+fn image_with(opened: &Opened, lists: Lists, queues: Vec<CqImage>) -> ContextImage
+    ensures { result ≡ record { name = opened.now.name; domains = lists.domains.items; regions = lists.regions.items; queues = queues.items; ends = lists.ends.items } }
+{
+    ContextImage {
+        name: opened.name,
+        domains: Items::new(lists.domains),
+        regions: Items::new(lists.regions),
+        queues: Items::new(queues),
+        ends: Items::new(lists.ends),
+    }
+}
+
 /// The image of what was read.
-fn whole_image(opened: &Opened, lists: Lists) -> Result<ContextImage, AllocError>
+fn whole_image(opened: &Opened, mut lists: Lists) -> Result<ContextImage, AllocError>
     ensures { IfOk result (λ image. image ≡ image_of opened.now lists.domains.items lists.regions.items (queues_of lists) lists.ends.items) }
 {
-    let Lists {
-        alloc,
-        domains,
-        regions,
-        queues,
-        ends,
-        ..
-    } = lists;
-    Ok(ContextImage {
-        name: opened.name,
-        domains: Items::new(domains),
-        regions: Items::new(regions),
-        queues: Items::new(bare_queues(alloc, queues)?),
-        ends: Items::new(ends),
-    })
+    let placed = mem::replace(&mut lists.queues, Vec::new(lists.alloc));
+    let queues = bare_queues(lists.alloc, placed)?;
+    Ok(image_with(opened, lists, queues))
 }
 
 /// What was read of a prefix of a dump: all groups of fields that have come whole.

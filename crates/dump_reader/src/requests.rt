@@ -1,13 +1,15 @@
 //! Untold requests.
 
-ghost use Rattle.std.specs.Prelude.{◌≡◌, ℕ, ◌+◌, ◌*◌, ◌<◌, ◌≤◌, ◌^◌, ◌==◌, ◌&&◌, ◌||◌, not, length, [], nat_lt, nat_le, true, IfOk, Some, None, if◌then◌else◌};
+ghost use Rattle.std.specs.Prelude.{◌≡◌, ℕ, ◌+◌, ◌*◌, ◌<◌, ◌≤◌, ◌^◌, ◌==◌, ◌&&◌, ◌||◌, not, length, [], nat_lt, nat_le, true, IfOk, IfNone, Some, None, if◌then◌else◌};
 ghost use Rattle.rdma_types.specs.Kinds.{takes_bytes, is_atomic, lands};
 ghost use Rattle.rdma_types.specs.Shapes.{has_remote, is_swap};
 ghost use Rattle.rdma_types.specs.Memory.{is_granted, landing_right, local_key};
 ghost use Rattle.protocol.specs.Dumps.{kind_of, has_flag, keeps_numbers, shape_of_length};
-ghost use Rattle.dump_reader.specs.Groups.{came, regions_of, link_of_head, may_be_flags, may_be_length, request_head_field, request_places_field, payload_length};
+ghost use Rattle.dump_reader.specs.Latched.{Parsed, Reads};
+ghost use Rattle.dump_reader.specs.Groups.{regions_of, link_of_head, may_be_flags, may_be_length, request_head_field, request_places_field, request_start_field, payload_length};
 
 use crate::cursor::{Cursor, Offence};
+use crate::fields::Fields;
 use crate::heads::{LinkImageHead, RequestHead, Standing};
 use crate::places::{Asked, Scope, is_place_granted};
 use rdma_types::{Kind, Request, Shape};
@@ -112,32 +114,30 @@ fn length_fits(link: &LinkImageHead, standing: &Standing, kind: Kind, length: u3
     }
 }
 
-/// A request up to its length. Errors: the first fault of its fields, with its place: `Short` or `Field`.
-#[tactic(auto, unfolding(protocol::specs::Dumps::after, protocol::specs::Dumps::judged, crate::specs::Groups::request_head_field))]
-pub fn read_request_head(
-    c: &mut Cursor<'_>,
+/// A request up to its length. Faults: `Short` or `Field`.
+fn read_request_head(
+    fields: &mut Fields<'_>,
     link: &LinkImageHead,
     standing: &Standing,
-) -> Result<RequestHead, Offence>
-    ensures head { request_head_field standing.now.version (link_of_head link.now []) standing.now.count standing.now.index standing.now.low standing.now.landing c.old.place c.old.bytes.now ≡ came result c.new.place c.new.bytes.now }
-    ensures limit { IfOk result (λ h. standing.now.low + shape_of_length h.kind h.length link.now.terms.mtu < 2 ^ 62) }
-    ensures passed { IfOk result (λ x. c.old.place < c.new.place) }
+) -> RequestHead
+    ensures head { Reads (request_head_field standing.now.version (link_of_head link.now []) standing.now.count standing.now.index standing.now.low standing.now.landing) fields.old fields.new result }
+    ensures limit { IfNone fields.new.fault (standing.now.low + shape_of_length result.kind result.length link.now.terms.mtu < 2 ^ 62) }
 {
-    let id = c.u64()?;
-    let code = c.u8_up_to(4)?;
+    let id = fields.u64();
+    let code = fields.u8_up_to(4);
     let kind = kind_of_byte(code);
-    let flags = c.u8()?;
-    c.keep(flags_fit(standing, link.numbers.top, kind, flags))?;
-    let imm = c.u32_if(flags / 2 % 2 == 1)?;
-    let length = c.u32()?;
-    c.keep(length_fits(link, standing, kind, length))?;
-    Ok(RequestHead {
+    let flags = fields.u8();
+    fields.keep(flags_fit(standing, link.numbers.top, kind, flags));
+    let imm = fields.u32_if(flags / 2 % 2 == 1);
+    let length = fields.u32();
+    fields.keep(length_fits(link, standing, kind, length));
+    RequestHead {
         id,
         kind,
         flags,
         imm,
         length,
-    })
+    }
 }
 
 fn imm_of(head: &RequestHead) -> Option<u32>
@@ -151,32 +151,32 @@ fn imm_of(head: &RequestHead) -> Option<u32>
     }
 }
 
-/// The places and operands of a request. Errors: the first fault of its fields, with its place: `Short` or `Field`.
-#[tactic(auto, unfolding(protocol::specs::Dumps::after, protocol::specs::Dumps::judged, crate::specs::Groups::request_places_field))]
-pub fn read_request_places(
-    c: &mut Cursor<'_>,
-    scope: &Scope<'_>,
-    head: &RequestHead,
-) -> Result<Request, Offence>
-    ensures kind { IfOk result (λ r. r.shape.kind ≡ head.now.kind) }
-    ensures length { IfOk result (λ r. r.shape.length ≡ head.now.length) }
-    ensures request { request_places_field (regions_of scope.now.domains.now scope.now.regions.now) scope.now.domain.now head.now c.old.place c.old.bytes.now ≡ came result c.new.place c.new.bytes.now }
-    ensures passed { IfOk result (λ x. c.old.place < c.new.place) }
+fn may_stand(scope: &Scope<'_>, head: &RequestHead, lkey: u32, at: u64) -> bool
+    ensures { result ≡ is_granted local_key (regions_of scope.now.domains.now scope.now.regions.now) scope.now.domain.now lkey at head.now.length (landing_right head.now.kind) }
 {
-    let kind = head.kind;
-    let lkey = c.u32()?;
-    let local = c.u64()?;
     let asked = Asked {
         lkey,
-        at: local,
+        at,
         count: head.length,
-        lands: lands_bytes(kind),
+        lands: lands_bytes(head.kind),
     };
-    c.keep(is_place_granted(scope, &asked))?;
-    let remote = c.u64_if(names_remote(kind))?;
-    let rkey = c.u32_if(names_remote(kind))?;
-    let swap_add = c.u64_if(is_atomic_kind(kind))?;
-    let compare = c.u64_if(compares(kind))?;
+    is_place_granted(scope, &asked)
+}
+
+/// The places and operands of a request. Faults: `Short` or `Field`.
+fn read_request_places(fields: &mut Fields<'_>, scope: &Scope<'_>, head: &RequestHead) -> Request
+    ensures kind { result.shape.kind ≡ head.now.kind }
+    ensures length { result.shape.length ≡ head.now.length }
+    ensures request { Reads (request_places_field (regions_of scope.now.domains.now scope.now.regions.now) scope.now.domain.now head.now) fields.old fields.new result }
+{
+    let kind = head.kind;
+    let lkey = fields.u32();
+    let local = fields.u64();
+    fields.keep(may_stand(scope, head, lkey, local));
+    let remote = fields.u64_if(names_remote(kind));
+    let rkey = fields.u32_if(names_remote(kind));
+    let swap_add = fields.u64_if(is_atomic_kind(kind));
+    let compare = fields.u64_if(compares(kind));
     let flags = head.flags;
     let shape = Shape {
         kind,
@@ -187,14 +187,30 @@ pub fn read_request_places(
         swap_add,
         compare,
     };
-    Ok(Request {
+    Request {
         id: head.id,
         shape,
         lkey,
         local,
         signaled: flags % 2 == 1,
         fence: flags / 4 % 2 == 1,
-    })
+    }
+}
+
+/// A request up to its payload. Errors: the first fault of its fields, with its place: `Short` or `Field`.
+pub fn read_request(
+    c: &mut Cursor<'_>,
+    link: &LinkImageHead,
+    standing: &Standing,
+    scope: &Scope<'_>,
+) -> Result<Request, Offence>
+    ensures request { Parsed (request_start_field standing.now (link_of_head link.now []) (regions_of scope.now.domains.now scope.now.regions.now) scope.now.domain.now) c.old c.new result }
+    ensures limit { IfOk result (λ r. standing.now.low + shape_of_length r.shape.kind r.shape.length link.now.terms.mtu < 2 ^ 62) }
+{
+    let mut fields = Fields::of(c);
+    let head = read_request_head(&mut fields, link, standing);
+    let request = read_request_places(&mut fields, scope, &head);
+    fields.end(c, request)
 }
 
 /// How many bytes a request took.

@@ -4,7 +4,7 @@ ghost use Rattle.std.specs.Prelude.{◌≡◌, ℕ, suc, ◌+◌, ◌-◌, ◌<�
 ghost use Rattle.protocol.specs.Dumps.{then_read, items, entry_field, raw, region_field};
 ghost use Rattle.dump_reader.specs.Groups.{region_of_head, queue_of_head};
 ghost use Rattle.dump_reader.specs.Ahead.{ahead, more_domains, more_regions, more_queues, more_entries, more_ends, queues_of, weight};
-ghost use Rattle.dump_reader.specs.Steps.{Alike, IsLeft, Moves, is_wanting};
+ghost use Rattle.dump_reader.specs.Steps.{Enters, Steps};
 
 use crate::cursor::Cursor;
 use crate::fault::DumpFault;
@@ -29,18 +29,13 @@ pub fn enter_domains(opened: &Opened, lists: &Lists, count: u16) -> ReadState
 
 /// A domain. Errors: `BadDump` with the first fault of the bytes, or `OutOfMemory`. After `Short` the lists are as
 /// they were.
-#[tactic(auto, unfolding(protocol::specs::Dumps::after, protocol::specs::Dumps::items, crate::specs::Ahead::ahead, crate::specs::Ahead::more_domains))]
 pub fn domain_step(
     opened: &Opened,
     lists: &mut Lists,
     c: &mut Cursor<'_>,
     more: u16,
 ) -> Result<ReadState, DumpFault>
-    ensures moves { Moves (ahead opened.now lists.old (ReadState.Domain more) c.old.place c.old.bytes.now) (λ next. ahead opened.now lists.new next c.new.place c.new.bytes.now) result }
-    ensures with_more_bytes { IfOk result (λ next. Alike (ahead opened.now lists.old (ReadState.Domain more)) c.old.place c.old.bytes.now (ahead opened.now lists.new next) c.new.place c.new.bytes.now) }
-    ensures left { IfOk result (λ next. IsLeft c.old.place c.old.bytes.now c.new.place c.new.bytes.now) }
-    ensures same { IfErr result (λ e. is_wanting e ≡ true → lists.new ≡ lists.old) }
-    ensures passed { IfOk result (λ next. c.old.place < c.new.place) }
+    ensures { Steps opened.now (ReadState.Domain more) lists.old lists.new c.old c.new result }
 {
     let name = groups::read_name(c, &lists.domains)?;
     push(&mut lists.domains, name)?;
@@ -61,17 +56,12 @@ pub fn enter_regions(opened: &Opened, lists: &Lists, count: u16) -> ReadState
 
 /// The count of regions. Errors: `BadDump` with the first fault of the bytes, or `OutOfMemory`. After `Short` the
 /// lists are as they were.
-#[tactic(auto, unfolding(protocol::specs::Dumps::after, protocol::specs::Dumps::items, crate::specs::Ahead::ahead))]
 pub fn region_count_step(
     opened: &Opened,
     lists: &mut Lists,
     c: &mut Cursor<'_>,
 ) -> Result<ReadState, DumpFault>
-    ensures moves { Moves (ahead opened.now lists.old ReadState.RegionCount c.old.place c.old.bytes.now) (λ next. ahead opened.now lists.new next c.new.place c.new.bytes.now) result }
-    ensures with_more_bytes { IfOk result (λ next. Alike (ahead opened.now lists.old ReadState.RegionCount) c.old.place c.old.bytes.now (ahead opened.now lists.new next) c.new.place c.new.bytes.now) }
-    ensures left { IfOk result (λ next. IsLeft c.old.place c.old.bytes.now c.new.place c.new.bytes.now) }
-    ensures same { IfErr result (λ e. is_wanting e ≡ true → lists.new ≡ lists.old) }
-    ensures passed { IfOk result (λ next. c.old.place < c.new.place) }
+    ensures { Steps opened.now ReadState.RegionCount lists.old lists.new c.old c.new result }
 {
     let count = groups::read_count(c, 256)?;
     lists.regions = Vec::new(lists.alloc);
@@ -94,7 +84,6 @@ fn region_image(head: &RegionImageHead, bytes: ByteRun) -> RegionImage
 
 /// The bytes of a region, all that are missing. Errors: `BadDump` with the first fault of the bytes, or `OutOfMemory`.
 /// After `Short` the lists are as they were.
-#[tactic(auto, unfolding(protocol::specs::Dumps::after, protocol::specs::Dumps::items, crate::specs::Ahead::ahead))]
 pub fn bytes_step(
     opened: &Opened,
     lists: &mut Lists,
@@ -103,12 +92,7 @@ pub fn bytes_step(
     missing: u32,
     after: u16,
 ) -> Result<ReadState, DumpFault>
-    ensures moves { Moves (ahead opened.now lists.old (ReadState.Bytes head.now missing after) c.old.place c.old.bytes.now) (λ next. ahead opened.now lists.new next c.new.place c.new.bytes.now) result }
-    ensures with_more_bytes { IfOk result (λ next. Alike (ahead opened.now lists.old (ReadState.Bytes head.now missing after)) c.old.place c.old.bytes.now (ahead opened.now lists.new next) c.new.place c.new.bytes.now) }
-    ensures left { IfOk result (λ next. IsLeft c.old.place c.old.bytes.now c.new.place c.new.bytes.now) }
-    ensures same { IfErr result (λ e. is_wanting e ≡ true → lists.new ≡ lists.old) }
-    ensures weightless { IfOk result (λ next. weight next ≡ 0) }
-    ensures passed { IfOk result (λ next. c.old.place ≤ c.new.place) }
+    ensures { Steps opened.now (ReadState.Bytes head.now missing after) lists.old lists.new c.old c.new result }
 {
     let bytes = c.raw(missing as usize)?;
     lists.run.append(lists.alloc, bytes)?;
@@ -119,18 +103,13 @@ pub fn bytes_step(
 
 /// A region, up to its bytes. Errors: `BadDump` with the first fault of the bytes, or `OutOfMemory`. After `Short` the
 /// lists are as they were.
-#[tactic(auto, unfolding(protocol::specs::Dumps::after, protocol::specs::Dumps::items, crate::specs::Ahead::ahead, crate::specs::Ahead::more_regions), using(crate::proofs::Split::region_split))]
 pub fn region_step(
     opened: &Opened,
     lists: &mut Lists,
     c: &mut Cursor<'_>,
     more: u16,
 ) -> Result<ReadState, DumpFault>
-    ensures moves { Moves (ahead opened.now lists.old (ReadState.Region more) c.old.place c.old.bytes.now) (λ next. ahead opened.now lists.new next c.new.place c.new.bytes.now) result }
-    ensures with_more_bytes { IfOk result (λ next. Alike (ahead opened.now lists.old (ReadState.Region more)) c.old.place c.old.bytes.now (ahead opened.now lists.new next) c.new.place c.new.bytes.now) }
-    ensures left { IfOk result (λ next. IsLeft c.old.place c.old.bytes.now c.new.place c.new.bytes.now) }
-    ensures same { IfErr result (λ e. is_wanting e ≡ true → lists.new ≡ lists.old) }
-    ensures passed { IfOk result (λ next. c.old.place < c.new.place) }
+    ensures { Steps opened.now (ReadState.Region more) lists.old lists.new c.old c.new result }
 {
     let head = groups::read_region(c, lists.domains.len(), &lists.regions)?;
     lists.run = ByteRun::make(lists.alloc);
@@ -151,17 +130,12 @@ pub fn enter_queues(opened: &Opened, lists: &Lists, count: u16) -> ReadState
 
 /// The count of completion queues. Errors: `BadDump` with the first fault of the bytes, or `OutOfMemory`. After
 /// `Short` the lists are as they were.
-#[tactic(auto, unfolding(protocol::specs::Dumps::after, protocol::specs::Dumps::items, crate::specs::Ahead::ahead))]
 pub fn queue_count_step(
     opened: &Opened,
     lists: &mut Lists,
     c: &mut Cursor<'_>,
 ) -> Result<ReadState, DumpFault>
-    ensures moves { Moves (ahead opened.now lists.old ReadState.QueueCount c.old.place c.old.bytes.now) (λ next. ahead opened.now lists.new next c.new.place c.new.bytes.now) result }
-    ensures with_more_bytes { IfOk result (λ next. Alike (ahead opened.now lists.old ReadState.QueueCount) c.old.place c.old.bytes.now (ahead opened.now lists.new next) c.new.place c.new.bytes.now) }
-    ensures left { IfOk result (λ next. IsLeft c.old.place c.old.bytes.now c.new.place c.new.bytes.now) }
-    ensures same { IfErr result (λ e. is_wanting e ≡ true → lists.new ≡ lists.old) }
-    ensures passed { IfOk result (λ next. c.old.place < c.new.place) }
+    ensures { Steps opened.now ReadState.QueueCount lists.old lists.new c.old c.new result }
 {
     let count = groups::read_count(c, 64)?;
     lists.queues = Vec::new(lists.alloc);
@@ -173,14 +147,11 @@ pub fn queue_count_step(
 pub fn enter_entries(
     opened: &Opened,
     lists: &mut Lists,
-    c: &Cursor<'_>,
     head: &QueueHead,
     count: u32,
     after: u16,
 ) -> Result<ReadState, DumpFault>
-    ensures moves { Moves (more_entries opened.now lists.old.domains.items lists.old.regions.items (queues_of lists.old) after head.now count lists.old.entries.items c.now.place c.now.bytes.now) (λ next. ahead opened.now lists.new next c.now.place c.now.bytes.now) result }
-    ensures with_more_bytes { IfOk result (λ next. Alike (more_entries opened.now lists.old.domains.items lists.old.regions.items (queues_of lists.old) after head.now count lists.old.entries.items) c.now.place c.now.bytes.now (ahead opened.now lists.new next) c.now.place c.now.bytes.now) }
-    ensures never { IfErr result (λ e. is_wanting e ≡ false) }
+    ensures { Enters (more_entries opened.now lists.old.domains.items lists.old.regions.items (queues_of lists.old) after head.now count lists.old.entries.items) (ahead opened.now lists.new) result }
 {
     if count > 0 {
         return Ok(ReadState::Entry(*head, count - 1, after));
@@ -198,27 +169,21 @@ pub fn enter_entries(
 
 /// A completion queue, up to its entries. Errors: `BadDump` with the first fault of the bytes, or `OutOfMemory`. After
 /// `Short` the lists are as they were.
-#[tactic(auto, unfolding(protocol::specs::Dumps::after, protocol::specs::Dumps::items, crate::specs::Ahead::ahead, crate::specs::Ahead::more_queues, crate::specs::Ahead::more_entries), using(crate::proofs::Split::queue_split))]
 pub fn queue_step(
     opened: &Opened,
     lists: &mut Lists,
     c: &mut Cursor<'_>,
     more: u16,
 ) -> Result<ReadState, DumpFault>
-    ensures moves { Moves (ahead opened.now lists.old (ReadState.Queue more) c.old.place c.old.bytes.now) (λ next. ahead opened.now lists.new next c.new.place c.new.bytes.now) result }
-    ensures with_more_bytes { IfOk result (λ next. Alike (ahead opened.now lists.old (ReadState.Queue more)) c.old.place c.old.bytes.now (ahead opened.now lists.new next) c.new.place c.new.bytes.now) }
-    ensures left { IfOk result (λ next. IsLeft c.old.place c.old.bytes.now c.new.place c.new.bytes.now) }
-    ensures same { IfErr result (λ e. is_wanting e ≡ true → lists.new ≡ lists.old) }
-    ensures passed { IfOk result (λ next. c.old.place < c.new.place) }
+    ensures { Steps opened.now (ReadState.Queue more) lists.old lists.new c.old c.new result }
 {
     let head = groups::read_queue(c, &lists.queues)?;
     lists.entries = Vec::new(lists.alloc);
-    enter_entries(opened, lists, c, &head, head.count, more)
+    enter_entries(opened, lists, &head, head.count, more)
 }
 
 /// An entry. Errors: `BadDump` with the first fault of the bytes, or `OutOfMemory`. After `Short` the lists are as
 /// they were.
-#[tactic(auto, unfolding(protocol::specs::Dumps::after, protocol::specs::Dumps::items, crate::specs::Ahead::ahead, crate::specs::Ahead::more_entries), using(crate::proofs::Split::entry_any))]
 pub fn entry_step(
     opened: &Opened,
     lists: &mut Lists,
@@ -227,13 +192,9 @@ pub fn entry_step(
     more: u32,
     after: u16,
 ) -> Result<ReadState, DumpFault>
-    ensures moves { Moves (ahead opened.now lists.old (ReadState.Entry head.now more after) c.old.place c.old.bytes.now) (λ next. ahead opened.now lists.new next c.new.place c.new.bytes.now) result }
-    ensures with_more_bytes { IfOk result (λ next. Alike (ahead opened.now lists.old (ReadState.Entry head.now more after)) c.old.place c.old.bytes.now (ahead opened.now lists.new next) c.new.place c.new.bytes.now) }
-    ensures left { IfOk result (λ next. IsLeft c.old.place c.old.bytes.now c.new.place c.new.bytes.now) }
-    ensures same { IfErr result (λ e. is_wanting e ≡ true → lists.new ≡ lists.old) }
-    ensures passed { IfOk result (λ next. c.old.place < c.new.place) }
+    ensures { Steps opened.now (ReadState.Entry head.now more after) lists.old lists.new c.old c.new result }
 {
     let entry = groups::read_entry(c)?;
     push(&mut lists.entries, entry)?;
-    enter_entries(opened, lists, c, head, more, after)
+    enter_entries(opened, lists, head, more, after)
 }

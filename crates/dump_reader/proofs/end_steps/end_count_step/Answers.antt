@@ -1,19 +1,16 @@
-use Rattle.std.proofs.Common.{arith}
-use Rattle.std.proofs.lemmas.Grind.{common_steps}
-use Rattle.dump_reader.proofs.Later.{limit_steady, read_alike, read_goes, left_behind, alike_from, ok_any}
-use Rattle.protocol.specs.Dumps.{after, items}
+use Rattle.std.proofs.Common.{List, ap, sym}
+use Rattle.protocol.specs.declared.images.EndImage.{EndImage}
 use Rattle.dump_reader.specs.declared.lists.ReadState.TheVariants as place
-use Rattle.dump_reader.specs.Ahead.{ahead, more_ends, queues_of}
+use Rattle.dump_reader.specs.Ahead.{more_ends, queues_of}
+use Rattle.dump_reader.proofs.Later.{limit_steady}
+use Rattle.dump_reader.proofs.Onward.{into, refused}
+use Rattle.dump_reader.proofs.Opens.{opens_end_count}
 use Rattle.dump_reader.proofs.end_steps.end_count_step.Goals as goal
 
-pub returns-clause-with_more_bytes : goal.returns-clause-with_more_bytes
-unfolding after items ahead
-returns-clause-with_more_bytes c =
-    let o = c.args.opened.now in
-    let s = c.args.lists.now in
-    alike_from (ahead o s place.EndCount) (more_ends o s.domains.items s.regions.items (queues_of s) c.in_ok-count.count c.new.result.items)
-    c.args.c.now.place c.args.c.now.bytes.now c.read_count.new.c.place c.read_count.new.c.bytes.now (ahead o (record s { ends = c.new.result })) _ _ c.enter_ends.result
-    (λ later. let h = read_alike (limit_steady _ _) c.in_ok-count.ensures.count later in grind (arith, common_steps)) c.enter_ends.ensures.with_more_bytes
+pub returns : goal.returns
+returns c =
+    into c.args.opened.now place.EndCount c.args.lists.now c.args.c.now _ _ (opens_end_count c.args.opened.now c.args.lists.now) c.read_count.new.c _ (limit_steady _ _) c.in_ok-count.ensures.read c.enter_ends.result c.in_ok-count.ensures.passed _ (ap (λ (es : List EndImage). more_ends c.args.opened.now c.args.lists.now.domains.items c.args.lists.now.regions.items (queues_of c.args.lists.now) c.in_ok-count.count es) (sym c.new.ensures.items)) c.enter_ends.ensures
 
-pub returns-clause-left : goal.returns-clause-left
-returns-clause-left c = ok_any c.enter_ends.result (left_behind (read_goes (limit_steady _ _) c.in_ok-count.ensures.count))
+pub returns-in_err-count : goal.returns-in_err-count
+returns-in_err-count c =
+    refused c.args.opened.now place.EndCount c.args.lists.now c.args.c.now _ _ (opens_end_count c.args.opened.now c.args.lists.now) c.read_count.new.c c.in_err-count.field-0.0 c.from_residual.result c.from_residual.ensures.1 c.in_err-count.ensures.read

@@ -1,22 +1,20 @@
-use Rattle.std.proofs.Common.{arith, ◌∷◌, ◌++◌, [], List, ℕ}
-use Rattle.dump_reader.proofs.Later.{request_head_steady, request_places_steady, read_alike, read_goes, left_behind, goes_twice, alike_from, ok_any}
-use Rattle.protocol.specs.Dumps.{after, items, then_read, raw}
+use Rattle.std.proofs.Common.{[], ◌∷◌, ◌++◌, ap, sym}
+use Rattle.protocol.specs.Dumps.{then_read, raw}
+use Rattle.dump_reader.specs.declared.heads.Before.{Before}
 use Rattle.dump_reader.specs.declared.lists.ReadState.TheVariants as place
 use Rattle.dump_reader.specs.Groups.{link_of_head, payload_length}
-use Rattle.dump_reader.specs.Ahead.{ahead, more_untold, queues_of}
-use Rattle.dump_reader.proofs.Ends.{request_begins}
+use Rattle.dump_reader.specs.Ahead.{more_untold, queues_of}
+use Rattle.dump_reader.proofs.Later.{request_start_steady}
+use Rattle.dump_reader.proofs.Onward.{into, refused}
+use Rattle.dump_reader.proofs.Opens.{opens_request}
 use Rattle.dump_reader.proofs.end_steps.request_step.Goals as goal
 
-pub returns-clause-with_more_bytes : goal.returns-clause-with_more_bytes
-unfolding after items ahead
-returns-clause-with_more_bytes c =
-    let o = c.args.opened.now in
-    let s = c.args.lists.now in
-    let r = c.in_ok-request.request in
-    alike_from (ahead o s (place.Request c.args.head.now c.args.link.now c.args.before.now c.args.more c.args.after))
-    (then_read (raw (payload_length r)) (λ (payload : List ℕ). more_untold o s.domains.items s.regions.items (queues_of s) s.ends.items c.args.after c.args.head.now (link_of_head c.args.link.now s.kept.items) c.advanced-before.result c.args.more (s.untold.items ++ record { request = r; payload = payload } ∷ [])))
-    c.args.c.now.place c.args.c.now.bytes.now c.read_request_places.new.c.place c.read_request_places.new.c.bytes.now (ahead o c.enter_payload.new.lists) _ _ c.enter_payload.result
-    (λ later. let h = read_alike (request_head_steady _ _ _ _ _ _) c.in_ok-start.ensures.head later in let g = read_alike (request_places_steady _ _ _) c.in_ok-request.ensures.request later in grind (arith, request_begins)) c.enter_payload.ensures.with_more_bytes
+pub returns : goal.returns
+returns c =
+    let read = rw (c.standing_of-standing.ensures, c.scope_of.ensures.domains, c.scope_of.ensures.regions, c.scope_of.ensures.domain) at c.in_ok-request.ensures.request.read in
+    into c.args.opened.now (place.Request c.args.head.now c.args.link.now c.args.before.now c.args.more c.args.after) c.args.lists.now c.args.c.now _ _ (opens_request c.args.opened.now c.args.lists.now c.args.head.now c.args.after c.args.link.now c.args.before.now c.args.more) c.read_request.new.c _ (request_start_steady _ _ _ _) read c.enter_payload.result c.in_ok-request.ensures.request.passed _ (ap (λ (before : Before). then_read (raw (payload_length c.in_ok-request.request)) (λ payload. more_untold c.args.opened.now c.args.lists.now.domains.items c.args.lists.now.regions.items (queues_of c.args.lists.now) c.args.lists.now.ends.items c.args.after c.args.head.now (link_of_head c.args.link.now c.args.lists.now.kept.items) before c.args.more (c.args.lists.now.untold.items ++ record { request = c.in_ok-request.request; payload = payload } ∷ []))) (sym c.advanced-before.ensures)) c.enter_payload.ensures
 
-pub returns-clause-left : goal.returns-clause-left
-returns-clause-left c = ok_any c.enter_payload.result (left_behind (goes_twice (read_goes (request_head_steady _ _ _ _ _ _) c.in_ok-start.ensures.head) (read_goes (request_places_steady _ _ _) c.in_ok-request.ensures.request)))
+pub returns-in_err-request : goal.returns-in_err-request
+returns-in_err-request c =
+    let read = rw (c.standing_of-standing.ensures, c.scope_of.ensures.domains, c.scope_of.ensures.regions, c.scope_of.ensures.domain) at c.in_err-request.ensures.request.read in
+    refused c.args.opened.now (place.Request c.args.head.now c.args.link.now c.args.before.now c.args.more c.args.after) c.args.lists.now c.args.c.now _ _ (opens_request c.args.opened.now c.args.lists.now c.args.head.now c.args.after c.args.link.now c.args.before.now c.args.more) c.read_request.new.c c.in_err-request.field-0.0 c.from_residual.result c.from_residual.ensures.1 read
