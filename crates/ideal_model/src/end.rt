@@ -228,12 +228,9 @@ impl End {
         requires { r.now ≡ current self.now }
         ensures { IfOk result (λ v. v.items ≡ next_bytes self.now n) }
     {
-        r.payload
-            .iter()
-            .skip(self.into as usize)
-            .take(n as usize)
-            .copied()
-            .collect(alloc)
+        let from = r.payload.len().min(self.into as usize);
+        let rest = &r.payload[from..];
+        Vec::from_slice(alloc, &rest[..rest.len().min(n as usize)])
     }
 
     /// Copies of its unused receives, once a Send has its receive in use. Errors: `AllocError` when out of memory.

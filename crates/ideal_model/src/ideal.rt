@@ -11,7 +11,7 @@ ghost use Rattle.ideal_model.specs.Lending.{LendsContext, LendsEnd, LendsQueue};
 
 use crate::context::Context;
 use crate::end::End;
-use crate::named::place_of;
+use crate::named::{find, place_of};
 use crate::queue::Queue;
 use crate::region::{KeyedRange, Region, put_at};
 use rdma_types::{Name, ObjName};
@@ -50,7 +50,7 @@ impl Ideal {
         ensures some { IfSome result (λ c. (c.now ≡ context_of self.now name) × (has_context self.now name ≡ true)) }
         ensures none { IfNone result ((has_context self.now name ≡ false) × (context_of self.now name ≡ no_context name)) }
     {
-        self.contexts.get(place_of(&self.contexts, name))
+        find(&self.contexts, name)
     }
 
     pub(crate) fn end(&self, o: &ObjName) -> Option<&End>
@@ -58,7 +58,7 @@ impl Ideal {
         ensures none { IfNone result ((has_end self.now o.now ≡ false) × (end_of self.now o.now ≡ nobody o.now)) }
     {
         let context = self.context(o.context)?;
-        context.ends.get(place_of(&context.ends, o.name))
+        find(&context.ends, o.name)
     }
 
     /// The end of that name, and its context.
@@ -67,7 +67,7 @@ impl Ideal {
         ensures none { IfNone result ((has_end self.now o.now ≡ false) × (end_of self.now o.now ≡ nobody o.now)) }
     {
         let context = self.context(o.context)?;
-        let end = context.ends.get(place_of(&context.ends, o.name))?;
+        let end = find(&context.ends, o.name)?;
         Some((context, end))
     }
 
@@ -76,7 +76,7 @@ impl Ideal {
         ensures none { IfNone result ((has_queue self.now context name ≡ false) × (queue_of self.now context name ≡ no_queue)) }
     {
         let context = self.context(context)?;
-        context.queues.get(place_of(&context.queues, name))
+        find(&context.queues, name)
     }
 
     pub(crate) fn region(&self, o: &ObjName) -> Option<&Region>
@@ -84,7 +84,7 @@ impl Ideal {
         ensures none { IfNone result ((has_region self.now o.now ≡ false) × (region_of self.now o.now ≡ no_region)) }
     {
         let context = self.context(o.context)?;
-        context.regions.get(place_of(&context.regions, o.name))
+        find(&context.regions, o.name)
     }
 
     pub(crate) fn context_mut(&mut self, name: Name) -> Option<&mut Context>
