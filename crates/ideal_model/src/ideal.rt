@@ -87,10 +87,12 @@ impl Ideal {
         find(&context.regions, o.name)
     }
 
+    #[tactic(auto, unfolding(crate::specs::Machine::context_of, crate::specs::Machine::with_context, crate::specs::Tables::replaced), using(crate::proofs::Places::by_names, crate::proofs::Same::same_context))]
     pub(crate) fn context_mut(&mut self, name: Name) -> Option<&mut Context>
         ensures* lends { sem 𝓛 (LendsContext self.entry name result) }
         ensures some { IfSome result (λ c. c.now ≡ context_of self.old name) }
         ensures none { IfNone result ((c : ContextRecord) → with_context self.old name c ≡ self.old) }
+        ensures same { with_context self.old name (context_of self.old name) ≡ self.old }
     {
         let place = place_of(&self.contexts, name);
         self.contexts.get_mut(place)
@@ -100,6 +102,7 @@ impl Ideal {
         ensures* lends { sem 𝓛 (LendsEnd self.entry o.now result) }
         ensures some { IfSome result (λ e. e.now ≡ end_of self.old o.now) }
         ensures none { IfNone result ((e : EndRecord) → with_end self.old o.now e ≡ self.old) }
+        ensures same { with_end self.old o.now (end_of self.old o.now) ≡ self.old }
     {
         let context = self.context_mut(o.context)?;
         context.end_mut(o.name)
@@ -109,6 +112,7 @@ impl Ideal {
         ensures* lends { sem 𝓛 (LendsQueue self.entry context name result) }
         ensures some { IfSome result (λ q. q.now ≡ queue_of self.old context name) }
         ensures none { IfNone result ((q : CompletionQueue) → with_queue self.old context name q ≡ self.old) }
+        ensures same { with_queue self.old context name (queue_of self.old context name) ≡ self.old }
     {
         let context = self.context_mut(context)?;
         context.queue_mut(name)
