@@ -81,12 +81,7 @@ impl Ideal {
     }
 
     /// The answer to a verb that is not refused. Errors: `AllocError` when out of memory.
-    fn granted_answer(
-        &self,
-        alloc: Global,
-        verb: &Verb,
-        given: u32,
-    ) -> Result<Answer, AllocError>
+    fn granted_answer(&self, alloc: Global, verb: &Verb, given: u32) -> Result<Answer, AllocError>
         requires granted { refusal_of self.now verb.now ≡ None }
         requires free { may_give self.now verb.now given ≡ true }
         ensures { IfOk result (λ a. a ≡ granted_answer self.now verb.now given) }
