@@ -1,5 +1,5 @@
 -- The search for a thing, one place after another, and what is found, changed or taken at a place.
-use Rattle.std.proofs.Common.{arith, ◌≡◌, ◌<◌, ◌≤◌, ◌+◌, ℕ, zero, suc, Bool, List, [], ◌∷◌, length, drop, get_or, set, true, false, refl, nat_lt, ◌∙◌, ap}
+use Rattle.std.proofs.Common.{arith, ◌≡◌, ◌<◌, ◌≤◌, ◌+◌, ℕ, Bool, List, [], ◌∷◌, length, drop, get_or, set, true, false, refl, nat_lt, ◌∙◌, ap}
 use Rattle.std.specs.Prelude.{bytes_eq, is_some, remove}
 use Rattle.std.specs.List.{list_any}
 use Rattle.std.proofs.lemmas.Bool.Decides.{nat_tests}

@@ -1,6 +1,6 @@
-use Rattle.std.proofs.Common.{arith, rules, ◌≡◌, refl, Option, Some, None}
+use Rattle.std.proofs.Common.{◌≡◌, refl, Option, Some, None}
 use Rattle.std.specs.Prelude.{IfSome}
-use Rattle.ideal_model.specs.Machine.{Machine, Context, End, nobody, end_of, with_end, with_end_in, with_context, context_of}
+use Rattle.ideal_model.specs.Machine.{Machine, Context, End, nobody, end_of, with_end, context_of}
 use Rattle.rdma_types.specs.declared.names.ObjName.{ObjName}
 use Rattle.rdma_types.specs.Lists.{named}
 use Rattle.std.specs.Borrow.{MutBor}

@@ -1,5 +1,5 @@
-use Rattle.std.proofs.Common.{arith, rules, ◌≡◌, refl}
-use Rattle.ideal_model.specs.Machine.{queue_of, with_queue, with_context, context_of}
+use Rattle.std.proofs.Common.{◌≡◌, refl}
+use Rattle.ideal_model.specs.Machine.{queue_of, with_queue, context_of}
 use Rattle.ideal_model.proofs.Same.{same_context, same_queue, no_queue_to_change}
 use Rattle.ideal_model.proofs.ideal.Ideal.queue_mut.Goals as goal
 
