@@ -34,7 +34,7 @@ fn name(rt: &impl Abort, text: &[u8]) -> Name {
     Name::read(text).expect(rt, "a name")
 }
 
-fn names(rt: &impl Abort) -> Names {
+fn read_names(rt: &impl Abort) -> Names {
     Names {
         a: name(rt, b"a"),
         b: name(rt, b"b"),
@@ -58,7 +58,6 @@ fn asks(verb: Verb, given: u32) -> IdealStep {
 struct Session {
     ideal: Ideal,
     alloc: Global,
-    names: Names,
     made: u32,
     first_wrong: Option<u32>,
 }
@@ -73,33 +72,33 @@ impl Session {
     }
 
     /// Makes a step, whatever its answer.
-    fn makes(&mut self, step: IdealStep) {
-        let answer = self.ideal.step(self.alloc, &step);
+    fn makes(&mut self, step: &IdealStep) {
+        let answer = self.ideal.step(self.alloc, step);
         self.note(answer.is_ok());
     }
 
     /// Makes a step that answers `Done`.
-    fn done(&mut self, step: IdealStep) {
-        let answer = self.ideal.step(self.alloc, &step);
+    fn done(&mut self, step: &IdealStep) {
+        let answer = self.ideal.step(self.alloc, step);
         self.note(matches!(&answer, Ok(Answer::Done)));
     }
 
     /// The step is not enabled.
-    fn is_off(&mut self, step: IdealStep) {
-        let answer = self.ideal.step(self.alloc, &step);
+    fn is_off(&mut self, step: &IdealStep) {
+        let answer = self.ideal.step(self.alloc, step);
         self.note(matches!(&answer, Err(IdealFault::NotEnabled)));
     }
 
-    /// The verb is refused, since something is in use.
-    fn is_in_use(&mut self, verb: Verb) {
-        let answer = self.ideal.step(self.alloc, &asks(verb, 0));
+    /// The verb of a step is refused, since something is in use.
+    fn is_in_use(&mut self, step: &IdealStep) {
+        let answer = self.ideal.step(self.alloc, step);
         self.note(matches!(&answer, Ok(Answer::Refused(Refusal::InUse))));
     }
 
-    /// A poll of the queue of a context answers these completions.
-    fn polls(&mut self, context: Name, wanted: &[Completion]) {
-        let cq = at(context, self.names.queue);
-        let answer = self.ideal.step(self.alloc, &asks(Verb::Poll { cq, max: 4 }, 0));
+    /// A poll of a queue answers these completions.
+    fn polls(&mut self, cq: &ObjName, wanted: &[Completion]) {
+        let poll = Verb::Poll { cq: *cq, max: 4 };
+        let answer = self.ideal.step(self.alloc, &asks(poll, 0));
         let same = match &answer {
             Ok(Answer::Polled(entries)) => entries.as_slice() == wanted,
             _ => false,
@@ -107,11 +106,11 @@ impl Session {
         self.note(same);
     }
 
-    /// A load of four bytes from the region of a context answers these.
-    fn loads(&mut self, context: Name, at_byte: u64, wanted: &[u8]) {
+    /// A load of four bytes of a region answers these.
+    fn loads(&mut self, region: &ObjName, at: u64, wanted: &[u8]) {
         let verb = Verb::Load {
-            region: at(context, self.names.region),
-            at: at_byte,
+            region: *region,
+            at,
             length: 4,
         };
         let answer = self.ideal.step(self.alloc, &asks(verb, 0));
@@ -123,17 +122,16 @@ impl Session {
     }
 
     /// Makes a context with a domain, a region, a queue and an end.
-    fn make_side(&mut self, context: Name, base: u64, key: u32, number: u32) {
-        let n = self.names;
+    fn make_side(&mut self, n: &Names, context: Name, base: u64, key: u32, number: u32) {
         let made = Verb::Context {
             name: context,
             made: true,
         };
-        self.done(asks(made, 0));
+        self.done(&asks(made, 0));
         let domain = Verb::MakeDomain {
             name: at(context, n.domain),
         };
-        self.done(asks(domain, 0));
+        self.done(&asks(domain, 0));
         let region = Verb::MakeRegion {
             name: at(context, n.region),
             domain: Some(n.domain),
@@ -141,12 +139,12 @@ impl Session {
             length: 64,
             rights: Rights(15),
         };
-        self.makes(asks(region, key));
+        self.makes(&asks(region, key));
         let queue = Verb::MakeCq {
             name: at(context, n.queue),
             capacity: 16,
         };
-        self.done(asks(queue, 0));
+        self.done(&asks(queue, 0));
         let end = Verb::MakeQp {
             name: at(context, n.end),
             domain: Some(n.domain),
@@ -155,53 +153,47 @@ impl Session {
             send_depth: 8,
             recv_depth: 8,
         };
-        self.makes(asks(end, number));
-    }
-
-    /// Makes both contexts, and connects their ends.
-    fn open(&mut self) {
-        let n = self.names;
-        self.make_side(n.a, 4096, LOCAL_A, NUMBER_A);
-        self.make_side(n.b, 8192, LOCAL_B, NUMBER_B);
-        let connect = Verb::Connect {
-            one: at(n.a, n.end),
-            two: at(n.b, n.end),
-            terms: Terms {
-                mtu: 256,
-                own_start: 100,
-                peer_start: 200,
-                retry: 7,
-                rnr: 7,
-                reads: 4,
-            },
-        };
-        self.done(asks(connect, 0));
-    }
-
-    /// Posts a request of this shape at the end of the first context.
-    fn posts(&mut self, id: u64, shape: Shape) {
-        let end = at(self.names.a, self.names.end);
-        let request = Request {
-            id,
-            shape,
-            lkey: LOCAL_A,
-            local: 4096,
-            signaled: true,
-            fence: false,
-        };
-        self.done(asks(Verb::PostSend { end, request }, 0));
+        self.makes(&asks(end, number));
     }
 }
 
-/// A machine with nothing in it.
-fn session(rt: &impl Abort, alloc: Global) -> Session {
-    Session {
+/// Two contexts whose ends are connected.
+fn opened(alloc: Global, n: &Names) -> Session {
+    let mut run = Session {
         ideal: Ideal::make(alloc),
         alloc,
-        names: names(rt),
         made: 0,
         first_wrong: None,
-    }
+    };
+    run.make_side(n, n.a, 4096, LOCAL_A, NUMBER_A);
+    run.make_side(n, n.b, 8192, LOCAL_B, NUMBER_B);
+    let connect = Verb::Connect {
+        one: at(n.a, n.end),
+        two: at(n.b, n.end),
+        terms: Terms {
+            mtu: 256,
+            own_start: 100,
+            peer_start: 200,
+            retry: 7,
+            rnr: 7,
+            reads: 4,
+        },
+    };
+    run.done(&asks(connect, 0));
+    run
+}
+
+/// Posts a request of this shape at an end of the first context.
+fn post(end: ObjName, id: u64, shape: Shape) -> IdealStep {
+    let request = Request {
+        id,
+        shape,
+        lkey: LOCAL_A,
+        local: 4096,
+        signaled: true,
+        fence: false,
+    };
+    asks(Verb::PostSend { end, request }, 0)
 }
 
 fn shape(kind: Kind, length: u32, remote: u64, rkey: u32, swap_add: u64) -> Shape {
@@ -230,62 +222,81 @@ fn completion(qp: u32, id: u64, kind: WcKind, status: WcStatus, length: u32) -> 
 #[test]
 fn one_write_completed(rt: HostRuntime) -> Result<(), Fail> {
     let bytes = [0xde, 0xad, 0xbe, 0xef].to_vec(rt.alloc())?;
-    let mut run = session(&rt, rt.alloc());
-    let n = run.names;
-    let q = at(n.a, n.end);
-    run.open();
+    let names = read_names(&rt);
+    let n = &names;
+    let owner = at(n.a, n.end);
+    let q = &owner;
+    let mut run = opened(rt.alloc(), n);
     let store = Verb::Store {
         region: at(n.a, n.region),
         at: 4096,
         bytes: Items::new(bytes),
     };
-    run.done(asks(store, 0));
-    run.posts(1, shape(Kind::Write, 4, 8192, REMOTE_B, 0));
-    run.is_off(IdealStep::Tell { q });
-    run.done(IdealStep::Run { q, n: 4 });
-    run.done(IdealStep::Tell { q });
-    run.polls(n.a, &[completion(NUMBER_A, 1, WcKind::Write, WcStatus::Success, 4)]);
-    run.polls(n.a, &[]);
-    run.loads(n.b, 8192, &[0xde, 0xad, 0xbe, 0xef]);
+    let store = asks(store, 0);
+    let write = post(*q, 1, shape(Kind::Write, 4, 8192, REMOTE_B, 0));
+    let arrive = IdealStep::Run { q: *q, n: 4 };
+    let tell = IdealStep::Tell { q: *q };
+    let told = [completion(NUMBER_A, 1, WcKind::Write, WcStatus::Success, 4)];
+    let completions = at(n.a, n.queue);
+    let there = at(n.b, n.region);
+    run.done(&store);
+    run.done(&write);
+    run.is_off(&tell);
+    run.done(&arrive);
+    run.done(&tell);
+    run.polls(&completions, &told);
+    run.polls(&completions, &[]);
+    run.loads(&there, 8192, &[0xde, 0xad, 0xbe, 0xef]);
     assert_eq!(&rt; run.first_wrong, None);
     Ok(())
 }
 
 #[test]
 fn an_atomic_and_a_read(rt: HostRuntime) {
-    let mut run = session(&rt, rt.alloc());
-    let n = run.names;
-    let q = at(n.a, n.end);
-    run.open();
-    run.posts(1, shape(Kind::FetchAdd, 8, 8192, REMOTE_B, 5));
-    run.done(IdealStep::Atom { q });
-    run.is_off(IdealStep::Atom { q });
-    run.done(IdealStep::Tell { q });
-    run.posts(2, shape(Kind::Read, 4, 8196, REMOTE_B, 0));
-    run.done(IdealStep::ReadTurn { q });
-    run.done(IdealStep::Offer {
-        q,
+    let names = read_names(&rt);
+    let n = &names;
+    let owner = at(n.a, n.end);
+    let q = &owner;
+    let mut run = opened(rt.alloc(), n);
+    let add = post(*q, 1, shape(Kind::FetchAdd, 8, 8192, REMOTE_B, 5));
+    let act = IdealStep::Atom { q: *q };
+    let tell = IdealStep::Tell { q: *q };
+    let read = post(*q, 2, shape(Kind::Read, 4, 8196, REMOTE_B, 0));
+    let turn = IdealStep::ReadTurn { q: *q };
+    let offer = IdealStep::Offer {
+        q: *q,
         i: 1,
         off: 0,
         n: 4,
-    });
-    run.done(IdealStep::Land { q, o: 0 });
-    run.done(IdealStep::Tell { q });
-    run.loads(n.a, 4096, &[0, 0, 0, 5]);
+    };
+    let land = IdealStep::Land { q: *q, o: 0 };
     let told = [
         completion(NUMBER_A, 1, WcKind::FetchAdd, WcStatus::Success, 8),
         completion(NUMBER_A, 2, WcKind::Read, WcStatus::Success, 4),
     ];
-    run.polls(n.a, &told);
+    let completions = at(n.a, n.queue);
+    let here = at(n.a, n.region);
+    run.done(&add);
+    run.done(&act);
+    run.is_off(&act);
+    run.done(&tell);
+    run.done(&read);
+    run.done(&turn);
+    run.done(&offer);
+    run.done(&land);
+    run.done(&tell);
+    run.loads(&here, 4096, &[0, 0, 0, 5]);
+    run.polls(&completions, &told);
     assert_eq!(&rt; run.first_wrong, None);
 }
 
 #[test]
 fn a_send_too_long_and_a_flush(rt: HostRuntime) {
-    let mut run = session(&rt, rt.alloc());
-    let n = run.names;
-    let q = at(n.a, n.end);
-    run.open();
+    let names = read_names(&rt);
+    let n = &names;
+    let owner = at(n.a, n.end);
+    let q = &owner;
+    let mut run = opened(rt.alloc(), n);
     let receive = Verb::PostRecv {
         end: at(n.b, n.end),
         receive: Receive {
@@ -295,22 +306,28 @@ fn a_send_too_long_and_a_flush(rt: HostRuntime) {
             length: 2,
         },
     };
-    run.done(asks(receive, 0));
-    run.is_in_use(Verb::DropRegion {
-        name: at(n.b, n.region),
-    });
-    run.posts(3, shape(Kind::Send, 4, 0, 0, 0));
-    run.posts(4, shape(Kind::Send, 4, 0, 0, 0));
-    run.done(IdealStep::Refuse {
-        q,
-        why: Why::Length,
-    });
-    run.done(IdealStep::Bounce { q });
-    run.polls(n.b, &[completion(NUMBER_B, 9, WcKind::Recv, WcStatus::LocalLength, 0)]);
+    let receive = asks(receive, 0);
+    let name = at(n.b, n.region);
+    let take_away = asks(Verb::DropRegion { name }, 0);
+    let first = post(*q, 3, shape(Kind::Send, 4, 0, 0, 0));
+    let second = post(*q, 4, shape(Kind::Send, 4, 0, 0, 0));
+    let why = Why::Length;
+    let refuse = IdealStep::Refuse { q: *q, why };
+    let bounce = IdealStep::Bounce { q: *q };
+    let there = [completion(NUMBER_B, 9, WcKind::Recv, WcStatus::LocalLength, 0)];
     let here = [
         completion(NUMBER_A, 3, WcKind::Send, WcStatus::RemoteInvalid, 0),
         completion(NUMBER_A, 4, WcKind::Send, WcStatus::Flush, 0),
     ];
-    run.polls(n.a, &here);
+    let queue_there = at(n.b, n.queue);
+    let queue_here = at(n.a, n.queue);
+    run.done(&receive);
+    run.is_in_use(&take_away);
+    run.done(&first);
+    run.done(&second);
+    run.done(&refuse);
+    run.done(&bounce);
+    run.polls(&queue_there, &there);
+    run.polls(&queue_here, &here);
     assert_eq!(&rt; run.first_wrong, None);
 }
