@@ -30,15 +30,19 @@ struct Names {
     end: Name,
 }
 
-fn read_names() -> Option<Names> {
-    Some(Names {
-        a: Name::read(b"a")?,
-        b: Name::read(b"b")?,
-        domain: Name::read(b"p")?,
-        region: Name::read(b"m")?,
-        queue: Name::read(b"c")?,
-        end: Name::read(b"q")?,
-    })
+fn name(rt: &impl Abort, text: &[u8]) -> Name {
+    Name::read(text).expect(rt, "a name")
+}
+
+fn read_names(rt: &impl Abort) -> Names {
+    Names {
+        a: name(rt, b"a"),
+        b: name(rt, b"b"),
+        domain: name(rt, b"p"),
+        region: name(rt, b"m"),
+        queue: name(rt, b"c"),
+        end: name(rt, b"q"),
+    }
 }
 
 fn at(context: Name, name: Name) -> ObjName {
@@ -49,70 +53,120 @@ fn asks(verb: Verb, given: u32) -> IdealStep {
     IdealStep::Verb { verb, given }
 }
 
-/// A context with a domain, a region, a queue and an end.
-fn side(n: &Names, context: Name, base: u64, key: u32, number: u32) -> [IdealStep; 5] {
-    let made = Verb::Context {
-        name: context,
-        made: true,
-    };
-    let domain = Verb::MakeDomain {
-        name: at(context, n.domain),
-    };
-    let region = Verb::MakeRegion {
-        name: at(context, n.region),
-        domain: Some(n.domain),
-        base,
-        length: 64,
-        rights: Rights(15),
-    };
-    let queue = Verb::MakeCq {
-        name: at(context, n.queue),
-        capacity: 16,
-    };
-    let end = Verb::MakeQp {
-        name: at(context, n.end),
-        domain: Some(n.domain),
-        send_cq: Some(n.queue),
-        recv_cq: Some(n.queue),
-        send_depth: 8,
-        recv_depth: 8,
-    };
-    [
-        asks(made, 0),
-        asks(domain, 0),
-        asks(region, key),
-        asks(queue, 0),
-        asks(end, number),
-    ]
-}
-
-/// Makes the steps.
-fn make_all(ideal: &mut Ideal, alloc: Global, steps: &[IdealStep]) -> Result<(), IdealFault> {
-    for step in steps {
-        let _ = ideal.step(alloc, step)?;
-    }
-    Ok(())
-}
-
-/// Makes steps that each answer `Done`.
-fn all_done(
-    rt: &impl Abort,
-    ideal: &mut Ideal,
+/// A machine that makes steps one after another, and the first one that was not answered as wanted.
+#[derive(Drop)]
+struct Session {
+    ideal: Ideal,
     alloc: Global,
-    steps: &[IdealStep],
-) -> Result<(), IdealFault> {
-    for step in steps {
-        let answer = ideal.step(alloc, step)?;
-        assert!(rt; matches!(&answer, Answer::Done));
+    made: u32,
+    first_wrong: Option<u32>,
+}
+
+impl Session {
+    /// Counts a step, and keeps its number where it is the first that was not answered as wanted.
+    fn note(&mut self, as_wanted: bool) {
+        if !as_wanted && self.first_wrong.is_none() {
+            self.first_wrong = Some(self.made);
+        }
+        self.made = self.made.saturating_add(1);
     }
-    Ok(())
+
+    /// Makes a step, whatever its answer.
+    fn makes(&mut self, step: &IdealStep) {
+        let answer = self.ideal.step(self.alloc, step);
+        self.note(answer.is_ok());
+    }
+
+    /// Makes a step that answers `Done`.
+    fn done(&mut self, step: &IdealStep) {
+        let answer = self.ideal.step(self.alloc, step);
+        self.note(matches!(&answer, Ok(Answer::Done)));
+    }
+
+    /// The step is not enabled.
+    fn is_off(&mut self, step: &IdealStep) {
+        let answer = self.ideal.step(self.alloc, step);
+        self.note(matches!(&answer, Err(IdealFault::NotEnabled)));
+    }
+
+    /// The verb of a step is refused, since something is in use.
+    fn is_in_use(&mut self, step: &IdealStep) {
+        let answer = self.ideal.step(self.alloc, step);
+        self.note(matches!(&answer, Ok(Answer::Refused(Refusal::InUse))));
+    }
+
+    /// A poll of a queue answers these completions.
+    fn polls(&mut self, cq: &ObjName, wanted: &[Completion]) {
+        let poll = Verb::Poll { cq: *cq, max: 4 };
+        let answer = self.ideal.step(self.alloc, &asks(poll, 0));
+        let same = match &answer {
+            Ok(Answer::Polled(entries)) => entries.as_slice() == wanted,
+            _ => false,
+        };
+        self.note(same);
+    }
+
+    /// A load of four bytes of a region answers these.
+    fn loads(&mut self, region: &ObjName, at: u64, wanted: &[u8]) {
+        let verb = Verb::Load {
+            region: *region,
+            at,
+            length: 4,
+        };
+        let answer = self.ideal.step(self.alloc, &asks(verb, 0));
+        let same = match &answer {
+            Ok(Answer::Bytes(bytes)) => bytes.as_slice() == wanted,
+            _ => false,
+        };
+        self.note(same);
+    }
+
+    /// Makes a context with a domain, a region, a queue and an end.
+    fn make_side(&mut self, n: &Names, context: Name, base: u64, key: u32, number: u32) {
+        let made = Verb::Context {
+            name: context,
+            made: true,
+        };
+        self.done(&asks(made, 0));
+        let domain = Verb::MakeDomain {
+            name: at(context, n.domain),
+        };
+        self.done(&asks(domain, 0));
+        let region = Verb::MakeRegion {
+            name: at(context, n.region),
+            domain: Some(n.domain),
+            base,
+            length: 64,
+            rights: Rights(15),
+        };
+        self.makes(&asks(region, key));
+        let queue = Verb::MakeCq {
+            name: at(context, n.queue),
+            capacity: 16,
+        };
+        self.done(&asks(queue, 0));
+        let end = Verb::MakeQp {
+            name: at(context, n.end),
+            domain: Some(n.domain),
+            send_cq: Some(n.queue),
+            recv_cq: Some(n.queue),
+            send_depth: 8,
+            recv_depth: 8,
+        };
+        self.makes(&asks(end, number));
+    }
 }
 
 /// Two contexts whose ends are connected.
-fn opened(alloc: Global, n: &Names) -> Result<Ideal, IdealFault> {
-    let mut ideal = Ideal::make(alloc);
-    make_all(&mut ideal, alloc, &side(n, n.a, 4096, LOCAL_A, NUMBER_A))?;
-    make_all(&mut ideal, alloc, &side(n, n.b, 8192, LOCAL_B, NUMBER_B))?;
+fn opened(alloc: Global, n: &Names) -> Session {
+    let mut run = Session {
+        ideal: Ideal::make(alloc),
+        alloc,
+        made: 0,
+        first_wrong: None,
+    };
+    run.make_side(n, n.a, 4096, LOCAL_A, NUMBER_A);
+    run.make_side(n, n.b, 8192, LOCAL_B, NUMBER_B);
     let connect = Verb::Connect {
         one: at(n.a, n.end),
         two: at(n.b, n.end),
@@ -125,11 +179,11 @@ fn opened(alloc: Global, n: &Names) -> Result<Ideal, IdealFault> {
             reads: 4,
         },
     };
-    make_all(&mut ideal, alloc, &[asks(connect, 0)])?;
-    Ok(ideal)
+    run.done(&asks(connect, 0));
+    run
 }
 
-/// Posts a request of this shape at the end of the first context.
+/// Posts a request of this shape at an end of the first context.
 fn post(end: ObjName, id: u64, shape: Shape) -> IdealStep {
     let request = Request {
         id,
@@ -165,106 +219,84 @@ fn completion(qp: u32, id: u64, kind: WcKind, status: WcStatus, length: u32) -> 
     }
 }
 
-/// A poll of a queue answers these completions.
-fn polls(
-    ideal: &mut Ideal,
-    alloc: Global,
-    cq: ObjName,
-    wanted: &[Completion],
-) -> Result<bool, IdealFault> {
-    match &ideal.step(alloc, &asks(Verb::Poll { cq, max: 4 }, 0))? {
-        Answer::Polled(entries) => Ok(entries.as_slice() == wanted),
-        _ => Ok(false),
-    }
-}
-
-/// A load of four bytes answers these.
-fn loads(
-    ideal: &mut Ideal,
-    alloc: Global,
-    region: ObjName,
-    at: u64,
-    wanted: &[u8],
-) -> Result<bool, IdealFault> {
-    let verb = Verb::Load {
-        region,
-        at,
-        length: 4,
-    };
-    match &ideal.step(alloc, &asks(verb, 0))? {
-        Answer::Bytes(bytes) => Ok(bytes.as_slice() == wanted),
-        _ => Ok(false),
-    }
-}
-
-/// The step is not enabled.
-fn is_off(ideal: &mut Ideal, alloc: Global, step: &IdealStep) -> bool {
-    matches!(&ideal.step(alloc, step), Err(IdealFault::NotEnabled))
-}
-
 #[test]
 fn one_write_completed(rt: HostRuntime) -> Result<(), Fail> {
-    let alloc = rt.alloc();
-    let n = read_names().ok_or("names")?;
-    let q = at(n.a, n.end);
-    let mut ideal = opened(alloc, &n)?;
+    let bytes = [0xde, 0xad, 0xbe, 0xef].to_vec(rt.alloc())?;
+    let names = read_names(&rt);
+    let n = &names;
+    let owner = at(n.a, n.end);
+    let q = &owner;
+    let mut run = opened(rt.alloc(), n);
     let store = Verb::Store {
         region: at(n.a, n.region),
         at: 4096,
-        bytes: Items::new([0xde, 0xad, 0xbe, 0xef].to_vec(alloc)?),
+        bytes: Items::new(bytes),
     };
-    let write = post(q, 1, shape(Kind::Write, 4, 8192, REMOTE_B, 0));
-    all_done(&rt, &mut ideal, alloc, &[asks(store, 0), write])?;
-    assert!(&rt; is_off(&mut ideal, alloc, &IdealStep::Tell { q }));
-    let steps = [IdealStep::Run { q, n: 4 }, IdealStep::Tell { q }];
-    all_done(&rt, &mut ideal, alloc, &steps)?;
+    let store = asks(store, 0);
+    let write = post(*q, 1, shape(Kind::Write, 4, 8192, REMOTE_B, 0));
+    let arrive = IdealStep::Run { q: *q, n: 4 };
+    let tell = IdealStep::Tell { q: *q };
     let told = [completion(NUMBER_A, 1, WcKind::Write, WcStatus::Success, 4)];
-    assert!(&rt; polls(&mut ideal, alloc, at(n.a, n.queue), &told)?);
-    assert!(&rt; polls(&mut ideal, alloc, at(n.a, n.queue), &[])?);
+    let completions = at(n.a, n.queue);
     let there = at(n.b, n.region);
-    assert!(&rt; loads(&mut ideal, alloc, there, 8192, &[0xde, 0xad, 0xbe, 0xef])?);
+    run.done(&store);
+    run.done(&write);
+    run.is_off(&tell);
+    run.done(&arrive);
+    run.done(&tell);
+    run.polls(&completions, &told);
+    run.polls(&completions, &[]);
+    run.loads(&there, 8192, &[0xde, 0xad, 0xbe, 0xef]);
+    assert_eq!(&rt; run.first_wrong, None);
     Ok(())
 }
 
 #[test]
-fn an_atomic_and_a_read(rt: HostRuntime) -> Result<(), Fail> {
-    let alloc = rt.alloc();
-    let n = read_names().ok_or("names")?;
-    let q = at(n.a, n.end);
-    let mut ideal = opened(alloc, &n)?;
-    let add = post(q, 1, shape(Kind::FetchAdd, 8, 8192, REMOTE_B, 5));
-    all_done(&rt, &mut ideal, alloc, &[add, IdealStep::Atom { q }])?;
-    assert!(&rt; is_off(&mut ideal, alloc, &IdealStep::Atom { q }));
-    let steps = [
-        IdealStep::Tell { q },
-        post(q, 2, shape(Kind::Read, 4, 8196, REMOTE_B, 0)),
-        IdealStep::ReadTurn { q },
-        IdealStep::Offer {
-            q,
-            i: 1,
-            off: 0,
-            n: 4,
-        },
-        IdealStep::Land { q, o: 0 },
-        IdealStep::Tell { q },
-    ];
-    all_done(&rt, &mut ideal, alloc, &steps)?;
-    let here = at(n.a, n.region);
-    assert!(&rt; loads(&mut ideal, alloc, here, 4096, &[0, 0, 0, 5])?);
+fn an_atomic_and_a_read(rt: HostRuntime) {
+    let names = read_names(&rt);
+    let n = &names;
+    let owner = at(n.a, n.end);
+    let q = &owner;
+    let mut run = opened(rt.alloc(), n);
+    let add = post(*q, 1, shape(Kind::FetchAdd, 8, 8192, REMOTE_B, 5));
+    let act = IdealStep::Atom { q: *q };
+    let tell = IdealStep::Tell { q: *q };
+    let read = post(*q, 2, shape(Kind::Read, 4, 8196, REMOTE_B, 0));
+    let turn = IdealStep::ReadTurn { q: *q };
+    let offer = IdealStep::Offer {
+        q: *q,
+        i: 1,
+        off: 0,
+        n: 4,
+    };
+    let land = IdealStep::Land { q: *q, o: 0 };
     let told = [
         completion(NUMBER_A, 1, WcKind::FetchAdd, WcStatus::Success, 8),
         completion(NUMBER_A, 2, WcKind::Read, WcStatus::Success, 4),
     ];
-    assert!(&rt; polls(&mut ideal, alloc, at(n.a, n.queue), &told)?);
-    Ok(())
+    let completions = at(n.a, n.queue);
+    let here = at(n.a, n.region);
+    run.done(&add);
+    run.done(&act);
+    run.is_off(&act);
+    run.done(&tell);
+    run.done(&read);
+    run.done(&turn);
+    run.done(&offer);
+    run.done(&land);
+    run.done(&tell);
+    run.loads(&here, 4096, &[0, 0, 0, 5]);
+    run.polls(&completions, &told);
+    assert_eq!(&rt; run.first_wrong, None);
 }
 
 #[test]
-fn a_send_too_long_and_a_flush(rt: HostRuntime) -> Result<(), Fail> {
-    let alloc = rt.alloc();
-    let n = read_names().ok_or("names")?;
-    let q = at(n.a, n.end);
-    let mut ideal = opened(alloc, &n)?;
+fn a_send_too_long_and_a_flush(rt: HostRuntime) {
+    let names = read_names(&rt);
+    let n = &names;
+    let owner = at(n.a, n.end);
+    let q = &owner;
+    let mut run = opened(rt.alloc(), n);
     let receive = Verb::PostRecv {
         end: at(n.b, n.end),
         receive: Receive {
@@ -274,26 +306,28 @@ fn a_send_too_long_and_a_flush(rt: HostRuntime) -> Result<(), Fail> {
             length: 2,
         },
     };
-    all_done(&rt, &mut ideal, alloc, &[asks(receive, 0)])?;
+    let receive = asks(receive, 0);
     let name = at(n.b, n.region);
-    let busy = ideal.step(alloc, &asks(Verb::DropRegion { name }, 0))?;
-    assert!(&rt; matches!(&busy, Answer::Refused(Refusal::InUse)));
-    let steps = [
-        post(q, 3, shape(Kind::Send, 4, 0, 0, 0)),
-        post(q, 4, shape(Kind::Send, 4, 0, 0, 0)),
-        IdealStep::Refuse {
-            q,
-            why: Why::Length,
-        },
-        IdealStep::Bounce { q },
-    ];
-    all_done(&rt, &mut ideal, alloc, &steps)?;
+    let take_away = asks(Verb::DropRegion { name }, 0);
+    let first = post(*q, 3, shape(Kind::Send, 4, 0, 0, 0));
+    let second = post(*q, 4, shape(Kind::Send, 4, 0, 0, 0));
+    let why = Why::Length;
+    let refuse = IdealStep::Refuse { q: *q, why };
+    let bounce = IdealStep::Bounce { q: *q };
     let there = [completion(NUMBER_B, 9, WcKind::Recv, WcStatus::LocalLength, 0)];
-    assert!(&rt; polls(&mut ideal, alloc, at(n.b, n.queue), &there)?);
     let here = [
         completion(NUMBER_A, 3, WcKind::Send, WcStatus::RemoteInvalid, 0),
         completion(NUMBER_A, 4, WcKind::Send, WcStatus::Flush, 0),
     ];
-    assert!(&rt; polls(&mut ideal, alloc, at(n.a, n.queue), &here)?);
-    Ok(())
+    let queue_there = at(n.b, n.queue);
+    let queue_here = at(n.a, n.queue);
+    run.done(&receive);
+    run.is_in_use(&take_away);
+    run.done(&first);
+    run.done(&second);
+    run.done(&refuse);
+    run.done(&bounce);
+    run.polls(&queue_there, &there);
+    run.polls(&queue_here, &here);
+    assert_eq!(&rt; run.first_wrong, None);
 }

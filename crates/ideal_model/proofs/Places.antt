@@ -1,5 +1,5 @@
 -- The search for a thing, one place after another, and what is found, changed or taken at a place.
-use Rattle.std.proofs.Common.{arith, ◌≡◌, ◌<◌, ◌≤◌, ◌+◌, ℕ, zero, suc, Bool, List, [], ◌∷◌, length, drop, get_or, set, true, false, refl, nat_lt, ◌∙◌, ap}
+use Rattle.std.proofs.Common.{arith, ◌≡◌, ◌<◌, ◌≤◌, ◌+◌, ℕ, Bool, List, [], ◌∷◌, length, drop, get_or, set, true, false, refl, nat_lt, ◌∙◌, ap}
 use Rattle.std.specs.Prelude.{bytes_eq, is_some, remove}
 use Rattle.std.specs.List.{list_any}
 use Rattle.std.proofs.lemmas.Bool.Decides.{nat_tests}
@@ -24,6 +24,20 @@ not_here p xs i x h read is before = grind (arith, at_drop_more (place_where p) 
 pub nowhere : {A : Type 0} (p : A → Bool) (xs : List A) (i : ℕ) → length xs ≤ i → i ≤ length xs → place_where p (drop i xs) + i ≡ place_where p xs → length xs ≡ place_where p xs
 unfolding place_where
 nowhere p xs i h within before = grind (arith, at_drop_all (place_where p) xs i h)
+
+-- ---- whether a thing passes, at place i
+
+-- the thing at i does
+pub any_here : {A : Type 0} (p : A → Bool) (xs : List A) (i : ℕ) (x : A) → i < length xs → x ≡ get_or xs i x → p x ≡ true → list_any p (drop i xs) ≡ list_any p xs → true ≡ list_any p xs
+any_here p xs i x h read is before = grind (arith, at_drop_more (list_any p) xs i x h)
+
+-- the thing at i does not
+pub any_later : {A : Type 0} (p : A → Bool) (xs : List A) (i : ℕ) (x : A) → i < length xs → x ≡ get_or xs i x → p x ≡ false → list_any p (drop i xs) ≡ list_any p xs → list_any p (drop (i + 1) xs) ≡ list_any p xs
+any_later p xs i x h read is before = grind (arith, at_drop_more (list_any p) xs i x h)
+
+-- no thing is left
+pub any_none : {A : Type 0} (p : A → Bool) (xs : List A) (i : ℕ) → length xs ≤ i → list_any p (drop i xs) ≡ list_any p xs → false ≡ list_any p xs
+any_none p xs i h before = grind (arith, at_drop_all (list_any p) xs i h)
 
 -- ---- what is at the place that was found
 

@@ -5,6 +5,7 @@ use Rattle.rdma_types.specs.declared.answers.Answer.{Answer}
 use Rattle.ideal_model.specs.declared.steps.IdealFault.{IdealFault}
 use Rattle.ideal_model.specs.declared.steps.IdealFault.TheVariants.{NotEnabled, OutOfMemory}
 use Rattle.ideal_model.specs.declared.steps.IdealStep.{IdealStep}
+use Rattle.ideal_model.specs.declared.steps.IdealStep.TheVariants as steps
 use Rattle.ideal_model.specs.Machine.{Machine}
 use Rattle.ideal_model.specs.Verbs.{may_verb, after_verb, verb_answer}
 use Rattle.ideal_model.specs.Legal.{is_enabled, effect, answer_of}
@@ -23,3 +24,8 @@ MakesStep old new step result = Makes old new (is_enabled old step) (effect old 
 -- .. for a verb
 abbrev pub MakesVerb : Machine → Machine → Verb → ℕ → Result Answer IdealFault → Type 0
 MakesVerb old new verb given result = Makes old new (may_verb old verb given) (after_verb old verb given) (verb_answer old verb given) result
+
+-- it is an inner step, and may be made
+abbrev pub may_inner : Machine → IdealStep → Bool
+may_inner m (steps.Verb verb given) = false
+may_inner m other = is_enabled m other

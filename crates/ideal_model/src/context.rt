@@ -12,7 +12,7 @@ ghost use Rattle.ideal_model.specs.Machine.{no_context, End as EndRecord, with_e
 ghost use Rattle.ideal_model.specs.Lending.{LendsEndOf, LendsQueueOf};
 
 use crate::end::End;
-use crate::named::{Named, place_of};
+use crate::named::{Named, find, place_of};
 use crate::queue::Queue;
 use crate::region::Region;
 use rdma_types::Name;
@@ -91,7 +91,7 @@ impl Context {
     pub fn has_domain(&self, name: Name) -> bool
         ensures { result ≡ has_name (λ d. d) name self.now.domains }
     {
-        place_of(&self.domains, name) < self.domains.len()
+        find(&self.domains, name).is_some()
     }
 
     /// The region of a name is taken out.

@@ -3,7 +3,7 @@
 
 ghost use Rattle.std.specs.Prelude.{◌≡◌, ◌++◌, ◌∷◌, [], ◌+◌, ◌<◌, ◌≤◌, ◌^◌, length, drop, IfOk, OnOk, OnErr, IfNone, IfSome, true, false, slice_get, MatchOption, ◌==◌};
 ghost use Rattle.std.specs.List.{list_any};
-ghost use Rattle.rdma_types.specs.Kinds.{size_of};
+ghost use Rattle.rdma_types.specs.Kinds.{size_of, lands, kind_of};
 ghost use Rattle.ideal_model.specs.Machine.{new_end, untold_count, posted_at};
 ghost use Rattle.ideal_model.specs.Steps.{may_add, lands_before, is_read_part, next_bytes, receiving, untold, current, front, closed, receive_for, unused_after, acted_with, advanced, fills, denied, dried_at, with_offer, with_known, told_one, expired, waited};
 ghost use Rattle.ideal_model.specs.Verbs.{in_use_names, request_names, receive_names, joined, with_request, with_receive};
@@ -81,6 +81,19 @@ impl Model for End {
     } };
 
     ghost invariant = { λ e. IsCounted e.retry e.rnr e.spent e.waits };
+}
+
+/// One of these requests is a Read or atomic.
+#[tactic(auto)]
+fn some_land(requests: &[IdealRequest]) -> bool
+    ensures { result ≡ list_any (λ r. lands (kind_of r)) requests.now }
+{
+    for r in requests {
+        if lands(r.request.shape.kind) {
+            return true;
+        }
+    }
+    false
 }
 
 impl Named for End {
@@ -200,11 +213,9 @@ impl End {
     pub fn lands_before(&self) -> bool
         ensures { result ≡ lands_before self.now }
     {
-        let before = self.acted.saturating_sub(self.told);
-        self.untold()
-            .iter()
-            .take(before)
-            .any(|r| lands(r.request.shape.kind))
+        let untold = self.untold();
+        let before = untold.len().min(self.acted.saturating_sub(self.told));
+        some_land(&untold[..before])
     }
 
     /// Request number i, where it is a Read that had its turn and has n bytes from an offset on.
@@ -228,12 +239,9 @@ impl End {
         requires { r.now ≡ current self.now }
         ensures { IfOk result (λ v. v.items ≡ next_bytes self.now n) }
     {
-        r.payload
-            .iter()
-            .skip(self.into as usize)
-            .take(n as usize)
-            .copied()
-            .collect(alloc)
+        let from = r.payload.len().min(self.into as usize);
+        let rest = &r.payload[from..];
+        Vec::from_slice(alloc, &rest[..rest.len().min(n as usize)])
     }
 
     /// Copies of its unused receives, once a Send has its receive in use. Errors: `AllocError` when out of memory.
@@ -289,7 +297,13 @@ impl End {
     pub fn requests_name(&self, key: u32) -> bool
         ensures { result ≡ list_any (request_names key) (untold self.now) }
     {
-        self.untold().iter().any(|r| !(r.request.shape.length == 0) && r.request.lkey == key)
+        let untold = self.untold();
+        for r in untold {
+            if r.names(key) {
+                return true;
+            }
+        }
+        false
     }
 
     /// An unused receive that is not empty names a local key.
@@ -297,9 +311,7 @@ impl End {
     pub fn receives_name(&self, key: u32) -> bool
         ensures { result ≡ list_any (receive_names key) self.now.unused }
     {
-        self.unused
-            .iter()
-            .any(|v| !(v.length == 0) && v.lkey == key)
+        self.unused.iter().any(|v| v.length != 0 && v.lkey == key)
     }
 
     /// The receive in use names a local key.

@@ -11,7 +11,7 @@ ghost use Rattle.ideal_model.specs.Lending.{LendsContext, LendsEnd, LendsQueue};
 
 use crate::context::Context;
 use crate::end::End;
-use crate::named::place_of;
+use crate::named::{find, place_of};
 use crate::queue::Queue;
 use crate::region::{KeyedRange, Region, put_at};
 use rdma_types::{Name, ObjName};
@@ -50,7 +50,7 @@ impl Ideal {
         ensures some { IfSome result (λ c. (c.now ≡ context_of self.now name) × (has_context self.now name ≡ true)) }
         ensures none { IfNone result ((has_context self.now name ≡ false) × (context_of self.now name ≡ no_context name)) }
     {
-        self.contexts.get(place_of(&self.contexts, name))
+        find(&self.contexts, name)
     }
 
     pub(crate) fn end(&self, o: &ObjName) -> Option<&End>
@@ -58,7 +58,7 @@ impl Ideal {
         ensures none { IfNone result ((has_end self.now o.now ≡ false) × (end_of self.now o.now ≡ nobody o.now)) }
     {
         let context = self.context(o.context)?;
-        context.ends.get(place_of(&context.ends, o.name))
+        find(&context.ends, o.name)
     }
 
     /// The end of that name, and its context.
@@ -67,7 +67,7 @@ impl Ideal {
         ensures none { IfNone result ((has_end self.now o.now ≡ false) × (end_of self.now o.now ≡ nobody o.now)) }
     {
         let context = self.context(o.context)?;
-        let end = context.ends.get(place_of(&context.ends, o.name))?;
+        let end = find(&context.ends, o.name)?;
         Some((context, end))
     }
 
@@ -76,7 +76,7 @@ impl Ideal {
         ensures none { IfNone result ((has_queue self.now context name ≡ false) × (queue_of self.now context name ≡ no_queue)) }
     {
         let context = self.context(context)?;
-        context.queues.get(place_of(&context.queues, name))
+        find(&context.queues, name)
     }
 
     pub(crate) fn region(&self, o: &ObjName) -> Option<&Region>
@@ -84,13 +84,15 @@ impl Ideal {
         ensures none { IfNone result ((has_region self.now o.now ≡ false) × (region_of self.now o.now ≡ no_region)) }
     {
         let context = self.context(o.context)?;
-        context.regions.get(place_of(&context.regions, o.name))
+        find(&context.regions, o.name)
     }
 
+    #[tactic(auto, unfolding(crate::specs::Machine::context_of, crate::specs::Machine::with_context, crate::specs::Tables::replaced), using(crate::proofs::Places::by_names, crate::proofs::Same::same_context))]
     pub(crate) fn context_mut(&mut self, name: Name) -> Option<&mut Context>
         ensures* lends { sem 𝓛 (LendsContext self.entry name result) }
         ensures some { IfSome result (λ c. c.now ≡ context_of self.old name) }
         ensures none { IfNone result ((c : ContextRecord) → with_context self.old name c ≡ self.old) }
+        ensures same { with_context self.old name (context_of self.old name) ≡ self.old }
     {
         let place = place_of(&self.contexts, name);
         self.contexts.get_mut(place)
@@ -100,6 +102,7 @@ impl Ideal {
         ensures* lends { sem 𝓛 (LendsEnd self.entry o.now result) }
         ensures some { IfSome result (λ e. e.now ≡ end_of self.old o.now) }
         ensures none { IfNone result ((e : EndRecord) → with_end self.old o.now e ≡ self.old) }
+        ensures same { with_end self.old o.now (end_of self.old o.now) ≡ self.old }
     {
         let context = self.context_mut(o.context)?;
         context.end_mut(o.name)
@@ -109,6 +112,7 @@ impl Ideal {
         ensures* lends { sem 𝓛 (LendsQueue self.entry context name result) }
         ensures some { IfSome result (λ q. q.now ≡ queue_of self.old context name) }
         ensures none { IfNone result ((q : CompletionQueue) → with_queue self.old context name q ≡ self.old) }
+        ensures same { with_queue self.old context name (queue_of self.old context name) ≡ self.old }
     {
         let context = self.context_mut(context)?;
         context.queue_mut(name)

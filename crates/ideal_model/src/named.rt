@@ -1,6 +1,7 @@
 //! Things that are found by their names.
 
-ghost use Rattle.std.specs.Prelude.{◌≡◌, List, ℕ};
+ghost use Rattle.std.specs.Prelude.{◌≡◌, List, ℕ, IfSome, IfNone, true, false};
+ghost use Rattle.rdma_types.specs.Lists.{named, has_name};
 ghost use Rattle.ideal_model.specs.Tables.{place};
 
 use rdma_types::Name;
@@ -32,4 +33,13 @@ pub fn place_of<T: Named>(items: &[T], name: Name) -> usize
         }
     }
     items.len()
+}
+
+/// The first thing of a name.
+#[tactic(auto, using(crate::proofs::Places::by_names))]
+pub fn find<T: Named>(items: &[T], name: Name) -> Option<&T>
+    ensures some { IfSome result (λ x. ((none : T) → x.now ≡ named T.named none name items.now) × (has_name T.named name items.now ≡ true)) }
+    ensures none { IfNone result (((none : T) → named T.named none name items.now ≡ none) × (has_name T.named name items.now ≡ false)) }
+{
+    items.get(place_of(items, name))
 }

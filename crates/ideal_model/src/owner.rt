@@ -1,7 +1,7 @@
 //! Inner steps at the owner of a request: it learns what became of its first untold request.
-#![tactic(auto, unfolding(crate::specs::Steps::has_untold, crate::specs::Steps::may_land_offer, crate::specs::Steps::may_land, crate::specs::Steps::land_at, crate::specs::Steps::bytes_of, crate::specs::Steps::landed, crate::specs::Steps::in_place, crate::specs::Steps::may_know, crate::specs::Steps::knowing, crate::specs::Steps::may_tell, crate::specs::Steps::success, crate::specs::Steps::tell_at, crate::specs::Steps::tell, crate::specs::Steps::expire, crate::specs::Steps::may_wait, crate::specs::Steps::wait, crate::specs::Steps::is_denied, crate::specs::Steps::may_bounce, crate::specs::Steps::bounce_status, crate::specs::Steps::bounce, crate::specs::Steps::ended_with, crate::specs::Machine::completing), using(crate::proofs::Same::same_parts))]
+#![tactic(auto, unfolding(crate::specs::Steps::has_untold, crate::specs::Steps::may_land_offer, crate::specs::Steps::may_land, crate::specs::Steps::land_at, crate::specs::Steps::bytes_of, crate::specs::Steps::landed, crate::specs::Steps::in_place, crate::specs::Steps::may_know, crate::specs::Steps::knowing, crate::specs::Steps::may_tell, crate::specs::Steps::success, crate::specs::Steps::tell_at, crate::specs::Steps::tell, crate::specs::Steps::expire, crate::specs::Steps::may_wait, crate::specs::Steps::wait, crate::specs::Steps::is_denied, crate::specs::Steps::may_bounce, crate::specs::Steps::bounce_status, crate::specs::Steps::bounce, crate::specs::Steps::ended_with, crate::specs::Machine::completing))]
 
-ghost use Rattle.std.specs.Prelude.{◌≡◌, ◌<◌, ◌+◌, length, IfSome, IfNone, IfOk, OnOk, OnErr, true, false, slice_get};
+ghost use Rattle.std.specs.Prelude.{◌≡◌, ◌<◌, ◌+◌, length, IfSome, IfNone, IfOk, OnOk, OnErr, true, false, slice_get, Some};
 ghost use Rattle.ideal_model.specs.Machine.{end_of, has_end, nobody, in_end, completing, context_of};
 ghost use Rattle.ideal_model.specs.Steps.{has_untold, front, in_place, may_land, landed, may_know, knowing, may_tell, tell, expire, may_wait, wait, is_denied, may_bounce, bounce_status, bounce, ended_with, success, put_old, told_one, expired, waited, with_known, may_land_offer, failed_queues, receives_of, closed};
 
@@ -29,7 +29,8 @@ impl End {
 
     /// An offer is the one that comes next.
     fn may_land(&self, offer: &Offered) -> bool
-        ensures { result ≡ may_land_offer self.now (Some offer.now) }
+        ensures next { result ≡ may_land_offer self.now (Some offer.now) }
+        ensures there { result ≡ true → offer.now.offset ≡ self.now.known }
     {
         !offer.bytes.is_empty() && offer.request == self.told && offer.offset == self.known
     }
@@ -87,6 +88,19 @@ impl Ideal {
         Some((end, r))
     }
 
+    /// .. and offer number o, where it is the one that comes next.
+    fn next_offer(&self, q: &ObjName, o: usize) -> Option<(&End, &IdealRequest, &Offered)>
+        ensures some { IfSome result (λ p. (p.0.now ≡ end_of self.now q.now) × (p.1.now ≡ front (end_of self.now q.now)) × (Some p.2.now ≡ slice_get (end_of self.now q.now).offers o) × (p.2.now.offset ≡ (end_of self.now q.now).known) × (may_land self.now q.now o ≡ true)) }
+        ensures none { IfNone result (may_land self.now q.now o ≡ false) }
+    {
+        let (end, r) = self.owner(q)?;
+        let offer = end.offers.get(o)?;
+        if !end.may_land(offer) {
+            return None;
+        }
+        Some((end, r, offer))
+    }
+
     pub(crate) fn has_untold(&self, q: &ObjName) -> bool
         ensures { result ≡ has_untold self.now q.now }
     {
@@ -96,13 +110,7 @@ impl Ideal {
     pub(crate) fn may_land(&self, q: &ObjName, o: usize) -> bool
         ensures { result ≡ may_land self.now q.now o }
     {
-        let Some((end, _)) = self.owner(q) else {
-            return false;
-        };
-        match end.offers.get(o) {
-            Some(offer) => end.may_land(offer),
-            None => false,
-        }
+        self.next_offer(q, o).is_some()
     }
 
     pub(crate) fn may_know(&self, q: &ObjName, bytes: u32) -> bool
@@ -230,10 +238,7 @@ impl Ideal {
         ensures ok { OnOk result (self.new ≡ landed self.old q.now o) }
         ensures err { OnErr result (self.new ≡ self.old) }
     {
-        let Some((end, r)) = self.owner(q) else {
-            return Ok(());
-        };
-        let Some(offer) = end.offers.get(o) else {
+        let Some((end, r, offer)) = self.next_offer(q, o) else {
             return Ok(());
         };
         let bytes = Vec::from_slice(alloc, &offer.bytes)?;

@@ -3,6 +3,7 @@
 
 ghost use Rattle.std.specs.Prelude.{◌≡◌};
 ghost use Rattle.rdma_types.specs.Kinds.{size_of};
+ghost use Rattle.ideal_model.specs.Verbs.{request_names};
 
 use rdma_types::Request;
 use std::marker::Model;
@@ -28,6 +29,13 @@ impl IdealRequest {
         ensures { result ≡ size_of self.now }
     {
         self.request.shape.length
+    }
+
+    /// It is not empty, and names a local key.
+    pub fn names(&self, key: u32) -> bool
+        ensures { result ≡ request_names key self.now }
+    {
+        self.request.shape.length != 0 && self.request.lkey == key
     }
 }
 

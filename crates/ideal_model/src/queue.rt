@@ -61,12 +61,14 @@ impl Queue {
         Vec::from_slice(alloc, &self.entries[..count])
     }
 
-    /// Copies of the entries behind the oldest `max`. Errors: `AllocError` when out of memory.
-    pub fn others(&self, alloc: Global, max: u32) -> Result<Vec<Completion>, AllocError>
-        ensures { IfOk result (λ v. v.items ≡ drop max self.now.entries) }
+    /// The oldest entries are taken out, at most so many. Errors: `AllocError` when out of memory; nothing has changed.
+    pub fn drop_oldest(&mut self, alloc: Global, max: u32) -> Result<(), AllocError>
+        ensures ok { OnOk result (self.new ≡ record self.old { entries = drop max self.old.entries }) }
+        ensures err { OnErr result (self.new ≡ self.old) }
     {
         let count = self.entries.len().min(max as usize);
-        Vec::from_slice(alloc, &self.entries[count..])
+        self.entries = Vec::from_slice(alloc, &self.entries[count..])?;
+        Ok(())
     }
 
     /// An equal queue. Errors: `AllocError` when out of memory.

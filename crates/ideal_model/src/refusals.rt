@@ -105,7 +105,12 @@ impl Ideal {
     fn some_use(&self, region: &Region, ends: &[End]) -> bool
         ensures { result ≡ list_any (is_used_by self.now region.now) ends.now }
     {
-        ends.iter().any(|end| self.is_used_by(region, end))
+        for end in ends {
+            if self.is_used_by(region, end) {
+                return true;
+            }
+        }
+        false
     }
 
     pub(crate) fn refuse_context(&self, name: Name, made: bool) -> Option<Refusal>

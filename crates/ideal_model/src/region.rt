@@ -177,7 +177,12 @@ fn place_at(regions: &[Region], place: &KeyedRange) -> usize
 fn some_grants(regions: &[Region], domain: Name, place: &KeyedRange, need: Need) -> bool
     ensures { result ≡ list_any (grants (key_by place.now.kind) domain place.now.key place.now.address place.now.count (right_of need)) regions.now }
 {
-    regions.iter().any(|r| r.grants(domain, place, need))
+    for region in regions {
+        if region.grants(domain, place, need) {
+            return true;
+        }
+    }
+    false
 }
 
 /// A place is granted in a domain.

@@ -4,12 +4,12 @@
 ghost use Rattle.std.specs.Prelude.{◌≡◌, ◌↔◌, true, false, OnOk, OnErr, IfOk};
 ghost use Rattle.ideal_model.specs.declared.steps.IdealFault.TheVariants.{NotEnabled};
 ghost use Rattle.ideal_model.specs.Legal.{is_enabled, effect, answer_of};
-ghost use Rattle.ideal_model.specs.Made.{Makes, MakesStep};
+ghost use Rattle.ideal_model.specs.Made.{MakesStep, may_inner};
 
 use crate::ideal::Ideal;
 use crate::steps::{IdealFault, IdealStep};
-use rdma_types::{Answer, ObjName, Why};
-use std::alloc::Global;
+use rdma_types::Answer;
+use std::alloc::{AllocError, Global};
 
 impl Ideal {
     /// Makes a step. It answers what the machine answers, and `Done` for an inner step. `given` is the local key of a
@@ -30,147 +30,60 @@ impl Ideal {
     fn make_step(&mut self, alloc: Global, step: &IdealStep) -> Result<Answer, IdealFault>
         ensures { MakesStep self.old self.new step.now result }
     {
+        if let IdealStep::Verb { verb, given } = step {
+            return self.verb(alloc, verb, *given);
+        }
+        if !self.may_make(step) {
+            return Err(IdealFault::NotEnabled);
+        }
+        self.make_inner(alloc, step)?;
+        Ok(Answer::Done)
+    }
+
+    /// It is an inner step that may be made.
+    fn may_make(&self, step: &IdealStep) -> bool
+        ensures { result ≡ may_inner self.now step.now }
+    {
         match step {
-            IdealStep::Verb { verb, given } => self.verb(alloc, verb, *given),
-            IdealStep::Run { q, n } => self.step_run(alloc, q, *n),
-            IdealStep::Atom { q } => self.step_atom(alloc, q),
-            IdealStep::ReadTurn { q } => self.step_read_turn(q),
-            IdealStep::Refuse { q, why } => self.step_refuse(alloc, q, *why),
-            IdealStep::Dry { q } => self.step_dry(q),
-            IdealStep::Offer { q, i, off, n } => self.step_offer(alloc, q, *i, *off, *n),
-            IdealStep::Land { q, o } => self.step_land(alloc, q, *o),
-            IdealStep::Known { q, m } => self.step_known(q, *m),
-            IdealStep::Tell { q } => self.step_tell(alloc, q),
-            IdealStep::Expire { q } => self.step_expire(alloc, q),
-            IdealStep::Wait { q } => self.step_wait(alloc, q),
-            IdealStep::Bounce { q } => self.step_bounce(alloc, q),
+            IdealStep::Verb { .. } => false,
+            IdealStep::Run { q, n } => self.may_run(q, *n),
+            IdealStep::Atom { q } => self.may_atom(q),
+            IdealStep::ReadTurn { q } => self.may_read(q),
+            IdealStep::Refuse { q, why } => self.may_refuse(q, *why),
+            IdealStep::Dry { q } => self.may_dry(q),
+            IdealStep::Offer { q, i, off, n } => self.may_offer(q, *i as usize, *off, *n),
+            IdealStep::Land { q, o } => self.may_land(q, *o as usize),
+            IdealStep::Known { q, m } => self.may_know(q, *m),
+            IdealStep::Tell { q } => self.may_tell(q),
+            IdealStep::Expire { q } => self.has_untold(q),
+            IdealStep::Wait { q } => self.may_wait(q),
+            IdealStep::Bounce { q } => self.may_bounce(q),
         }
     }
 
-    fn step_run(&mut self, alloc: Global, q: &ObjName, n: u32) -> Result<Answer, IdealFault>
-        ensures { MakesStep self.old self.new (IdealStep.Run q.now n) result }
+    /// What an inner step does. Errors: `AllocError` when out of memory; nothing has changed.
+    fn make_inner(&mut self, alloc: Global, step: &IdealStep) -> Result<(), AllocError>
+        requires { may_inner self.old step.now ≡ true }
+        ensures ok { OnOk result (self.new ≡ effect self.old step.now) }
+        ensures err { OnErr result (self.new ≡ self.old) }
     {
-        if !self.may_run(q, n) {
-            return Err(IdealFault::NotEnabled);
+        match step {
+            IdealStep::Verb { .. } => Ok(()),
+            IdealStep::Run { q, n } => self.run(alloc, q, *n),
+            IdealStep::Atom { q } => self.atom(alloc, q),
+            IdealStep::ReadTurn { q } => self.read_turn(q),
+            IdealStep::Refuse { q, why } => self.refuse(alloc, q, *why),
+            IdealStep::Dry { q } => self.dry(q),
+            IdealStep::Offer { q, i, off, n } => self.offer(alloc, q, *i as usize, *off, *n),
+            IdealStep::Land { q, o } => self.land(alloc, q, *o as usize),
+            IdealStep::Known { q, m } => {
+                self.know(q, *m);
+                Ok(())
+            }
+            IdealStep::Tell { q } => self.tell(alloc, q),
+            IdealStep::Expire { q } => self.expire(alloc, q),
+            IdealStep::Wait { q } => self.wait(alloc, q),
+            IdealStep::Bounce { q } => self.bounce(alloc, q),
         }
-        self.run(alloc, q, n)?;
-        Ok(Answer::Done)
-    }
-
-    fn step_atom(&mut self, alloc: Global, q: &ObjName) -> Result<Answer, IdealFault>
-        ensures { MakesStep self.old self.new (IdealStep.Atom q.now) result }
-    {
-        if !self.may_atom(q) {
-            return Err(IdealFault::NotEnabled);
-        }
-        self.atom(alloc, q)?;
-        Ok(Answer::Done)
-    }
-
-    fn step_read_turn(&mut self, q: &ObjName) -> Result<Answer, IdealFault>
-        ensures { MakesStep self.old self.new (IdealStep.ReadTurn q.now) result }
-    {
-        if !self.may_read(q) {
-            return Err(IdealFault::NotEnabled);
-        }
-        self.read_turn(q)?;
-        Ok(Answer::Done)
-    }
-
-    fn step_refuse(&mut self, alloc: Global, q: &ObjName, why: Why) -> Result<Answer, IdealFault>
-        ensures { MakesStep self.old self.new (IdealStep.Refuse q.now why) result }
-    {
-        if !self.may_refuse(q, why) {
-            return Err(IdealFault::NotEnabled);
-        }
-        self.refuse(alloc, q, why)?;
-        Ok(Answer::Done)
-    }
-
-    fn step_dry(&mut self, q: &ObjName) -> Result<Answer, IdealFault>
-        ensures { MakesStep self.old self.new (IdealStep.Dry q.now) result }
-    {
-        if !self.may_dry(q) {
-            return Err(IdealFault::NotEnabled);
-        }
-        self.dry(q)?;
-        Ok(Answer::Done)
-    }
-
-    fn step_offer(
-        &mut self,
-        alloc: Global,
-        q: &ObjName,
-        i: u32,
-        off: u32,
-        n: u32,
-    ) -> Result<Answer, IdealFault>
-        ensures { MakesStep self.old self.new (IdealStep.Offer q.now i off n) result }
-    {
-        if !self.may_offer(q, i as usize, off, n) {
-            return Err(IdealFault::NotEnabled);
-        }
-        self.offer(alloc, q, i as usize, off, n)?;
-        Ok(Answer::Done)
-    }
-
-    fn step_land(&mut self, alloc: Global, q: &ObjName, o: u32) -> Result<Answer, IdealFault>
-        ensures { MakesStep self.old self.new (IdealStep.Land q.now o) result }
-    {
-        if !self.may_land(q, o as usize) {
-            return Err(IdealFault::NotEnabled);
-        }
-        self.land(alloc, q, o as usize)?;
-        Ok(Answer::Done)
-    }
-
-    fn step_known(&mut self, q: &ObjName, m: u32) -> Result<Answer, IdealFault>
-        ensures { MakesStep self.old self.new (IdealStep.Known q.now m) result }
-    {
-        if !self.may_know(q, m) {
-            return Err(IdealFault::NotEnabled);
-        }
-        self.know(q, m);
-        Ok(Answer::Done)
-    }
-
-    fn step_tell(&mut self, alloc: Global, q: &ObjName) -> Result<Answer, IdealFault>
-        ensures { MakesStep self.old self.new (IdealStep.Tell q.now) result }
-    {
-        if !self.may_tell(q) {
-            return Err(IdealFault::NotEnabled);
-        }
-        self.tell(alloc, q)?;
-        Ok(Answer::Done)
-    }
-
-    fn step_expire(&mut self, alloc: Global, q: &ObjName) -> Result<Answer, IdealFault>
-        ensures { MakesStep self.old self.new (IdealStep.Expire q.now) result }
-    {
-        if !self.has_untold(q) {
-            return Err(IdealFault::NotEnabled);
-        }
-        self.expire(alloc, q)?;
-        Ok(Answer::Done)
-    }
-
-    fn step_wait(&mut self, alloc: Global, q: &ObjName) -> Result<Answer, IdealFault>
-        ensures { MakesStep self.old self.new (IdealStep.Wait q.now) result }
-    {
-        if !self.may_wait(q) {
-            return Err(IdealFault::NotEnabled);
-        }
-        self.wait(alloc, q)?;
-        Ok(Answer::Done)
-    }
-
-    fn step_bounce(&mut self, alloc: Global, q: &ObjName) -> Result<Answer, IdealFault>
-        ensures { MakesStep self.old self.new (IdealStep.Bounce q.now) result }
-    {
-        if !self.may_bounce(q) {
-            return Err(IdealFault::NotEnabled);
-        }
-        self.bounce(alloc, q)?;
-        Ok(Answer::Done)
     }
 }

@@ -1,5 +1,5 @@
 //! What a verb does where it is not refused.
-#![tactic(auto, unfolding(rdma_types::specs::Memory::cut, crate::specs::Verbs::taken, crate::specs::Verbs::with_domain, crate::specs::Verbs::made_region, crate::specs::Verbs::made_queue, crate::specs::Verbs::made_end, crate::specs::Verbs::connected_pair, crate::specs::Verbs::stored, crate::specs::Verbs::posted, crate::specs::Verbs::received, crate::specs::Verbs::polled, crate::specs::Verbs::is_fresh, crate::specs::Machine::with_regions, crate::specs::Machine::with_context, crate::specs::Machine::context_of), using(crate::proofs::Same::same_parts))]
+#![tactic(auto, unfolding(rdma_types::specs::Memory::cut, crate::specs::Verbs::taken, crate::specs::Verbs::with_domain, crate::specs::Verbs::made_region, crate::specs::Verbs::made_queue, crate::specs::Verbs::made_end, crate::specs::Verbs::connected_pair, crate::specs::Verbs::stored, crate::specs::Verbs::posted, crate::specs::Verbs::received, crate::specs::Verbs::polled, crate::specs::Verbs::is_fresh, crate::specs::Machine::with_regions, crate::specs::Machine::with_context, crate::specs::Machine::context_of))]
 
 ghost use Rattle.std.specs.Prelude.{◌≡◌, ◌++◌, ◌∷◌, [], ◌+◌, ◌-◌, ◌<◌, ◌^◌, ◌%◌, ◌==◌, length, take, true, false, IfOk, OnOk, OnErr, if◌then◌else◌};
 ghost use Rattle.std.specs.List.{list_any};
@@ -225,25 +225,31 @@ impl Ideal {
         }
     }
 
-    pub(crate) fn poll(
-        &mut self,
+    /// Copies of the oldest entries of a queue, at most so many. Errors: `AllocError` when out of memory.
+    pub(crate) fn oldest_entries(
+        &self,
         alloc: Global,
         cq: &ObjName,
         max: u32,
     ) -> Result<Vec<Completion>, AllocError>
-        requires { has_queue self.old cq.now.context cq.now.name ≡ true }
-        ensures taken { IfOk result (λ v. v.items ≡ take max (queue_of self.old cq.now.context cq.now.name).entries) }
+        requires { has_queue self.now cq.now.context cq.now.name ≡ true }
+        ensures { IfOk result (λ v. v.items ≡ take max (queue_of self.now cq.now.context cq.now.name).entries) }
+    {
+        match self.queue(cq.context, cq.name) {
+            Some(queue) => queue.oldest(alloc, max),
+            None => Ok(Vec::new(alloc)),
+        }
+    }
+
+    /// The oldest entries of a queue are taken out, at most so many. Errors: `AllocError` when out of memory; nothing
+    /// has changed.
+    pub(crate) fn poll(&mut self, alloc: Global, cq: &ObjName, max: u32) -> Result<(), AllocError>
         ensures left { OnOk result (self.new ≡ polled self.old cq.now max) }
         ensures err { OnErr result (self.new ≡ self.old) }
     {
-        let Some(queue) = self.queue(cq.context, cq.name) else {
-            return Ok(Vec::new(alloc));
-        };
-        let taken = queue.oldest(alloc, max)?;
-        let left = queue.others(alloc, max)?;
-        if let Some(queue) = self.queue_mut(cq.context, cq.name) {
-            queue.entries = left;
+        match self.queue_mut(cq.context, cq.name) {
+            Some(queue) => queue.drop_oldest(alloc, max),
+            None => Ok(()),
         }
-        Ok(taken)
     }
 }

@@ -1,4 +1,4 @@
-use Rattle.std.proofs.Common.{arith, rules, ◌≡◌, ◌<◌, ◌≤◌, length}
+use Rattle.std.proofs.Common.{arith, rules}
 use Rattle.std.specs.Prelude.{bytes_eq}
 use Rattle.ideal_model.proofs.Places.{found_here, not_here, nowhere}
 use Rattle.ideal_model.proofs.named.place_of.Goals as goal

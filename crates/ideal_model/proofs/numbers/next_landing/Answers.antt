@@ -1,4 +1,4 @@
-use Rattle.std.proofs.Common.{arith, ◌≡◌, ◌+◌, ◌-◌, ◌≤◌, drop}
+use Rattle.std.proofs.Common.{arith, ◌≡◌, ◌+◌, ◌≤◌, drop}
 use Rattle.rdma_types.specs.Spans.{next_landing, span_of}
 use Rattle.ideal_model.proofs.Spans.{lands_past}
 use Rattle.ideal_model.proofs.numbers.next_landing.Goals as goal

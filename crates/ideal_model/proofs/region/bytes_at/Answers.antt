@@ -1,6 +1,4 @@
-use Rattle.std.proofs.Common.{arith, rules, ◌≡◌, ◌<◌, ◌≤◌, true, sym, length, get_or, set, refl, ap}
-use Rattle.ideal_model.specs.Tables.{place_where}
-use Rattle.ideal_model.specs.Machine.{is_at}
+use Rattle.std.proofs.Common.{rules, ◌≤◌, length}
 use Rattle.ideal_model.specs.Keyed.{key_by}
 use Rattle.ideal_model.proofs.Memory.{holds_there, bytes_at_there, bytes_at_nowhere}
 use Rattle.ideal_model.proofs.region.bytes_at.Goals as goal

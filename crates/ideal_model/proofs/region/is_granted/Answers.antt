@@ -1,5 +1,4 @@
-use Rattle.std.proofs.Common.{◌≡◌, true, false, rules, refl, sym, ap, ◌∙◌}
-use Rattle.std.specs.Prelude.{◌||◌, ◌==◌}
+use Rattle.std.proofs.Common.{rules}
 use Rattle.ideal_model.specs.Keyed.{key_by, right_of}
 use Rattle.ideal_model.proofs.Memory.{is_granted_by}
 use Rattle.ideal_model.proofs.region.is_granted.Goals as goal

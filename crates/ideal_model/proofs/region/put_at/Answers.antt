@@ -1,8 +1,6 @@
-use Rattle.std.proofs.Common.{arith, rules, ◌≡◌, ◌<◌, ◌≤◌, true, sym, length, get_or, set, refl, ap}
-use Rattle.rdma_types.specs.Memory.{holds}
+use Rattle.std.proofs.Common.{rules, ◌≡◌, ◌≤◌, sym, length, refl}
 use Rattle.ideal_model.specs.Tables.{place_where}
 use Rattle.ideal_model.specs.Machine.{is_at}
-use Rattle.ideal_model.specs.Verbs.{overwritten}
 use Rattle.ideal_model.specs.Keyed.{key_by}
 use Rattle.ideal_model.proofs.Memory.{holds_there, put_at_there, put_at_nowhere}
 use Rattle.ideal_model.proofs.region.put_at.Goals as goal

@@ -1,4 +1,4 @@
-use Rattle.std.proofs.Common.{arith, rules, ◌≡◌, ◌+◌, ◌<◌, ◌≤◌}
+use Rattle.std.proofs.Common.{arith, ◌+◌, ◌≤◌}
 use Rattle.ideal_model.proofs.Counts.{one_more}
 use Rattle.ideal_model.proofs.end.End.wait.Goals as goal
 

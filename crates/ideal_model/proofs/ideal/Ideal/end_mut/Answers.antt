@@ -1,10 +1,10 @@
-use Rattle.std.proofs.Common.{arith, rules, ◌≡◌, refl, Option, Some, None}
+use Rattle.std.proofs.Common.{◌≡◌, refl, Option, Some, None}
 use Rattle.std.specs.Prelude.{IfSome}
-use Rattle.ideal_model.specs.Machine.{Machine, Context, End, nobody, end_of, with_end, with_end_in, with_context, context_of}
+use Rattle.ideal_model.specs.Machine.{Machine, Context, End, nobody, end_of, with_end, context_of}
 use Rattle.rdma_types.specs.declared.names.ObjName.{ObjName}
 use Rattle.rdma_types.specs.Lists.{named}
 use Rattle.std.specs.Borrow.{MutBor}
-use Rattle.ideal_model.proofs.Same.{same_context, no_end_to_change}
+use Rattle.ideal_model.proofs.Same.{same_context, same_end, no_end_to_change}
 use Rattle.ideal_model.proofs.ideal.Ideal.end_mut.Goals as goal
 
 some_end : (r : Option (MutBor End)) (m : Machine) (o : ObjName) (x : Context) → x ≡ context_of m o.context → IfSome r (λ e. (none : End) → e.now ≡ named (λ y. y.name) none o.name x.ends) → IfSome r (λ e. e.now ≡ end_of m o)
@@ -22,5 +22,6 @@ returns c =
         lends = tt;
         some = some_end c.end_mut.result c.args.self.now c.args.o.now c.in_ok-context.context.now there c.end_mut.ensures.some;
         none = no_end_to_change c.end_mut.result c.args.self.now c.args.o.now c.in_ok-context.context.now there c.end_mut.ensures.none;
+        same = same_end c.args.self.now c.args.o.now;
       },
     )

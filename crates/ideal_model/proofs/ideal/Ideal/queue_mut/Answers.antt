@@ -1,6 +1,6 @@
-use Rattle.std.proofs.Common.{arith, rules, ◌≡◌, refl}
-use Rattle.ideal_model.specs.Machine.{queue_of, with_queue, with_context, context_of}
-use Rattle.ideal_model.proofs.Same.{same_context, no_queue_to_change}
+use Rattle.std.proofs.Common.{◌≡◌, refl}
+use Rattle.ideal_model.specs.Machine.{queue_of, with_queue, context_of}
+use Rattle.ideal_model.proofs.Same.{same_context, same_queue, no_queue_to_change}
 use Rattle.ideal_model.proofs.ideal.Ideal.queue_mut.Goals as goal
 
 pub returns : goal.returns
@@ -13,5 +13,6 @@ returns c =
         lends = tt;
         some = rw there at c.queue_mut.ensures.some;
         none = no_queue_to_change c.queue_mut.result c.args.self.now c.args.context c.args.name c.in_ok-context.context.now there c.queue_mut.ensures.none;
+        same = same_queue c.args.self.now c.args.context c.args.name;
       },
     )
