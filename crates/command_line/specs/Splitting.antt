@@ -35,10 +35,6 @@ splitter_app = with_subcommand (with_subcommand (with_subcommand bare_app play_s
 abbrev pub MakesLeaf : Shape → Command → Type 0
 MakesLeaf s c = (app_of c ≡ record { top = s; subs = [] }) × ((out-Command c).has_globals ≡ false)
 
--- the command has one more place, and no argument of it is one of every command
-abbrev pub AddsPlace : App → Text → Command → Type 0
-AddsPlace a id c = (app_of c ≡ with_rule a (place_rule id)) × ((out-Command c).has_globals ≡ false)
-
 -- ---- the matches
 
 -- `bulk`

@@ -3,10 +3,9 @@
 ghost use Rattle.std.specs.Prelude.{◌≡◌, map, option_map, true, false, is_some, IfOk, IfSome};
 ghost use Rattle.std.specs.String.{string_bytes};
 ghost use Rattle.law_headline.specs.Commands.{command_of};
-ghost use Rattle.clap.specs.Words.{app_of, first_of, found_of, rows_of, rule_of, subcommand_rows_of, with_subcommand};
-ghost use Rattle.clap.specs.declared.builder.command.Command.TheViews.{out-Command};
+ghost use Rattle.clap.specs.Words.{app_of, first_of, found_of, rows_of, rule_of, subcommand_rows_of};
 ghost use Rattle.command_line.specs.Commands.{IsInRange, known_if};
-ghost use Rattle.command_line.specs.Splitting.{AddsPlace, MakesLeaf, bare_app, bulk_in, bulk_shape, place_rule, play_shape, show_dump_in, show_dump_shape, spelled_in, splitter_app};
+ghost use Rattle.command_line.specs.Splitting.{MakesLeaf, bulk_in, bulk_shape, place_rule, play_shape, show_dump_in, show_dump_shape, spelled_in, splitter_app};
 
 use crate::command::Command;
 use crate::rule::{bulk_of, show_dump_of};
@@ -29,25 +28,15 @@ fn play_form<'a>(alloc: Global) -> clap::Command<'a>
     clap::Command::new(alloc, "play")
 }
 
-/// A command with one more word that has to stand at its place.
-fn with_place<'a>(
-    alloc: Global,
-    form: clap::Command<'a>,
-    id: &'a str,
-) -> Result<clap::Command<'a>, AllocError>
-    ensures { (out-Command form.entry).has_globals ≡ false → IfOk result (AddsPlace (app_of form.entry) id.entry.now) }
-{
-    form.arg(place(alloc, id))
-}
-
 /// `bulk` with a place for each of its words.
 fn bulk_form<'a>(alloc: Global) -> Result<clap::Command<'a>, AllocError>
     ensures { IfOk result (MakesLeaf bulk_shape) }
 {
-    let form = with_place(alloc, clap::Command::new(alloc, "bulk"), "seed")?;
-    let form = with_place(alloc, form, "connections")?;
-    let form = with_place(alloc, form, "messages")?;
-    with_place(alloc, form, "moves")
+    clap::Command::new(alloc, "bulk")
+        .arg(place(alloc, "seed"))?
+        .arg(place(alloc, "connections"))?
+        .arg(place(alloc, "messages"))?
+        .arg(place(alloc, "moves"))
 }
 
 /// `show-dump` with a place for its name.
@@ -57,41 +46,18 @@ fn show_dump_form<'a>(alloc: Global) -> Result<clap::Command<'a>, AllocError>
     clap::Command::new(alloc, "show-dump").arg(place(alloc, "name"))
 }
 
-/// One of the commands has to be named, and no word asks for help or for the version.
-fn bare_form<'a>(alloc: Global) -> clap::Command<'a>
-    ensures { app_of result ≡ bare_app }
+/// The three commands, and nothing beside them: no word asks for help or for the version.
+fn forms<'a>(alloc: Global) -> Result<clap::Command<'a>, AllocError>
+    ensures { IfOk result (λ c. app_of c ≡ splitter_app) }
 {
     clap::Command::new(alloc, "jichurpa")
         .no_binary_name(true)
         .disable_help_flag(true)
         .disable_help_subcommand(true)
         .subcommand_required(true)
-}
-
-/// `bulk` is one of the commands.
-fn with_bulk<'a>(alloc: Global, form: clap::Command<'a>) -> Result<clap::Command<'a>, AllocError>
-    ensures { IfOk result (λ c. app_of c ≡ with_subcommand (app_of form.entry) bulk_shape) }
-{
-    form.subcommand(bulk_form(alloc)?)
-}
-
-/// `show-dump` is one of the commands.
-fn with_show_dump<'a>(
-    alloc: Global,
-    form: clap::Command<'a>,
-) -> Result<clap::Command<'a>, AllocError>
-    ensures { IfOk result (λ c. app_of c ≡ with_subcommand (app_of form.entry) show_dump_shape) }
-{
-    form.subcommand(show_dump_form(alloc)?)
-}
-
-/// The three commands, and nothing beside them.
-fn forms<'a>(alloc: Global) -> Result<clap::Command<'a>, AllocError>
-    ensures { IfOk result (λ c. app_of c ≡ splitter_app) }
-{
-    let form = bare_form(alloc).subcommand(play_form(alloc))?;
-    let form = with_bulk(alloc, form)?;
-    with_show_dump(alloc, form)
+        .subcommand(play_form(alloc))?
+        .subcommand(bulk_form(alloc)?)?
+        .subcommand(show_dump_form(alloc)?)
 }
 
 /// Splits words that are of a command. They are refused only when out of memory.

@@ -1,7 +1,10 @@
-use Rattle.std.proofs.Common.{ap, ap₂, ◌∙◌}
+use Rattle.std.proofs.Common.{ap, ap₂, ◌∙◌, ◌≡◌, true}
 use Rattle.std.proofs.lemmas.Result.{IfOk-weaker}
-use Rattle.clap.specs.Words.{App, Shape, with_subcommand}
-use Rattle.command_line.specs.Splitting.{bulk_shape, show_dump_shape}
+use Rattle.clap.specs.Words.{App, Shape, app_of, with_subcommand}
+use Rattle.clap.specs.Simple.{app_of_fields}
+use Rattle.clap.specs.declared.builder.command.Command.{Command}
+use Rattle.clap.specs.declared.builder.command.Command.TheOpen.{Command-F}
+use Rattle.command_line.specs.Splitting.{bare_app}
 use Rattle.command_line.proofs.splitting.forms.Goals as goal
 
 abbrev top_of : App → Shape
@@ -9,7 +12,13 @@ top_of a = a.top
 
 pub returns : goal.returns
 returns c =
-    IfOk-weaker c.with_show_dump.result _ _ (λ r h. h
-    ∙ ap (λ (a : App). with_subcommand a show_dump_shape) (c.in_ok-form-2.ensures
-    ∙ ap (λ (a : App). with_subcommand a bulk_shape) (c.in_ok-form.ensures.shape c.play_form.ensures.1
-    ∙ ap₂ with_subcommand c.bare_form.ensures (ap top_of c.play_form.ensures.0)))) c.with_show_dump.ensures
+    let bare : app_of c.subcommand_required.result ≡ bare_app =
+    ap app_of_fields c.subcommand_required.ensures
+    ∙ ap (λ (f : Command-F Command). app_of_fields (record f { subcommand_required = true })) c.disable_help_subcommand.ensures
+    ∙ ap (λ (f : Command-F Command). app_of_fields (record f { disable_help_subcommand = true; subcommand_required = true })) c.disable_help_flag.ensures
+    ∙ ap (λ (f : Command-F Command). app_of_fields (record f { disable_help_flag = true; disable_help_subcommand = true; subcommand_required = true })) c.no_binary_name.ensures
+    ∙ ap (λ (a : App). record a { top = record a.top { no_binary_name = true; disable_help_flag = true; disable_help_subcommand = true; subcommand_required = true } }) c.new.ensures.app in
+    IfOk-weaker c.subcommand-3.result _ _ (λ r h. h.shape c.in_ok-show_dump_form.ensures.1
+    ∙ ap₂ with_subcommand (c.in_ok-subcommand-2.ensures.shape c.in_ok-bulk_form.ensures.1
+    ∙ ap₂ with_subcommand (c.in_ok-subcommand.ensures.shape c.play_form.ensures.1
+    ∙ ap₂ with_subcommand bare (ap top_of c.play_form.ensures.0)) (ap top_of c.in_ok-bulk_form.ensures.0)) (ap top_of c.in_ok-show_dump_form.ensures.0)) c.subcommand-3.ensures
