@@ -1,7 +1,5 @@
-use Rattle.std.proofs.Common.{◌≡◌, ℕ, List, Some, ap, sym, ◌∙◌, bytes_eq, rules}
-use Rattle.std.specs.Map.{lookup}
+use Rattle.std.proofs.Common.{◌≡◌, Some, ap, sym, ◌∙◌, rules}
 use Rattle.std.specs.Option.{is_some}
-use Rattle.rdma_types.specs.declared.names.Name.{Name}
 use Rattle.mig_ports.specs.Depots.{DepotState, holding}
 use Rattle.mig_ports.proofs.mem_depot.MemDepotDepot.look.Goals as goal
 
