@@ -12,7 +12,7 @@ use std::alloc::{AllocError, Global};
 use workload_gen::Mix;
 
 /// What the program is asked to do.
-#[derive(Debug, Drop)]
+#[derive(Drop)]
 pub enum Command {
     /// The lines of the whole input are answered.
     Play,

@@ -1,7 +1,7 @@
-use Rattle.std.proofs.Common.{◌≡◌, ℕ, ◌+◌, ◌≤◌, inl, inr, List, [], ◌++◌, length, take, drop, Option, None, Some, refl, ap, subst, sym, ◌∙◌, append_assoc, append-nil, length-append, length-take-le, take-add, arith}
+use Rattle.std.proofs.Common.{◌≡◌, ℕ, ◌+◌, ◌-◌, ◌<◌, ◌≤◌, IsSome, inl, inr, List, [], ◌∷◌, ◌++◌, length, take, drop, Option, None, Some, refl, ap, subst, sym, ◌∙◌, append_assoc, append-nil, length-append, length-drop, length-take-le, take-add, arith}
 use Rattle.std.proofs.Math.Seq.{take-append_seam, drop-append_seam}
 use Rattle.std.proofs.lemmas.List.{take-append-drop, drop_at, take-append-le}
-use Rattle.mig_ports.specs.Streams.{FaultsCounted, Takes, TakesCount, Puts}
+use Rattle.mig_ports.specs.Streams.{FaultsCounted, IsAtEnd, Takes, TakesAll, TakesCount, Puts}
 
 -- a count that rose later rose
 pub FaultsCounted-before : (a b c : ℕ) → a ≤ b → FaultsCounted b c → FaultsCounted a c
@@ -10,6 +10,10 @@ FaultsCounted-before a b c h r = elim r [ inl s ↦ inl (omega arith) | inr s �
 -- a count that rose stays risen
 pub FaultsCounted-after : (a b c : ℕ) → FaultsCounted a b → b ≤ c → FaultsCounted a c
 FaultsCounted-after a b c r h = elim r [ inl s ↦ inl (omega arith) | inr s ↦ inr (omega arith) ]
+
+empty : (xs : List ℕ) → length xs ≡ 0 → xs ≡ []
+empty [] e = refl
+empty (x ∷ xs) e = absurd (omega (arith, e))
 
 -- nothing taken
 pub Takes-none : (a : Option (List ℕ)) → Takes a a []
@@ -30,6 +34,25 @@ TakesCount-from (Some left) b xs n h e =
     let whole : length left ≡ length xs + length h.0 = ap length h.1 ∙ length-append xs h.0 in
     let rest : drop n left ≡ h.0 = ap (λ l. drop n l) h.1 ∙ drop_at xs h.0 n e in
     (omega arith, h.2 ∙ ap Some (sym rest))
+
+-- what was taken is all, where nothing is left
+pub TakesAll-from : (a b c : Option (List ℕ)) (xs ys : List ℕ) → Takes a b xs → Takes b c ys → IsAtEnd b → TakesAll a c xs
+TakesAll-from None b c xs ys h k end = subst (λ o. Takes o c ys) h k
+TakesAll-from (Some left) b c xs ys h k end =
+    let rest : h.0 ≡ [] = subst IsAtEnd h.2 end in
+    let then : Takes (Some h.0) c ys = subst (λ o. Takes o c ys) h.2 k in
+    let none : length then.0 ≡ 0 = omega (arith, ap length then.1, ap length rest, length-append ys then.0) in
+    (sym (h.1 ∙ ap (λ l. xs ++ l) rest ∙ append-nil xs), then.2 ∙ ap Some (empty then.0 none))
+
+-- more than was taken is not the count
+pub TakesCount-apart : (a b : Option (List ℕ)) (xs : List ℕ) (n : ℕ) → IsSome a → Takes a b xs → length xs < n → TakesCount a b n → ⊥
+TakesCount-apart None b xs n some h less k = cc some
+TakesCount-apart (Some left) b xs n some h less k =
+    let whole : length left ≡ length xs + length h.0 = ap length h.1 ∙ length-append xs h.0 in
+    let same : Some h.0 ≡ Some (drop n left) = sym h.2 ∙ k.1 in
+    let rest : h.0 ≡ drop n left = cc in
+    let rests : length h.0 ≡ length left - n = ap length rest ∙ length-drop n left in
+    omega arith
 
 -- nothing put
 pub Puts-none : (a : Option (List ℕ)) → Puts a a []

@@ -20,6 +20,6 @@ use thiserror::Error;
 pub use writing::{Sink, WriteFault, write_all_of};
 
 /// A call of the outside failed. The object counted the fault.
-#[derive(Clone, Copy, Debug, PartialEq, Eq, Error)]
+#[derive(Clone, Copy, Debug, Error)]
 #[error("the call failed")]
 pub struct Failed;

@@ -155,7 +155,7 @@ impl Depot for MemDepot {
 }
 
 /// A depot that holds nothing, and never fails. There is no room in it: a `put` is out of memory.
-#[derive(Debug, Drop)]
+#[derive(Drop)]
 pub struct EmptyDepot;
 
 impl Depot for EmptyDepot {

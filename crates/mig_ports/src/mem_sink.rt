@@ -9,7 +9,7 @@ use std::alloc::AllocError;
 use std::marker::Model;
 
 /// Bytes in memory that are written, up to a room, where chosen calls fail.
-#[derive(Debug, Drop)]
+#[derive(Drop)]
 pub struct MemSink {
     bytes: Vec<u8>,
     room: usize,

@@ -1,3 +1,4 @@
+mod Exits
 mod Digits
 mod Splitting
 mod Ranges

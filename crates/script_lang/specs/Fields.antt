@@ -87,6 +87,13 @@ an_immediate = do
   stands ← an_option (codes "imm")
   immediate_if stands
 
+-- this word, a number behind it, and what follows
+abbrev pub labeled_then : List ℕ → ℕ → ℕ → (ℕ → Reads Terms) → Reads Terms
+labeled_then label low high more = do
+  a ← the_word label
+  n ← a_number low high
+  more n
+
 -- `mtu` m `psn` own peer `retry` r `rnr` w `reads` n
 unfoldable pub some_terms : Reads Terms
 some_terms = do

@@ -1,7 +1,8 @@
 //! Readers of one field of a line, and of fields that stand together.
 
 ghost use Rattle.std.specs.Prelude.{◌≡◌, ◌<◌, ◌≤◌, ◌^◌, ℕ, true, IfOk};
-ghost use Rattle.script_lang.specs.Words.{Gives, GivesOr};
+ghost use Rattle.script_lang.specs.Words.{Gives, GivesFront, GivesOr, Reads};
+ghost use Rattle.rdma_types.specs.declared.requests.Terms.{Terms};
 ghost use Rattle.script_lang.specs.Fields as fields;
 ghost use Rattle.script_lang.specs.Ranges.{IsIn};
 ghost use Rattle.rdma_types.specs.Limits.{is_mtu, AreTerms};
@@ -152,6 +153,15 @@ impl Words<'_> {
         Ok(())
     }
 
+    /// This word, and a number from `low` to `high` behind it.
+    fn labeled(&mut self, label: &[u8], low: u64, high: u64) -> Result<u64, Offence>
+        ensures value { (more : ℕ → Reads Terms) → GivesFront result self.new more (fields.labeled_then label.now low high more self.old) }
+        ensures within { IfOk result (λ n. (low ≤ n) × (n ≤ high)) }
+    {
+        self.fixed(label)?;
+        self.number(low, high)
+    }
+
     /// `imm` and an immediate, where `imm` stands next. Errors: behind `imm`, those of `key`.
     #[tactic(auto, unfolding(crate::specs::Fields::an_immediate))]
     pub fn immediate(&mut self) -> Result<Option<u32>, Offence>
@@ -175,15 +185,11 @@ impl Words<'_> {
     {
         self.fixed(b"mtu")?;
         let mtu = self.mtu()?;
-        self.fixed(b"psn")?;
-        let own_start = self.number(0, 0xff_ffff)? as u32;
+        let own_start = self.labeled(b"psn", 0, 0xff_ffff)? as u32;
         let peer_start = self.number(0, 0xff_ffff)? as u32;
-        self.fixed(b"retry")?;
-        let retry = self.number(0, 7)? as u8;
-        self.fixed(b"rnr")?;
-        let rnr = self.number(0, 7)? as u8;
-        self.fixed(b"reads")?;
-        let reads = self.number(1, 16)? as u8;
+        let retry = self.labeled(b"retry", 0, 7)? as u8;
+        let rnr = self.labeled(b"rnr", 0, 7)? as u8;
+        let reads = self.labeled(b"reads", 1, 16)? as u8;
         Ok(Terms {
             mtu,
             own_start,

@@ -65,7 +65,7 @@ pub enum NodeLine {
 }
 
 /// Why a line is in no form.
-#[derive(Clone, Copy, Debug, PartialEq, Eq)]
+#[derive(Clone, Copy, Debug)]
 pub enum LineWhy {
     /// Over 8,400 bytes.
     Long,
@@ -90,7 +90,7 @@ pub enum LineWhy {
 }
 
 /// Why a line was not read.
-#[derive(Clone, Copy, Debug, PartialEq, Eq)]
+#[derive(Clone, Copy)]
 pub enum LineFault {
     /// The line is in no form. The column, counted in bytes from 1, is that of the first word that is wrong, or one past
     /// the line's end where a word is missing.
@@ -99,7 +99,7 @@ pub enum LineFault {
 }
 
 /// The first word that is wrong.
-#[derive(Clone, Copy, Debug, PartialEq, Eq)]
+#[derive(Clone, Copy)]
 pub struct Offence {
     pub column: usize,
     pub why: LineWhy,

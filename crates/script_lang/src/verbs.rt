@@ -6,7 +6,9 @@ ghost use Rattle.script_lang.specs.declared.forms.VerbForm.TheVariants as form_i
 ghost use Rattle.rdma_types.specs.Shapes.{IsLawfulShape};
 ghost use Rattle.script_lang.specs.Ranges.{IsLawfulVerb, IsOfNode};
 ghost use Rattle.script_lang.specs.Verbs as verbs;
-ghost use Rattle.script_lang.specs.Words.{Gives, GivesOr};
+ghost use Rattle.rdma_types.specs.declared.verbs.Verb.{Verb};
+ghost use Rattle.script_lang.specs.declared.verbs.Front.{Front};
+ghost use Rattle.script_lang.specs.Words.{Gives, GivesFront, GivesOr, Reads};
 
 use crate::forms::VerbForm;
 use crate::lines::{LineFault, Offence};
@@ -118,25 +120,54 @@ fn load(words: &mut Words<'_>) -> Result<Verb, Offence>
     Ok(Verb::Load { region, at, length })
 }
 
+/// What each line of a posting begins with: an end, an id, and a place in the end's memory.
+#[derive(Clone, Copy)]
+struct Front {
+    end: ObjName,
+    id: u64,
+    lkey: u32,
+    local: u64,
+}
+
+/// O id lkey address
+#[tactic(auto, unfolding(crate::specs::Verbs::posting_then))]
+fn posting(words: &mut Words<'_>) -> Result<Front, Offence>
+    ensures { (more : Front → Reads Verb) → GivesFront result words.new more (verbs.posting_then more words.old) }
+{
+    let end = words.object()?;
+    let id = words.long()?;
+    let lkey = words.key()?;
+    let local = words.long()?;
+    Ok(Front {
+        end,
+        id,
+        lkey,
+        local,
+    })
+}
+
 /// A request of this shape, with its options.
 #[tactic(auto, unfolding(crate::specs::Verbs::posted))]
-fn posted(words: &mut Words<'_>, end: ObjName, id: u64, lkey: u32, local: u64, shape: Shape) -> Verb
+fn posted(words: &mut Words<'_>, at: &Front, shape: Shape) -> Verb
     requires { IsLawfulShape shape }
-    ensures value { verbs.posted end id lkey local shape words.old ≡ Ok (result, words.new) }
+    ensures value { verbs.posted at.now.end at.now.id at.now.lkey at.now.local shape words.old ≡ Ok (result, words.new) }
     ensures lawful { IsLawfulVerb result }
     ensures shared { IsOfNode result }
 {
     let fence = words.option(b"fence");
     let quiet = words.option(b"quiet");
     let request = Request {
-        id,
+        id: at.id,
         shape,
-        lkey,
-        local,
+        lkey: at.lkey,
+        local: at.local,
         signaled: !quiet,
         fence,
     };
-    Verb::PostSend { end, request }
+    Verb::PostSend {
+        end: at.end,
+        request,
+    }
 }
 
 /// `write` O id lkey address length raddress rkey, and perhaps `imm` i, `fence`, `quiet`
@@ -146,10 +177,7 @@ fn write(words: &mut Words<'_>) -> Result<Verb, Offence>
     ensures lawful { IfOk result IsLawfulVerb }
     ensures shared { IfOk result IsOfNode }
 {
-    let end = words.object()?;
-    let id = words.long()?;
-    let lkey = words.key()?;
-    let local = words.long()?;
+    let at = posting(words)?;
     let length = words.short()?;
     let remote = words.long()?;
     let rkey = words.key()?;
@@ -163,7 +191,7 @@ fn write(words: &mut Words<'_>) -> Result<Verb, Offence>
         swap_add: 0,
         compare: 0,
     };
-    Ok(posted(words, end, id, lkey, local, shape))
+    Ok(posted(words, &at, shape))
 }
 
 /// `send` O id lkey address length, and perhaps `imm` i, `fence`, `quiet`
@@ -173,10 +201,7 @@ fn send(words: &mut Words<'_>) -> Result<Verb, Offence>
     ensures lawful { IfOk result IsLawfulVerb }
     ensures shared { IfOk result IsOfNode }
 {
-    let end = words.object()?;
-    let id = words.long()?;
-    let lkey = words.key()?;
-    let local = words.long()?;
+    let at = posting(words)?;
     let length = words.short()?;
     let imm = words.immediate()?;
     let shape = Shape {
@@ -188,7 +213,7 @@ fn send(words: &mut Words<'_>) -> Result<Verb, Offence>
         swap_add: 0,
         compare: 0,
     };
-    Ok(posted(words, end, id, lkey, local, shape))
+    Ok(posted(words, &at, shape))
 }
 
 /// `read` O id lkey address length raddress rkey, and perhaps `fence`, `quiet`
@@ -198,10 +223,7 @@ fn read(words: &mut Words<'_>) -> Result<Verb, Offence>
     ensures lawful { IfOk result IsLawfulVerb }
     ensures shared { IfOk result IsOfNode }
 {
-    let end = words.object()?;
-    let id = words.long()?;
-    let lkey = words.key()?;
-    let local = words.long()?;
+    let at = posting(words)?;
     let length = words.short()?;
     let remote = words.long()?;
     let rkey = words.key()?;
@@ -214,7 +236,7 @@ fn read(words: &mut Words<'_>) -> Result<Verb, Offence>
         swap_add: 0,
         compare: 0,
     };
-    Ok(posted(words, end, id, lkey, local, shape))
+    Ok(posted(words, &at, shape))
 }
 
 /// `cas` O id lkey address raddress rkey compare swap, and perhaps `fence`, `quiet`
@@ -224,10 +246,7 @@ fn cas(words: &mut Words<'_>) -> Result<Verb, Offence>
     ensures lawful { IfOk result IsLawfulVerb }
     ensures shared { IfOk result IsOfNode }
 {
-    let end = words.object()?;
-    let id = words.long()?;
-    let lkey = words.key()?;
-    let local = words.long()?;
+    let at = posting(words)?;
     let remote = words.long()?;
     let rkey = words.key()?;
     let compare = words.long()?;
@@ -241,7 +260,7 @@ fn cas(words: &mut Words<'_>) -> Result<Verb, Offence>
         swap_add,
         compare,
     };
-    Ok(posted(words, end, id, lkey, local, shape))
+    Ok(posted(words, &at, shape))
 }
 
 /// `add` O id lkey address raddress rkey value, and perhaps `fence`, `quiet`
@@ -251,10 +270,7 @@ fn add(words: &mut Words<'_>) -> Result<Verb, Offence>
     ensures lawful { IfOk result IsLawfulVerb }
     ensures shared { IfOk result IsOfNode }
 {
-    let end = words.object()?;
-    let id = words.long()?;
-    let lkey = words.key()?;
-    let local = words.long()?;
+    let at = posting(words)?;
     let remote = words.long()?;
     let rkey = words.key()?;
     let swap_add = words.long()?;
@@ -267,7 +283,7 @@ fn add(words: &mut Words<'_>) -> Result<Verb, Offence>
         swap_add,
         compare: 0,
     };
-    Ok(posted(words, end, id, lkey, local, shape))
+    Ok(posted(words, &at, shape))
 }
 
 /// `recv` O id lkey address length
@@ -277,18 +293,18 @@ fn recv(words: &mut Words<'_>) -> Result<Verb, Offence>
     ensures lawful { IfOk result IsLawfulVerb }
     ensures shared { IfOk result IsOfNode }
 {
-    let end = words.object()?;
-    let id = words.long()?;
-    let lkey = words.key()?;
-    let local = words.long()?;
+    let at = posting(words)?;
     let length = words.short()?;
     let receive = Receive {
-        id,
-        lkey,
-        local,
+        id: at.id,
+        lkey: at.lkey,
+        local: at.local,
         length,
     };
-    Ok(Verb::PostRecv { end, receive })
+    Ok(Verb::PostRecv {
+        end: at.end,
+        receive,
+    })
 }
 
 /// `poll` cq max

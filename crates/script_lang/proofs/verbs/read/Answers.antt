@@ -1,8 +1,36 @@
-use Rattle.script_lang.specs.Verbs.{read_line}
+use Rattle.std.proofs.Common.{refl}
+use Rattle.rdma_types.specs.declared.verbs.Verb.{Verb}
+use Rattle.script_lang.specs.declared.verbs.Front.{Front}
+use Rattle.script_lang.specs.Fields.{a_key, a_long, a_short}
+use Rattle.script_lang.specs.Verbs.{read_line, posted, read_shape}
+use Rattle.script_lang.specs.Words.{Reads, ◌>>=◌}
+use Rattle.script_lang.proofs.Exits.{gives_err}
 use Rattle.script_lang.proofs.verbs.read.Goals as goal
+
+-- what follows the front
+abbrev rest : Front → Reads Verb
+rest p = do
+  size ← a_short
+  remote ← a_long
+  rkey ← a_key
+  posted p.end p.id p.lkey p.local (read_shape size remote rkey)
+
+pub returns-in_err-at-clause-value : goal.returns-in_err-at-clause-value
+unfolding read_line
+returns-in_err-at-clause-value c = gives_err _ _ _ _ c.from_residual.ensures (c.in_err-at.ensures rest)
+
+pub returns-in_err-length-clause-value : goal.returns-in_err-length-clause-value
+unfolding read_line
+returns-in_err-length-clause-value c = gives_err _ _ _ _ c.from_residual-in_err-length.ensures (rw (c.in_ok-at.ensures rest, c.in_err-length.ensures) refl)
+
+pub returns-in_err-remote-clause-value : goal.returns-in_err-remote-clause-value
+unfolding read_line
+returns-in_err-remote-clause-value c = gives_err _ _ _ _ c.from_residual-in_err-remote.ensures (rw (c.in_ok-at.ensures rest, c.in_ok-length.ensures, c.in_err-remote.ensures) refl)
+
+pub returns-in_err-rkey-clause-value : goal.returns-in_err-rkey-clause-value
+unfolding read_line
+returns-in_err-rkey-clause-value c = gives_err _ _ _ _ c.from_residual-in_err-rkey.ensures (rw (c.in_ok-at.ensures rest, c.in_ok-length.ensures, c.in_ok-remote.ensures, c.in_err-rkey.ensures) refl)
 
 pub returns-clause-value : goal.returns-clause-value
 unfolding read_line
-returns-clause-value c =
-    rw (c.in_ok-end.ensures, c.in_ok-id.ensures, c.in_ok-lkey.ensures, c.in_ok-local.ensures, c.in_ok-length.ensures, c.in_ok-remote.ensures, c.in_ok-rkey.ensures)
-    c.posted.ensures.value
+returns-clause-value c = rw (c.in_ok-at.ensures rest, c.in_ok-length.ensures, c.in_ok-remote.ensures, c.in_ok-rkey.ensures) c.posted.ensures.value

@@ -1,8 +1,31 @@
-use Rattle.script_lang.specs.Verbs.{send_line}
+use Rattle.std.proofs.Common.{refl}
+use Rattle.rdma_types.specs.declared.verbs.Verb.{Verb}
+use Rattle.script_lang.specs.declared.verbs.Front.{Front}
+use Rattle.script_lang.specs.Fields.{a_short, an_immediate}
+use Rattle.script_lang.specs.Verbs.{send_line, posted, send_shape}
+use Rattle.script_lang.specs.Words.{Reads, ◌>>=◌}
+use Rattle.script_lang.proofs.Exits.{gives_err}
 use Rattle.script_lang.proofs.verbs.send.Goals as goal
+
+-- what follows the front
+abbrev rest : Front → Reads Verb
+rest p = do
+  size ← a_short
+  imm ← an_immediate
+  posted p.end p.id p.lkey p.local (send_shape size imm)
+
+pub returns-in_err-at-clause-value : goal.returns-in_err-at-clause-value
+unfolding send_line
+returns-in_err-at-clause-value c = gives_err _ _ _ _ c.from_residual.ensures (c.in_err-at.ensures rest)
+
+pub returns-in_err-length-clause-value : goal.returns-in_err-length-clause-value
+unfolding send_line
+returns-in_err-length-clause-value c = gives_err _ _ _ _ c.from_residual-in_err-length.ensures (rw (c.in_ok-at.ensures rest, c.in_err-length.ensures) refl)
+
+pub returns-in_err-imm-clause-value : goal.returns-in_err-imm-clause-value
+unfolding send_line
+returns-in_err-imm-clause-value c = gives_err _ _ _ _ c.from_residual-in_err-imm.ensures (rw (c.in_ok-at.ensures rest, c.in_ok-length.ensures, c.in_err-imm.ensures) refl)
 
 pub returns-clause-value : goal.returns-clause-value
 unfolding send_line
-returns-clause-value c =
-    rw (c.in_ok-end.ensures, c.in_ok-id.ensures, c.in_ok-lkey.ensures, c.in_ok-local.ensures, c.in_ok-length.ensures, c.in_ok-imm.ensures)
-    c.posted.ensures.value
+returns-clause-value c = rw (c.in_ok-at.ensures rest, c.in_ok-length.ensures, c.in_ok-imm.ensures) c.posted.ensures.value
