@@ -3,6 +3,7 @@
 use endpoint_core::{BadState, EndSend, Endpoint};
 use rdma_types::{Address, Name, Terms};
 use requester::Transmit;
+use std::alloc::Global;
 use std::test::Fail;
 
 const TERMS: Terms = Terms {
@@ -19,21 +20,23 @@ const HOME: Address = Address {
     port: 4791,
 };
 
-#[test]
-fn an_end_connects_once(rt: HostRuntime) -> Result<(), Fail> {
+/// What a first and a second connect of a new end answer, and what it then sends; None where the second one is done.
+fn connected(alloc: Global) -> Result<([Result<(), BadState>; 2], Option<EndSend>), Fail> {
     let domain = Name::read(b"d").ok_or("name")?;
-    let mut end = Endpoint::make(rt.alloc(), 65_537, domain, 2, 2)?;
-    assert_eq!(rt; end.connect(131_073, HOME, &TERMS), Ok(()));
-    assert_eq!(rt; end.connect(131_073, HOME, &TERMS), Err(BadState));
-    Ok(())
+    let mut end = Endpoint::make(alloc, 65_537, domain, 2, 2)?;
+    let first = end.connect(131_073, HOME, &TERMS);
+    let second = end.connect(131_073, HOME, &TERMS);
+    let sent = if second.is_err() {
+        Some(end.transmit())
+    } else {
+        None
+    };
+    Ok(([first, second], sent))
 }
 
 #[test]
-fn a_new_end_has_nothing_to_send(rt: HostRuntime) -> Result<(), Fail> {
-    let domain = Name::read(b"d").ok_or("name")?;
-    let mut end = Endpoint::make(rt.alloc(), 65_537, domain, 2, 2)?;
-    if end.connect(131_073, HOME, &TERMS).is_ok() {
-        assert_eq!(rt; end.transmit(), EndSend::Transmit(Transmit::Idle));
-    }
+fn an_end_connects_once(rt: HostRuntime) -> Result<(), Fail> {
+    let idle = Some(EndSend::Transmit(Transmit::Idle));
+    assert_eq!(rt; connected(rt.alloc())?, ([Ok(()), Err(BadState)], idle));
     Ok(())
 }
