@@ -1,5 +1,7 @@
 //! An end of a connection, where memory is ample.
 
+ghost use Rattle.endpoint_core.specs.Sound.{HoldsQueue};
+
 use endpoint_core::{BadState, EndSend, Endpoint};
 use rdma_types::{Address, Name, Terms};
 use requester::Transmit;
@@ -20,23 +22,28 @@ const HOME: Address = Address {
     port: 4791,
 };
 
-/// What a first and a second connect of a new end answer, and what it then sends; None where the second one is done.
-fn connected(alloc: Global) -> Result<([Result<(), BadState>; 2], Option<EndSend>), Fail> {
-    let domain = Name::read(b"d").ok_or("name")?;
-    let mut end = Endpoint::make(alloc, 65_537, domain, 2, 2)?;
+/// Whether a first connect is done, a second one is refused, and nothing is to be sent then.
+fn connect_twice(end: &mut Endpoint) -> [bool; 3]
+    requires { HoldsQueue end.old.send_depth end.old.unlinked end.old.link }
+{
     let first = end.connect(131_073, HOME, &TERMS);
     let second = end.connect(131_073, HOME, &TERMS);
-    let sent = if second.is_err() {
-        Some(end.transmit())
-    } else {
-        None
-    };
-    Ok(([first, second], sent))
+    if second.is_ok() {
+        return [first.is_ok(), false, false];
+    }
+    let idle = end.transmit() == EndSend::Transmit(Transmit::Idle);
+    [first.is_ok(), second == Err(BadState), idle]
+}
+
+/// The same of a new end.
+fn connected(alloc: Global) -> Result<[bool; 3], Fail> {
+    let domain = Name::read(b"d").ok_or("name")?;
+    let mut end = Endpoint::make(alloc, 65_537, domain, 2, 2)?;
+    Ok(connect_twice(&mut end))
 }
 
 #[test]
 fn an_end_connects_once(rt: HostRuntime) -> Result<(), Fail> {
-    let idle = Some(EndSend::Transmit(Transmit::Idle));
-    assert_eq!(rt; connected(rt.alloc())?, ([Ok(()), Err(BadState)], idle));
+    assert_eq!(rt; connected(rt.alloc())?, [true; 3]);
     Ok(())
 }

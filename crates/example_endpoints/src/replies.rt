@@ -36,14 +36,10 @@ struct Place {
     responder: Responder,
 }
 
-/// A region of 512 bytes from address 4096 on, which the key 0100_0003 opens, and no receive.
-fn make_place(alloc: Global) -> Result<Place, Fail>
-    ensures held { IfOk result (λ p. AreHeld p.pool p.regions) }
-    ensures sound { IfOk result (λ p. IsSound p.regions p.domain p.responder p.recvs.items) }
-    ensures reserved { IfOk result (λ p. waiting p.responder.receiver p.recvs.items ≤ p.cq.reserved) }
+/// A pool, and in it a region of 512 bytes from address 4096, which the key 0100_0003 opens.
+fn memory(alloc: Global, domain: Name) -> Result<(PagePool, Regions), Fail>
+    ensures { IfOk result (λ m. AreHeld m.0 m.1) }
 {
-    soundness_stays();
-    let domain = Name::read(b"p").ok_or("a name")?;
     let name = Name::read(b"n").ok_or("a name")?;
     let mut pool = PagePool::make(alloc, 1)?;
     let mut regions = Regions::make(alloc);
@@ -59,16 +55,27 @@ fn make_place(alloc: Global) -> Result<Place, Fail>
         },
     };
     regions.register(&mut pool, alloc, head)?;
+    Ok((pool, regions))
+}
+
+/// That region, and no receive.
+fn make_place(alloc: Global) -> Result<Place, Fail>
+    ensures held { IfOk result (λ p. AreHeld p.pool p.regions) }
+    ensures sound { IfOk result (λ p. IsSound p.regions p.domain p.responder p.recvs.items) }
+    ensures reserved { IfOk result (λ p. waiting p.responder.receiver p.recvs.items ≤ p.cq.reserved) }
+{
+    soundness_stays();
+    let domain = Name::read(b"p").ok_or("a name")?;
     let recvs = RecvQueue::make(alloc, 1)?;
     let cq = Cq::make(alloc, 1)?;
-    let responder = Responder::make(&TERMS);
+    let (pool, regions) = memory(alloc, domain)?;
     Ok(Place {
         pool,
         regions,
         domain,
         recvs,
         cq,
-        responder,
+        responder: Responder::make(&TERMS),
     })
 }
 
