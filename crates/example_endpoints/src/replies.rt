@@ -36,18 +36,15 @@ struct Place {
     responder: Responder,
 }
 
-/// A region of 512 bytes from address 4096 on, which the key 0100_0003 opens, and no receive.
-fn make_place(alloc: Global) -> Result<Place, Fail>
-    ensures held { IfOk result (λ p. AreHeld p.pool p.regions) }
-    ensures sound { IfOk result (λ p. IsSound p.regions p.domain p.responder p.recvs.items) }
-    ensures reserved { IfOk result (λ p. waiting p.responder.receiver p.recvs.items ≤ p.cq.reserved) }
+/// A pool, and in it a region of 512 bytes from address 4096, which the key 0100_0003 opens.
+fn memory(alloc: Global, domain: Name) -> Result<(PagePool, Regions), Fail>
+    ensures { IfOk result (λ m. AreHeld m.0 m.1) }
 {
-    soundness_stays();
+    let name = Name::read(b"n").ok_or("a name")?;
     let mut pool = PagePool::make(alloc, 1)?;
     let mut regions = Regions::make(alloc);
-    let domain = Name::read(b"p").ok_or("a name")?;
     let head = RegionHead {
-        name: Name::read(b"n").ok_or("a name")?,
+        name,
         domain,
         base: 4096,
         length: 512,
@@ -58,16 +55,27 @@ fn make_place(alloc: Global) -> Result<Place, Fail>
         },
     };
     regions.register(&mut pool, alloc, head)?;
+    Ok((pool, regions))
+}
+
+/// That region, and no receive.
+fn make_place(alloc: Global) -> Result<Place, Fail>
+    ensures held { IfOk result (λ p. AreHeld p.pool p.regions) }
+    ensures sound { IfOk result (λ p. IsSound p.regions p.domain p.responder p.recvs.items) }
+    ensures reserved { IfOk result (λ p. waiting p.responder.receiver p.recvs.items ≤ p.cq.reserved) }
+{
+    soundness_stays();
+    let domain = Name::read(b"p").ok_or("a name")?;
     let recvs = RecvQueue::make(alloc, 1)?;
     let cq = Cq::make(alloc, 1)?;
-    let responder = Responder::make(&TERMS);
+    let (pool, regions) = memory(alloc, domain)?;
     Ok(Place {
         pool,
         regions,
         domain,
         recvs,
         cq,
-        responder,
+        responder: Responder::make(&TERMS),
     })
 }
 
@@ -107,35 +115,55 @@ fn arrive(p: &mut Place, bytes: &[u8]) -> Option<Reply>
     )
 }
 
+/// What is replied to four requests.
+fn replies(p: &mut Place, all: [&[u8]; 4]) -> [Option<Reply>; 4]
+    requires held { AreHeld p.old.pool p.old.regions }
+    requires sound { IsSound p.old.regions p.old.domain p.old.responder p.old.recvs.items }
+    requires reserved { waiting p.old.responder.receiver p.old.recvs.items ≤ p.old.cq.reserved }
+{
+    [
+        arrive(p, all[0]),
+        arrive(p, all[1]),
+        arrive(p, all[2]),
+        arrive(p, all[3]),
+    ]
+}
+
+/// The same of a new place, and then the number that is expected, how many replies are kept, and whether a receive is cut off.
+fn told(alloc: Global, all: [&[u8]; 4]) -> Result<([Option<Reply>; 4], u64, usize, bool), Fail> {
+    let mut p = make_place(alloc)?;
+    let told = replies(&mut p, all);
+    let expected = p.responder.parts().expected;
+    let kept = p.responder.kept().len();
+    Ok((told, expected, kept, p.responder.cut().is_some()))
+}
+
 /// A FetchAdd of 5 to the word at address 4096: packet 0, whose wire number is the partner's first.
 const ADD: [u8; 44] = [
     0x14, 0, 0xFF, 0xFF, 0, 0, 0, 7, 0x80, 0xFF, 0xFF, 0xFF, 0, 0, 0, 0, 0, 0, 0x10, 0, 1, 0, 0, 3,
     0, 0, 0, 0, 0, 0, 0, 5, 0, 0, 0, 0, 0, 0, 0, 0, 0, 0, 0, 0,
 ];
 
-#[test]
-fn a_repeated_atomic_is_not_executed(rt: HostRuntime) -> Result<(), Fail> {
-    let mut p = make_place(rt.alloc())?;
-    let first = Reply::AtomicOld { number: 0, old: 0 };
-    assert_eq!(rt; arrive(&mut p, &ADD), Some(first));
-    assert_eq!(rt; arrive(&mut p, &ADD), Some(first));
-    assert_eq!(rt; p.responder.parts().expected, 1);
-    assert_eq!(rt; p.responder.kept().len(), 1);
-    assert!(rt; p.responder.cut().is_none());
-    Ok(())
-}
-
 /// A SEND Only of no bytes: packet 1, whose wire number is 0.
 const SEND: [u8; 16] = [0x04, 0, 0xFF, 0xFF, 0, 0, 0, 7, 0x80, 0, 0, 0, 0, 0, 0, 0];
 
 #[test]
+fn a_repeated_atomic_is_not_executed(rt: HostRuntime) -> Result<(), Fail> {
+    let old = Some(Reply::AtomicOld { number: 0, old: 0 });
+    let told = told(rt.alloc(), [&ADD, &ADD, &ADD, &ADD])?;
+    assert_eq!(rt; told, ([old; 4], 1, 1, false));
+    Ok(())
+}
+
+#[test]
 fn a_request_ahead_is_told_once(rt: HostRuntime) -> Result<(), Fail> {
-    let mut p = make_place(rt.alloc())?;
-    let silent = Reply::Silent(SilentWhy::NakSent);
-    assert_eq!(rt; arrive(&mut p, &SEND), Some(Reply::SequenceNak));
-    assert_eq!(rt; arrive(&mut p, &SEND), Some(silent));
-    let added = arrive(&mut p, &ADD);
-    assert!(rt; added.is_some());
-    assert_eq!(rt; arrive(&mut p, &SEND), Some(Reply::NotReady));
+    let wanted = [
+        Some(Reply::SequenceNak),
+        Some(Reply::Silent(SilentWhy::NakSent)),
+        Some(Reply::AtomicOld { number: 0, old: 0 }),
+        Some(Reply::NotReady),
+    ];
+    let told = told(rt.alloc(), [&SEND, &SEND, &ADD, &SEND])?;
+    assert_eq!(rt; told, (wanted, 1, 1, false));
     Ok(())
 }

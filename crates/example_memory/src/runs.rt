@@ -2,7 +2,6 @@
 
 use byte_run::ByteRun;
 use std::alloc::{AllocError, Global};
-use std::test::Fail;
 
 /// A run of these bytes.
 pub(crate) fn run_of(alloc: Global, bytes: &[u8]) -> Result<ByteRun, AllocError> {
@@ -43,13 +42,16 @@ fn joined(alloc: Global, front: &[u8], back: &[u8]) -> Result<ByteRun, AllocErro
     run.copy(alloc)
 }
 
+/// Of a run over two pages: its length, four bytes over the seam, and whether each page's part is a piece.
+fn told(alloc: Global) -> Result<(u64, Option<[u8; 4]>, [bool; 2]), AllocError> {
+    let run = joined(alloc, &[0; 4095], &[1, 2, 3])?;
+    let pieces = [is_piece(&run, 4095, &[1]), is_piece(&run, 4096, &[2, 3])];
+    Ok((run.len(), four_at(&run, 4094), pieces))
+}
+
 #[test]
-fn bytes_over_two_pages(rt: HostRuntime) -> Result<(), Fail> {
-    let run = joined(rt.alloc(), &[0; 4095], &[1, 2, 3])?;
-    assert_eq!(rt;
-        (run.len(), four_at(&run, 4094)),
-        (4098, Some([0, 1, 2, 3]))
-    );
-    assert!(rt; is_piece(&run, 4095, &[1]) && is_piece(&run, 4096, &[2, 3]));
+fn bytes_over_two_pages(rt: HostRuntime) -> Result<(), AllocError> {
+    let told = told(rt.alloc())?;
+    assert_eq!(rt; told, (4098, Some([0, 1, 2, 3]), [true, true]));
     Ok(())
 }

@@ -4,10 +4,11 @@ ghost use Rattle.std.specs.Prelude.{◌≡◌, ◌<◌, ◌+◌, length, IfOk, I
 ghost use Rattle.page_pool.specs.Pool.{IsIn};
 ghost use Rattle.memory_keys.specs.Regions.{AreHeld, IsSpot, held_at};
 
+use crate::runs::two_of;
 use memory_keys::{MemFault, RegionHead, Regions, Spot, regions_stay_whatever_their_bytes};
 use page_pool::{ByteRun, PagePool, Payload};
 use rdma_types::{Keys, Name, Rights};
-use std::alloc::Global;
+use std::alloc::{AllocError, Global};
 use std::test::Fail;
 
 /// The head of a region of the domain `p` from address 8192 on, with all four rights and the keys from `local` on.
@@ -34,9 +35,9 @@ fn memory(alloc: Global, pages: u32) -> Result<(PagePool, Regions), Fail>
     ensures held { IfOk result (λ m. AreHeld m.0 m.1) }
     ensures other { IfOk result (λ m. held_at 4 m.1 ≡ None) }
 {
+    let first = head(b"n", 2, 64).ok_or("a name")?;
     let mut pool = PagePool::make(alloc, pages)?;
     let mut regions = Regions::make(alloc);
-    let first = head(b"n", 2, 64).ok_or("a name")?;
     regions.register(&mut pool, alloc, first)?;
     regions_stay_whatever_their_bytes();
     Ok((pool, regions))
@@ -74,40 +75,73 @@ fn four_of(pool: &PagePool, payload: &Payload) -> Option<[u8; 4]>
     Some(bytes)
 }
 
-#[test]
-fn a_snapshot_stays(rt: HostRuntime) -> Result<(), Fail> {
-    let (mut pool, mut regions) = memory(rt.alloc(), 2)?;
+/// Four bytes that are stored and taken as a snapshot, after others were stored over them.
+fn snapped(
+    alloc: Global,
+    pool: &mut PagePool,
+    regions: &mut Regions,
+) -> Result<Option<[u8; 4]>, Fail>
+    requires held { AreHeld pool.old regions.old }
+{
     let p = Name::read(b"p").ok_or("a name")?;
     let place = regions.check_local(p, 2, 8192, 4, true);
     let spot = place.ok_or("granted")?;
-    regions.store(&mut pool, spot, &[0xde, 0xad, 0xbe, 0xef]);
-    let payload = overwritten(rt.alloc(), &mut pool, &mut regions, spot, &[0; 4])?;
-    assert_eq!(rt; four_of(&pool, &payload), Some([0xde, 0xad, 0xbe, 0xef]));
+    regions.store(pool, spot, &[0xde, 0xad, 0xbe, 0xef]);
+    let payload = overwritten(alloc, pool, regions, spot, &[0; 4])?;
+    Ok(four_of(pool, &payload))
+}
+
+/// The same of the region `n`.
+fn kept(alloc: Global) -> Result<Option<[u8; 4]>, Fail> {
+    let (mut pool, mut regions) = memory(alloc, 2)?;
+    snapped(alloc, &mut pool, &mut regions)
+}
+
+#[test]
+fn a_snapshot_stays(rt: HostRuntime) -> Result<(), Fail> {
+    assert_eq!(rt; kept(rt.alloc())?, Some([0xde, 0xad, 0xbe, 0xef]));
     Ok(())
 }
 
-/// Two bytes are restored as the region `m`, with the keys 4 and 5, and read again.
-fn are_restored(alloc: Global, pool: &mut PagePool, regions: &mut Regions) -> Result<bool, Fail>
+/// Two bytes are restored as the region `m`, with the keys 4 and 5.
+fn restore(alloc: Global, pool: &mut PagePool, regions: &mut Regions) -> Result<(), Fail>
     requires held { AreHeld pool.old regions.old }
     requires other { held_at 4 regions.old ≡ None }
     ensures held { AreHeld pool.new regions.new }
 {
+    let m = head(b"m", 4, 2).ok_or("a name")?;
     let mut bytes = ByteRun::make(alloc);
     bytes.append(alloc, &[7, 8])?;
-    let m = head(b"m", 4, 2).ok_or("a name")?;
     regions.restore(pool, alloc, m, &bytes)?;
+    Ok(())
+}
+
+/// The bytes of the second region, if there are two and key 5 opens one.
+fn two_of_second(
+    alloc: Global,
+    pool: &PagePool,
+    regions: &Regions,
+) -> Result<Option<[u8; 2]>, AllocError>
+    requires held { AreHeld pool.now regions.now }
+{
     if regions.len() != 2 || !regions.has_key(5) {
-        return Ok(false);
+        return Ok(None);
     }
     let copy = regions.bytes_at(alloc, pool, 1)?;
-    Ok(copy.len() == 2 && copy.piece(0) == [7, 8].as_slice())
+    Ok(two_of(&copy))
+}
+
+/// Those bytes, and how many pages are free when the regions are gone.
+fn restored(alloc: Global) -> Result<(Option<[u8; 2]>, u32), Fail> {
+    let (mut pool, mut regions) = memory(alloc, 2)?;
+    restore(alloc, &mut pool, &mut regions)?;
+    let bytes = two_of_second(alloc, &pool, &regions)?;
+    regions.release(&mut pool);
+    Ok((bytes, pool.free()))
 }
 
 #[test]
 fn bytes_come_back(rt: HostRuntime) -> Result<(), Fail> {
-    let (mut pool, mut regions) = memory(rt.alloc(), 2)?;
-    let same = are_restored(rt.alloc(), &mut pool, &mut regions)?;
-    regions.release(&mut pool);
-    assert!(rt; same && pool.free() == 2);
+    assert_eq!(rt; restored(rt.alloc())?, (Some([7, 8]), 2));
     Ok(())
 }

@@ -1,39 +1,61 @@
 //! Commands that words spell.
 
 use command_line::Command;
-use std::test::Fail;
+use std::alloc::{AllocError, Global};
+use workload_gen::Mix;
 
-/// The command of words that are written out.
-fn command_of(rt: &HostRuntime, words: &[&str]) -> Result<Option<Command>, Fail> {
-    let mut list = Vec::new(rt.alloc());
-    for word in words {
-        list.push(word.to_string(rt.alloc())?)?;
+/// What words are found to spell.
+#[derive(Clone, Copy, PartialEq, Eq)]
+enum Spelled {
+    Nothing,
+    Play,
+    Bulk(u64, Mix),
+    Help,
+    Another,
+}
+
+fn told(command: &Option<Command>) -> Spelled {
+    match command {
+        None => Spelled::Nothing,
+        Some(Command::Play) => Spelled::Play,
+        Some(Command::Bulk { seed, mix }) => Spelled::Bulk(*seed, *mix),
+        Some(Command::ShowDump { name }) if name.as_bytes() == b"help".as_slice() => Spelled::Help,
+        Some(Command::ShowDump { .. }) => Spelled::Another,
     }
-    Ok(Command::of(rt.alloc(), list.as_slice())?)
 }
 
-#[test]
-fn plays(rt: HostRuntime) -> Result<(), Fail> {
-    assert!(rt; matches!(command_of(&rt, &["play"])?, Some(Command::Play)));
-    assert!(rt; command_of(&rt, &["play", "more"])?.is_none());
-    Ok(())
+/// The words of a line with one space between them.
+fn words_of(alloc: Global, line: &str) -> Result<Vec<String>, AllocError> {
+    let mut list = Vec::new(alloc);
+    for word in line.split(' ') {
+        list.push(word.to_string(alloc)?)?;
+    }
+    Ok(list)
 }
 
-#[test]
-fn takes_numbers(rt: HostRuntime) -> Result<(), Fail> {
-    let Some(Command::Bulk { seed, mix }) = command_of(&rt, &["bulk", "7", "2", "300", "4"])? else {
-        return Err("no bulk".into());
-    };
-    assert!(rt; seed == 7 && mix.connections == 2 && mix.messages == 300 && mix.moves == 4);
-    Ok(())
+/// What the words of a line spell.
+fn command_of(alloc: Global, line: &str) -> Result<Spelled, AllocError> {
+    let list = words_of(alloc, line)?;
+    let command = Command::of(alloc, list.as_slice())?;
+    Ok(told(&command))
 }
 
+const MIX: Mix = Mix {
+    connections: 2,
+    messages: 300,
+    moves: 4,
+};
+
 #[test]
-fn takes_a_name(rt: HostRuntime) -> Result<(), Fail> {
-    let command = command_of(&rt, &["show-dump", "help"])?;
-    let Some(Command::ShowDump { name }) = &command else {
-        return Err("no name".into());
-    };
-    assert!(rt; name.as_bytes() == b"help".as_slice());
+fn words_spell_commands(rt: HostRuntime) -> Result<(), AllocError> {
+    let lines = [
+        ("play", Spelled::Play),
+        ("play more", Spelled::Nothing),
+        ("bulk 7 2 300 4", Spelled::Bulk(7, MIX)),
+        ("show-dump help", Spelled::Help),
+    ];
+    for (line, wanted) in lines {
+        assert!(rt; command_of(rt.alloc(), line)? == wanted, "{line}");
+    }
     Ok(())
 }

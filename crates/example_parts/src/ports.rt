@@ -9,7 +9,6 @@ use mig_ports::{
 };
 use rdma_types::Name;
 use std::alloc::{AllocError, Global};
-use std::test::Fail;
 
 /// A source that gives a byte a call, and fails at a chosen byte.
 #[derive(Drop)]
@@ -73,14 +72,22 @@ impl Sink for Trickle {
     }
 }
 
+/// Whether so many bytes are read to their end.
+fn is_read(alloc: Global, length: usize) -> Result<bool, AllocError>
+    requires { length < usize.MAX }
+{
+    let input = vec![in alloc; 7u8; length]?;
+    let mut source = MemSource::make(input.clone()?, Vec::new(alloc));
+    Ok(match read_all(alloc, &mut source, length) {
+        Ok(bytes) => bytes == input,
+        Err(_) => false,
+    })
+}
+
 #[test]
-fn reads_all_in_memory(rt: HostRuntime) -> Result<(), Fail> {
-    let alloc = rt.alloc();
+fn reads_all_in_memory(rt: HostRuntime) -> Result<(), AllocError> {
     for length in [0, 1, 4095, 4096, 4097, 10_000] {
-        let input = vec![in alloc; 7u8; length]?;
-        let mut source = MemSource::make(input.clone()?, Vec::new(alloc));
-        let bytes = read_all(alloc, &mut source, length)?;
-        assert!(rt; bytes == input, "{length} bytes");
+        assert!(rt; is_read(rt.alloc(), length)?, "{length} bytes");
     }
     Ok(())
 }
@@ -100,103 +107,156 @@ fn read_in_part(
 }
 
 #[test]
-fn stops_short_of_the_end(rt: HostRuntime) -> Result<(), Fail> {
+fn stops_short_of_the_end(rt: HostRuntime) -> Result<(), AllocError> {
     let long = read_in_part(rt.alloc(), 9_999, 4)?;
-    assert!(rt; long == (Some(ReadAllFault::TooLong), 0));
     let far_too_long = read_in_part(rt.alloc(), 10, 4)?;
-    assert!(rt; far_too_long == (Some(ReadAllFault::TooLong), 9_989));
     let broken = read_in_part(rt.alloc(), 65_536, 3)?;
-    assert!(rt; broken == (Some(ReadAllFault::ReadFault), 1_808));
+    let wanted = [
+        (Some(ReadAllFault::TooLong), 0),
+        (Some(ReadAllFault::TooLong), 9_989),
+        (Some(ReadAllFault::ReadFault), 1_808),
+    ];
+    assert_eq!(rt; [long, far_too_long, broken], wanted);
     Ok(())
 }
 
-#[test]
-fn stops_at_a_write_that_fails(rt: HostRuntime) -> Result<(), Fail> {
-    let alloc = rt.alloc();
+/// What the writes of three lines answer where the third call fails, how many faults there were, and whether two lines are held.
+fn third_fails(alloc: Global) -> Result<([Result<(), WriteFault>; 3], u64, bool), AllocError> {
     let mut sink = MemSink::make(Vec::new(alloc), vec![in alloc; 3]?, 64)?;
-    assert_eq!(rt; write_all_of(&mut sink, b"ok\n"), Ok(()));
-    assert_eq!(rt; write_all_of(&mut sink, b"ok\n"), Ok(()));
-    assert_eq!(rt; write_all_of(&mut sink, b"ok\n"), Err(WriteFault));
-    assert_eq!(rt; sink.faults(), 1);
-    assert_eq!(rt; sink.into_held().as_slice(), b"ok\nok\n".as_slice());
-    Ok(())
+    let first = write_all_of(&mut sink, b"ok\n");
+    let second = write_all_of(&mut sink, b"ok\n");
+    let third = write_all_of(&mut sink, b"ok\n");
+    let faults = sink.faults();
+    let held = sink.into_held().as_slice() == b"ok\nok\n".as_slice();
+    Ok(([first, second, third], faults, held))
 }
 
 #[test]
-fn stops_where_the_room_ends(rt: HostRuntime) -> Result<(), Fail> {
-    let alloc = rt.alloc();
+fn stops_at_a_write_that_fails(rt: HostRuntime) -> Result<(), AllocError> {
+    let told = third_fails(rt.alloc())?;
+    assert_eq!(rt; told, ([Ok(()), Ok(()), Err(WriteFault)], 1, true));
+    Ok(())
+}
+
+/// What a write answers where there is room for a part, whether the part is held, and how much room is left.
+fn room_ends(alloc: Global) -> Result<(Result<(), WriteFault>, bool, usize), AllocError> {
     let mut sink = MemSink::make(b"> ".to_vec(alloc)?, Vec::new(alloc), 4)?;
-    assert_eq!(rt; write_all_of(&mut sink, b"hello"), Err(WriteFault));
-    assert_eq!(rt; sink.held(), b"> hell".as_slice());
-    assert_eq!(rt; sink.room(), 0);
-    Ok(())
+    let answer = write_all_of(&mut sink, b"hello");
+    Ok((answer, sink.held() == b"> hell".as_slice(), sink.room()))
 }
 
 #[test]
-fn reads_byte_by_byte(rt: HostRuntime) -> Result<(), Fail> {
-    for (broken_at, wanted) in [(9, None), (3, Some(ReadAllFault::ReadFault))] {
-        let mut source = Drip {
-            bytes: b"piece",
-            at: 0,
-            broken_at,
-            faults: 0,
-        };
-        match read_all(rt.alloc(), &mut source, 5) {
-            Ok(bytes) => assert_eq!(rt; bytes.as_slice(), b"piece".as_slice()),
-            Err(fault) => assert_eq!(rt; Some(fault), wanted),
-        }
-    }
+fn stops_where_the_room_ends(rt: HostRuntime) -> Result<(), AllocError> {
+    assert_eq!(rt; room_ends(rt.alloc())?, (Err(WriteFault), true, 0));
     Ok(())
+}
+
+/// Whether the bytes of a drip are read, where it is broken at one.
+fn is_dripped(alloc: Global, broken_at: usize) -> Result<bool, ReadAllFault> {
+    let mut source = Drip {
+        bytes: b"piece",
+        at: 0,
+        broken_at,
+        faults: 0,
+    };
+    let bytes = read_all(alloc, &mut source, 5)?;
+    Ok(bytes.as_slice() == b"piece".as_slice())
+}
+
+#[test]
+fn reads_byte_by_byte(rt: HostRuntime) {
+    let told = [is_dripped(rt.alloc(), 9), is_dripped(rt.alloc(), 3)];
+    assert_eq!(rt; told, [Ok(true), Err(ReadAllFault::ReadFault)]);
+}
+
+/// What a write answers where so many bytes are taken, and the bytes.
+fn trickled(full_at: usize) -> (Result<(), WriteFault>, [u8; 8]) {
+    let mut sink = Trickle {
+        bytes: [0; 8],
+        count: 0,
+        full_at,
+        faults: 0,
+    };
+    (write_all_of(&mut sink, b"piece"), sink.bytes)
 }
 
 #[test]
 fn writes_byte_by_byte(rt: HostRuntime) {
-    for (full_at, wanted) in [(8, Ok(())), (3, Err(WriteFault))] {
-        let mut sink = Trickle {
-            bytes: [0; 8],
-            count: 0,
-            full_at,
-            faults: 0,
-        };
-        assert_eq!(rt; write_all_of(&mut sink, b"piece"), wanted);
-        let front = if full_at == 8 {
-            *b"piece\0\0\0"
-        } else {
-            *b"pie\0\0\0\0\0"
-        };
-        assert_eq!(rt; sink.bytes, front);
-    }
+    let wanted = [
+        (Ok(()), *b"piece\0\0\0"),
+        (Err(WriteFault), *b"pie\0\0\0\0\0"),
+    ];
+    assert_eq!(rt; [trickled(8), trickled(3)], wanted);
 }
 
-#[test]
-fn holds_and_hands_out(rt: HostRuntime) -> Result<(), Fail> {
-    let alloc = rt.alloc();
-    let (a, b) = (Name::read(b"a").unwrap(), Name::read(b"b").unwrap());
+/// Whether the bytes `two` are held under a name.
+fn look(depot: &mut impl Depot, alloc: Global, name: Name) -> Result<bool, DepotFault> {
+    let bytes = depot.look(alloc, name)?;
+    Ok(bytes.as_slice() == b"two".as_slice())
+}
+
+/// Whether the bytes `two` are taken from under a name.
+fn take(depot: &mut impl Depot, alloc: Global, name: Name) -> Result<bool, DepotFault> {
+    let bytes = depot.take(alloc, name)?;
+    Ok(bytes.as_slice() == b"two".as_slice())
+}
+
+/// What a depot answers that puts twice under a name, looks there and under another one, and takes three times.
+fn all_of(
+    depot: &mut impl Depot,
+    alloc: Global,
+    name: Name,
+    other: Name,
+) -> ([Result<(), DepotFault>; 2], [Result<bool, DepotFault>; 5]) {
+    let puts = [
+        depot.put(alloc, name, b"one"),
+        depot.put(alloc, name, b"two"),
+    ];
+    let looks = [look(depot, alloc, name), look(depot, alloc, other)];
+    let takes = [take(depot, alloc, name), take(depot, alloc, name)];
+    let gone = take(depot, alloc, name);
+    (puts, [looks[0], looks[1], takes[0], takes[1], gone])
+}
+
+/// The same of a depot in memory whose fifth call fails, and how many calls failed.
+fn told(
+    alloc: Global,
+    name: Name,
+    other: Name,
+) -> Result<
+    (
+        [Result<(), DepotFault>; 2],
+        [Result<bool, DepotFault>; 5],
+        u64,
+    ),
+    AllocError,
+> {
     let mut depot = MemDepot::make(IndexMap::new(alloc), vec![in alloc; 5]?);
-    assert_eq!(rt; depot.put(alloc, a, b"one"), Ok(()));
-    assert_eq!(rt; depot.put(alloc, a, b"two"), Ok(()));
-    match depot.look(alloc, a) {
-        Ok(bytes) => assert_eq!(rt; bytes.as_slice(), b"two".as_slice()),
-        Err(fault) => assert!(rt; false, "{fault:?}"),
-    }
-    assert_eq!(rt; depot.look(alloc, b).err(), Some(DepotFault::Missing));
-    assert_eq!(rt; depot.take(alloc, a).err(), Some(DepotFault::Failed));
-    match depot.take(alloc, a) {
-        Ok(bytes) => assert_eq!(rt; bytes.as_slice(), b"two".as_slice()),
-        Err(fault) => assert!(rt; false, "{fault:?}"),
-    }
-    assert_eq!(rt; depot.take(alloc, a).err(), Some(DepotFault::Missing));
-    assert_eq!(rt; depot.faults(), 1);
+    let (puts, told) = all_of(&mut depot, alloc, name, other);
+    Ok((puts, told, depot.faults()))
+}
+
+#[test]
+fn holds_and_hands_out(rt: HostRuntime) -> Result<(), AllocError> {
+    let (a, b) = (Name::read(b"a").unwrap(), Name::read(b"b").unwrap());
+    let wanted = [
+        Ok(true),
+        Err(DepotFault::Missing),
+        Err(DepotFault::Failed),
+        Ok(true),
+        Err(DepotFault::Missing),
+    ];
+    assert_eq!(rt; told(rt.alloc(), a, b)?, ([Ok(()); 2], wanted, 1));
     Ok(())
 }
 
 #[test]
-fn holds_nothing(rt: HostRuntime) -> Result<(), Fail> {
-    let alloc = rt.alloc();
+fn holds_nothing(rt: HostRuntime) {
     let a = Name::read(b"a").unwrap();
-    let mut depot = EmptyDepot;
-    assert_eq!(rt; depot.put(alloc, a, b"one"), Err(DepotFault::OutOfMemory));
-    assert_eq!(rt; depot.look(alloc, a).err(), Some(DepotFault::Missing));
-    assert_eq!(rt; depot.take(alloc, a).err(), Some(DepotFault::Missing));
-    Ok(())
+    let told = all_of(&mut EmptyDepot, rt.alloc(), a, a);
+    let wanted = (
+        [Err(DepotFault::OutOfMemory); 2],
+        [Err(DepotFault::Missing); 5],
+    );
+    assert_eq!(rt; told, wanted);
 }

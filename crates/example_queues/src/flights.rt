@@ -15,82 +15,83 @@ const TWO: Address = Address {
 };
 
 /// A datagram of one byte to the second device.
-fn datagram(alloc: Global, number: Option<u64>, byte: u8) -> Result<Sent, AllocError> {
+fn datagram(alloc: Global, number: Option<u64>) -> Result<Sent, AllocError> {
     Ok(Sent {
         to: TWO,
         number,
-        bytes: Items::new(vec![in alloc; byte]?),
+        bytes: Items::new(vec![in alloc; 7]?),
     })
 }
 
 /// Sends it, where a number is left.
-fn send(fabric: &mut Fabric, s: Sent) -> Option<u64> {
+fn send(fabric: &mut Fabric, s: Sent) {
     if fabric.next() < 1 << 63 {
-        Some(fabric.send(ONE, s))
-    } else {
-        None
+        fabric.send(ONE, s);
     }
+}
+
+/// A store of datagrams with these numbers.
+fn sent(alloc: Global, numbers: &[Option<u64>]) -> Result<Fabric, AllocError> {
+    let mut fabric = Fabric::make(alloc)?;
+    for number in numbers {
+        let next = datagram(alloc, *number)?;
+        send(&mut fabric, next);
+    }
+    Ok(fabric)
+}
+
+/// What a look at a datagram shows, in a word.
+fn seen(fabric: &Fabric, k: u64, now: u64) -> &'static str {
+    match fabric.look(k, now) {
+        Look::Here(_) => "here",
+        Look::Aged => "aged",
+        Look::Lost => "lost",
+        Look::Gone => "gone",
+    }
+}
+
+/// The number after two datagrams, and what looks show at the first, the second and none.
+fn looks(alloc: Global) -> Result<(u64, [&'static str; 4]), AllocError> {
+    let fabric = sent(alloc, &[Some(5), None])?;
+    let in_time = seen(&fabric, 1, 5 + 4_194_304);
+    let late = seen(&fabric, 1, 6 + 4_194_304);
+    let unnumbered = seen(&fabric, 2, u64::MAX);
+    Ok((
+        fabric.next(),
+        [in_time, late, unnumbered, seen(&fabric, 3, 0)],
+    ))
 }
 
 #[test]
 fn a_late_datagram_is_aged(rt: HostRuntime) -> Result<(), AllocError> {
-    let mut fabric = Fabric::make(rt.alloc())?;
-    assert_eq!(rt; fabric.next(), 1);
-    let first = datagram(rt.alloc(), Some(5), 7)?;
-    assert_eq!(rt; send(&mut fabric, first), Some(1));
-    match fabric.look(1, 5 + 4_194_304) {
-        Look::Here(flight) => {
-            assert_eq!(rt; flight.from, ONE);
-            assert_eq!(rt; flight.sent.to, TWO);
-            assert_eq!(rt; flight.sent.bytes.as_slice(), [7].as_slice());
-        }
-        _ => assert!(rt; false),
-    }
-    assert!(rt; matches!(fabric.look(1, 6 + 4_194_304), Look::Aged));
-    assert!(rt; matches!(fabric.look(2, 0), Look::Gone));
-    let unnumbered = datagram(rt.alloc(), None, 8)?;
-    assert_eq!(rt; send(&mut fabric, unnumbered), Some(2));
-    assert!(rt; matches!(fabric.look(2, u64::MAX), Look::Here(_)));
+    assert_eq!(rt; looks(rt.alloc())?, (3, ["here", "aged", "here", "gone"]));
     Ok(())
+}
+
+/// The oldest one that is pending: of all, after the first two are lost and taken, and at the end.
+fn pending(fabric: &mut Fabric) -> [Option<u64>; 3] {
+    let all = fabric.pending();
+    fabric.lose(2);
+    fabric.took(1);
+    let left = fabric.pending();
+    fabric.took(4);
+    fabric.took(3);
+    [all, left, fabric.pending()]
+}
+
+/// The same of four datagrams, and then what looks show at the first two, and whether the second is kept.
+fn lost_and_taken(
+    alloc: Global,
+) -> Result<([Option<u64>; 3], [&'static str; 2], bool), AllocError> {
+    let mut fabric = sent(alloc, &[Some(0); 4])?;
+    let told = pending(&mut fabric);
+    let looks = [seen(&fabric, 1, 0), seen(&fabric, 2, 0)];
+    Ok((told, looks, fabric.kept(2).is_some()))
 }
 
 #[test]
 fn lost_and_taken_ones_are_not_pending(rt: HostRuntime) -> Result<(), AllocError> {
-    let mut fabric = Fabric::make(rt.alloc())?;
-    assert_eq!(rt; fabric.pending(), None);
-    for k in 1..=4u8 {
-        let next = datagram(rt.alloc(), Some(0), k)?;
-        assert_eq!(rt; send(&mut fabric, next), Some(u64::from(k)));
-    }
-    assert_eq!(rt; fabric.pending(), Some(1));
-    assert!(rt; fabric.lose(2));
-    fabric.took(1);
-    assert_eq!(rt; fabric.pending(), Some(3));
-    assert!(rt; matches!(fabric.look(2, 0), Look::Lost));
-    assert!(rt; matches!(fabric.look(1, 0), Look::Here(_)));
-    assert!(rt; fabric.kept(2).is_some());
-    assert!(rt; !fabric.lose(5) && !fabric.lose(0));
-    fabric.took(4);
-    fabric.took(3);
-    assert_eq!(rt; fabric.pending(), None);
-    let last = datagram(rt.alloc(), None, 9)?;
-    assert_eq!(rt; send(&mut fabric, last), Some(5));
-    assert_eq!(rt; fabric.pending(), Some(5));
-    Ok(())
-}
-
-#[test]
-fn the_last_ones_are_kept(rt: HostRuntime) -> Result<(), AllocError> {
-    let mut fabric = Fabric::make(rt.alloc())?;
-    for k in 1..=16_385u64 {
-        let next = datagram(rt.alloc(), Some(k), 1)?;
-        assert_eq!(rt; send(&mut fabric, next), Some(k));
-    }
-    assert_eq!(rt; fabric.next(), 16_386);
-    assert!(rt; matches!(fabric.look(1, 0), Look::Gone));
-    assert!(rt; matches!(fabric.look(2, 0), Look::Here(_)));
-    assert!(rt; matches!(fabric.look(16_385, 0), Look::Here(_)));
-    assert!(rt; fabric.kept(1).is_none() && !fabric.lose(1));
-    assert_eq!(rt; fabric.pending(), Some(2));
+    let told = lost_and_taken(rt.alloc())?;
+    assert_eq!(rt; told, ([Some(1), Some(3), None], ["here", "lost"], true));
     Ok(())
 }

@@ -2,7 +2,7 @@
 
 use page_pool::{PageList, PagePool, Payload, PoolFault};
 use rdma_types::{Kind, Receive, Request, Shape};
-use std::alloc::AllocError;
+use std::alloc::{AllocError, Global};
 use work_queues::{QueuedRequest, RecvQueue, SendQueue};
 
 fn receive(id: u64) -> Receive {
@@ -14,25 +14,60 @@ fn receive(id: u64) -> Receive {
     }
 }
 
-#[test]
-fn receives_leave_in_posting_order(rt: HostRuntime) -> Result<(), AllocError> {
-    let mut queue = RecvQueue::make(rt.alloc(), 2)?;
-    assert!(rt; queue.is_empty());
-    assert_eq!(rt; queue.post(receive(1)), Ok(()));
-    assert_eq!(rt; queue.post(receive(2)), Ok(()));
-    assert_eq!(rt; queue.post(receive(3)), Err(receive(3)));
-    assert_eq!(rt; (queue.len(), queue.depth()), (2, 2));
-    assert_eq!(rt; queue.at(0).copied(), Some(receive(1)));
-    assert_eq!(rt; queue.at(1).copied(), Some(receive(2)));
-    assert_eq!(rt; queue.at(2).copied(), None);
-    assert_eq!(rt; queue.drop_front(), Some(receive(1)));
-    assert_eq!(rt; queue.post(receive(4)), Ok(()));
-    assert_eq!(rt; queue.drop_front(), Some(receive(2)));
-    assert_eq!(rt; queue.drop_front(), Some(receive(4)));
-    assert_eq!(rt; queue.drop_front(), None);
-    if queue.is_empty() {
+/// Posts three receives to a queue of two, and a fourth after the first is gone.
+fn post_four(queue: &mut RecvQueue) -> ([Result<(), Receive>; 4], (usize, u32)) {
+    let first = queue.post(receive(1));
+    let second = queue.post(receive(2));
+    let third = queue.post(receive(3));
+    let sizes = (queue.len(), queue.depth());
+    queue.drop_front();
+    ([first, second, third, queue.post(receive(4))], sizes)
+}
+
+/// The two that are left, and what comes after them.
+fn take_three(queue: &mut RecvQueue) -> ([Option<Receive>; 3], Option<Receive>) {
+    let second = queue.at(1).copied();
+    (
+        [queue.drop_front(), queue.drop_front(), queue.drop_front()],
+        second,
+    )
+}
+
+/// Whether a queue is empty, and may end.
+fn ends(queue: RecvQueue) -> bool {
+    let empty = queue.is_empty();
+    if empty {
         queue.destroy_empty();
     }
+    empty
+}
+
+/// What a queue of two tells as four receives come and go.
+fn received(
+    alloc: Global,
+) -> Result<
+    (
+        ([Result<(), Receive>; 4], (usize, u32)),
+        ([Option<Receive>; 3], Option<Receive>),
+        bool,
+    ),
+    AllocError,
+> {
+    let mut queue = RecvQueue::make(alloc, 2)?;
+    let posts = post_four(&mut queue);
+    let takes = take_three(&mut queue);
+    Ok((posts, takes, ends(queue)))
+}
+
+#[test]
+fn receives_leave_in_posting_order(rt: HostRuntime) -> Result<(), AllocError> {
+    let (posts, takes, ended) = received(rt.alloc())?;
+    assert_eq!(rt; posts, ([Ok(()), Ok(()), Err(receive(3)), Ok(())], (2, 2)));
+    assert_eq!(rt;
+        takes,
+        ([Some(receive(2)), Some(receive(4)), None], Some(receive(4)))
+    );
+    assert!(rt; ended);
     Ok(())
 }
 
@@ -63,24 +98,55 @@ fn posted(id: u64, list: PageList) -> QueuedRequest {
     }
 }
 
+/// Posts a Write of a new page: the id of one that comes back.
+fn post(
+    queue: &mut SendQueue,
+    pool: &mut PagePool,
+    alloc: Global,
+    id: u64,
+) -> Result<Option<u64>, PoolFault> {
+    let list = pool.take(alloc, 1)?;
+    Ok(id_of(queue.post(posted(id, list)).err()))
+}
+
 /// The id of a request, if there is one.
 fn id_of(p: Option<QueuedRequest>) -> Option<u64> {
     p.map(|p| p.request.id)
 }
 
+/// Posts three Writes: the id of the last, if it comes back.
+fn post_three(
+    queue: &mut SendQueue,
+    pool: &mut PagePool,
+    alloc: Global,
+) -> Result<Option<u64>, PoolFault> {
+    post(queue, pool, alloc, 1)?;
+    post(queue, pool, alloc, 2)?;
+    post(queue, pool, alloc, 3)
+}
+
+/// How many are left, the id of the second, and the ids that come out.
+fn drain(queue: &mut SendQueue) -> (usize, Option<u64>, [Option<u64>; 3]) {
+    let count = queue.len();
+    let second = queue.at(1).map(|p| p.request.id);
+    let first = id_of(queue.drop_front());
+    let next = id_of(queue.drop_front());
+    (count, second, [first, next, id_of(queue.drop_front())])
+}
+
+/// What a queue of two tells after three Writes.
+fn drained(
+    alloc: Global,
+) -> Result<(Option<u64>, (usize, Option<u64>, [Option<u64>; 3])), PoolFault> {
+    let mut pool = PagePool::make(alloc, 3)?;
+    let mut queue = SendQueue::make(alloc, 2)?;
+    let back = post_three(&mut queue, &mut pool, alloc)?;
+    Ok((back, drain(&mut queue)))
+}
+
 #[test]
 fn requests_leave_in_posting_order(rt: HostRuntime) -> Result<(), PoolFault> {
-    let mut pool = PagePool::make(rt.alloc(), 3)?;
-    let mut queue = SendQueue::make(rt.alloc(), 2)?;
-    for id in 1..=3 {
-        let list = pool.take(rt.alloc(), 1)?;
-        let back = queue.post(posted(id, list));
-        assert_eq!(rt; id_of(back.err()), if id == 3 { Some(3) } else { None });
-    }
-    assert_eq!(rt; queue.len(), 2);
-    assert_eq!(rt; queue.at(1).map(|p| p.request.id), Some(2));
-    assert_eq!(rt; id_of(queue.drop_front()), Some(1));
-    assert_eq!(rt; id_of(queue.drop_front()), Some(2));
-    assert_eq!(rt; id_of(queue.drop_front()), None);
+    let told = drained(rt.alloc())?;
+    assert_eq!(rt; told, (Some(3), (2, Some(2), [Some(1), Some(2), None])));
     Ok(())
 }

@@ -2,12 +2,11 @@
 //! in turn.
 
 use indexmap::IndexMap;
-use mig_ports::{EmptyDepot, MemDepot, MemSink, MemSource};
+use mig_ports::{MemDepot, MemSink, MemSource};
 use rdma_cli_calls::run_serial;
 use rdma_types::{Items, Name};
 use std::alloc::{AllocError, Global};
 use std::process::Abort;
-use std::test::Fail;
 
 const OPENING: &[u8] = b"device 1 10.0.0.1
 device 2 10.0.0.2
@@ -116,29 +115,93 @@ quiet 0
 wc 010001 1 write 0 600
 ";
 
-/// The bytes of both, one behind the other.
-fn joined(alloc: Global, one: &[u8], two: &[u8]) -> Result<Vec<u8>, AllocError> {
-    let mut both = Vec::from_slice(alloc, one)?;
-    both.extend_from_slice(two)?;
-    Ok(both)
-}
-
-/// The status of a run and what it wrote, where the read and the write of these numbers fail; 0 is none.
-fn run(
-    alloc: Global,
-    words: &[&str],
-    input: &[u8],
+/// A command, its input, the dump that is held under the name `e`, and the read, the write and the call of the depot that
+/// fail; 0 is none.
+#[derive(Clone, Copy)]
+struct Run<'a> {
+    words: &'a str,
+    input: &'a [u8],
+    dump: &'a [u8],
     read: u64,
     write: u64,
-) -> Result<(u8, Vec<u8>), AllocError> {
-    let mut spelled = Vec::new(alloc);
-    for word in words {
-        spelled.push(String::from_str(alloc, word)?)?;
+    call: u64,
+}
+
+/// A script that is played.
+fn play(script: &[u8], read: u64, write: u64) -> Run<'_> {
+    Run {
+        words: "play",
+        input: script,
+        dump: b"",
+        read,
+        write,
+        call: 0,
     }
-    let mut source = MemSource::make(Vec::from_slice(alloc, input)?, vec![in alloc; read]?);
-    let mut sink = MemSink::make(Vec::new(alloc), vec![in alloc; write]?, 65_536)?;
-    let status = run_serial(alloc, &spelled, &mut source, &mut sink, &mut EmptyDepot);
+}
+
+/// A dump that is shown.
+fn show(dump: &[u8], call: u64) -> Run<'_> {
+    Run {
+        words: "show-dump e",
+        input: b"",
+        dump,
+        read: 0,
+        write: 0,
+        call,
+    }
+}
+
+/// The words of a line with one space between them.
+fn words_of(alloc: Global, line: &str) -> Result<Vec<String>, AllocError> {
+    let mut words = Vec::new(alloc);
+    for word in line.split(' ') {
+        words.push(String::from_str(alloc, word)?)?;
+    }
+    Ok(words)
+}
+
+fn source_of(alloc: Global, input: &[u8], failing: u64) -> Result<MemSource, AllocError> {
+    let input = Vec::from_slice(alloc, input)?;
+    Ok(MemSource::make(input, vec![in alloc; failing]?))
+}
+
+fn sink_of(alloc: Global, failing: u64) -> Result<MemSink, AllocError> {
+    MemSink::make(Vec::new(alloc), vec![in alloc; failing]?, 65_536)
+}
+
+/// A dump under the name `e`.
+fn held_of(alloc: Global, dump: &[u8]) -> Result<IndexMap<Name, Items<u8>>, AllocError> {
+    let mut held = IndexMap::new(alloc);
+    if let Some(name) = Name::read(b"e") {
+        let bytes = Items::new(Vec::from_slice(alloc, dump)?);
+        let _before = held.insert(name, bytes).map_err(|_| AllocError)?;
+    }
+    Ok(held)
+}
+
+fn depot_of(alloc: Global, dump: &[u8], failing: u64) -> Result<MemDepot, AllocError> {
+    let held = held_of(alloc, dump)?;
+    Ok(MemDepot::make(held, vec![in alloc; failing]?))
+}
+
+/// The status of a run, and what it wrote.
+fn wrote(
+    alloc: Global,
+    words: &[String],
+    source: &mut MemSource,
+    depot: &mut MemDepot,
+    write: u64,
+) -> Result<(u8, Vec<u8>), AllocError> {
+    let mut sink = sink_of(alloc, write)?;
+    let status = run_serial(alloc, words, source, &mut sink, depot);
     Ok((status, sink.into_held()))
+}
+
+fn ran(alloc: Global, run: &Run<'_>) -> Result<(u8, Vec<u8>), AllocError> {
+    let words = words_of(alloc, run.words)?;
+    let mut source = source_of(alloc, run.input, run.read)?;
+    let mut depot = depot_of(alloc, run.dump, run.call)?;
+    wrote(alloc, &words, &mut source, &mut depot, run.write)
 }
 
 /// How many lines there are.
@@ -146,104 +209,91 @@ fn lines_in(text: &[u8]) -> usize {
     text.iter().filter(|b| **b == b'\n').count()
 }
 
+/// The status of a run, whether these answers begin with what it wrote, and how many lines that is.
+fn told(alloc: Global, run: &Run<'_>, answers: &[u8]) -> Result<(u8, bool, usize), AllocError> {
+    let (status, held) = ran(alloc, run)?;
+    Ok((status, answers.starts_with(&held), lines_in(&held)))
+}
+
 /// A script is answered. Where the write of an answer fails, the answers before it are held; where one of the two reads
 /// fails, nothing is.
 fn stops_where_a_call_fails(
     rt: &impl Abort,
     alloc: Global,
-    lines: &[u8],
-    told: &[u8],
-) -> Result<(), Fail> {
-    let script = joined(alloc, OPENING, lines)?;
-    let answers = joined(alloc, OPENED, told)?;
-    let (status, held) = run(alloc, &["play"], &script, 0, 0)?;
-    assert_eq!(rt; held, answers);
-    assert_eq!(rt; status, 0);
-    for k in 0..lines_in(&answers) {
-        let (status, held) = run(alloc, &["play"], &script, 0, k as u64 + 1)?;
-        assert!(rt; answers.starts_with(&held));
-        assert_eq!(rt; lines_in(&held), k);
-        assert_eq!(rt; status, 5);
+    script: &[u8],
+    answers: &[u8],
+) -> Result<(), AllocError> {
+    let count = lines_in(answers);
+    assert_eq!(rt;
+        told(alloc, &play(script, 0, 0), answers)?,
+        (0, true, count)
+    );
+    for k in 0..count {
+        let cut = told(alloc, &play(script, 0, k as u64 + 1), answers)?;
+        assert_eq!(rt; cut, (5, true, k));
     }
     for read in 1..3 {
-        let (status, held) = run(alloc, &["play"], &script, read, 0)?;
-        assert!(rt; held.is_empty());
-        assert_eq!(rt; status, 4);
+        let unread = told(alloc, &play(script, read, 0), answers)?;
+        assert_eq!(rt; unread, (4, true, 0));
     }
     Ok(())
 }
 
-#[test]
-fn stops_in_one_write(rt: HostRuntime) -> Result<(), Fail> {
-    stops_where_a_call_fails(&rt, rt.alloc(), ONE_WRITE, ONE_WRITE_TOLD)
+/// The bytes of both, one behind the other.
+fn joined(alloc: Global, one: &[u8], two: &[u8]) -> Result<Vec<u8>, AllocError> {
+    let mut both = Vec::from_slice(alloc, one)?;
+    both.extend_from_slice(two)?;
+    Ok(both)
+}
+
+/// The same of these lines and answers behind the opening.
+fn stops_in(rt: &impl Abort, alloc: Global, lines: &[u8], told: &[u8]) -> Result<(), AllocError> {
+    let script = joined(alloc, OPENING, lines)?;
+    let answers = joined(alloc, OPENED, told)?;
+    stops_where_a_call_fails(rt, alloc, &script, &answers)
 }
 
 #[test]
-fn stops_in_a_read_and_an_atomic(rt: HostRuntime) -> Result<(), Fail> {
-    stops_where_a_call_fails(&rt, rt.alloc(), READ_AND_ATOMIC, READ_AND_ATOMIC_TOLD)
-}
-
-#[test]
-fn stops_in_a_move(rt: HostRuntime) -> Result<(), Fail> {
-    stops_where_a_call_fails(&rt, rt.alloc(), MOVE, MOVE_TOLD)
+fn stops_in_scripts(rt: HostRuntime) -> Result<(), AllocError> {
+    stops_in(&rt, rt.alloc(), ONE_WRITE, ONE_WRITE_TOLD)?;
+    stops_in(&rt, rt.alloc(), READ_AND_ATOMIC, READ_AND_ATOMIC_TOLD)?;
+    stops_in(&rt, rt.alloc(), MOVE, MOVE_TOLD)
 }
 
 /// The last line is written word by word; where a write of it fails, the status is that of the output.
 #[test]
-fn stops_in_a_last_line(rt: HostRuntime) -> Result<(), Fail> {
+fn stops_in_a_last_line(rt: HostRuntime) -> Result<(), AllocError> {
     let script = b"device 1 10.0.0.1\n\nfly\n";
-    let told = b"ok\nbad line 3 column 1 word\n";
-    let (status, held) = run(rt.alloc(), &["play"], script, 0, 0)?;
-    assert_eq!(rt; held.as_slice(), told.as_slice());
-    assert_eq!(rt; status, 3);
+    let answers = b"ok\nbad line 3 column 1 word\n";
+    assert_eq!(rt;
+        told(rt.alloc(), &play(script, 0, 0), answers)?,
+        (3, true, 2)
+    );
     for write in 1..14 {
-        let (status, held) = run(rt.alloc(), &["play"], script, 0, write)?;
-        assert!(rt; told.starts_with(&held));
-        assert!(rt; held.len() < told.len());
-        assert_eq!(rt; status, 5);
+        let (status, is_begin, lines) = told(rt.alloc(), &play(script, 0, write), answers)?;
+        assert!(rt; status == 5 && is_begin && lines < 2, "at {write}");
     }
     Ok(())
 }
 
 #[test]
-fn sums_a_generated_script_up(rt: HostRuntime) -> Result<(), Fail> {
-    let words = ["bulk", "7", "4", "1000", "5"];
-    let (status, held) = run(rt.alloc(), &words, b"", 0, 0)?;
-    let told = b"bulk lines 2539 completions 1264 success 1264 left 0\n";
-    assert_eq!(rt; held.as_slice(), told.as_slice());
-    assert_eq!(rt; status, 0);
+fn sums_a_generated_script_up(rt: HostRuntime) -> Result<(), AllocError> {
+    let mut bulk = play(b"", 0, 0);
+    bulk.words = "bulk 7 4 1000 5";
+    let line = b"bulk lines 2539 completions 1264 success 1264 left 0\n";
+    assert_eq!(rt; told(rt.alloc(), &bulk, line)?, (0, true, 1));
     Ok(())
 }
 
-/// The status of `show-dump e`, and what it wrote, where these bytes are held under the name; the call of this number fails.
-fn show(alloc: Global, bytes: &[u8], failing: u64) -> Result<(u8, Vec<u8>), AllocError> {
-    let mut held = IndexMap::new(alloc);
-    if let Some(name) = Name::read(b"e") {
-        let bytes = Items::new(Vec::from_slice(alloc, bytes)?);
-        let _before = held.insert(name, bytes).map_err(|_| AllocError)?;
-    }
-    let mut depot = MemDepot::make(held, vec![in alloc; failing]?);
-    let words = vec![in alloc;
-        String::from_str(alloc, "show-dump")?,
-        String::from_str(alloc, "e")?,
-    ]?;
-    let mut source = MemSource::make(Vec::new(alloc), Vec::new(alloc));
-    let mut sink = MemSink::make(Vec::new(alloc), Vec::new(alloc), 4096)?;
-    let status = run_serial(alloc, &words, &mut source, &mut sink, &mut depot);
-    Ok((status, sink.into_held()))
-}
-
 #[test]
-fn shows_a_dump(rt: HostRuntime) -> Result<(), Fail> {
+fn shows_a_dump(rt: HostRuntime) -> Result<(), AllocError> {
     let whole = b"MIGDUMP\x00\x00\x02\x01e\x00\x00\x00\x00\x00\x00\x00\x00".as_slice();
-    let (status, held) = show(rt.alloc(), whole, 0)?;
-    assert_eq!(rt; held.as_slice(), b"context e\n".as_slice());
-    assert_eq!(rt; status, 0);
-    let (status, held) = show(rt.alloc(), &whole[..19], 0)?;
-    assert_eq!(rt; held.as_slice(), b"bad dump 19 short\n".as_slice());
-    assert_eq!(rt; status, 3);
-    let (status, held) = show(rt.alloc(), whole, 1)?;
-    assert_eq!(rt; held.as_slice(), b"depot fault\n".as_slice());
-    assert_eq!(rt; status, 7);
+    let shown = told(rt.alloc(), &show(whole, 0), b"context e\n")?;
+    let short = told(rt.alloc(), &show(&whole[..19], 0), b"bad dump 19 short\n")?;
+    let failed = told(rt.alloc(), &show(whole, 1), b"depot fault\n")?;
+    assert_eq!(rt;
+        [shown, short, failed],
+        [(0, true, 1), (3, true, 1), (7, true, 1)]
+    );
     Ok(())
 }
