@@ -1,10 +1,26 @@
-use Rattle.std.proofs.Common.{◌≡◌, ◌∙◌, [], ◌∷◌, ◌++◌, ap}
+use Rattle.std.proofs.Common.{◌≡◌, ◌∙◌, [], ◌∷◌, ◌++◌, ap, subst, sym}
 use Rattle.std.specs.Prelude.{bytes_eq}
 use Rattle.std.specs.Map.{lookup}
 use Rattle.context_core.specs.declared.state.EndSlot.{EndSlot}
-use Rattle.context_core.specs.Context.{Holding}
-use Rattle.context_core.proofs.NextEndFromImage.{alike-kept, next-absent, next-context, next-may, next-moves, next-of, next-part, next-receives, next-recv, next-room, next-send, next-sends, one-more, slot-same, slot_of}
+use Rattle.context_core.specs.Context.{Holding, IsContext}
+use Rattle.context_core.proofs.ContextFromImage.{kept-context, kept-moves}
+use Rattle.context_core.proofs.NextEndFromImage.{alike-kept, next-absent, next-context, next-may, next-moves, next-of, next-own, next-part, next-receives, next-recv, next-room, next-send, next-sends, one-more, slot-same, slot_of}
 use Rattle.context_core.proofs.state.ContextState.put_end.Goals as goal
+
+pub returns-in_err-reserve-clause-is : goal.returns-in_err-reserve-clause-is
+returns-in_err-reserve-clause-is c = kept-context c.args.pool.now _ c.args.self.now c.reserve.new.self.entries c.self.view_is c.reserve.ensures.entries c.requires.is
+
+pub returns-in_err-reserve-clause-moves : goal.returns-in_err-reserve-clause-moves
+returns-in_err-reserve-clause-moves c = kept-moves c.args.pool.now _ c.args.self.now c.reserve.new.self.entries c.self.view_is c.reserve.ensures.entries
+
+pub endpoint_of-requires-clause-lawful : goal.endpoint_of-requires-clause-lawful
+endpoint_of-requires-clause-lawful c = next-own (next-of c.args.pool.now c.args.image.now c.args.end.now _ c.args.self.now c.self.view_is c.requires.lawful c.requires.is c.requires.part c.requires.next)
+
+pub endpoint_of-requires-clause-moves : goal.endpoint_of-requires-clause-moves
+endpoint_of-requires-clause-moves c = c.requires.moves
+
+pub endpoint_of-requires-clause-held : goal.endpoint_of-requires-clause-held
+endpoint_of-requires-clause-held c = (subst (IsContext c.args.pool.now) (sym c.self.view_is) c.requires.is).is.held
 
 pub endpoint_of-requires-clause-may : goal.endpoint_of-requires-clause-may
 endpoint_of-requires-clause-may c = next-may (next-of c.args.pool.now c.args.image.now c.args.end.now _ c.args.self.now c.self.view_is c.requires.lawful c.requires.is c.requires.part c.requires.next)
