@@ -26,6 +26,7 @@ use Rattle.protocol.specs.Refusals.{has_moved_out, links_of}
 use Rattle.protocol.specs.State.{End}
 use Rattle.endpoint_core.specs.Queues.{nothing, queues_of, reserved_in}
 use Rattle.endpoint_core.specs.Sound.{IsEnd}
+use Rattle.context_core.specs.declared.state.EndSlot.{EndSlot}
 use Rattle.context_core.specs.Coming.{AreMade, IsPart, MayMove, bare_after, queue_after}
 use Rattle.context_core.specs.Context.{HasQueues, Holding, IsContext, IsPaged, Moves, context_in, lists_of, no_holding, untold_at}
 use Rattle.context_core.proofs.PlacesFromImage.{differ, pairs-unmap}
@@ -60,6 +61,17 @@ moves-both a b d h k m first second = record {
     before : (list : ℕ) → Contains (lists_of k) list ⊎ (bytes_of b list ≡ None) → Contains (lists_of h) list ⊎ (bytes_of a list ≡ None)
     before list (inl there) = first.fresh list there
     before list (inr none) = new-or-old list none (bytes_of a list) refl (in-or-out (lists_of h) list)
+
+-- nothing is moved
+pub moves-none : (pool : Pool) (h : Holding) → Moves pool pool h h
+moves-none pool h = record { pages = refl; others = λ list lives not-own. refl; fresh = λ list there. inl there; free = λ n. refl }
+
+-- queue pairs are put in the place of equal ones
+pub kept-context : (pool : Pool) (h s : Holding) (ends : List (Name × EndSlot)) → h ≡ s → ends ≡ h.ends → IsContext pool s → IsContext pool (record h { ends = ends })
+kept-context pool h s ends same put is = subst (λ es. IsContext pool (record h { ends = es })) (sym put) (subst (IsContext pool) (sym same) is)
+
+pub kept-moves : (pool : Pool) (h s : Holding) (ends : List (Name × EndSlot)) → h ≡ s → ends ≡ h.ends → Moves pool pool s (record h { ends = ends })
+kept-moves pool h s ends same put = subst (λ es. Moves pool pool s (record h { ends = es })) (sym put) (subst (λ k. Moves pool pool s k) (sym same) (moves-none pool s))
 
 -- ---- the queues
 
@@ -160,7 +172,7 @@ pub record Goes (start pool : Pool) (c : ContextImage) (first here : Holding) (i
 pub goes-begin : (pool : Pool) (c : ContextImage) (h : Holding) → IsContext pool h → IsPart pool c 0 h → h.ends ≡ [] → Goes pool pool c h h 0
 goes-begin pool c h is part empty = record {
   is = is;
-  moves = record { pages = refl; others = λ list lives not-own. refl; fresh = λ list there. inl there; free = λ n. refl };
+  moves = moves-none pool h;
   part = subst (λ n. IsPart pool c n h) (sym (ap length empty)) part;
   count = ap length empty;
 }
@@ -232,3 +244,8 @@ queue-pairs c qs same law = subst (AllPairs (λ a b. a.name ≢ b.name)) (sym sa
 pub enough-so : (o : Option ℕ) (n free pages : ℕ) (t : Bool) → n ≡ free → MatchOption o (n < pages) (λ left. left + pages ≡ n) → is_some o ≡ not t → t ≡ false → None ≡ (if nat_lt free pages then Some refusal.NoPage else None)
 enough-so None n free pages t same h e f = absurd (let no : false ≡ true = e ∙ ap not f in cc)
 enough-so (Some k) n free pages t same h e f = let no : nat_lt free pages ≡ false = grind (arith, nat_tests, h, same) in ap (λ b. if b then Some refusal.NoPage else None) (sym no)
+
+-- .. and why it is
+pub few-so : (o : Option ℕ) (n free pages : ℕ) (t : Bool) → n ≡ free → MatchOption o (n < pages) (λ left. left + pages ≡ n) → is_some o ≡ not t → t ≡ true → Some refusal.NoPage ≡ (if nat_lt free pages then Some refusal.NoPage else None)
+few-so None n free pages t same h e f = let yes : nat_lt free pages ≡ true = grind (arith, nat_tests, h, same) in ap (λ b. if b then Some refusal.NoPage else None) (sym yes)
+few-so (Some k) n free pages t same h e f = absurd (let no : true ≡ false = e ∙ ap not f in cc)

@@ -288,7 +288,7 @@ pub next-of : (pool : Pool) (c : ContextImage) (e : EndImage) (h s : Holding) â†
 next-of pool c e h s same law is part next = subst (IsNext pool c e) (sym same) (record { law = law; is = is; part = part; next = next })
 
 module _ {pool : Pool} {c : ContextImage} {e : EndImage} {h : Holding} (n : IsNext pool c e h) where
-  next-own : IsLawfulEnd c e
+  pub next-own : IsLawfulEnd c e
   next-own = next-lawful c (length h.ends) e n.law n.next
 
   pub next-may : All (MayCome h.regions (name_at c.domains e.domain)) e.untold

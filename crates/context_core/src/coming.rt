@@ -18,6 +18,7 @@ ghost use Rattle.context_core.specs.Context.{IsContext, Moves, context_in, no_ho
 ghost use Rattle.context_core.specs.Faults.{refusal_of};
 
 use crate::counting::less_image;
+use crate::ends::append;
 use crate::links::{endpoint_of, used};
 use crate::{ContextFault, ContextState, EndSlot};
 use completion_queue::Cq;
@@ -28,30 +29,34 @@ use protocol::{ContextImage, CqImage, EndImage, RegionImage};
 use rdma_types::{Name, Refusal};
 use std::alloc::{AllocError, Global};
 
-/// The domains of an image.
-fn domains_of(alloc: Global, names: &[Name]) -> Result<IndexSet<Name>, AllocError>
-    requires { AllPairs (λ a b. a ≢ b) names.now }
-    ensures { IfOk result (λ domains. domains.keys ≡ names.now) }
+/// Puts the domains of an image into an empty set.
+fn put_domains(domains: &mut IndexSet<Name>, names: &[Name]) -> Result<(), AllocError>
+    requires empty { domains.old.keys ≡ [] }
+    requires names { AllPairs (λ a b. a ≢ b) names.now }
+    ensures { OnOk result (domains.new.keys ≡ names.now) }
 {
-    let mut domains = IndexSet::new(alloc);
     for name in names {
         domains.insert(*name)?;
     }
-    Ok(domains)
+    Ok(())
 }
 
-/// The completion queues of an image, with no place reserved.
-fn queues_of(alloc: Global, images: &[CqImage]) -> Result<IndexMap<Name, Cq>, AllocError>
+/// Puts the completion queues of an image into an empty map, with no place reserved.
+fn put_queues(
+    queues: &mut IndexMap<Name, Cq>,
+    alloc: Global,
+    images: &[CqImage],
+) -> Result<(), AllocError>
+    requires empty { queues.old.entries ≡ [] }
     requires names { AllPairs (λ a b. a.name ≢ b.name) images.now }
     requires room { All (λ q. length q.entries ≤ q.capacity) images.now }
-    ensures { IfOk result (λ queues. queues.entries ≡ map queue_after images.now) }
+    ensures { OnOk result (queues.new.entries ≡ map queue_after images.now) }
 {
-    let mut queues = IndexMap::new(alloc);
     for image in images {
         let queue = Cq::from_entries(alloc, image.capacity, image.entries.as_slice())?;
         queues.insert(image.name, queue)?;
     }
-    Ok(queues)
+    Ok(())
 }
 
 /// What is told of a region of an image.
@@ -155,7 +160,7 @@ impl ContextState {
             recv: u32::from(end.recv_cq),
             endpoint,
         };
-        self.ends.insert(end.name, slot).unwrap();
+        append(&mut self.ends, end.name, slot);
         Ok(())
     }
 
@@ -179,6 +184,26 @@ impl ContextState {
             self.put_end(pool, alloc, image, end)?;
         }
         Ok(())
+    }
+
+    /// Puts the domains and the completion queues of an image into an empty context.
+    fn put_bare(&mut self, alloc: Global, image: &ContextImage) -> Result<(), AllocError>
+        requires lawful { IsLawful image.now }
+        requires empty { self.old ≡ no_holding }
+        ensures { OnOk result (self.new ≡ bare_after image.now) }
+    {
+        put_domains(&mut self.domains, image.domains.as_slice())?;
+        put_queues(&mut self.queues, alloc, image.queues.as_slice())
+    }
+
+    /// A context with the domains and the completion queues of an image alone.
+    fn bare_of(alloc: Global, image: &ContextImage) -> Result<ContextState, AllocError>
+        requires { IsLawful image.now }
+        ensures { IfOk result (λ s. s ≡ bare_after image.now) }
+    {
+        let mut bare = ContextState::make(alloc);
+        let filled = bare.put_bare(alloc, image);
+        bare.once(filled)
     }
 
     /// Puts the regions and the ends of an image into a context that has the rest of it.
@@ -221,12 +246,7 @@ impl ContextState {
         if less_image(pool.free(), image).is_none() {
             return Err(Refusal::NoPage.into());
         }
-        let mut state = ContextState {
-            domains: domains_of(alloc, image.domains.as_slice())?,
-            regions: Regions::make(alloc),
-            queues: queues_of(alloc, image.queues.as_slice())?,
-            ends: IndexMap::new(alloc),
-        };
+        let mut state = ContextState::bare_of(alloc, image)?;
         match state.put_rest(pool, alloc, image) {
             Ok(()) => Ok(state),
             Err(fault) => {

@@ -1,6 +1,6 @@
 //! Equal contexts over memory of their own.
 
-ghost use Rattle.std.specs.Prelude.{◌≡◌, [], IfOk, OnOk};
+ghost use Rattle.std.specs.Prelude.{◌≡◌, [], IfOk, IsOk, OnOk};
 
 use crate::state::{ContextState, EndSlot};
 use completion_queue::Cq;
@@ -81,13 +81,23 @@ impl ContextState {
     pub fn copy(&self, alloc: Global) -> Result<ContextState, AllocError>
         ensures { IfOk result (λ s. s ≡ self.now) }
     {
+        let regions = self.regions.copy(alloc)?;
         let mut copy = ContextState {
             domains: IndexSet::new(alloc),
-            regions: self.regions.copy(alloc)?,
+            regions,
             queues: IndexMap::new(alloc),
             ends: IndexMap::new(alloc),
         };
-        copy.fill(alloc, self)?;
-        Ok(copy)
+        let filled = copy.fill(alloc, self);
+        copy.once(filled)
+    }
+
+    /// The context itself, once what fills it has come to its end. Errors: what that met.
+    pub(crate) fn once(self, filled: Result<(), AllocError>) -> Result<ContextState, AllocError>
+        ensures same { IfOk result (λ s. s ≡ self) }
+        ensures filled { OnOk result (IsOk filled) }
+    {
+        filled?;
+        Ok(self)
     }
 }

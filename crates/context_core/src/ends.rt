@@ -1,8 +1,9 @@
 //! The queue pairs of a context, found by their names.
 
-ghost use Rattle.std.specs.Prelude.{◌≡◌, ◌<◌, List, None, Some, IfOk, IfSome, IsSome, bytes_eq, length, map, position, slice_get};
-ghost use Rattle.std.specs.Map.{keys_of};
+ghost use Rattle.std.specs.Prelude.{◌≡◌, ◌<◌, ◌++◌, ◌∷◌, List, [], None, Some, IfOk, IfSome, IsSome, bytes_eq, length, map, position, slice_get};
+ghost use Rattle.std.specs.Map.{keys_of, lookup};
 ghost use Rattle.std.specs.Result.{result_err};
+ghost use Rattle.indexmap.specs.IndexMap.{spare};
 ghost use Rattle.rdma_types.specs.Causes.{first_cause};
 ghost use Rattle.rdma_types.specs.declared.names.Name.{Name};
 ghost use Rattle.page_pool.specs.Pool.{Pool};
@@ -52,4 +53,13 @@ pub fn unconnected(ends: &IndexMap<Name, EndSlot>, name: Name) -> Result<usize, 
         return Err(Refusal::BadState);
     }
     Ok(place)
+}
+
+/// Puts a queue pair of a new name behind the others, in room that is kept for it. It takes no memory.
+pub fn append(ends: &mut IndexMap<Name, EndSlot>, name: Name, slot: EndSlot)
+    requires absent { lookup (bytes_eq name) ends.old.entries ≡ None }
+    requires room { 0 < spare ends.old }
+    ensures { ends.new.entries ≡ ends.old.entries ++ (name, slot) ∷ [] }
+{
+    ends.insert(name, slot).unwrap();
 }

@@ -11,6 +11,7 @@ ghost use Rattle.protocol.specs.Refusals.{lacks};
 ghost use Rattle.context_core.specs.Faults.{refusal_of};
 ghost use Rattle.context_core.specs.NewEnds.{AreParts, IsMade, IsPlaceOf, lacks_parts, make_causes, number_causes};
 
+use crate::ends::append;
 use crate::queues::MOST_QUEUES;
 use crate::{ContextFault, EndSlot, NewEnd};
 use completion_queue::Cq;
@@ -102,6 +103,6 @@ pub fn make(
         recv: parts.recv,
         endpoint,
     };
-    ends.insert(new.name, slot).unwrap();
+    append(ends, new.name, slot);
     Ok(())
 }

@@ -19,7 +19,7 @@ pub enum EndSend {
 }
 
 /// What an end answers a datagram with.
-#[derive(Clone, Copy, Debug, PartialEq, Eq)]
+#[derive(Clone, Copy)]
 pub enum EndReply {
     Nothing,
     /// An acknowledge or a NAK.
@@ -33,7 +33,7 @@ pub enum EndReply {
 }
 
 /// What a datagram did at an end, and what it is answered with.
-#[derive(Clone, Copy, Debug, PartialEq, Eq)]
+#[derive(Clone, Copy)]
 pub struct EndTook {
     pub took: Took,
     pub reply: EndReply,
@@ -41,7 +41,7 @@ pub struct EndTook {
 
 /// READ responses that may be due: the bytes at `spot`, the first with number `first`, and the count of finished messages
 /// that they tell.
-#[derive(Clone, Copy, Debug, PartialEq, Eq)]
+#[derive(Clone, Copy)]
 pub struct DueRead {
     pub spot: Spot,
     pub first: u64,

@@ -1,32 +1,39 @@
 //! Equal ends over memory of their own.
 
-ghost use Rattle.std.specs.Prelude.{◌≡◌, IfOk};
+ghost use Rattle.std.specs.Prelude.{◌≡◌, IfOk, None, OnOk};
 
 use crate::end::{EndLink, Endpoint};
 use std::alloc::{AllocError, Global};
 use work_queues::{SendQueue, copy_recvs, copy_sends};
 
-/// The send queue of an end that is not connected yet.
+/// Puts an equal send queue in its place, at an end that is not connected yet.
 fn copy_unlinked(
     alloc: Global,
+    copy: &mut Option<SendQueue>,
     unlinked: &Option<SendQueue>,
-) -> Result<Option<SendQueue>, AllocError>
-    ensures { IfOk result (λ q. q ≡ unlinked.now) }
+) -> Result<(), AllocError>
+    requires { copy.old ≡ None }
+    ensures { OnOk result (copy.new ≡ unlinked.now) }
 {
-    match unlinked {
-        Some(queue) => Ok(Some(copy_sends(alloc, queue)?)),
-        None => Ok(None),
+    if let Some(queue) = unlinked {
+        *copy = Some(copy_sends(alloc, queue)?);
     }
+    Ok(())
 }
 
-/// The connection of an end.
-fn copy_link(alloc: Global, link: &Option<EndLink>) -> Result<Option<EndLink>, AllocError>
-    ensures { IfOk result (λ l. l ≡ link.now) }
+/// Puts an equal connection in its place, at a connected end.
+fn copy_link(
+    alloc: Global,
+    copy: &mut Option<EndLink>,
+    link: &Option<EndLink>,
+) -> Result<(), AllocError>
+    requires { copy.old ≡ None }
+    ensures { OnOk result (copy.new ≡ link.now) }
 {
-    match link {
-        Some(link) => Ok(Some(link.copy(alloc)?)),
-        None => Ok(None),
+    if let Some(link) = link {
+        *copy = Some(link.copy(alloc)?);
     }
+    Ok(())
 }
 
 impl EndLink {
@@ -50,14 +57,25 @@ impl Endpoint {
     pub fn copy(&self, alloc: Global) -> Result<Endpoint, AllocError>
         ensures { IfOk result (λ e. e ≡ self.now) }
     {
-        Ok(Endpoint {
+        let mut copy = Endpoint {
             number: self.number,
             domain: self.domain,
             send_depth: self.send_depth,
             recv_depth: self.recv_depth,
             recvs: copy_recvs(alloc, &self.recvs)?,
-            unlinked: copy_unlinked(alloc, &self.unlinked)?,
-            link: copy_link(alloc, &self.link)?,
-        })
+            unlinked: None,
+            link: None,
+        };
+        copy.fill(alloc, self)?;
+        Ok(copy)
+    }
+
+    /// Puts the queue or the connection of an end into one that has all else of it.
+    fn fill(&mut self, alloc: Global, other: &Endpoint) -> Result<(), AllocError>
+        requires { self.old ≡ record other.now { unlinked = None; link = None } }
+        ensures { OnOk result (self.new ≡ other.now) }
+    {
+        copy_unlinked(alloc, &mut self.unlinked, &other.unlinked)?;
+        copy_link(alloc, &mut self.link, &other.link)
     }
 }

@@ -1,9 +1,8 @@
-use Rattle.std.proofs.Common.{◌≡◌, ◌∙◌, sym, ap}
+use Rattle.std.proofs.Common.{◌∙◌, sym, ap}
 use Rattle.std.specs.Prelude.{is_none, bytes_eq, ◌++◌, ◌∷◌, []}
+use Rattle.std.specs.Map.{lookup}
 use Rattle.std.specs.Result.{result_err}
-use Rattle.std.proofs.lemmas.Result.{IfOk-at_ok, err_from_is_err_and}
-use Rattle.indexmap.specs.IndexMap.{insert_entry}
-use Rattle.indexmap.proofs.CallerLemmas.{insert_entry-new}
+use Rattle.std.proofs.lemmas.Result.{err_from_is_err_and}
 use Rattle.rdma_types.specs.declared.answers.Refusal.TheVariants.{NoSuch}
 use Rattle.context_core.specs.declared.state.EndSlot.{EndSlot}
 use Rattle.context_core.specs.Faults.{told_as}
@@ -33,16 +32,17 @@ returns-in_err-endpoint-clause-refused c = λ few.
 pub returns-clause-refused : goal.returns-clause-refused
 returns-clause-refused c = λ few. ap result_err (sym c.in_ok-number.was) ∙ (c.number_for.ensures.refused ∙ sym (first-passed NoSuch (lacks_parts c.args.domains.now.keys c.args.queues.now.entries c.args.new.now) _ (sym (c.parts_of.ensures.found few) ∙ ap is_none c.in-Some.is)))
 
+pub append-requires-clause-absent : goal.append-requires-clause-absent
+append-requires-clause-absent c = ap (lookup (bytes_eq c.args.new.now.name)) c.reserve.ensures.entries ∙ not-there c.args.new.now.name c.args.ends.now.entries c.in_ok-number.ensures.absent
+
 pub returns-clause-made : goal.returns-clause-made
 returns-clause-made c =
     let slot : EndSlot = record { send = c.in-Some.parts.send; recv = c.in-Some.parts.recv; endpoint = c.in_ok-endpoint.endpoint } in
-    let keys = IfOk-at_ok (λ r. c.insert.new.self.entries ≡ insert_entry bytes_eq c.reserve.new.self.entries c.args.new.now.name slot) c.unwrap.ensures c.insert.ensures.entries in
-    let new = insert_entry-new bytes_eq c.args.ends.now c.args.new.now.name slot (not-there c.args.new.now.name c.args.ends.now.entries c.in_ok-number.ensures.absent) in
     record {
       parts = c.in-Some.parts;
       found = c.in-Some.ensures.parts;
       number = c.in_ok-number.number;
       given = c.in_ok-number.ensures.number;
       absent = c.in_ok-number.ensures.absent;
-      entries = keys ∙ (ap (λ es. insert_entry bytes_eq es c.args.new.now.name slot) c.reserve.ensures.entries ∙ (new ∙ ap (λ e. c.args.ends.now.entries ++ (c.args.new.now.name, record { send = c.in-Some.parts.send; recv = c.in-Some.parts.recv; endpoint = e }) ∷ []) c.in_ok-endpoint.ensures));
+      entries = c.append.ensures ∙ (ap (λ es. es ++ (c.args.new.now.name, slot) ∷ []) c.reserve.ensures.entries ∙ ap (λ e. c.args.ends.now.entries ++ (c.args.new.now.name, record { send = c.in-Some.parts.send; recv = c.in-Some.parts.recv; endpoint = e }) ∷ []) c.in_ok-endpoint.ensures);
     }

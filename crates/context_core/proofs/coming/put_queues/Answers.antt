@@ -5,7 +5,7 @@ use Rattle.indexmap.proofs.CallerLemmas.{insert_entry-new}
 use Rattle.completion_queue.specs.Queue.{unreserved}
 use Rattle.context_core.specs.Coming.{queue_after}
 use Rattle.context_core.proofs.PlacesFromImage.{queue-more, queue-new}
-use Rattle.context_core.proofs.coming.queues_of.Goals as goal
+use Rattle.context_core.proofs.coming.put_queues.Goals as goal
 
 pub loop-image-preserved : goal.loop-image-preserved
 loop-image-preserved c =
