@@ -2,7 +2,7 @@
 
 use crate::net::{Net, Said};
 use crate::opening::opened;
-use crate::plays::{Ask, Pair, expire, go, post, receive, store};
+use crate::plays::{expire, go, post, read, receive, send, store, write};
 use protocol::Event;
 use rdma_types::{Completion, WcKind, WcStatus};
 use std::alloc::Global;
@@ -49,18 +49,19 @@ fn moved_bytes(alloc: Global) -> Option<Vec<u8>> {
     Some(bytes)
 }
 
-/// A Write of two packets, a Send, and a Read of both with two responses.
+/// Stores the bytes, and posts a receive, a Write of two packets, a Send, and a Read of both with two responses.
+fn begin(net: &mut Net, bytes: Vec<u8>) -> Option<()> {
+    let _ = store(net, bytes)?;
+    let _ = receive(net, 8)?;
+    let _ = post(net, 1, 4096, write(300, 8256))?;
+    let _ = post(net, 2, 4096, send(4))?;
+    let _ = post(net, 3, 4608, read(364))?;
+    Some(())
+}
+
 fn begun(alloc: Global) -> Option<Exchange> {
-    let mut net = opened(alloc, 1024, 16)?;
-    let _ = store(&mut net, pattern(alloc)?)?;
-    let _ = receive(&mut net, 8)?;
-    let write = Ask::Write {
-        length: 300,
-        remote: 8256,
-    };
-    let _ = post(&mut net, &Pair::Q, 1, 4096, &write)?;
-    let _ = post(&mut net, &Pair::Q, 2, 4096, &Ask::Send(4))?;
-    let _ = post(&mut net, &Pair::Q, 3, 4608, &Ask::Read(364))?;
+    let mut net = opened(alloc)?;
+    begin(&mut net, pattern(alloc)?)?;
     Some(Exchange {
         net,
         a: 1,
@@ -89,11 +90,11 @@ impl Exchange {
             let _ = self.net.deliver(k)?;
             return Some(());
         }
-        let one = go(&mut self.net, self.a, b"a", &Pair::Q)?;
+        let one = go(&mut self.net, self.a, b"a")?;
         if one == Said::Sent {
             return Some(());
         }
-        let two = go(&mut self.net, self.b, b"b", &Pair::Q)?;
+        let two = go(&mut self.net, self.b, b"b")?;
         if two != Said::Sent {
             let _ = expire(&mut self.net, self.a)?;
         }
@@ -136,19 +137,30 @@ impl Exchange {
         Some(one && two)
     }
 
-    /// Whether the bytes were sent, written and read.
-    fn is_moved(&mut self, alloc: Global) -> Option<bool> {
-        let all = moved_bytes(alloc)?;
-        let written = self.net.holds(self.b, b"b", 8192, all.as_slice())?;
-        let read = self.net.holds(self.a, b"a", 4608, all.as_slice())?;
+    /// Whether `b` was written and sent these bytes, and `a` read them.
+    fn is_moved(&mut self, bytes: &[u8]) -> Option<bool> {
+        let written = self.net.holds(self.b, b"b", 8192, bytes)?;
+        let read = self.net.holds(self.a, b"a", 4608, bytes)?;
         Some(written && read)
     }
 
     /// Whether all is done as without a move.
     fn is_done(&mut self, alloc: Global) -> Option<bool> {
-        let told = self.is_told()?;
-        let moved = self.is_moved(alloc)?;
-        Some(told && moved)
+        let all = moved_bytes(alloc)?;
+        let moved = self.is_moved(all.as_slice())?;
+        Some(moved && self.is_told()?)
+    }
+
+    /// Whether the move of a context after these turns is done. Many turns come after it.
+    fn moves_at(&mut self, moment: usize, is_owner: bool) -> Option<bool> {
+        self.turns(moment)?;
+        let restored = if is_owner {
+            self.owner_moves(moment % 3)?
+        } else {
+            self.partner_moves(moment % 3)?
+        };
+        self.turns(60)?;
+        Some(restored == Said::Done)
     }
 }
 
@@ -159,24 +171,11 @@ fn ends(alloc: Global, turns: usize) -> Option<bool> {
     still.is_done(alloc)
 }
 
-/// Whether all is done in the end where context `a` moves after these turns.
-fn ends_as_owner_moves(alloc: Global, moment: usize) -> Option<bool> {
+/// Whether all is done in the end where a context moves after these turns.
+fn ends_as_one_moves(alloc: Global, moment: usize, is_owner: bool) -> Option<bool> {
     let mut moved = begun(alloc)?;
-    moved.turns(moment)?;
-    let restored = moved.owner_moves(moment % 3)?;
-    moved.turns(60)?;
-    let done = moved.is_done(alloc)?;
-    Some(done && restored == Said::Done)
-}
-
-/// Whether all is done in the end where context `b` moves after these turns.
-fn ends_as_partner_moves(alloc: Global, moment: usize) -> Option<bool> {
-    let mut moved = begun(alloc)?;
-    moved.turns(moment)?;
-    let restored = moved.partner_moves(moment % 3)?;
-    moved.turns(60)?;
-    let done = moved.is_done(alloc)?;
-    Some(done && restored == Said::Done)
+    let restored = moved.moves_at(moment, is_owner)?;
+    Some(moved.is_done(alloc)? && restored)
 }
 
 /// Four packets of requests are sent. They, two acknowledgements and two responses arrive.
@@ -185,26 +184,12 @@ fn an_exchange_ends(rt: HostRuntime) {
     assert_eq!(rt; ends(rt.alloc(), 12), Some(true));
 }
 
-/// Context `a` moves before each of the 12 turns and after the last, and all is done in the end.
+/// Context `a` or `b` moves before each of the 12 turns and after the last, and all is done in the end.
 #[test]
-fn a_move_of_the_owner_makes_no_difference(rt: HostRuntime) {
+fn a_move_makes_no_difference(rt: HostRuntime) {
     for moment in 0..13 {
-        assert_eq!(rt;
-            ends_as_owner_moves(rt.alloc(), moment),
-            Some(true),
-            "at {moment}"
-        );
-    }
-}
-
-/// Context `b` moves before each of the 12 turns and after the last, and all is done in the end.
-#[test]
-fn a_move_of_the_partner_makes_no_difference(rt: HostRuntime) {
-    for moment in 0..13 {
-        assert_eq!(rt;
-            ends_as_partner_moves(rt.alloc(), moment),
-            Some(true),
-            "at {moment}"
-        );
+        let owner = ends_as_one_moves(rt.alloc(), moment, true);
+        let partner = ends_as_one_moves(rt.alloc(), moment, false);
+        assert_eq!(rt; (owner, partner), (Some(true), Some(true)), "at {moment}");
     }
 }

@@ -6,9 +6,7 @@ ghost use Rattle.protocol.specs.Lawful.{IsLawful};
 
 use device_core::Device;
 use protocol::{ContextImage, Event, Outcome};
-use rdma_types::{
-    Address, Answer, Completion, Items, Keys, Name, NotWhy, ObjName, Refusal, Sent, Took,
-};
+use rdma_types::{Address, Answer, Completion, Items, Keys, Name, ObjName, Refusal, Sent};
 use std::alloc::Global;
 use std::marker::Model;
 
@@ -28,40 +26,23 @@ pub(crate) fn address_of(place: u8) -> Address {
     }
 }
 
-/// What a device answers, but for lists.
+/// What a device answers.
 #[derive(Clone, Copy, PartialEq, Eq)]
 pub(crate) enum Said {
     Done,
-    Stopped,
     Region(Keys),
     Qp(u32),
     Sent,
-    Idle,
-    Waiting,
-    Took(Took),
-    Expired(u8),
-    NotCounted(NotWhy),
-    Over,
-    NotWaiting,
     Refused(Refusal),
     Other,
 }
 
-/// The answer, where it is no list.
 fn word(answer: &Answer) -> Said {
     match answer {
         Answer::Done => Said::Done,
-        Answer::Stopped => Said::Stopped,
         Answer::Region(keys) => Said::Region(*keys),
         Answer::Qp(number) => Said::Qp(*number),
         Answer::Sent { .. } => Said::Sent,
-        Answer::Idle => Said::Idle,
-        Answer::Waiting => Said::Waiting,
-        Answer::Took { took, .. } => Said::Took(*took),
-        Answer::Expired(spent) => Said::Expired(*spent),
-        Answer::NotCounted(why) => Said::NotCounted(*why),
-        Answer::Over => Said::Over,
-        Answer::NotWaiting => Said::NotWaiting,
         Answer::Refused(refusal) => Said::Refused(*refusal),
         _ => Said::Other,
     }
@@ -103,11 +84,6 @@ impl Net {
         })
     }
 
-    /// The allocator of the examples.
-    pub(crate) fn alloc(&self) -> Global {
-        self.alloc
-    }
-
     /// How many datagrams were sent.
     pub(crate) fn flown(&self) -> usize {
         self.flights.len()
@@ -139,6 +115,19 @@ impl Net {
         Some(())
     }
 
+    /// Keeps what a device sent, and gives the rest.
+    fn told(&mut self, from: Address, outcome: Outcome) -> Option<(Answer, Option<ContextImage>)>
+        ensures { IfSome result (λ p. p.1 ≡ outcome.image) }
+    {
+        let Outcome {
+            answer,
+            sent,
+            image,
+        } = outcome;
+        self.keep(from, sent)?;
+        Some((answer, image))
+    }
+
     /// A step of one device.
     fn step(&mut self, place: u8, event: &Event) -> Option<(Answer, Option<ContextImage>)>
         requires { IsLawfulEvent event.now }
@@ -146,13 +135,7 @@ impl Net {
     {
         let alloc = self.alloc;
         let outcome = self.device(place)?.step(alloc, event).ok()?;
-        let Outcome {
-            answer,
-            sent,
-            image,
-        } = outcome;
-        self.keep(address_of(place), sent)?;
-        Some((answer, image))
+        self.told(address_of(place), outcome)
     }
 
     /// The answer of a step, where it is no list.
@@ -172,14 +155,6 @@ impl Net {
             bytes: Items::new(flight.sent.bytes.as_slice().to_vec(self.alloc).ok()?),
         };
         self.ask(place, event)
-    }
-
-    /// Whether datagram `k`, from 0, has these bytes.
-    pub(crate) fn says(&self, k: usize, bytes: &[u8]) -> bool {
-        match self.flights.get(k) {
-            Some(flight) => flight.sent.bytes.as_slice() == bytes,
-            None => false,
-        }
     }
 
     /// Whether the next four completions of a context's queue, or as many as there are, are these.

@@ -2,7 +2,6 @@
 //! pairs. What a call gives is None where memory is short or a step is answered otherwise.
 
 ghost use Rattle.std.specs.Prelude.{◌≡◌, ◌≤◌, ◌<◌, ◌^◌};
-ghost use Rattle.rdma_types.specs.Limits.{most_capacity, most_region_bytes};
 ghost use Rattle.protocol.specs.Events.{IsLawfulEvent};
 
 use crate::net::{Net, Said, address_of, object};
@@ -26,16 +25,14 @@ fn context(net: &mut Net, place: u8, context: &[u8]) -> Option<()> {
     made(net, place, Event::MakeDomain { name: domain }, Said::Done)
 }
 
-/// Region `m`, whose base is 4096 for each place. Its keys have the device's id in their top 8 bits; those of the
-/// first region have 2 and 3 below.
-fn region(net: &mut Net, place: u8, context: &[u8], length: u32) -> Option<()>
-    requires { (1 ≤ length) × (length ≤ most_region_bytes) }
-{
+/// Region `m` of 1,024 bytes, whose base is 4096 for each place. Its keys have the device's id in their top 8 bits; those
+/// of the first region have 2 and 3 below.
+fn region(net: &mut Net, place: u8, context: &[u8]) -> Option<()> {
     let event = Event::MakeRegion {
         name: object(context, b"m")?,
         domain: Some(Name::read(b"p")?),
         base: u64::from(place) * 4096,
-        length,
+        length: 1024,
         rights: Rights(15),
     };
     let local = u32::from(place) * 0x0100_0000 + 2;
@@ -46,26 +43,21 @@ fn region(net: &mut Net, place: u8, context: &[u8], length: u32) -> Option<()>
     made(net, place, event, Said::Region(keys))
 }
 
-/// Completion queue `c`.
-fn queue(net: &mut Net, place: u8, context: &[u8], capacity: u32) -> Option<()>
-    requires { (1 ≤ capacity) × (capacity ≤ most_capacity) }
-{
-    let name = object(context, b"c")?;
-    made(net, place, Event::MakeCq { name, capacity }, Said::Done)
+/// Completion queue `c` of 16 entries.
+fn queue(net: &mut Net, place: u8, context: &[u8]) -> Option<()> {
+    let event = Event::MakeCq {
+        name: object(context, b"c")?,
+        capacity: 16,
+    };
+    made(net, place, event, Said::Done)
 }
 
-/// A queue pair in Init, with room for 8 requests and 8 receives. Its number has the device's id in the top 8 of 24
+/// Queue pair `q` in Init, with room for 8 requests and 8 receives. Its number has the device's id in the top 8 of 24
 /// bits, and below it how many were made.
-pub(crate) fn pair(
-    net: &mut Net,
-    place: u8,
-    context: &[u8],
-    text: &[u8],
-    number: u32,
-) -> Option<()> {
+fn pair(net: &mut Net, place: u8, context: &[u8], number: u32) -> Option<()> {
     let cq = Some(Name::read(b"c")?);
     let event = Event::MakeQp {
-        name: object(context, text)?,
+        name: object(context, b"q")?,
         domain: Some(Name::read(b"p")?),
         send_cq: cq,
         recv_cq: cq,
@@ -75,15 +67,8 @@ pub(crate) fn pair(
     made(net, place, event, Said::Qp(number))
 }
 
-/// Connects an end to a queue pair of the other device, at MTU 256. Requests of `a` start at 100, and those of `b` at 200.
-fn connect(
-    net: &mut Net,
-    place: u8,
-    context: &[u8],
-    text: &[u8],
-    peer: u32,
-    starts: (u32, u32),
-) -> Option<()>
+/// Connects an end to the queue pair of the other device, at MTU 256. Requests of `a` start at 100, and those of `b` at 200.
+fn connect(net: &mut Net, place: u8, context: &[u8], peer: u32, starts: (u32, u32)) -> Option<()>
     requires place { place ≤ 3 }
     requires peer { peer < 2 ^ 24 }
     requires own { starts.0 < 2 ^ 24 }
@@ -98,7 +83,7 @@ fn connect(
         reads: 4,
     };
     let event = Event::Connect {
-        end: object(context, text)?,
+        end: object(context, b"q")?,
         peer,
         partner: address_of(3 - place),
         terms,
@@ -106,35 +91,25 @@ fn connect(
     made(net, place, event, Said::Done)
 }
 
-/// Connected queue pairs of this name, with these numbers.
-pub(crate) fn joined(net: &mut Net, text: &[u8], one: u32, two: u32) -> Option<()>
-    requires one { one < 2 ^ 24 }
-    requires two { two < 2 ^ 24 }
-{
-    pair(net, 1, b"a", text, one)?;
-    pair(net, 2, b"b", text, two)?;
-    connect(net, 1, b"a", text, two, (100, 200))?;
-    connect(net, 2, b"b", text, one, (200, 100))
-}
-
-/// A context with its domain, its region and its completion queue.
-fn side(net: &mut Net, place: u8, text: &[u8], length: u32, capacity: u32) -> Option<()>
-    requires length { (1 ≤ length) × (length ≤ most_region_bytes) }
-    requires capacity { (1 ≤ capacity) × (capacity ≤ most_capacity) }
-{
+/// A context with its domain, its region, its completion queue and a queue pair of this number.
+fn side(net: &mut Net, place: u8, text: &[u8], number: u32) -> Option<()> {
     context(net, place, text)?;
-    region(net, place, text, length)?;
-    queue(net, place, text, capacity)
+    region(net, place, text)?;
+    queue(net, place, text)?;
+    pair(net, place, text, number)
 }
 
-/// Both contexts, with regions of this length and completion queues of this capacity, and connected queue pairs `q`.
-pub(crate) fn opened(alloc: Global, length: u32, capacity: u32) -> Option<Net>
-    requires length { (1 ≤ length) × (length ≤ most_region_bytes) }
-    requires capacity { (1 ≤ capacity) × (capacity ≤ most_capacity) }
-{
+/// Makes both contexts, and connects their queue pairs.
+fn open(net: &mut Net) -> Option<()> {
+    side(net, 1, b"a", 0x010001)?;
+    side(net, 2, b"b", 0x020001)?;
+    connect(net, 1, b"a", 0x020001, (100, 200))?;
+    connect(net, 2, b"b", 0x010001, (200, 100))
+}
+
+/// Both contexts, and connected queue pairs `q`.
+pub(crate) fn opened(alloc: Global) -> Option<Net> {
     let mut net = Net::make(alloc)?;
-    side(&mut net, 1, b"a", length, capacity)?;
-    side(&mut net, 2, b"b", length, capacity)?;
-    joined(&mut net, b"q", 0x010001, 0x020001)?;
+    open(&mut net)?;
     Some(net)
 }
