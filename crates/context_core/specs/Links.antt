@@ -1,5 +1,5 @@
 -- What settling looks at of queue pairs (this project's choice).
-use Rattle.std.specs.Prelude.{◌≡◌, List, length, All, Option, Some, None, option_map, ⊤}
+use Rattle.std.specs.Prelude.{◌≡◌, length, All, Option, Some, None, option_map, ⊤}
 use Rattle.protocol.specs.EndWords.{is_paused, is_resuming}
 use Rattle.protocol.specs.Requester.{end_of_queue}
 use Rattle.protocol.specs.State.{Context, End, Link}
