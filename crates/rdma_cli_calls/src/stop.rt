@@ -19,7 +19,7 @@ use script_runner::PlayFault;
 use std::alloc::AllocError;
 
 /// Why a run ends before its command is done.
-#[derive(Clone, Copy, Debug)]
+#[derive(Clone, Copy)]
 pub(crate) enum Stop {
     /// The words are of no command.
     Usage,

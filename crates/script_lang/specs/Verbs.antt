@@ -9,7 +9,7 @@ use Rattle.rdma_types.specs.declared.verbs.Verb.TheVariants as verb
 use Rattle.rdma_types.specs.Limits.{most_capacity, most_depth, most_region_bytes}
 use Rattle.script_lang.specs.declared.forms.VerbForm.{VerbForm}
 use Rattle.script_lang.specs.declared.forms.VerbForm.TheVariants as form
-use Rattle.script_lang.specs.declared.verbs.Front.{Front}
+use Rattle.script_lang.specs.declared.verbs.PostHead.{PostHead}
 use Rattle.script_lang.specs.Fields.{an_object, an_own, a_number, a_long, a_short, a_key, some_bytes, some_rights, an_immediate}
 use Rattle.script_lang.specs.Words.{Reads, ◌>>=◌, done, an_option}
 
@@ -97,7 +97,7 @@ store_line = do
 -- ---- requests
 
 -- O id lkey address, and what follows
-abbrev pub posting_then : (Front → Reads Verb) → Reads Verb
+abbrev pub posting_then : (PostHead → Reads Verb) → Reads Verb
 posting_then more = do
   end ← an_object
   id ← a_long

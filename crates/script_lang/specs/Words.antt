@@ -112,9 +112,9 @@ Gives (Ok x) rest read = read ≡ Ok (x, rest)
 Gives (Err e) rest read = read ≡ Err e
 
 -- the same of a reader whose value others follow
-abbrev pub GivesFront : {A B : Type 0} → Result A Offence → Input → (A → Reads B) → Read B → Type 0
-GivesFront (Ok x) rest more read = read ≡ more x rest
-GivesFront (Err e) rest more read = read ≡ Err e
+abbrev pub GivesThen : {A B : Type 0} → Result A Offence → Input → (A → Reads B) → Read B → Type 0
+GivesThen (Ok x) rest more read = read ≡ more x rest
+GivesThen (Err e) rest more read = read ≡ Err e
 
 -- the same where memory may run out
 abbrev pub GivesOr : {A : Type 0} → Result A LineFault → Input → Read A → Type 0

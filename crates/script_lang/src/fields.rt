@@ -1,7 +1,7 @@
 //! Readers of one field of a line, and of fields that stand together.
 
 ghost use Rattle.std.specs.Prelude.{◌≡◌, ◌<◌, ◌≤◌, ◌^◌, ℕ, true, IfOk};
-ghost use Rattle.script_lang.specs.Words.{Gives, GivesFront, GivesOr, Reads};
+ghost use Rattle.script_lang.specs.Words.{Gives, GivesThen, GivesOr, Reads};
 ghost use Rattle.rdma_types.specs.declared.requests.Terms.{Terms};
 ghost use Rattle.script_lang.specs.Fields as fields;
 ghost use Rattle.script_lang.specs.Ranges.{IsIn};
@@ -155,7 +155,7 @@ impl Words<'_> {
 
     /// This word, and a number from `low` to `high` behind it.
     fn labeled(&mut self, label: &[u8], low: u64, high: u64) -> Result<u64, Offence>
-        ensures value { (more : ℕ → Reads Terms) → GivesFront result self.new more (fields.labeled_then label.now low high more self.old) }
+        ensures value { (more : ℕ → Reads Terms) → GivesThen result self.new more (fields.labeled_then label.now low high more self.old) }
         ensures within { IfOk result (λ n. (low ≤ n) × (n ≤ high)) }
     {
         self.fixed(label)?;

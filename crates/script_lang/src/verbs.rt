@@ -7,8 +7,8 @@ ghost use Rattle.rdma_types.specs.Shapes.{IsLawfulShape};
 ghost use Rattle.script_lang.specs.Ranges.{IsLawfulVerb, IsOfNode};
 ghost use Rattle.script_lang.specs.Verbs as verbs;
 ghost use Rattle.rdma_types.specs.declared.verbs.Verb.{Verb};
-ghost use Rattle.script_lang.specs.declared.verbs.Front.{Front};
-ghost use Rattle.script_lang.specs.Words.{Gives, GivesFront, GivesOr, Reads};
+ghost use Rattle.script_lang.specs.declared.verbs.PostHead.{PostHead};
+ghost use Rattle.script_lang.specs.Words.{Gives, GivesThen, GivesOr, Reads};
 
 use crate::forms::VerbForm;
 use crate::lines::{LineFault, Offence};
@@ -122,7 +122,7 @@ fn load(words: &mut Words<'_>) -> Result<Verb, Offence>
 
 /// What each line of a posting begins with: an end, an id, and a place in the end's memory.
 #[derive(Clone, Copy)]
-struct Front {
+struct PostHead {
     end: ObjName,
     id: u64,
     lkey: u32,
@@ -131,14 +131,14 @@ struct Front {
 
 /// O id lkey address
 #[tactic(auto, unfolding(crate::specs::Verbs::posting_then))]
-fn posting(words: &mut Words<'_>) -> Result<Front, Offence>
-    ensures { (more : Front → Reads Verb) → GivesFront result words.new more (verbs.posting_then more words.old) }
+fn posting(words: &mut Words<'_>) -> Result<PostHead, Offence>
+    ensures { (more : PostHead → Reads Verb) → GivesThen result words.new more (verbs.posting_then more words.old) }
 {
     let end = words.object()?;
     let id = words.long()?;
     let lkey = words.key()?;
     let local = words.long()?;
-    Ok(Front {
+    Ok(PostHead {
         end,
         id,
         lkey,
@@ -148,7 +148,7 @@ fn posting(words: &mut Words<'_>) -> Result<Front, Offence>
 
 /// A request of this shape, with its options.
 #[tactic(auto, unfolding(crate::specs::Verbs::posted))]
-fn posted(words: &mut Words<'_>, at: &Front, shape: Shape) -> Verb
+fn posted(words: &mut Words<'_>, at: &PostHead, shape: Shape) -> Verb
     requires { IsLawfulShape shape }
     ensures value { verbs.posted at.now.end at.now.id at.now.lkey at.now.local shape words.old ≡ Ok (result, words.new) }
     ensures lawful { IsLawfulVerb result }

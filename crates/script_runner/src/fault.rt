@@ -9,7 +9,7 @@ use std::alloc::AllocError;
 use thiserror::Error;
 
 /// Why a script is not answered to its end.
-#[derive(Clone, Copy, Debug, PartialEq, Eq, Error)]
+#[derive(Clone, Copy, Debug, Error)]
 pub enum PlayFault {
     /// The line of this number, counted from 1, is in no form. The column, counted in bytes from 1, is that of its first
     /// word that is wrong, or one past its end where a word is missing.

@@ -1,14 +1,14 @@
 use Rattle.std.proofs.Common.{refl}
 use Rattle.rdma_types.specs.declared.verbs.Verb.{Verb}
-use Rattle.script_lang.specs.declared.verbs.Front.{Front}
+use Rattle.script_lang.specs.declared.verbs.PostHead.{PostHead}
 use Rattle.script_lang.specs.Fields.{a_key, a_long}
 use Rattle.script_lang.specs.Verbs.{add_line, posted, add_shape}
 use Rattle.script_lang.specs.Words.{Reads, ◌>>=◌}
 use Rattle.script_lang.proofs.Exits.{gives_err}
 use Rattle.script_lang.proofs.verbs.add.Goals as goal
 
--- what follows the front
-abbrev rest : Front → Reads Verb
+-- what follows these
+abbrev rest : PostHead → Reads Verb
 rest p = do
   remote ← a_long
   rkey ← a_key

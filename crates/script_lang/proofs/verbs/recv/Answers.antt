@@ -1,15 +1,15 @@
 use Rattle.std.proofs.Common.{refl}
 use Rattle.rdma_types.specs.declared.verbs.Verb.{Verb}
 use Rattle.rdma_types.specs.declared.verbs.Verb.TheVariants as verb
-use Rattle.script_lang.specs.declared.verbs.Front.{Front}
+use Rattle.script_lang.specs.declared.verbs.PostHead.{PostHead}
 use Rattle.script_lang.specs.Fields.{a_short}
 use Rattle.script_lang.specs.Verbs.{recv_line}
 use Rattle.script_lang.specs.Words.{Reads, ◌>>=◌, done}
 use Rattle.script_lang.proofs.Exits.{gives_err}
 use Rattle.script_lang.proofs.verbs.recv.Goals as goal
 
--- what follows the front
-abbrev rest : Front → Reads Verb
+-- what follows these
+abbrev rest : PostHead → Reads Verb
 rest p = do
   size ← a_short
   done (verb.PostRecv p.end (record { id = p.id; lkey = p.lkey; local = p.local; length = size }))

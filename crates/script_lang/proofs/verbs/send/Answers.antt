@@ -1,14 +1,14 @@
 use Rattle.std.proofs.Common.{refl}
 use Rattle.rdma_types.specs.declared.verbs.Verb.{Verb}
-use Rattle.script_lang.specs.declared.verbs.Front.{Front}
+use Rattle.script_lang.specs.declared.verbs.PostHead.{PostHead}
 use Rattle.script_lang.specs.Fields.{a_short, an_immediate}
 use Rattle.script_lang.specs.Verbs.{send_line, posted, send_shape}
 use Rattle.script_lang.specs.Words.{Reads, ◌>>=◌}
 use Rattle.script_lang.proofs.Exits.{gives_err}
 use Rattle.script_lang.proofs.verbs.send.Goals as goal
 
--- what follows the front
-abbrev rest : Front → Reads Verb
+-- what follows these
+abbrev rest : PostHead → Reads Verb
 rest p = do
   size ← a_short
   imm ← an_immediate

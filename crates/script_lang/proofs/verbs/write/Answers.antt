@@ -1,14 +1,14 @@
 use Rattle.std.proofs.Common.{refl}
 use Rattle.rdma_types.specs.declared.verbs.Verb.{Verb}
-use Rattle.script_lang.specs.declared.verbs.Front.{Front}
+use Rattle.script_lang.specs.declared.verbs.PostHead.{PostHead}
 use Rattle.script_lang.specs.Fields.{a_key, a_long, a_short, an_immediate}
 use Rattle.script_lang.specs.Verbs.{write_line, posted, write_shape}
 use Rattle.script_lang.specs.Words.{Reads, ◌>>=◌}
 use Rattle.script_lang.proofs.Exits.{gives_err}
 use Rattle.script_lang.proofs.verbs.write.Goals as goal
 
--- what follows the front
-abbrev rest : Front → Reads Verb
+-- what follows these
+abbrev rest : PostHead → Reads Verb
 rest p = do
   size ← a_short
   remote ← a_long
