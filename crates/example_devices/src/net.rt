@@ -48,6 +48,20 @@ fn word(answer: &Answer) -> Said {
     }
 }
 
+fn is_polled(answer: &Answer, entries: &[Completion]) -> bool {
+    match answer {
+        Answer::Polled(polled) => polled.as_slice() == entries,
+        _ => false,
+    }
+}
+
+fn is_bytes(answer: &Answer, bytes: &[u8]) -> bool {
+    match answer {
+        Answer::Bytes(held) => held.as_slice() == bytes,
+        _ => false,
+    }
+}
+
 /// A datagram that was sent.
 #[derive(Drop)]
 struct Flight {
@@ -138,11 +152,19 @@ impl Net {
         self.told(address_of(place), outcome)
     }
 
+    /// The answer of a step.
+    fn answer(&mut self, place: u8, event: &Event) -> Option<Answer>
+        requires { IsLawfulEvent event.now }
+    {
+        let (answer, _) = self.step(place, event)?;
+        Some(answer)
+    }
+
     /// The answer of a step, where it is no list.
     pub(crate) fn ask(&mut self, place: u8, event: Event) -> Option<Said>
         requires { IsLawfulEvent event }
     {
-        let (answer, _) = self.step(place, &event)?;
+        let answer = self.answer(place, &event)?;
         Some(word(&answer))
     }
 
@@ -165,11 +187,8 @@ impl Net {
         entries: &[Completion],
     ) -> Option<bool> {
         let cq = object(context, b"c")?;
-        let (answer, _) = self.step(place, &Event::Poll { cq, max: 4 })?;
-        Some(match answer {
-            Answer::Polled(polled) => polled.as_slice() == entries,
-            _ => false,
-        })
+        let answer = self.answer(place, &Event::Poll { cq, max: 4 })?;
+        Some(is_polled(&answer, entries))
     }
 
     /// Whether a context's region has these bytes from an address on.
@@ -182,11 +201,8 @@ impl Net {
     ) -> Option<bool> {
         let region = object(context, b"m")?;
         let length = u32::try_from(bytes.len()).ok()?;
-        let (answer, _) = self.step(place, &Event::Load { region, at, length })?;
-        Some(match answer {
-            Answer::Bytes(held) => held.as_slice() == bytes,
-            _ => false,
-        })
+        let answer = self.answer(place, &Event::Load { region, at, length })?;
+        Some(is_bytes(&answer, bytes))
     }
 
     /// The image of a context that leaves its device; None where it does not.

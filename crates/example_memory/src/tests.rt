@@ -131,11 +131,24 @@ fn two_of_second(
     Ok(two_of(&copy))
 }
 
-/// Those bytes, and how many pages are free when the regions are gone.
+/// Those bytes, where they were restored.
+fn two_restored(
+    alloc: Global,
+    pool: &mut PagePool,
+    regions: &mut Regions,
+) -> Result<Option<[u8; 2]>, Fail>
+    requires held { AreHeld pool.old regions.old }
+    requires other { held_at 4 regions.old ≡ None }
+    ensures held { AreHeld pool.new regions.new }
+{
+    restore(alloc, pool, regions)?;
+    Ok(two_of_second(alloc, pool, regions)?)
+}
+
+/// The same of new regions, and how many pages are free when the regions are gone.
 fn restored(alloc: Global) -> Result<(Option<[u8; 2]>, u32), Fail> {
     let (mut pool, mut regions) = memory(alloc, 2)?;
-    restore(alloc, &mut pool, &mut regions)?;
-    let bytes = two_of_second(alloc, &pool, &regions)?;
+    let bytes = two_restored(alloc, &mut pool, &mut regions)?;
     regions.release(&mut pool);
     Ok((bytes, pool.free()))
 }
