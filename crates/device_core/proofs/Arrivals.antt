@@ -30,7 +30,8 @@ use Rattle.device_core.specs.Parts.{device_of}
 use Rattle.device_core.proofs.Dones.{step-done}
 use Rattle.device_core.proofs.FoundEnds.{found-live, found-none, left-none, left-one}
 use Rattle.device_core.proofs.Helds.{context-is, view-is}
-use Rattle.device_core.proofs.Stepping.{Stepped, Turn, kept}
+use Rattle.device_core.specs.Acting.{Turn}
+use Rattle.device_core.proofs.Stepping.{Stepped, kept}
 
 -- what bytes do is what their packet does
 pub arrives-packet : (d : Device) (from : Address) (bytes : List ℕ) (p : Packet) → packet_of bytes ≡ Some p → (x : Step) → at_found d from p (found_in p.dest d.contexts) ≡ x → device_step d (event.Arrive from bytes) ≡ x

@@ -7,6 +7,7 @@ pub mod Lookups
 pub mod Helds
 pub mod HuskNames
 pub mod Stepping
+pub mod Acting
 pub mod Made
 pub mod Adding
 pub mod IndexAdds

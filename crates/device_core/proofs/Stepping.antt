@@ -4,10 +4,8 @@ use Rattle.std.specs.Prelude.{bytes_eq, Option, Some, None, Result, Ok, Err, OnE
 use Rattle.std.specs.Borrow.{Bor, MutBor}
 use Rattle.std.specs.Map.{lookup, set_value}
 use Rattle.std.specs.Option.{option_copied, option_copied_mut}
-use Rattle.std.specs.Result.{result_err}
 use Rattle.std.proofs.lemmas.Map.Steps.{set_value_same}
 use Rattle.rdma_types.specs.Causes.{Cause, first_cause}
-use Rattle.rdma_types.specs.declared.answers.Refusal.{Refusal}
 use Rattle.rdma_types.specs.declared.names.Name.{Name}
 use Rattle.rdma_types.specs.declared.requests.Address.{Address}
 use Rattle.page_pool.specs.Pool.{Pool}
@@ -17,18 +15,18 @@ use Rattle.protocol.specs.DeviceStep.{Step, done_by, with_context}
 use Rattle.protocol.specs.Events.{IsLawfulEvent}
 use Rattle.protocol.specs.Refusals.{causes_of, within}
 use Rattle.protocol.specs.State.{Context, Device, context_at}
-use Rattle.context_core.specs.Context.{Holding, IsContext, Moves, context_in}
-use Rattle.device_core.specs.Index.{numbers_of}
+use Rattle.context_core.specs.Context.{Holding, context_in}
 use Rattle.context_core.specs.Faults.{refusal_of}
 use Rattle.context_core.specs.declared.ContextFault.{ContextFault}
 use Rattle.law_device_sound.specs.Sound.{GivesNames, IsSoundDevice}
 use Rattle.device_core.specs.declared.husks.HuskEntry.{HuskEntry}
 use Rattle.device_core.specs.declared.index.EndLocation.{EndLocation}
-use Rattle.device_core.specs.Done.{IsDone, told_by, told_plainly}
+use Rattle.device_core.specs.Acting.{Acts, Lives, Turn}
+use Rattle.device_core.specs.Done.{IsDone, told_by}
 use Rattle.device_core.specs.Held.{IsHeld}
 use Rattle.device_core.specs.Parts.{device_of}
-use Rattle.device_core.proofs.Dones.{done-by, done-plainly, sound-done}
-use Rattle.device_core.proofs.Helds.{context-is, held-after, there-is, view-is}
+use Rattle.device_core.proofs.Dones.{done-by, sound-done}
+use Rattle.device_core.proofs.Helds.{context-is, free-is, held-after, same-device, there-is, view-is}
 
 -- what a borrow of a found value says
 pub found-mut : {A : Type 0} (r : Option (MutBor A)) (b : MutBor A) (o : Option A) → r ≡ Some b → option_copied_mut r ≡ o → o ≡ Some b.now
@@ -42,12 +40,6 @@ pub record Stepped (d : Device) (e : Event) (pool : Pool) (es : List (Name × Ho
 -- .. of a device that is the same
 pub done-at : {d d' new : Device} {e : Event} {pool : Pool} {es : List (Name × Holding)} {index : ℕ → Option EndLocation} {told : Result Outcome ContextFault} → d ≡ d' → Stepped d e pool es index new told → IsDone d' e new told
 done-at {d} {d'} {new} {e} {pool} {es} {index} {told} same st = subst (λ x. IsDone x e new told) same st.done
-
--- a context of the device makes a step
-pub record Turn (pool pool' : Pool) (n : Name) (s s' : Holding) : Type 0 where
-  pub moves : Moves pool pool' s s'
-  pub is : IsContext pool' s'
-  pub numbers : numbers_of (context_in pool' n s') ≡ numbers_of (context_in pool n s)
 
 -- what is as it was
 pub record Unchanged (pool pool' : Pool) (s s' : Holding) (qp qp' key key' : ℕ) : Type 0 where
@@ -75,6 +67,13 @@ module _ (id : ℕ) (address : Address) (qp key : ℕ) (pool : Pool) (es : List 
         (held-after id address qp key pool es husks index held n s found pool' s' turn.moves qp' key' more turn.is turn.numbers (subst (λ xs. IsSoundDevice (device_of id address qp' key' pool' xs husks)) set sound));
   }
 
+  -- .. as an event of the context asks for it
+  pub acted : (e : Event) (told : Result Outcome ContextFault) → Acts address e pool pool' s s' told n → qp' ≡ qp → key' ≡ key → Stepped (device_of id address qp key pool es husks) e pool' es' index (device_of id address qp' key' pool' es' husks) told
+  acted e told acts same_qp same_key =
+      let lives : Lives (device_of id address qp key pool es husks) address pool n s = record { lives = there-is id address qp key pool es husks index held n s found; at = context-is id address qp key pool es husks index held n s found; same = same-device id address qp key pool es husks index held n s found; free = free-is id address qp key pool es husks index held; address = refl } in
+      let same : with_context (device_of id address qp key pool es husks) (context_in pool' n s') ≡ device_of id address qp' key' pool' es' husks = sym (new-is ∙ λ i. with_context (record (device_of id address qp key pool es husks) { qp_count = same_qp i; key_count = same_key i }) (context_in pool' n s')) in
+      kept e told (subst (λ x. IsDone (device_of id address qp key pool es husks) e x told) same (acts.done (device_of id address qp key pool es husks) lives))
+
   module _ (e : Event) (causes : Context → List Cause) (same : first_cause (causes_of (device_of id address qp key pool es husks) e) ≡ first_cause (within (device_of id address qp key pool es husks) n causes))
       (act : Context → Step) (acts : done_by (device_of id address qp key pool es husks) e ≡ act (context_at (device_of id address qp key pool es husks) n)) {T : Type 0} (tell : T → Outcome) (told : Result Outcome ContextFault) where
     turned : (r : Result T ContextFault) → IfOk r (λ x. act (context_in pool n s) ≡ record { device = with_context (record (device_of id address qp key pool es husks) { qp_count = qp'; key_count = key' }) (context_in pool' n s'); outcome = tell x }) → IfOk r (λ x. done_by (device_of id address qp key pool es husks) e ≡ record { device = device_of id address qp' key' pool' es' husks; outcome = tell x })
@@ -84,14 +83,6 @@ module _ (id : ℕ) (address : Address) (qp key : ℕ) (pool : Pool) (es : List 
     back : (r : Result T ContextFault) → OnErr r (Unchanged pool pool' s s' qp qp' key key') → OnErr r (device_of id address qp' key' pool' es' husks ≡ device_of id address qp key pool es husks)
     back (Ok x) u = tt
     back (Err f) u = same-is u
-
-    turned_plainly : (r : Result T Refusal) → IfOk r (λ x. act (context_in pool n s) ≡ record { device = with_context (record (device_of id address qp key pool es husks) { qp_count = qp'; key_count = key' }) (context_in pool' n s'); outcome = tell x }) → IfOk r (λ x. done_by (device_of id address qp key pool es husks) e ≡ record { device = device_of id address qp' key' pool' es' husks; outcome = tell x })
-    turned_plainly (Ok x) h = acts ∙ (ap act (context-is id address qp key pool es husks index held n s found) ∙ (h ∙ ap (λ d. record { device = d; outcome = tell x }) (sym new-is)))
-    turned_plainly (Err f) h = tt
-
-    back_plainly : (r : Result T Refusal) → OnErr r (Unchanged pool pool' s s' qp qp' key key') → OnErr r (device_of id address qp' key' pool' es' husks ≡ device_of id address qp key pool es husks)
-    back_plainly (Ok x) u = tt
-    back_plainly (Err f) u = same-is u
 
     pub stepped : (r : Result T ContextFault) → told ≡ told_by tell r → refusal_of r ≡ first_cause (causes (context_in pool n s))
         → IfOk r (λ x. act (context_in pool n s) ≡ record { device = with_context (record (device_of id address qp key pool es husks) { qp_count = qp'; key_count = key' }) (context_in pool' n s'); outcome = tell x })
@@ -103,25 +94,7 @@ module _ (id : ℕ) (address : Address) (qp key : ℕ) (pool : Pool) (es : List 
         (refused ∙ ap (λ x. first_cause (causes x)) (sym (context-is id address qp key pool es husks index held n s found)))
         (turned r ok) (back r err))
 
-    pub stepped-plainly : (r : Result T Refusal) → told ≡ told_plainly tell r → result_err r ≡ first_cause (causes (context_in pool n s))
-        → IfOk r (λ x. act (context_in pool n s) ≡ record { device = with_context (record (device_of id address qp key pool es husks) { qp_count = qp'; key_count = key' }) (context_in pool' n s'); outcome = tell x })
-        → OnErr r (Unchanged pool pool' s s' qp qp' key key')
-        → Stepped (device_of id address qp key pool es husks) e pool' es' index (device_of id address qp' key' pool' es' husks) told
-    stepped-plainly r is refused ok err =
-        kept e told (done-plainly (device_of id address qp key pool es husks) (device_of id address qp' key' pool' es' husks) e n causes tell r told is same
-        (there-is id address qp key pool es husks index held n s found)
-        (refused ∙ ap (λ x. first_cause (causes x)) (sym (context-is id address qp key pool es husks index held n s found)))
-        (turned_plainly r ok) (back_plainly r err))
-
--- both as they were, where a call without memory of its own pages was refused
-pub unchanged-err : {T E : Type 0} (r : Result T E) (pool pool' : Pool) (s s' : Holding) (qp key : ℕ) → OnErr r (s' ≡ s) → OnErr r (pool' ≡ pool) → OnErr r (Unchanged pool pool' s s' qp qp key key)
-unchanged-err (Ok x) pool pool' s s' qp key a b = tt
-unchanged-err (Err f) pool pool' s s' qp key a b = record { state = a; pages = b; numbers = refl; keys = refl }
-
-pub err-same : {T E : Type 0} (r : Result T E) (pool : Pool) → OnErr r (pool ≡ pool)
-err-same (Ok x) pool = tt
-err-same (Err f) pool = refl
-
+-- all as it was, where a call was refused
 pub unchanged-keys : {T E : Type 0} (r : Result T E) (pool pool' : Pool) (s s' : Holding) (qp key key' : ℕ) → OnErr r (s' ≡ s) → OnErr r (pool' ≡ pool) → OnErr r (key' ≡ key) → OnErr r (Unchanged pool pool' s s' qp qp key key')
 unchanged-keys (Ok x) pool pool' s s' qp key key' a b k = tt
 unchanged-keys (Err f) pool pool' s s' qp key key' a b k = record { state = a; pages = b; numbers = refl; keys = k }
@@ -129,27 +102,6 @@ unchanged-keys (Err f) pool pool' s s' qp key key' a b k = record { state = a; p
 -- what a borrow of a found value says
 pub found-ref : {A : Type 0} (r : Option (Bor A)) (b : Bor A) (o : Option A) → r ≡ Some b → option_copied r ≡ o → o ≡ Some b.now
 found-ref r b o is value = sym value ∙ ap option_copied is
-
--- an event that reads
-pub read : (id : ℕ) (address : Address) (qp key : ℕ) (pool : Pool) (es : List (Name × Holding)) (husks : List (Name × List HuskEntry)) (index : ℕ → Option EndLocation) (held : IsHeld pool es index (device_of id address qp key pool es husks))
-    (n : Name) (s : Holding) (found : lookup (bytes_eq n) es ≡ Some s) (e : Event) (causes : Context → List Cause) (same : first_cause (causes_of (device_of id address qp key pool es husks) e) ≡ first_cause (within (device_of id address qp key pool es husks) n causes))
-    (act : Context → Step) (acts : done_by (device_of id address qp key pool es husks) e ≡ act (context_at (device_of id address qp key pool es husks) n)) {T : Type 0} (tell : T → Outcome) (told : Result Outcome ContextFault)
-    (r : Result T ContextFault) → told ≡ told_by tell r → refusal_of r ≡ first_cause (causes (context_in pool n s))
-    → IfOk r (λ x. act (context_in pool n s) ≡ record { device = device_of id address qp key pool es husks; outcome = tell x })
-    → IsDone (device_of id address qp key pool es husks) e (device_of id address qp key pool es husks) told
-read id address qp key pool es husks index held n s found e causes same act acts {T} tell told r is refused ok =
-    done-by (device_of id address qp key pool es husks) (device_of id address qp key pool es husks) e n causes tell r told is same
-    (there-is id address qp key pool es husks index held n s found)
-    (refused ∙ ap (λ x. first_cause (causes x)) (sym (context-is id address qp key pool es husks index held n s found)))
-    (turned r ok) (stays r)
-  where
-    turned : (x : Result T ContextFault) → IfOk x (λ y. act (context_in pool n s) ≡ record { device = device_of id address qp key pool es husks; outcome = tell y }) → IfOk x (λ y. done_by (device_of id address qp key pool es husks) e ≡ record { device = device_of id address qp key pool es husks; outcome = tell y })
-    turned (Ok y) h = acts ∙ (ap act (context-is id address qp key pool es husks index held n s found) ∙ h)
-    turned (Err f) h = tt
-
-    stays : (x : Result T ContextFault) → OnErr x (device_of id address qp key pool es husks ≡ device_of id address qp key pool es husks)
-    stays (Ok y) = tt
-    stays (Err f) = refl
 
 pub some-copied : {A : Type 0} (r : Option (Bor A)) {x : A} → option_copied r ≡ Some x → IsSome r
 some-copied None h = absurd (cc)

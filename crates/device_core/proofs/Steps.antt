@@ -20,6 +20,8 @@ use Rattle.protocol.specs.State.{Context, Device, End, HuskEntry, Link}
 use Rattle.protocol.specs.Wire.{Packet, is_control, packet_of}
 use Rattle.context_core.specs.declared.ContextFault.{ContextFault}
 use Rattle.context_core.specs.declared.ContextFault.TheVariants.{Refused, OutOfMemory}
+use Rattle.rdma_types.specs.declared.names.Name.{Name}
+use Rattle.device_core.specs.Acting.{context_named}
 use Rattle.device_core.specs.Done.{AreFew, AreLawful, IsDone, IsNotOutOfMemory, told_step}
 
 -- an event that is no arrival
@@ -173,3 +175,22 @@ told-image r t tells lawful = subst (λ x. IfOk x (λ o. IfSome o.image (λ i. I
     by_result (Ok o) h = h
     by_result (Err (Refused w)) h = tt
     by_result (Err OutOfMemory) h = tt
+
+-- an event of a context is neither
+named_is_neither : (e : Event) → IfSome (context_named e) (λ n. IsQuiet e × IsNoStop e)
+named_is_neither (event.MakeDomain o) = (tt, tt)
+named_is_neither (event.MakeCq o capacity) = (tt, tt)
+named_is_neither (event.Connect o peer partner terms) = (tt, tt)
+named_is_neither (event.DropRegion o) = (tt, tt)
+named_is_neither (event.Store o at bytes) = (tt, tt)
+named_is_neither (event.Load o at count) = (tt, tt)
+named_is_neither (event.PostSend o r) = (tt, tt)
+named_is_neither (event.PostRecv o r) = (tt, tt)
+named_is_neither (event.Poll o most) = (tt, tt)
+named_is_neither (event.Transmit o) = (tt, tt)
+named_is_neither (event.Expire o) = (tt, tt)
+named_is_neither (event.RnrOver o) = (tt, tt)
+named_is_neither e = tt
+
+pub named-is-neither : (e : Event) (n : Name) → context_named e ≡ Some n → IsQuiet e × IsNoStop e
+named-is-neither e n h = subst (λ o. IfSome o (λ m. IsQuiet e × IsNoStop e)) h (named_is_neither e)

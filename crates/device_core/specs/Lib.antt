@@ -5,4 +5,5 @@ pub mod Held
 pub mod Done
 pub mod Leaving
 pub mod Coming
+pub mod Acting
 pub mod Views

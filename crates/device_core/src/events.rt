@@ -1,35 +1,101 @@
 //! Events of one context.
 
-ghost use Rattle.std.specs.Prelude.{◌≡◌, ◌<◌, ◌≤◌, ◌^◌};
-ghost use Rattle.rdma_types.specs.Limits.{AreTerms, most_capacity, most_region_bytes};
-ghost use Rattle.rdma_types.specs.Shapes.{IsLawfulShape};
-ghost use Rattle.protocol.specs.Events.{IsDepth, IsLawfulEvent};
-ghost use Rattle.device_core.specs.Done.{IsDone, IsNotOutOfMemory};
+ghost use Rattle.std.specs.Prelude.{◌≡◌, IfSome, IsSome, Some};
+ghost use Rattle.protocol.specs.Events.{IsLawfulEvent};
+ghost use Rattle.context_core.specs.Context.{IsContext};
+ghost use Rattle.law_device_sound.specs.Sound.{GivesNames};
+ghost use Rattle.device_core.specs.Acting.{Acts, context_named};
+ghost use Rattle.device_core.specs.Done.{AreFew, AreLawful, IsDone, IsNotOutOfMemory};
+ghost use Rattle.device_core.specs.Readings.{TakesNoMemory};
 
 use crate::Device;
 use crate::telling::{
     counted, outcome_of_done, told, told_answer, told_bytes, told_keys, told_polled, told_sent,
 };
-use context_core::{ContextFault, NewRegion};
+use context_core::{ContextFault, ContextState, NewRegion};
+use page_pool::PagePool;
 use protocol::{Event, Outcome};
-use rdma_types::{Address, Answer, Name, ObjName, Receive, Request, Rights, Terms};
+use rdma_types::{Address, Answer, Name, ObjName, Rights};
 use std::alloc::Global;
 
+/// What an event does in its context, which lives on the device with an address and with these pages.
+fn act_in(
+    state: &mut ContextState,
+    pool: &mut PagePool,
+    alloc: Global,
+    own: Address,
+    event: &Event,
+) -> Result<Outcome, ContextFault>
+    requires is { IsContext pool.old state.old }
+    requires named { IsSome (context_named event.now) }
+    requires lawful { IsLawfulEvent event.now }
+    ensures acts { IfSome (context_named event.now) (Acts own event.now pool.old pool.new state.old state.new result) }
+    ensures names { GivesNames event.now }
+    ensures never_out_of_memory { TakesNoMemory event.now → IsNotOutOfMemory result }
+{
+    match event {
+        Event::MakeDomain { name } => {
+            let _spelled = name.name.as_bytes();
+            told(alloc, state.make_domain(name.name), Answer::Done)
+        }
+        Event::MakeCq { name, capacity } => {
+            let _spelled = name.name.as_bytes();
+            told(
+                alloc,
+                state.make_cq(alloc, name.name, *capacity),
+                Answer::Done,
+            )
+        }
+        Event::Connect {
+            end,
+            peer,
+            partner,
+            terms,
+        } => outcome_of_done(alloc, state.connect(end.name, *peer, *partner, terms)),
+        Event::DropRegion { name } => outcome_of_done(alloc, state.drop_region(pool, name.name)),
+        Event::Store { region, at, bytes } => {
+            outcome_of_done(alloc, state.store(pool, region.name, *at, bytes.as_slice()))
+        }
+        Event::Load { region, at, length } => {
+            told_bytes(alloc, state.load(alloc, pool, region.name, *at, *length))
+        }
+        Event::PostSend { end, request } => {
+            told(
+                alloc,
+                state.post_send(alloc, pool, end.name, request),
+                Answer::Done,
+            )
+        }
+        Event::PostRecv { end, receive } => {
+            outcome_of_done(alloc, state.post_recv(pool, end.name, receive))
+        }
+        Event::Poll { cq, max } => told_polled(alloc, state.poll(alloc, cq.name, *max)),
+        Event::Transmit { end } => told_sent(state.transmit(alloc, pool, end.name, own)),
+        Event::Expire { end } => told_answer(alloc, state.expire(pool, end.name)),
+        Event::RnrOver { end } => told_answer(alloc, state.rnr_over(end.name)),
+        _ => unreachable!(),
+    }
+}
+
 impl Device {
-    /// A protection domain.
-    pub(crate) fn make_domain(
+    /// An event of a context, where the context lives here. A connection takes no memory.
+    pub(crate) fn act(
         &mut self,
         alloc: Global,
-        o: &ObjName,
+        name: Name,
+        event: &Event,
     ) -> Result<Outcome, ContextFault>
-        ensures { IsDone self.old (Event.MakeDomain o.now) self.new result }
+        requires named { context_named event.now ≡ Some name }
+        requires lawful { IsLawfulEvent event.now }
+        ensures done { IsDone self.old event.now self.new result }
+        ensures bounded { AreFew result }
+        ensures image { AreLawful result }
+        ensures never_out_of_memory { TakesNoMemory event.now → IsNotOutOfMemory result }
     {
-        let _spelled = o.name.as_bytes();
-        let Some(state) = self.contexts.get_mut(&o.context) else {
-            return Err(ContextFault::Refused(self.missing(o.context)));
+        let Some(state) = self.contexts.get_mut(&name) else {
+            return Err(ContextFault::Refused(self.missing(name)));
         };
-        let made = state.make_domain(o.name);
-        told(alloc, made, Answer::Done)
+        act_in(state, &mut self.pool, alloc, self.address, event)
     }
 
     /// A memory region of zeros, with the device's next keys.
@@ -61,174 +127,5 @@ impl Device {
         let made = state.make_region(alloc, &mut self.pool, &new, keys);
         self.key_count = counted(self.key_count, &made);
         told(alloc, made, told_keys(keys))
-    }
-
-    /// A completion queue.
-    pub(crate) fn make_cq(
-        &mut self,
-        alloc: Global,
-        o: &ObjName,
-        capacity: u32,
-    ) -> Result<Outcome, ContextFault>
-        requires { IsLawfulEvent (Event.MakeCq o.now capacity) }
-        ensures { IsDone self.old (Event.MakeCq o.now capacity) self.new result }
-    {
-        let _spelled = o.name.as_bytes();
-        let Some(state) = self.contexts.get_mut(&o.context) else {
-            return Err(ContextFault::Refused(self.missing(o.context)));
-        };
-        let made = state.make_cq(alloc, o.name, capacity);
-        told(alloc, made, Answer::Done)
-    }
-
-    /// A queue pair in Init is connected. It takes no memory.
-    pub(crate) fn connect(
-        &mut self,
-        alloc: Global,
-        o: &ObjName,
-        peer: u32,
-        partner: Address,
-        terms: &Terms,
-    ) -> Result<Outcome, ContextFault>
-        requires { IsLawfulEvent (Event.Connect o.now peer partner terms.now) }
-        ensures done { IsDone self.old (Event.Connect o.now peer partner terms.now) self.new result }
-        ensures never_out_of_memory { IsNotOutOfMemory result }
-    {
-        let Some(state) = self.contexts.get_mut(&o.context) else {
-            return Err(ContextFault::Refused(self.missing(o.context)));
-        };
-        let made = state.connect(o.name, peer, partner, terms);
-        outcome_of_done(alloc, made)
-    }
-
-    /// A memory region is dropped.
-    pub(crate) fn drop_region(
-        &mut self,
-        alloc: Global,
-        o: &ObjName,
-    ) -> Result<Outcome, ContextFault>
-        ensures { IsDone self.old (Event.DropRegion o.now) self.new result }
-    {
-        let Some(state) = self.contexts.get_mut(&o.context) else {
-            return Err(ContextFault::Refused(self.missing(o.context)));
-        };
-        let made = state.drop_region(&mut self.pool, o.name);
-        outcome_of_done(alloc, made)
-    }
-
-    /// The owner writes its region.
-    pub(crate) fn store(
-        &mut self,
-        alloc: Global,
-        o: &ObjName,
-        at: u64,
-        bytes: &[u8],
-    ) -> Result<Outcome, ContextFault>
-        ensures { IsDone self.old (Event.Store o.now at bytes.now) self.new result }
-    {
-        let Some(state) = self.contexts.get_mut(&o.context) else {
-            return Err(ContextFault::Refused(self.missing(o.context)));
-        };
-        let made = state.store(&mut self.pool, o.name, at, bytes);
-        outcome_of_done(alloc, made)
-    }
-
-    /// The owner reads its region.
-    pub(crate) fn load(
-        &self,
-        alloc: Global,
-        o: &ObjName,
-        at: u64,
-        length: u32,
-    ) -> Result<Outcome, ContextFault>
-        ensures { IsDone self.now (Event.Load o.now at length) self.now result }
-    {
-        let Some(state) = self.contexts.get(&o.context) else {
-            return Err(ContextFault::Refused(self.missing(o.context)));
-        };
-        let made = state.load(alloc, &self.pool, o.name, at, length);
-        told_bytes(alloc, made)
-    }
-
-    /// A request is posted.
-    pub(crate) fn post_send(
-        &mut self,
-        alloc: Global,
-        o: &ObjName,
-        request: &Request,
-    ) -> Result<Outcome, ContextFault>
-        requires { IsLawfulEvent (Event.PostSend o.now request.now) }
-        ensures { IsDone self.old (Event.PostSend o.now request.now) self.new result }
-    {
-        let Some(state) = self.contexts.get_mut(&o.context) else {
-            return Err(ContextFault::Refused(self.missing(o.context)));
-        };
-        let made = state.post_send(alloc, &mut self.pool, o.name, request);
-        told(alloc, made, Answer::Done)
-    }
-
-    /// A receive is posted. It takes no memory.
-    pub(crate) fn post_recv(
-        &mut self,
-        alloc: Global,
-        o: &ObjName,
-        receive: &Receive,
-    ) -> Result<Outcome, ContextFault>
-        ensures { IsDone self.old (Event.PostRecv o.now receive.now) self.new result }
-    {
-        let Some(state) = self.contexts.get_mut(&o.context) else {
-            return Err(ContextFault::Refused(self.missing(o.context)));
-        };
-        let made = state.post_recv(&mut self.pool, o.name, receive);
-        outcome_of_done(alloc, made)
-    }
-
-    /// The oldest completions, at most so many.
-    pub(crate) fn poll(
-        &mut self,
-        alloc: Global,
-        o: &ObjName,
-        most: u32,
-    ) -> Result<Outcome, ContextFault>
-        ensures { IsDone self.old (Event.Poll o.now most) self.new result }
-    {
-        let Some(state) = self.contexts.get_mut(&o.context) else {
-            return Err(ContextFault::Refused(self.missing(o.context)));
-        };
-        let made = state.poll(alloc, o.name, most);
-        told_polled(alloc, made)
-    }
-
-    /// The next packet of a queue pair may be sent.
-    pub(crate) fn transmit(&mut self, alloc: Global, o: &ObjName) -> Result<Outcome, ContextFault>
-        ensures { IsDone self.old (Event.Transmit o.now) self.new result }
-    {
-        let Some(state) = self.contexts.get_mut(&o.context) else {
-            return Err(ContextFault::Refused(self.missing(o.context)));
-        };
-        let made = state.transmit(alloc, &self.pool, o.name, self.address);
-        told_sent(made)
-    }
-
-    /// The retransmission timeout of a queue pair. It takes no memory.
-    pub(crate) fn expire(&mut self, alloc: Global, o: &ObjName) -> Result<Outcome, ContextFault>
-        ensures { IsDone self.old (Event.Expire o.now) self.new result }
-    {
-        let Some(state) = self.contexts.get_mut(&o.context) else {
-            return Err(ContextFault::Refused(self.missing(o.context)));
-        };
-        let made = state.expire(&mut self.pool, o.name);
-        told_answer(alloc, made)
-    }
-
-    /// The RNR timer of a queue pair is over. It takes no memory.
-    pub(crate) fn rnr_over(&mut self, alloc: Global, o: &ObjName) -> Result<Outcome, ContextFault>
-        ensures { IsDone self.old (Event.RnrOver o.now) self.new result }
-    {
-        let Some(state) = self.contexts.get_mut(&o.context) else {
-            return Err(ContextFault::Refused(self.missing(o.context)));
-        };
-        let made = state.rnr_over(o.name);
-        told_answer(alloc, made)
     }
 }

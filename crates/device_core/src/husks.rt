@@ -2,7 +2,7 @@
 
 /// An entry of a husk, the tombstone that a moved context leaves on its old device (MigrOS): the number of an end, its
 /// partner's number, and how often it had moved.
-#[derive(Clone, Copy, Debug, PartialEq, Eq)]
+#[derive(Clone, Copy)]
 pub(crate) struct HuskEntry {
     pub(crate) number: u32,
     pub(crate) peer: u32,

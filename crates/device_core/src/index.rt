@@ -7,7 +7,7 @@ use indexmap::IndexMap;
 use rdma_types::Name;
 
 /// The place of an end in its context, or of an entry in its husk.
-#[derive(Clone, Copy, Debug)]
+#[derive(Clone, Copy)]
 pub(crate) struct EndLocation {
     pub(crate) context: Name,
     pub(crate) place: usize,

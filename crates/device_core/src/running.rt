@@ -36,7 +36,6 @@ impl Device {
     {
         match event {
             Event::MakeContext { name } => self.make_context(alloc, *name),
-            Event::MakeDomain { name } => self.make_domain(alloc, name),
             Event::MakeRegion {
                 name,
                 domain,
@@ -44,7 +43,6 @@ impl Device {
                 length,
                 rights,
             } => { self.make_region(alloc, name, *domain, *base, *length, *rights) }
-            Event::MakeCq { name, capacity } => self.make_cq(alloc, name, *capacity),
             Event::MakeQp {
                 name,
                 domain,
@@ -63,25 +61,22 @@ impl Device {
                 };
                 self.make_qp(alloc, name.context, &asked)
             }
-            Event::Connect {
-                end,
-                peer,
-                partner,
-                terms,
-            } => { self.connect(alloc, end, *peer, *partner, terms) }
-            Event::DropRegion { name } => self.drop_region(alloc, name),
-            Event::Store { region, at, bytes } => self.store(alloc, region, *at, bytes.as_slice()),
-            Event::Load { region, at, length } => self.load(alloc, region, *at, *length),
-            Event::PostSend { end, request } => self.post_send(alloc, end, request),
-            Event::PostRecv { end, receive } => self.post_recv(alloc, end, receive),
-            Event::Poll { cq, max } => self.poll(alloc, cq, *max),
-            Event::Transmit { end } => self.transmit(alloc, end),
             Event::Arrive { from, bytes } => self.take_bytes(alloc, *from, bytes.as_slice()),
-            Event::Expire { end } => self.expire(alloc, end),
-            Event::RnrOver { end } => self.rnr_over(alloc, end),
             Event::Stop { context, alone } => self.stop(alloc, *context, *alone),
             Event::Restore { image } => self.put_image(alloc, image),
             Event::Release { context } => self.release(alloc, *context),
+            Event::MakeDomain { name } | Event::MakeCq { name, .. } | Event::DropRegion { name } =>
+                { self.act(alloc, name.context, event) }
+            Event::Store { region, .. } | Event::Load { region, .. } => {
+                self.act(alloc, region.context, event)
+            }
+            Event::Poll { cq, .. } => self.act(alloc, cq.context, event),
+            Event::Connect { end, .. }
+            | Event::PostSend { end, .. }
+            | Event::PostRecv { end, .. }
+            | Event::Transmit { end }
+            | Event::Expire { end }
+            | Event::RnrOver { end } => self.act(alloc, end.context, event),
         }
     }
 

@@ -1,5 +1,4 @@
 use Rattle.std.proofs.Common.{sym, subst, ◌∙◌}
-use Rattle.std.specs.Prelude.{IfSome}
 use Rattle.device_differences.proofs.Told.{device-tells}
 use Rattle.device_differences.proofs.Tells.{Differs}
 use Rattle.device_core.proofs.device.Device.differs.Goals as goal

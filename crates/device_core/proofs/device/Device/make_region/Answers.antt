@@ -14,7 +14,8 @@ use Rattle.device_core.proofs.Contexts.{found-there}
 use Rattle.device_core.proofs.Dones.{missing-done}
 use Rattle.device_core.proofs.Helds.{free-is, is-context}
 use Rattle.device_core.proofs.Made.{counted-err, own-keys, region-made}
-use Rattle.device_core.proofs.Stepping.{Turn, done-at, found-mut, stepped, unchanged-keys}
+use Rattle.device_core.specs.Acting.{Turn}
+use Rattle.device_core.proofs.Stepping.{done-at, found-mut, stepped, unchanged-keys}
 use Rattle.device_core.proofs.device.Device.make_region.Goals as goal
 
 pub invariant_of-self : goal.invariant_of-self

@@ -13,7 +13,8 @@ use Rattle.device_core.proofs.Arrivals.{arrived, arrives-nothing, arrives-packet
 use Rattle.device_core.proofs.Contexts.{found-there}
 use Rattle.device_core.proofs.Helds.{is-context}
 use Rattle.device_core.proofs.Lookups.{gone-kept, held-kept, none-mut, same-kept}
-use Rattle.device_core.proofs.Stepping.{Turn, done-at, found-mut}
+use Rattle.device_core.specs.Acting.{Turn}
+use Rattle.device_core.proofs.Stepping.{done-at, found-mut}
 use Rattle.device_core.proofs.device.Device.take_bytes.Goals as goal
 
 pub returns-in_default-clause-done : goal.returns-in_default-clause-done
