@@ -16,7 +16,7 @@ use world_core::{Event, LinkView, LiveEnd, World, WorldEvent};
 
 /// The last step of an end's RNR timer in a settling: where its oldest unacknowledged number was, and whether its partner
 /// was in Error.
-#[derive(Clone, Copy, Debug)]
+#[derive(Clone, Copy)]
 pub(crate) struct Wait {
     pub(crate) una: u64,
     pub(crate) partner_ended: bool,

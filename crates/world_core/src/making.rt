@@ -26,7 +26,7 @@ use std::alloc::{AllocError, Global};
 const MOST_DEVICES: usize = 16;
 
 /// Where an end is that may be connected: the place and the address of its device, its number, and whether it is in Init.
-#[derive(Clone, Copy, Debug)]
+#[derive(Clone, Copy)]
 pub(crate) struct EndAddress {
     pub(crate) place: usize,
     pub(crate) address: Address,

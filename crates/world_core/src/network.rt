@@ -19,7 +19,7 @@ use rdma_types::{Answer, Items, SilentWhy, Took};
 use std::alloc::{AllocError, Global};
 
 /// What becomes of a datagram that is delivered.
-#[derive(Clone, Copy, Debug)]
+#[derive(Clone, Copy)]
 pub(crate) enum Delivery {
     Gone,
     Lost,
