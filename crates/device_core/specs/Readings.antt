@@ -102,5 +102,10 @@ head_ended (Some h) = link_ended h.link
 -- an event that takes no memory
 abbrev pub TakesNoMemory : Event → Type 0
 TakesNoMemory (event.Connect o peer partner terms) = Unit {0}
+TakesNoMemory (event.DropRegion o) = Unit {0}
+TakesNoMemory (event.Store o at bytes) = Unit {0}
+TakesNoMemory (event.PostRecv o receive) = Unit {0}
+TakesNoMemory (event.Expire o) = Unit {0}
+TakesNoMemory (event.RnrOver o) = Unit {0}
 TakesNoMemory (event.Release name) = Unit {0}
 TakesNoMemory e = ⊥

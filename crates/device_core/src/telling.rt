@@ -70,7 +70,8 @@ pub(crate) fn told_answer(
     alloc: Global,
     made: Result<Answer, Refusal>,
 ) -> Result<Outcome, ContextFault>
-    ensures { result ≡ told_plainly plain made }
+    ensures told { result ≡ told_plainly plain made }
+    ensures never_out_of_memory { IsNotOutOfMemory result }
 {
     match made {
         Ok(answer) => Ok(answered(alloc, answer)),

@@ -97,7 +97,7 @@ returns-in-Expire-clause-acts c =
     let e = c.expire.ensures in
     let s' = c.expire.new.self in
     for-event c.in-Expire.is refl (acts-plainly c.args.own (event.Expire b.end) b.end.context c.args.pool.now c.expire.new.pool c.args.state.now s' (λ d k. connected_causes k b.end.name) (λ d. refl) (λ d k. expires d k (end_at k b.end.name)) (λ d. refl) (plain) c.told_answer.result
-    c.expire.result c.told_answer.ensures (record { moves = e.moves; is = e.is; numbers = e.numbers b.end.context }) (λ d l. e.refused b.end.context) (λ d l. e.expired b.end.context d l.same) e.err e.err_pool)
+    c.expire.result c.told_answer.ensures.told (record { moves = e.moves; is = e.is; numbers = e.numbers b.end.context }) (λ d l. e.refused b.end.context) (λ d l. e.expired b.end.context d l.same) e.err e.err_pool)
 
 pub returns-in-RnrOver-clause-acts : goal.returns-in-RnrOver-clause-acts
 returns-in-RnrOver-clause-acts c =
@@ -105,4 +105,4 @@ returns-in-RnrOver-clause-acts c =
     let e = c.rnr_over.ensures in
     let s' = c.rnr_over.new.self in
     for-event c.in-RnrOver.is refl (acts-plainly c.args.own (event.RnrOver b.end) b.end.context c.args.pool.now c.args.pool.now c.args.state.now s' (λ d k. connected_causes k b.end.name) (λ d. refl) (λ d k. rnr_over d k (end_at k b.end.name)) (λ d. refl) (plain) c.told_answer-in-RnrOver.result
-    c.rnr_over.result c.told_answer-in-RnrOver.ensures (plain-turn c.args.pool.now b.end.context c.args.state.now s' e.lists (λ m. e.pages c.args.pool.now m c.requires.is) (e.is c.args.pool.now c.requires.is) (e.numbers c.args.pool.now b.end.context)) (λ d l. e.refused c.args.pool.now b.end.context) (λ d l. e.over c.args.pool.now b.end.context d c.requires.is l.same) e.err (err-same _ c.args.pool.now))
+    c.rnr_over.result c.told_answer-in-RnrOver.ensures.told (plain-turn c.args.pool.now b.end.context c.args.state.now s' e.lists (λ m. e.pages c.args.pool.now m c.requires.is) (e.is c.args.pool.now c.requires.is) (e.numbers c.args.pool.now b.end.context)) (λ d l. e.refused c.args.pool.now b.end.context) (λ d l. e.over c.args.pool.now b.end.context d c.requires.is l.same) e.err (err-same _ c.args.pool.now))
