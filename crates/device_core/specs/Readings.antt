@@ -1,5 +1,5 @@
 -- A new device, and what its readers tell (this project's choice).
-use Rattle.std.specs.Prelude.{ℕ, ◌==◌, ◌&&◌, not, Bool, false, List, [], map, flat_map, Option, Some, None, option_map, if◌then◌else◌}
+use Rattle.std.specs.Prelude.{ℕ, ◌≡◌, ◌==◌, ◌&&◌, not, Bool, false, List, [], map, flat_map, Option, Some, None, option_map, if◌then◌else◌}
 use Rattle.rdma_types.specs.declared.answers.EndState.{EndState}
 use Rattle.rdma_types.specs.declared.answers.EndState.TheVariants as state
 use Rattle.rdma_types.specs.declared.answers.EndView.{EndView}
@@ -18,6 +18,7 @@ use Rattle.protocol.specs.EndWords.{is_in_error, is_resuming_link}
 use Rattle.protocol.specs.Readers.{Marks, marks_of, view_of}
 use Rattle.protocol.specs.Refusals.{has_context, has_end}
 use Rattle.protocol.specs.State.{Device, context_at, end_at}
+use Rattle.protocol.specs.Wire.{packet_of}
 
 -- a device without contexts
 abbrev pub new_device : ℕ → Address → Device
@@ -99,8 +100,9 @@ abbrev pub head_ended : Option EndHead → Bool
 head_ended None = false
 head_ended (Some h) = link_ended h.link
 
--- an event that takes no memory
+-- an event that takes no memory: bytes that arrive take none where they are no datagram
 abbrev pub TakesNoMemory : Event → Type 0
+TakesNoMemory (event.Arrive from bytes) = packet_of bytes ≡ None
 TakesNoMemory (event.Connect o peer partner terms) = Unit {0}
 TakesNoMemory (event.DropRegion o) = Unit {0}
 TakesNoMemory (event.Store o at bytes) = Unit {0}

@@ -4,9 +4,9 @@ ghost use Rattle.std.specs.Prelude.{ℕ, ◌≡◌, ◌⊎◌, ◌<◌, ◌≤�
 ghost use Rattle.protocol.specs.DeviceStep.{at_husk, found_in, husk_entries};
 ghost use Rattle.protocol.specs.Moves.{nak_stopped};
 ghost use Rattle.protocol.specs.State.{HuskEntry as Entry};
-ghost use Rattle.protocol.specs.Wire.{Fits, is_control as is_control_packet, is_nak_stopped, wire_of};
+ghost use Rattle.protocol.specs.Wire.{Fits, is_control as is_control_packet, is_nak_stopped, packet_of, wire_of};
 ghost use Rattle.roce_headers.specs.Packets.{packet};
-ghost use Rattle.device_core.specs.Done.{AreFew, IsDone, silent as silent_outcome, told_memory as memory_told, told_taken as taken_told};
+ghost use Rattle.device_core.specs.Done.{AreFew, IsDone, IsNotOutOfMemory, silent as silent_outcome, told_memory as memory_told, told_taken as taken_told};
 ghost use Rattle.device_core.specs.Index.{IsEndAt, IsEntryAt, husk_at};
 ghost use Rattle.device_core.specs.Parts.{entry_of};
 
@@ -206,6 +206,7 @@ impl Device {
     ) -> Result<Outcome, ContextFault>
         ensures done { IsDone self.old (Event.Arrive from bytes.now) self.new result }
         ensures bounded { AreFew result }
+        ensures never_out_of_memory { packet_of bytes.now ≡ None → IsNotOutOfMemory result }
     {
         let Ok(d) = decode(bytes) else {
             return Ok(silent(alloc, SilentWhy::Malformed));

@@ -1,9 +1,10 @@
 //! One step of a device.
 
-ghost use Rattle.std.specs.Prelude.{◌≡◌, ◌≤◌, ◌^◌, length, IfOk, IfSome, IsOk, OnErr};
+ghost use Rattle.std.specs.Prelude.{◌≡◌, ◌≤◌, ◌^◌, length, IfOk, IfSome, IsOk, None, OnErr};
 ghost use Rattle.protocol.specs.DeviceStep.{device_step};
 ghost use Rattle.protocol.specs.Events.{IsLawfulEvent};
 ghost use Rattle.protocol.specs.Lawful.{IsLawful};
+ghost use Rattle.protocol.specs.Wire.{packet_of};
 ghost use Rattle.device_core.specs.Done.{AreFew, AreLawful, IsDone, IsNotOutOfMemory, told_step as step_told};
 ghost use Rattle.device_core.specs.Readings.{TakesNoMemory};
 
@@ -80,8 +81,9 @@ impl Device {
         }
     }
 
-    /// One step on an event. A refusal is an answer, and the device is then as before. A connection and a release take
-    /// no memory. Errors: `AllocError` when out of memory; the device is then as before.
+    /// One step on an event. A refusal is an answer, and the device is then as before. Errors: `AllocError` when out of
+    /// memory; the device is then as before. Connect, DropRegion, Store, PostRecv, Expire, RnrOver, Release and bytes that
+    /// are no datagram take no memory.
     pub fn step(&mut self, alloc: Global, event: &Event) -> Result<Outcome, AllocError>
         requires { IsLawfulEvent event.now }
         ensures ok { IfOk result (λ o. device_step self.old event.now ≡ record { device = self.new; outcome = o }) }
@@ -111,7 +113,7 @@ impl Device {
     }
 
     /// The step on `Event::Arrive`, with bytes that stay with their owner. Errors: `AllocError` when out of memory; the
-    /// device is then as before.
+    /// device is then as before. Bytes that are no datagram take no memory.
     pub fn arrive(
         &mut self,
         alloc: Global,
@@ -122,6 +124,7 @@ impl Device {
         ensures bounded { IfOk result (λ o. length o.sent ≤ 2 ^ 32) }
         ensures id { self.new.id ≡ self.old.id }
         ensures address { self.new.address ≡ self.old.address }
+        ensures never_out_of_memory { packet_of bytes.now ≡ None → IsOk result }
         ensures err { OnErr result (self.new ≡ self.old) }
     {
         let done = self.take_bytes(alloc, from, bytes);

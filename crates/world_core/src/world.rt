@@ -1,12 +1,12 @@
 //! A world, and its steps.
 
-ghost use Rattle.std.specs.Prelude.{◌≡◌, IfOk, OnErr};
+ghost use Rattle.std.specs.Prelude.{◌≡◌, ◌≤◌, ◌^◌, length, IfOk, IsOk, OnErr};
 ghost use Rattle.protocol.specs.Events.{IsLawfulWorldEvent};
 ghost use Rattle.protocol.specs.State.{empty_world};
 ghost use Rattle.protocol.specs.WorldStep.{world_step};
 ghost use Rattle.law_kept_datagrams.specs.Alike.{with_kept_datagrams};
 ghost use Rattle.world_core.specs.Followed.{IsFollowed};
-ghost use Rattle.world_core.specs.Kept.{IsReady, Makes};
+ghost use Rattle.world_core.specs.Kept.{IsReady, Makes, TakesNoMemory};
 ghost use Rattle.world_core.specs.Places.{HaveOwnIds};
 
 use crate::laws::steps_are_followed;
@@ -72,13 +72,15 @@ impl World {
     ///
     /// # Errors
     ///
-    /// `AllocError` when out of memory; nothing has changed.
+    /// `AllocError` when out of memory, or where more than 2^62 datagrams were sent; nothing has changed. A connection and
+    /// a loss take no memory.
     pub fn step(&mut self, alloc: Global, event: &WorldEvent) -> Result<Answer, AllocError>
         requires { IsLawfulWorldEvent event.now }
         ensures ok { IfOk result (λ answer. Makes (world_step self.old event.now) answer self.new) }
         ensures followed { IfOk result (λ answer. IsFollowed self.old event.now answer self.new) }
         ensures kept { with_kept_datagrams self.old ≡ self.old }
         ensures ids { HaveOwnIds self.old.devices }
+        ensures never_out_of_memory { TakesNoMemory event.now → length self.old.sent ≤ 2 ^ 62 → IsOk result }
         ensures err { OnErr result (self.new ≡ self.old) }
     {
         steps_are_followed();
@@ -93,6 +95,7 @@ impl World {
         requires lawful { IsLawfulWorldEvent event.now }
         requires ready { IsReady self.old }
         ensures ok { IfOk result (λ answer. Makes (world_step self.old event.now) answer self.new) }
+        ensures never_out_of_memory { TakesNoMemory event.now → IsOk result }
         ensures err { OnErr result (self.new ≡ self.old) }
     {
         match event {
