@@ -1,6 +1,6 @@
 //! A world, and its steps.
 
-ghost use Rattle.std.specs.Prelude.{◌≡◌, ◌≤◌, ◌^◌, length, IfOk, IsOk, OnErr};
+ghost use Rattle.std.specs.Prelude.{◌≡◌, ◌<◌, ◌^◌, length, IfOk, IsOk, OnErr};
 ghost use Rattle.protocol.specs.Events.{IsLawfulWorldEvent};
 ghost use Rattle.protocol.specs.State.{empty_world};
 ghost use Rattle.protocol.specs.WorldStep.{world_step};
@@ -72,7 +72,7 @@ impl World {
     ///
     /// # Errors
     ///
-    /// `AllocError` when out of memory, or where more than 2^62 datagrams were sent; nothing has changed. A connection and
+    /// `AllocError` when out of memory, or where 2^62 datagrams were sent; nothing has changed. A connection and
     /// a loss take no memory.
     pub fn step(&mut self, alloc: Global, event: &WorldEvent) -> Result<Answer, AllocError>
         requires { IsLawfulWorldEvent event.now }
@@ -80,7 +80,7 @@ impl World {
         ensures followed { IfOk result (λ answer. IsFollowed self.old event.now answer self.new) }
         ensures kept { with_kept_datagrams self.old ≡ self.old }
         ensures ids { HaveOwnIds self.old.devices }
-        ensures never_out_of_memory { TakesNoMemory event.now → length self.old.sent ≤ 2 ^ 62 → IsOk result }
+        ensures never_out_of_memory { TakesNoMemory event.now → length self.old.sent < 2 ^ 62 → IsOk result }
         ensures err { OnErr result (self.new ≡ self.old) }
     {
         steps_are_followed();
