@@ -55,14 +55,14 @@ fn asks(verb: Verb, given: u32) -> IdealStep {
 
 /// A machine that makes steps one after another, and the first one that was not answered as wanted.
 #[derive(Drop)]
-struct Session {
+struct Trial {
     ideal: Ideal,
     alloc: Global,
     made: u32,
     first_wrong: Option<u32>,
 }
 
-impl Session {
+impl Trial {
     /// Counts a step, and keeps its number where it is the first that was not answered as wanted.
     fn note(&mut self, as_wanted: bool) {
         if !as_wanted && self.first_wrong.is_none() {
@@ -158,8 +158,8 @@ impl Session {
 }
 
 /// Two contexts whose ends are connected.
-fn opened(alloc: Global, n: &Names) -> Session {
-    let mut run = Session {
+fn opened(alloc: Global, n: &Names) -> Trial {
+    let mut run = Trial {
         ideal: Ideal::make(alloc),
         alloc,
         made: 0,
