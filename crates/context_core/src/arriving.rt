@@ -1,6 +1,6 @@
 //! Datagrams taken.
 
-ghost use Rattle.std.specs.Prelude.{ℕ, ◌≡◌, ◌+◌, ◌*◌, ◌<◌, ◌≤◌, ◌^◌, List, [], length, Some, IfNone, IfOk, IfSome, OnErr, is_none, map, slice_get};
+ghost use Rattle.std.specs.Prelude.{ℕ, ◌≡◌, ◌+◌, ◌*◌, ◌<◌, ◌≤◌, ◌^◌, List, [], length, None, Some, IfNone, IfOk, IfSome, IsOk, OnErr, is_none, map, slice_get};
 ghost use Rattle.std.specs.Option.{option_map_or};
 ghost use Rattle.rdma_types.specs.Limits.{AreTerms};
 ghost use Rattle.rdma_types.specs.Objects.{Region};
@@ -265,7 +265,8 @@ fn reply_sent(alloc: Global, room: DatagramBuffer, link: &EndLink, reply: EndRep
 
 impl ContextState {
     /// Takes a datagram at the connected end of that place. `None` comes exactly where no connected end stands there,
-    /// and nothing has changed then. Errors: `AllocError` when out of memory; nothing has changed.
+    /// and nothing has changed then, and no memory is taken. Errors: `AllocError` when out of memory; nothing has
+    /// changed.
     pub fn take(
         &mut self,
         alloc: Global,
@@ -284,6 +285,7 @@ impl ContextState {
         ensures is { IsContext pool.new self.new }
         ensures moves { Moves pool.old pool.new self.old self.new }
         ensures numbers { (n : Name) → map (λ e. e.number) (context_in pool.new n self.new).ends ≡ map (λ e. e.number) (context_in pool.old n self.old).ends }
+        ensures never_out_of_memory { (n : Name) → link_at (context_in pool.old n self.old) place ≡ None → IsOk result }
         ensures err { OnErr result (self.new ≡ self.old) }
         ensures err_pool { OnErr result (pool.new ≡ pool.old) }
     {

@@ -16,7 +16,7 @@ use Rattle.protocol.specs.DeviceStep.{Step, arrives, arrives_packet, device_step
 use Rattle.protocol.specs.EndStep.{takes}
 use Rattle.protocol.specs.Refusals.{has_context, has_husk}
 use Rattle.protocol.specs.State.{Context, Device, End, HuskEntry as Entry, Link, context_at}
-use Rattle.protocol.specs.Wire.{Packet, packet_of}
+use Rattle.protocol.specs.Wire.{Packet, is_control, packet_of}
 use Rattle.context_core.specs.declared.arriving.ArrivalOutcome.{ArrivalOutcome}
 use Rattle.context_core.specs.declared.ContextFault.{ContextFault}
 use Rattle.context_core.specs.Context.{Holding, context_in}
@@ -76,6 +76,25 @@ pub husk-arrived-at : (index : ℕ → Option EndLocation) (d d' : Device) → d
     → IsDone d' (event.Arrive from bytes) d' told
 husk-arrived-at index d d' same i names husk_names n place from bytes p is entry gone r told tells done =
     husk-arrived index d' (subst (IsIndex index) same i) (subst (λ (x : Device). AllPairs (λ a b. a ≢ b) (map (λ c. c.name) x.contexts)) same names) (subst (λ (x : Device). AllPairs (λ a b. a ≢ b) (map (λ h. h.name) x.husks)) same husk_names) n place from bytes p is entry gone r told tells done
+
+-- a packet for nobody that reaches an entry of a husk is a message of moving
+pub left-control : (index : ℕ → Option EndLocation) (d : Device) → IsIndex index d → AllPairs (λ a b. a ≢ b) (map (λ c. c.name) d.contexts) → AllPairs (λ a b. a ≢ b) (map (λ h. h.name) d.husks)
+    → (n : Name) (place : ℕ) (p : Packet) → IsEntryAt d n place p.dest → (husk_entries p.dest d.husks ≡ []) ⊎ (is_control p ≡ true) → is_control p ≡ true
+left-control index d i names husk_names n place p entry (inl none) = absurd (cc (left-one index d i names husk_names p.dest n place entry, none))
+left-control index d i names husk_names n place p entry (inr control) = control
+
+-- a number that no connected end has is at an end that is not connected
+no-link : (c : Context) (e : End) (l : Option Link) → found_link c e l [] ≡ [] → l ≡ None
+no-link c e None gone = refl
+no-link c e (Some l) gone = absurd (cc gone)
+
+pub found-unlinked : (id : ℕ) (address : Address) (qp key : ℕ) (pool : Pool) (es : List (Name × Holding)) (husks : List (Name × List HuskEntry)) (index : ℕ → Option EndLocation) → IsHeld pool es index (device_of id address qp key pool es husks)
+    → (n : Name) (s : Holding) → lookup (bytes_eq n) es ≡ Some s → (place k : ℕ) → IsEndAt (device_of id address qp key pool es husks) n place k
+    → found_in k (device_of id address qp key pool es husks).contexts ≡ [] → link_at (context_in pool n s) place ≡ None
+found-unlinked id address qp key pool es husks index held n s found place k end gone =
+    ap (λ (c : Context). link_at c place) (sym (context-is id address qp key pool es husks index held n s found))
+    ∙ (ap link_by end.there
+    ∙ no-link _ end.end end.end.link (sym (found-live index (device_of id address qp key pool es husks) held.indexed held.names held.husk_names k n place end) ∙ gone))
 
 module _ (id : ℕ) (address : Address) (qp key : ℕ) (pool : Pool) (es : List (Name × Holding)) (husks : List (Name × List HuskEntry)) (index : ℕ → Option EndLocation) (held : IsHeld pool es index (device_of id address qp key pool es husks))
     (n : Name) (s : Holding) (found : lookup (bytes_eq n) es ≡ Some s) (pool' : Pool) (s' : Holding) (turn : Turn pool pool' n s s') (es' : List (Name × Holding)) (set : es' ≡ set_value (bytes_eq n) es s') (from : Address) (bytes : List ℕ) (p : Packet) (is : packet_of bytes ≡ Some p)

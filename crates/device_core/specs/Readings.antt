@@ -1,5 +1,5 @@
 -- A new device, and what its readers tell (this project's choice).
-use Rattle.std.specs.Prelude.{ℕ, ◌≡◌, ◌==◌, ◌&&◌, not, Bool, false, List, [], map, flat_map, Option, Some, None, option_map, if◌then◌else◌}
+use Rattle.std.specs.Prelude.{ℕ, ◌≡◌, ◌⊎◌, ◌==◌, ◌&&◌, not, Bool, false, true, List, [], map, flat_map, Option, Some, None, option_map, if◌then◌else◌}
 use Rattle.rdma_types.specs.declared.answers.EndState.{EndState}
 use Rattle.rdma_types.specs.declared.answers.EndState.TheVariants as state
 use Rattle.rdma_types.specs.declared.answers.EndView.{EndView}
@@ -14,11 +14,12 @@ use Rattle.rdma_types.specs.declared.requests.Address.{Address}
 use Rattle.rdma_types.specs.Lists.{some}
 use Rattle.protocol.specs.declared.events.Event.{Event}
 use Rattle.protocol.specs.declared.events.Event.TheVariants as event
+use Rattle.protocol.specs.DeviceStep.{found_in, husk_entries}
 use Rattle.protocol.specs.EndWords.{is_in_error, is_resuming_link}
 use Rattle.protocol.specs.Readers.{Marks, marks_of, view_of}
 use Rattle.protocol.specs.Refusals.{has_context, has_end}
 use Rattle.protocol.specs.State.{Device, context_at, end_at}
-use Rattle.protocol.specs.Wire.{packet_of}
+use Rattle.protocol.specs.Wire.{Packet, is_control, packet_of}
 
 -- a device without contexts
 abbrev pub new_device : ℕ → Address → Device
@@ -100,9 +101,17 @@ abbrev pub head_ended : Option EndHead → Bool
 head_ended None = false
 head_ended (Some h) = link_ended h.link
 
--- an event that takes no memory: bytes that arrive take none where they are no datagram
+-- no end takes a packet and no husk answers it: the number is not here, or a message of moving reaches a husk
+abbrev pub IsForNobody : Device → Packet → Type 0
+IsForNobody d p = (found_in p.dest d.contexts ≡ []) × ((husk_entries p.dest d.husks ≡ []) ⊎ (is_control p ≡ true))
+
+-- bytes that do nothing, since they are no datagram or one for nobody
+abbrev pub DoNothing : Device → Option Packet → Type 0
+DoNothing d None = Unit {0}
+DoNothing d (Some p) = IsForNobody d p
+
+-- an event of a context that takes no memory
 abbrev pub TakesNoMemory : Event → Type 0
-TakesNoMemory (event.Arrive from bytes) = packet_of bytes ≡ None
 TakesNoMemory (event.Connect o peer partner terms) = Unit {0}
 TakesNoMemory (event.DropRegion o) = Unit {0}
 TakesNoMemory (event.Store o at bytes) = Unit {0}
@@ -111,3 +120,8 @@ TakesNoMemory (event.Expire o) = Unit {0}
 TakesNoMemory (event.RnrOver o) = Unit {0}
 TakesNoMemory (event.Release name) = Unit {0}
 TakesNoMemory e = ⊥
+
+-- an event of a device that takes no memory
+abbrev pub TakesNoMemoryAt : Device → Event → Type 0
+TakesNoMemoryAt d (event.Arrive from bytes) = DoNothing d (packet_of bytes)
+TakesNoMemoryAt d e = TakesNoMemory e

@@ -1,6 +1,6 @@
 //! What arriving bytes do.
 
-ghost use Rattle.std.specs.Prelude.{ℕ, ◌≡◌, ◌⊎◌, ◌<◌, ◌≤◌, ◌^◌, ◌∷◌, [], Some, None, IfOk, IfSome, IfNone, length, slice_get};
+ghost use Rattle.std.specs.Prelude.{ℕ, ◌≡◌, ◌⊎◌, ◌<◌, ◌≤◌, ◌^◌, ◌∷◌, [], true, Some, None, IfOk, IfSome, IfNone, IsOk, length, slice_get};
 ghost use Rattle.protocol.specs.DeviceStep.{at_husk, found_in, husk_entries};
 ghost use Rattle.protocol.specs.Moves.{nak_stopped};
 ghost use Rattle.protocol.specs.State.{HuskEntry as Entry};
@@ -9,6 +9,7 @@ ghost use Rattle.roce_headers.specs.Packets.{packet};
 ghost use Rattle.device_core.specs.Done.{AreFew, IsDone, IsNotOutOfMemory, silent as silent_outcome, told_memory as memory_told, told_taken as taken_told};
 ghost use Rattle.device_core.specs.Index.{IsEndAt, IsEntryAt, husk_at};
 ghost use Rattle.device_core.specs.Parts.{entry_of};
+ghost use Rattle.device_core.specs.Readings.{DoNothing};
 
 use crate::Device;
 use crate::device::answered;
@@ -48,6 +49,7 @@ fn told_taken(
     requires { IfOk taken (λ r. IfSome r (λ t. length t.sent ≤ 2 ^ 32)) }
     ensures told { result ≡ taken_told taken }
     ensures bounded { AreFew result }
+    ensures never_out_of_memory { IsOk taken → IsNotOutOfMemory result }
 {
     match taken {
         Ok(Some(ArrivalOutcome { took, sent })) => Ok(Outcome {
@@ -94,6 +96,7 @@ fn stopped_datagram(entry: &HuskEntry, psn: u32) -> Datagram<'static>
 fn told_memory(done: Result<Outcome, AllocError>) -> Result<Outcome, ContextFault>
     ensures told { result ≡ memory_told done }
     ensures bounded { IfOk done (λ o. length o.sent ≤ 2 ^ 32) → AreFew result }
+    ensures never_out_of_memory { IsOk done → IsNotOutOfMemory result }
 {
     match done {
         Ok(outcome) => Ok(outcome),
@@ -179,6 +182,7 @@ impl Device {
         requires psn { d.now.psn < 2 ^ 24 }
         ensures bounded { IfOk result (λ o. length o.sent ≤ 2 ^ 32) }
         ensures done { IfOk result (λ o. (h : Entry) → slice_get (husk_at self.now spot.now.context).entries spot.now.place ≡ Some h → at_husk self.now from (packet d.now) (h ∷ []) ≡ record { device = self.now; outcome = o }) }
+        ensures never_out_of_memory { is_control_packet (packet d.now) ≡ true → IsOk result }
     {
         if is_control(d) {
             return Ok(silent(alloc, SilentWhy::Unknown));
@@ -206,7 +210,7 @@ impl Device {
     ) -> Result<Outcome, ContextFault>
         ensures done { IsDone self.old (Event.Arrive from bytes.now) self.new result }
         ensures bounded { AreFew result }
-        ensures never_out_of_memory { packet_of bytes.now ≡ None → IsNotOutOfMemory result }
+        ensures never_out_of_memory { DoNothing self.old (packet_of bytes.now) → IsNotOutOfMemory result }
     {
         let Ok(d) = decode(bytes) else {
             return Ok(silent(alloc, SilentWhy::Malformed));

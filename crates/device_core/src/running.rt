@@ -1,12 +1,12 @@
 //! One step of a device.
 
-ghost use Rattle.std.specs.Prelude.{◌≡◌, ◌≤◌, ◌^◌, length, IfOk, IfSome, IsOk, None, OnErr};
+ghost use Rattle.std.specs.Prelude.{◌≡◌, ◌≤◌, ◌^◌, length, IfOk, IfSome, IsOk, OnErr};
 ghost use Rattle.protocol.specs.DeviceStep.{device_step};
 ghost use Rattle.protocol.specs.Events.{IsLawfulEvent};
 ghost use Rattle.protocol.specs.Lawful.{IsLawful};
 ghost use Rattle.protocol.specs.Wire.{packet_of};
 ghost use Rattle.device_core.specs.Done.{AreFew, AreLawful, IsDone, IsNotOutOfMemory, told_step as step_told};
-ghost use Rattle.device_core.specs.Readings.{TakesNoMemory};
+ghost use Rattle.device_core.specs.Readings.{DoNothing, TakesNoMemoryAt};
 
 use crate::Device;
 use crate::device::answered;
@@ -33,7 +33,7 @@ impl Device {
         ensures done { IsDone self.old event.now self.new result }
         ensures bounded { AreFew result }
         ensures image { AreLawful result }
-        ensures never_out_of_memory { TakesNoMemory event.now → IsNotOutOfMemory result }
+        ensures never_out_of_memory { TakesNoMemoryAt self.old event.now → IsNotOutOfMemory result }
     {
         match event {
             Event::MakeContext { name } => self.make_context(alloc, *name),
@@ -83,7 +83,7 @@ impl Device {
 
     /// One step on an event. A refusal is an answer, and the device is then as before. Errors: `AllocError` when out of
     /// memory; the device is then as before. Connect, DropRegion, Store, PostRecv, Expire, RnrOver, Release and bytes that
-    /// are no datagram take no memory.
+    /// do nothing (as at `arrive`) take no memory.
     pub fn step(&mut self, alloc: Global, event: &Event) -> Result<Outcome, AllocError>
         requires { IsLawfulEvent event.now }
         ensures ok { IfOk result (λ o. device_step self.old event.now ≡ record { device = self.new; outcome = o }) }
@@ -91,7 +91,7 @@ impl Device {
         ensures image { IfOk result (λ o. IfSome o.image (λ i. IsLawful i)) }
         ensures id { self.new.id ≡ self.old.id }
         ensures address { self.new.address ≡ self.old.address }
-        ensures never_out_of_memory { TakesNoMemory event.now → IsOk result }
+        ensures never_out_of_memory { TakesNoMemoryAt self.old event.now → IsOk result }
         ensures err { OnErr result (self.new ≡ self.old) }
     {
         let done = self.run(alloc, event);
@@ -113,7 +113,8 @@ impl Device {
     }
 
     /// The step on `Event::Arrive`, with bytes that stay with their owner. Errors: `AllocError` when out of memory; the
-    /// device is then as before. Bytes that are no datagram take no memory.
+    /// device is then as before. No memory is taken for bytes that are no datagram, for a datagram whose number is not
+    /// here, nor for a message of moving that reaches a husk.
     pub fn arrive(
         &mut self,
         alloc: Global,
@@ -124,7 +125,7 @@ impl Device {
         ensures bounded { IfOk result (λ o. length o.sent ≤ 2 ^ 32) }
         ensures id { self.new.id ≡ self.old.id }
         ensures address { self.new.address ≡ self.old.address }
-        ensures never_out_of_memory { packet_of bytes.now ≡ None → IsOk result }
+        ensures never_out_of_memory { DoNothing self.old (packet_of bytes.now) → IsOk result }
         ensures err { OnErr result (self.new ≡ self.old) }
     {
         let done = self.take_bytes(alloc, from, bytes);

@@ -18,7 +18,7 @@ use rdma_types::{Answer, Name};
 use std::alloc::{AllocError, Global};
 use std::marker::Model;
 
-/// As many datagrams may have been sent before a step; a step after more of them answers that it is out of memory.
+/// The largest number that a step may give the next datagram; where that number is larger, the step answers that it is out of memory.
 const MOST_SENT: u64 = 1 << 62;
 
 /// Devices, the network between them, and the carried images of stopped contexts. Contracts see every datagram ever

@@ -1,6 +1,7 @@
 use Rattle.std.proofs.Common.{◌≡◌, sym, subst, ap, ◌∙◌, refl}
 use Rattle.std.specs.Option.{option_copied_mut}
-use Rattle.std.specs.Prelude.{Some, IsSome}
+use Rattle.std.proofs.lemmas.Bool.{true≢false}
+use Rattle.std.specs.Prelude.{Some, IsSome, is_none}
 use Rattle.rdma_types.specs.declared.names.Name.{Name}
 use Rattle.memory_keys.specs.Regions.{regions_of}
 use Rattle.roce_headers.specs.Packets.{packet}
@@ -25,6 +26,9 @@ pub make-requires-clause-terms : goal.make-requires-clause-terms
 make-requires-clause-terms c =
     let is = subst (IsContext c.args.pool.now) (sym c.self.view_is) c.requires.is in
     (link-of c.args.pool.now c.self.inside.regions c.in-Some.slot.now.endpoint c.in-Some-link.link (end-sound c.args.pool.now (record { domains = c.self.inside.domains.keys; regions = c.self.inside.regions; queues = c.self.inside.queues.entries; ends = c.self.inside.ends.entries }) nothing c.args.place (c.in-Some.field-0-0.now, c.in-Some.slot.now) is.is (sym c.in-Some.ensures.entry)).end c.in-Some-link.is).terms
+
+pub returns-in_err-replies-clause-never_out_of_memory : goal.returns-in_err-replies-clause-never_out_of_memory
+returns-in_err-replies-clause-never_out_of_memory c = rw (← c.self.view_is) (λ n gone. absurd (true≢false (sym (ap is_none gone) ∙ some-linked c.args.pool.now n (record { domains = c.self.inside.domains.keys; regions = c.self.inside.regions; queues = c.self.inside.queues.entries; ends = c.self.inside.ends.entries }) c.args.place (c.in-Some.field-0-0.now, c.in-Some.slot.now) c.in-Some-link.link (sym c.in-Some.ensures.entry) c.in-Some-link.is)))
 
 pub take-done-requires-clause-connected : goal.take-done-requires-clause-connected
 take-done-requires-clause-connected c =

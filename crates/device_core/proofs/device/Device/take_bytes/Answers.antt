@@ -9,7 +9,8 @@ use Rattle.roce_headers.specs.Packets.{packet}
 use Rattle.device_core.specs.Done.{IsDone}
 use Rattle.device_core.specs.Index.{IsEndAt, IsEntryAt}
 use Rattle.device_core.specs.Parts.{device_of}
-use Rattle.device_core.proofs.Arrivals.{arrived, arrives-nothing, arrives-packet, found-nowhere, husk-arrived-at, lives-there, stays-there}
+use Rattle.device_core.specs.Readings.{DoNothing}
+use Rattle.device_core.proofs.Arrivals.{arrived, arrives-nothing, arrives-packet, found-nowhere, found-unlinked, husk-arrived-at, left-control, lives-there, stays-there}
 use Rattle.device_core.proofs.Contexts.{found-there}
 use Rattle.device_core.proofs.Helds.{is-context}
 use Rattle.device_core.proofs.Lookups.{gone-kept, held-kept, none-mut, same-kept}
@@ -91,3 +92,29 @@ returns-clause-done c =
     done-at c.self.view_is (arrived x.id x.address x.qp_count x.key_count x.pool x.contexts.entries x.husks.entries _ c.self.invariant n s found pool' s' turn (c.get_mut.follows.lender s').entries (c.get_mut.follows.holds s').0
     c.args.from c.args.bytes.now (packet c.in-Ok.d) c.in-Ok.ensures.exact c.in-Some.spot.place end c.told_taken.result c.take-taken.result c.told_taken.ensures.told
     (e.none n) (λ q l at some. e.took n q l at some) e.nothing e.nothing_pool e.err e.err_pool)
+
+pub returns-in_default-get_mut-clause-never_out_of_memory : goal.returns-in_default-get_mut-clause-never_out_of_memory
+returns-in_default-get_mut-clause-never_out_of_memory c nothing =
+    let x = c.self.inside in
+    let n = c.in-Some.spot.context in
+    let kept : c.get_mut.follows.lender-at-none.entries ≡ x.contexts.entries = λ i. (c.get_mut.follows.holds-at-none i).entries in
+    let d = device_of x.id x.address x.qp_count x.key_count x.pool c.get_mut.follows.lender-at-none.entries x.husks.entries in
+    let same : d ≡ c.args.self.now = same-kept x.id x.address x.qp_count x.key_count x.pool x.contexts.entries c.get_mut.follows.lender-at-none.entries x.husks.entries kept _ c.self.view_is in
+    let gone : has_context d n ≡ false = gone-kept x.id x.address x.qp_count x.key_count x.pool x.contexts.entries c.get_mut.follows.lender-at-none.entries x.husks.entries n kept (none-mut c.get_mut.result (lookup (bytes_eq n) x.contexts.entries) c.in_default-get_mut.is c.get_mut.ensures.value) in
+    let entry : IsEntryAt d n c.in-Some.spot.place c.in-Ok.d.dest = stays-there d n c.in-Some.spot.place c.in-Ok.d.dest gone (subst (λ (k : Device). IsEndAt k n c.in-Some.spot.place c.in-Ok.d.dest ⊎ IsEntryAt k n c.in-Some.spot.place c.in-Ok.d.dest) (sym same) c.in-Some.ensures.there) in
+    let h = held-kept x.id x.address x.qp_count x.key_count x.pool x.contexts.entries c.get_mut.follows.lender-at-none.entries x.husks.entries _ kept c.self.invariant in
+    let nobody : DoNothing d (Some (packet c.in-Ok.d)) = subst (λ (k : Device). DoNothing k (Some (packet c.in-Ok.d))) (sym same) (subst (DoNothing c.args.self.now) c.in-Ok.ensures.exact nothing) in
+    c.told_memory.ensures.never_out_of_memory (c.answer_stopped.ensures.never_out_of_memory (left-control _ d h.indexed h.names h.husk_names n c.in-Some.spot.place (packet c.in-Ok.d) entry nobody.1))
+
+pub returns-clause-never_out_of_memory : goal.returns-clause-never_out_of_memory
+returns-clause-never_out_of_memory c nothing =
+    let x = c.self.inside in
+    let n = c.in-Some.spot.context in
+    let s = c.in-Some-get_mut.state.now in
+    let found : lookup (bytes_eq n) x.contexts.entries ≡ Some s = found-mut c.get_mut.result c.in-Some-get_mut.state (lookup (bytes_eq n) x.contexts.entries) c.in-Some-get_mut.is c.get_mut.ensures.value in
+    let lives : has_context c.args.self.now n ≡ true = ap (λ k. has_context k n) (sym c.self.view_is) ∙ (sym (found-there x.pool n x.contexts.entries) ∙ ap is_some found) in
+    let d = device_of x.id x.address x.qp_count x.key_count x.pool x.contexts.entries x.husks.entries in
+    let end : IsEndAt d n c.in-Some.spot.place c.in-Ok.d.dest = lives-there d n c.in-Some.spot.place c.in-Ok.d.dest (ap (λ k. has_context k n) c.self.view_is ∙ lives) (c.self.invariant.either n)
+    (subst (λ (k : Device). IsEndAt k n c.in-Some.spot.place c.in-Ok.d.dest ⊎ IsEntryAt k n c.in-Some.spot.place c.in-Ok.d.dest) (sym c.self.view_is) c.in-Some.ensures.there) in
+    let nobody : DoNothing d (Some (packet c.in-Ok.d)) = subst (λ (k : Device). DoNothing k (Some (packet c.in-Ok.d))) (sym c.self.view_is) (subst (DoNothing c.args.self.now) c.in-Ok.ensures.exact nothing) in
+    c.told_taken.ensures.never_out_of_memory (c.take-taken.ensures.never_out_of_memory n (found-unlinked x.id x.address x.qp_count x.key_count x.pool x.contexts.entries x.husks.entries _ c.self.invariant n s found c.in-Some.spot.place c.in-Ok.d.dest end nobody.0))
