@@ -80,7 +80,7 @@ founds-named cs n (c ∷ xs) all = All-append (λ (f : Found). IsNamed cs f.cont
 all-named : (d : Device) → HasDistinctContexts d → All (IsNamed d.contexts) d.contexts
 all-named d apart = all-at (IsNamed d.contexts) d.contexts (λ i c there. let both = named-at (λ (x : Context). x.name) no_context d.contexts i c apart there in record { there = both.0; is = both.1 })
 
-changes-nothing : (touched : Name → ℕ → ℕ → Bool) (d : Device) → ChangesOnly touched d d
+pub changes-nothing : (touched : Name → ℕ → ℕ → Bool) (d : Device) → ChangesOnly touched d d
 changes-nothing touched d = record { bytes = λ name lkey k out. refl; frames = refl; husks = refl; id = refl; address = refl; qp_count = refl; key_count = refl }
 
 -- the device with a context in which only bytes that may change have changed
