@@ -26,3 +26,4 @@ mod Steps
 mod Seen
 mod LiveEnds
 mod Copied
+mod Within

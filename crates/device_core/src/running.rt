@@ -1,6 +1,8 @@
 //! One step of a device.
 
-ghost use Rattle.std.specs.Prelude.{◌≡◌, ◌≤◌, ◌^◌, length, IfOk, IfSome, IsOk, OnErr};
+ghost use Rattle.std.specs.Prelude.{ℕ, List, ◌≡◌, ◌≤◌, ◌^◌, length, IfOk, IfSome, IsOk, OnErr};
+ghost use Rattle.rdma_types.specs.declared.requests.Address.{Address};
+ghost use Rattle.law_arrivals.specs.Touched.{ArrivesWithin, ChangesOnly, is_touched};
 ghost use Rattle.protocol.specs.DeviceStep.{device_step};
 ghost use Rattle.protocol.specs.Events.{IsLawfulEvent};
 ghost use Rattle.protocol.specs.Lawful.{IsLawful};
@@ -11,6 +13,7 @@ ghost use Rattle.device_core.specs.Readings.{DoNothing, TakesNoMemoryAt};
 use crate::Device;
 use crate::device::answered;
 use context_core::{ContextFault, NewEnd};
+use law_arrivals::arrivals_change_what_they_may;
 use protocol::{ContextImage, Event, Outcome};
 use rdma_types::{Address, Answer};
 use std::alloc::{AllocError, Global};
@@ -81,6 +84,14 @@ impl Device {
         }
     }
 
+    /// Bytes that arrive here will change only what they may.
+    fn bounds_arrivals(&self)
+        ensures { (from : Address) (bytes : List ℕ) → ChangesOnly (is_touched self.now bytes) self.now (device_step self.now (Event.Arrive from bytes)).device }
+    {
+        arrivals_change_what_they_may();
+        let _ = &self.id;
+    }
+
     /// One step on an event. A refusal is an answer, and the device is then as before. Errors: `AllocError` when out of
     /// memory; the device is then as before. Connect, DropRegion, Store, PostRecv, Expire, RnrOver, Release and bytes that
     /// do nothing (as at `arrive`) take no memory.
@@ -92,8 +103,10 @@ impl Device {
         ensures id { self.new.id ≡ self.old.id }
         ensures address { self.new.address ≡ self.old.address }
         ensures never_out_of_memory { TakesNoMemoryAt self.old event.now → IsOk result }
+        ensures touched { ArrivesWithin event.now self.old self.new }
         ensures err { OnErr result (self.new ≡ self.old) }
     {
+        self.bounds_arrivals();
         let done = self.run(alloc, event);
         told_step(alloc, done)
     }
@@ -126,8 +139,10 @@ impl Device {
         ensures id { self.new.id ≡ self.old.id }
         ensures address { self.new.address ≡ self.old.address }
         ensures never_out_of_memory { DoNothing self.old (packet_of bytes.now) → IsOk result }
+        ensures touched { ChangesOnly (is_touched self.old bytes.now) self.old self.new }
         ensures err { OnErr result (self.new ≡ self.old) }
     {
+        self.bounds_arrivals();
         let done = self.take_bytes(alloc, from, bytes);
         told_step(alloc, done)
     }

@@ -102,7 +102,7 @@ unfolding written with_region
 written_queues c key off [] = refl
 written_queues c key off (b ∷ bs) = refl
 
-written_ends : (c : Context) (key off : ℕ) (bytes : List ℕ) → (written c key off bytes).ends ≡ c.ends
+pub written_ends : (c : Context) (key off : ℕ) (bytes : List ℕ) → (written c key off bytes).ends ≡ c.ends
 unfolding written with_region
 written_ends c key off [] = refl
 written_ends c key off (b ∷ bs) = refl

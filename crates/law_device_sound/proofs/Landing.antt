@@ -43,7 +43,7 @@ granted-place rs domain lkey at' count right a n apart granted some low high = e
       record { i = g.i; region = mine.0; there = mine.1; key = key; inside = omega (arith, base, size, g.grants.low, g.grants.high, low, high) }
 ]
 
-nothing_long : (xs : List ℕ) → length xs ≡ 0 → xs ≡ []
+pub nothing_long : (xs : List ℕ) → length xs ≡ 0 → xs ≡ []
 nothing_long [] h = refl
 nothing_long (x ∷ xs) h = absurd (omega (arith, h))
 
@@ -57,16 +57,16 @@ bytes-landed c domain lkey at' count right a bytes s granted low high = bytes-wr
     place (inl some) = inr (granted-place c.regions domain lkey at' count right a (length bytes) s.parts.keys granted (omega (arith, some, high some, low)) low (high some))
     place (inr none) = inl (nothing_long bytes (omega (arith, none)))
 
-word_length : (n : ℕ) → length (word_bytes n) ≡ 8
+pub word_length : (n : ℕ) → length (word_bytes n) ≡ 8
 unfolding word_bytes
 word_length n = refl
 
-old_few : (o : Option ℕ) → length (old_bytes o) ≤ 8
+pub old_few : (o : Option ℕ) → length (old_bytes o) ≤ 8
 old_few None = omega arith
 old_few (Some n) = omega (arith, word_length n)
 
 -- what lands and is no Read is a word
-lands_word : (k : Kind) → lands k ≡ true → is_read k ≡ false → is_atomic k ≡ true
+pub lands_word : (k : Kind) → lands k ≡ true → is_read k ≡ false → is_atomic k ≡ true
 lands_word Write l r = absurd (cc)
 lands_word Send l r = absurd (cc)
 lands_word Read l r = absurd (cc)

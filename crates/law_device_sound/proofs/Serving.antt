@@ -34,7 +34,7 @@ use Rattle.protocol.specs.Wire.{Packet}
 use Rattle.law_device_sound.specs.Sound.{IsSoundContext, IsSoundLink, IsSoundProgress, IsSoundReceive, IsSoundReceiver, IsSoundSend, IsSoundWrite, plan_of, plans}
 use Rattle.law_device_sound.proofs.Ends.{Bytes, Stays, bytes-none, bytes-written, follow, follow-link, follows-served, follows-stays, follows-told, link-receiver}
 use Rattle.law_device_sound.proofs.Entries.{entries-failing, entries-flushed, entry-receive, length-failing}
-use Rattle.law_device_sound.proofs.Landing.{bytes-landed}
+use Rattle.law_device_sound.proofs.Landing.{bytes-landed, nothing_long, word_length}
 use Rattle.law_device_sound.proofs.Opcodes.{HasNoWord, IsValid, and-false, or-false, send-part, some_mtu, valid-parts, whole-more, write-not-send, write-part}
 use Rattle.law_device_sound.proofs.Pairs.{AllPairs-drop, AllPairs-push}
 use Rattle.law_device_sound.proofs.Regions.{IsPlace, first_found, plan_at, region_at}
@@ -79,7 +79,7 @@ in_use_one NoMessage = omega arith
 in_use_one (InSend done r) = omega arith
 in_use_one (InWrite region off count done) = omega arith
 
-in_use_sound : (regions : List Region) (domain : Name) (mtu : ℕ) (p : Progress) → IsSoundProgress regions domain mtu p → All (IsSoundReceive regions domain) (in_use_by p)
+pub in_use_sound : (regions : List Region) (domain : Name) (mtu : ℕ) (p : Progress) → IsSoundProgress regions domain mtu p → All (IsSoundReceive regions domain) (in_use_by p)
 in_use_sound regions domain mtu NoMessage h = All-nil (IsSoundReceive regions domain)
 in_use_sound regions domain mtu (InSend done r) h = All-cons (IsSoundReceive regions domain) r [] h.receive (All-nil (IsSoundReceive regions domain))
 in_use_sound regions domain mtu (InWrite region off count done) h = All-nil (IsSoundReceive regions domain)
@@ -120,14 +120,6 @@ fitting Middle n count p e = omega (arith, not-more count n e)
 fitting Last n count p e = omega (arith, not-equal n count e)
 fitting Only n count p e = omega (arith, not-equal n count e)
 fitting NoPart n count p e = absurd (cc)
-
-nothing_long : (xs : List ℕ) → length xs ≡ 0 → xs ≡ []
-nothing_long [] h = refl
-nothing_long (x ∷ xs) h = absurd (omega (arith, h))
-
-word_length : (n : ℕ) → length (word_bytes n) ≡ 8
-unfolding word_bytes
-word_length n = refl
 
 -- a region that is granted stands among them
 record IsGrant (rs : List Region) (domain : Name) (key at' count : ℕ) (right : Right) (r : Region) : Type 0 where

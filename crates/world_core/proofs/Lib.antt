@@ -10,3 +10,4 @@ mod Restoring
 mod Networks
 mod Connecting
 mod LiveEnds
+mod Delivering

@@ -190,6 +190,17 @@ store-place number (suc k) (y ∷ ys) x e distinct h =
     let other : (number y == number x) ≡ false = apart number (number y) k ys x distinct.0 h in
     rw other (ap (λ zs. y ∷ zs) (store-place number k ys x e distinct.1 h))
 
+-- .. and that thing is the one of its number
+pub at-place : {A : Type 0} (number : A → ℕ) (none : A) (k : ℕ) (xs : List A) (x : A) → IsDistinct nat_eq (map number xs) → slice_get xs k ≡ Some x → at number none (number x) xs ≡ x
+unfolding at IsDistinct
+at-place number none k [] x distinct h = absurd (cc)
+at-place {A} number none zero (y ∷ ys) x distinct h =
+    let same : y ≡ x = cc in
+    ap (λ b. if b then y else at number none (number x) ys) (ap (λ (z : A). number y == number z) (sym same) ∙ same_number (number y)) ∙ same
+at-place number none (suc k) (y ∷ ys) x distinct h =
+    let other : (number y == number x) ≡ false = apart number (number y) k ys x distinct.0 h in
+    ap (λ b. if b then y else at number none (number x) ys) other ∙ at-place number none k ys x distinct.1 h
+
 -- the numbers stay
 pub map-place : {A B : Type 0} (f : A → B) (k : ℕ) (xs : List A) (x e : A) → slice_get xs k ≡ Some x → f e ≡ f x → map f (set xs k e) ≡ map f xs
 map-place f k [] x e h same = absurd (cc)

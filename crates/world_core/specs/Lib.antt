@@ -1,4 +1,5 @@
 pub mod Causes
+pub mod Delivered
 pub mod Followed
 pub mod Homes
 pub mod Kept

@@ -1,6 +1,7 @@
 //! Datagrams of a world: delivered, lost and shown.
 
 ghost use Rattle.std.specs.Prelude.{◌≡◌, ℕ, ◌≤◌, ◌<◌, ◌^◌, length, slice_get, is_some, true, IfOk, OnErr, Some};
+ghost use Rattle.law_arrivals.specs.Touched.{ChangesOnly, is_touched};
 ghost use Rattle.protocol.specs.Bytes.{byte_at, number_at};
 ghost use Rattle.protocol.specs.DeviceStep.{device_step};
 ghost use Rattle.protocol.specs.Fabric.{kept_flight};
@@ -8,6 +9,7 @@ ghost use Rattle.protocol.specs.State as state;
 ghost use Rattle.protocol.specs.Wire as wire;
 ghost use Rattle.protocol.specs.WorldStep as rules;
 ghost use Rattle.protocol.specs.declared.events.Event.TheVariants as event;
+ghost use Rattle.world_core.specs.Delivered.{ChangesWorldOnly, is_delivered, is_touched_on};
 ghost use Rattle.world_core.specs.Kept.{IsReady, Makes};
 ghost use Rattle.world_core.specs.Sites.{IsDelivery};
 
@@ -68,6 +70,7 @@ fn reach(fabric: &Fabric, device: &mut Device, alloc: Global, k: u64) -> Result<
     requires { is_some (kept_flight fabric.now k) ≡ true }
     ensures ok { IfOk result (λ o. (f : state.Flight) → kept_flight fabric.now k ≡ Some f → device_step device.old (event.Arrive f.from f.bytes) ≡ record { device = device.new; outcome = o }) }
     ensures bounded { IfOk result (λ o. length o.sent ≤ 2 ^ 32) }
+    ensures touched { (f : state.Flight) → kept_flight fabric.now k ≡ Some f → ChangesOnly (is_touched device.old f.bytes) device.old device.new }
     ensures same { (device.new.id ≡ device.old.id) × (device.new.address ≡ device.old.address) }
     ensures err { OnErr result (device.new ≡ device.old) }
 {
@@ -108,6 +111,7 @@ impl World {
     pub(crate) fn deliver(&mut self, alloc: Global, k: u64) -> Result<Answer, AllocError>
         requires ready { IsReady self.old }
         ensures ok { IfOk result (λ answer. Makes (rules.delivers self.old k) answer self.new) }
+        ensures touched { IfOk result (λ answer. ChangesWorldOnly (is_delivered self.old k) self.old self.new) }
         ensures err { OnErr result (self.new ≡ self.old) }
     {
         match self.delivery(k) {
@@ -135,6 +139,7 @@ impl World {
         requires kept { is_some (kept_flight self.old.sent k) ≡ true }
         requires ready { IsReady self.old }
         ensures ok { IfOk result (λ answer. (f : state.Flight) → (d : state.Device) → kept_flight self.old.sent k ≡ Some f → slice_get self.old.devices place ≡ Some d → Makes (rules.reaches (rules.with_taken self.old k) f (Some d)) answer self.new) }
+        ensures touched { IfOk result (λ answer. (f : state.Flight) → (d : state.Device) → kept_flight self.old.sent k ≡ Some f → slice_get self.old.devices place ≡ Some d → ChangesWorldOnly (is_touched_on d f) self.old self.new) }
         ensures err { OnErr result (self.new ≡ self.old) }
     {
         let outcome = reach(&self.fabric, &mut self.devices[place], alloc, k)?;

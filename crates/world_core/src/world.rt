@@ -5,6 +5,7 @@ ghost use Rattle.protocol.specs.Events.{IsLawfulWorldEvent};
 ghost use Rattle.protocol.specs.State.{empty_world};
 ghost use Rattle.protocol.specs.WorldStep.{world_step};
 ghost use Rattle.law_kept_datagrams.specs.Alike.{with_kept_datagrams};
+ghost use Rattle.world_core.specs.Delivered.{DeliversWithin};
 ghost use Rattle.world_core.specs.Followed.{IsFollowed};
 ghost use Rattle.world_core.specs.Kept.{IsReady, Makes, TakesNoMemory};
 ghost use Rattle.world_core.specs.Places.{HaveOwnIds};
@@ -78,6 +79,7 @@ impl World {
         requires { IsLawfulWorldEvent event.now }
         ensures ok { IfOk result (λ answer. Makes (world_step self.old event.now) answer self.new) }
         ensures followed { IfOk result (λ answer. IsFollowed self.old event.now answer self.new) }
+        ensures touched { IfOk result (λ answer. DeliversWithin event.now self.old self.new) }
         ensures kept { with_kept_datagrams self.old ≡ self.old }
         ensures ids { HaveOwnIds self.old.devices }
         ensures never_out_of_memory { TakesNoMemory event.now → length self.old.sent < 2 ^ 62 → IsOk result }
@@ -95,6 +97,7 @@ impl World {
         requires lawful { IsLawfulWorldEvent event.now }
         requires ready { IsReady self.old }
         ensures ok { IfOk result (λ answer. Makes (world_step self.old event.now) answer self.new) }
+        ensures touched { IfOk result (λ answer. DeliversWithin event.now self.old self.new) }
         ensures never_out_of_memory { TakesNoMemory event.now → IsOk result }
         ensures err { OnErr result (self.new ≡ self.old) }
     {

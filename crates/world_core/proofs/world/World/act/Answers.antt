@@ -3,6 +3,9 @@ use Rattle.std.proofs.Common.{sym, subst}
 use Rattle.std.specs.Prelude.{IfOk}
 use Rattle.protocol.specs.WorldStep.{world_step}
 use Rattle.world_core.specs.Kept.{Makes}
+use Rattle.protocol.specs.declared.events.WorldEvent.TheVariants as event
+use Rattle.world_core.specs.Delivered.{DeliversWithin}
+use Rattle.world_core.proofs.Delivering.{delivers-other}
 use Rattle.world_core.proofs.world.World.act.Goals as goal
 
 pub returns-in-AddDevice-clause-ok : goal.returns-in-AddDevice-clause-ok
@@ -44,3 +47,33 @@ returns-in-Restore-clause-ok c = subst (λ e. IfOk c.restore.result (λ answer. 
 pub returns-in-Release-clause-ok : goal.returns-in-Release-clause-ok
 unfolding world_step
 returns-in-Release-clause-ok c = subst (λ e. IfOk c.release.result (λ answer. Makes (world_step c.args.self.now e) answer c.release.new.self)) (sym c.in-Release.is) c.release.ensures.ok
+
+pub returns-in-AddDevice-clause-touched : goal.returns-in-AddDevice-clause-touched
+returns-in-AddDevice-clause-touched c = delivers-other _ _ _ _ _ c.in-AddDevice.is tt
+
+pub returns-in-MakeContext-clause-touched : goal.returns-in-MakeContext-clause-touched
+returns-in-MakeContext-clause-touched c = delivers-other _ _ _ _ _ c.in-MakeContext.is tt
+
+pub returns-in-At-clause-touched : goal.returns-in-At-clause-touched
+returns-in-At-clause-touched c = delivers-other _ _ _ _ _ c.in-At.is tt
+
+pub returns-in-Connect-clause-touched : goal.returns-in-Connect-clause-touched
+returns-in-Connect-clause-touched c = delivers-other _ _ _ _ _ c.in-Connect.is tt
+
+pub returns-in-Lose-clause-touched : goal.returns-in-Lose-clause-touched
+returns-in-Lose-clause-touched c = delivers-other _ _ _ _ _ c.in-Lose.is tt
+
+pub returns-in-Wire-clause-touched : goal.returns-in-Wire-clause-touched
+returns-in-Wire-clause-touched c = delivers-other _ _ _ _ _ c.in-Wire.is tt
+
+pub returns-in-Stop-clause-touched : goal.returns-in-Stop-clause-touched
+returns-in-Stop-clause-touched c = delivers-other _ _ _ _ _ c.in-Stop.is tt
+
+pub returns-in-Restore-clause-touched : goal.returns-in-Restore-clause-touched
+returns-in-Restore-clause-touched c = delivers-other _ _ _ _ _ c.in-Restore.is tt
+
+pub returns-in-Release-clause-touched : goal.returns-in-Release-clause-touched
+returns-in-Release-clause-touched c = delivers-other _ _ _ _ _ c.in-Release.is tt
+
+pub returns-in-Deliver-clause-touched : goal.returns-in-Deliver-clause-touched
+returns-in-Deliver-clause-touched c = subst (λ e. IfOk c.deliver.result (λ answer. DeliversWithin e c.args.self.now c.deliver.new.self)) (sym c.in-Deliver.is) c.deliver.ensures.touched

@@ -9,6 +9,7 @@ use Rattle.protocol.specs.WorldStep.{with_taken}
 use Rattle.protocol.specs.declared.events.Event.{Event}
 use Rattle.protocol.specs.declared.events.Event.TheVariants as event
 use Rattle.fabric.specs.Store.{forgetting}
+use Rattle.world_core.proofs.Delivering.{delivered-at}
 use Rattle.world_core.proofs.Stepping.{arrives_bare, bare_carried, bare_stopped, parts_after, ran_all}
 use Rattle.world_core.proofs.Places.{read_set, some_there}
 use Rattle.world_core.proofs.world.World.arrive.Goals as goal
@@ -38,3 +39,11 @@ returns-clause-ok c = λ f d kept h.
     (c.send_outcome.ensures.sent ∙ ap (λ s. forgetting (sending s c.address-from.result c.in_ok-outcome.outcome.sent)) c.took.ensures.taken)
     (bare_carried c.self.inside.carried.items c.in_ok-outcome.outcome.image bare) (bare_stopped (reverse c.self.inside.stopped.items) c.in_ok-outcome.outcome.image bare)
     (ap (λ s. length s + 1) c.took.ensures.taken) c.send_outcome.ensures.answer h
+
+pub returns-clause-touched : goal.returns-clause-touched
+returns-clause-touched c = λ f d kept h.
+    let ds = c.self.inside.devices.items in
+    let lt : c.args.place < length ds = subst (λ (w : World). c.args.place < length w.devices) (sym c.self.view_is) c.requires.place in
+    let here : slice_get ds c.args.place ≡ Some c.index_mut.result.now = slice_get_read ds (length ds) c.args.place c.index_mut.result.now refl lt c.index_mut.ensures.value in
+    delivered-at _ c.args.self.now _ c.args.place d c.index_mut.result.now c.reach.new.device f c.self.view_is c.self.invariant.ids here c.reach.ensures.same.0
+    (c.reach.ensures.touched f (ap (λ (w : World). kept_flight w.sent c.args.k) c.self.view_is ∙ kept)) refl refl refl h

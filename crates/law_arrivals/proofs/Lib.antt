@@ -1,0 +1,6 @@
+pub mod Bytes
+pub mod Changes
+pub mod Steps
+pub mod Landing
+pub mod Serving
+pub mod Arriving

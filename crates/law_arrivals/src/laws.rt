@@ -1,0 +1,18 @@
+//! Bytes that arrive at a device change only what was granted.
+
+ghost use Rattle.std.specs.Prelude.{ℕ, List};
+ghost use Rattle.rdma_types.specs.declared.requests.Address.{Address};
+ghost use Rattle.protocol.specs.declared.events.Event.TheVariants as event;
+ghost use Rattle.protocol.specs.DeviceStep.{device_step};
+ghost use Rattle.protocol.specs.State.{Device};
+ghost use Rattle.law_device_sound.specs.Sound.{IsSoundDevice};
+ghost use Rattle.law_arrivals.specs.Touched.{ChangesOnly, HasDistinctContexts, is_touched};
+
+/// Whatever bytes arrive at a sound device, from wherever, they change no byte of memory but those that a connected end
+/// let them change: the range granted to the remote key that the datagram names, the range of the WRITE in progress, the
+/// receive in use or the oldest unused one, and the local places of untold Reads and atomics of that end. Regions, keys,
+/// rights, names and numbers stay.
+pub fn arrivals_change_what_they_may()
+    ensures { (d : Device) (from : Address) (bytes : List ℕ) → IsSoundDevice d → HasDistinctContexts d
+        → ChangesOnly (is_touched d bytes) d (device_step d (event.Arrive from bytes)).device }
+{}

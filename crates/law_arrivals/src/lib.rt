@@ -1,0 +1,6 @@
+//! Bytes that arrive at a device change only what was granted.
+#![tactic(auto)]
+
+mod laws;
+
+pub use laws::arrivals_change_what_they_may;
