@@ -1,9 +1,13 @@
-//! Worked runs of a world and of the machine that follows it: the relation's facts hold at each state.
+//! Worked runs of a world and of the machine that follows it: the relation's facts hold at each state, and the steps that are
+//! named at the events are those of the machine's run.
 #![tactic(auto)]
 
-ghost use Rattle.std.specs.Prelude.{◌≡◌, true, false};
-ghost use Rattle.example_relation.specs.Evaluate.{stands_at};
+ghost use Rattle.std.specs.Prelude.{◌≡◌, map, true, false};
+ghost use Rattle.protocol.specs.State.{empty_world};
+ghost use Rattle.ideal_model.specs.Machine.{empty};
+ghost use Rattle.example_relation.specs.Evaluate.{named_at, named_in, stands_at};
 ghost use Rattle.example_relation.specs.Opening.{a_q, b_q};
+ghost use Rattle.example_relation.specs.Choices as choices;
 ghost use Rattle.example_relation.specs.Worlds as moving;
 ghost use Rattle.example_relation.specs.Refusing as refusing;
 ghost use Rattle.example_relation.specs.Ending as ending;
@@ -35,4 +39,37 @@ pub fn ended_connection()
     ensures third { stands_at ending.world_3 ending.machine_3 a_q b_q ≡ true }
     ensures fourth { stands_at ending.world_4 ending.machine_4 a_q b_q ≡ true }
     ensures fifth { stands_at ending.world_5 ending.machine_5 a_q b_q ≡ true }
+{}
+
+/// Six events of one world, at one state of the machine: the first piece of a message again, its second piece, a datagram that was
+/// never sent, an expiry, a loss and a stop.
+pub fn six_events_by_name()
+    ensures { map (named_at moving.world_1 moving.machine_1) choices.events ≡ choices.inner }
+{}
+
+/// The steps that are named in the run in which a message is moved inside are those of the machine's run.
+pub fn moved_inside_a_message_by_name()
+    ensures first { named_in empty_world empty moving.events_1 ≡ moving.steps_1 }
+    ensures second { named_in moving.world_1 moving.machine_1 moving.events_2 ≡ moving.steps_2 }
+    ensures third { named_in moving.world_2 moving.machine_2 moving.events_3 ≡ moving.steps_3 }
+    ensures fourth { named_in moving.world_3 moving.machine_3 moving.events_4 ≡ moving.steps_4 }
+    ensures fifth { named_in moving.world_4 moving.machine_4 moving.events_5 ≡ moving.steps_5 }
+{}
+
+/// .. in the run with a receiver that is not ready, expiries and refusals.
+pub fn refused_send_by_name()
+    ensures first { named_in empty_world empty refusing.events_1 ≡ refusing.steps_1 }
+    ensures second { named_in refusing.world_1 refusing.machine_1 refusing.events_2 ≡ refusing.steps_2 }
+    ensures third { named_in refusing.world_2 refusing.machine_2 refusing.events_3 ≡ refusing.steps_3 }
+    ensures fourth { named_in refusing.world_3 refusing.machine_3 refusing.events_4 ≡ refusing.steps_4 }
+    ensures fifth { named_in refusing.world_4 refusing.machine_4 refusing.events_5 ≡ refusing.steps_5 }
+{}
+
+/// .. and in that with connections that end in errors.
+pub fn ended_connection_by_name()
+    ensures first { named_in empty_world empty ending.events_1 ≡ ending.steps_1 }
+    ensures second { named_in ending.world_1 ending.machine_1 ending.events_2 ≡ ending.steps_2 }
+    ensures third { named_in ending.world_2 ending.machine_2 ending.events_3 ≡ ending.steps_3 }
+    ensures fourth { named_in ending.world_3 ending.machine_3 ending.events_4 ≡ ending.steps_4 }
+    ensures fifth { named_in ending.world_4 ending.machine_4 ending.events_5 ≡ ending.steps_5 }
 {}

@@ -11,7 +11,6 @@ use Rattle.protocol.specs.declared.events.WorldEvent.{WorldEvent}
 use Rattle.protocol.specs.declared.events.WorldEvent.TheVariants as world_event
 use Rattle.protocol.specs.Script as script
 use Rattle.protocol.specs.Script.{Happening, happens, dumps, settles}
-use Rattle.protocol.specs.Settle.{settled}
 use Rattle.protocol.specs.State.{World}
 use Rattle.protocol.specs.WorldStep.{world_step}
 use Rattle.ideal_model.specs.declared.steps.IdealStep.{IdealStep}
@@ -19,13 +18,17 @@ use Rattle.ideal_model.specs.Legal.{IsLegalFrom, IsRun, after, effect, seen, see
 use Rattle.ideal_model.specs.Machine.{Machine}
 use Rattle.script_lang.specs.declared.lines.Line.{Line}
 use Rattle.law_simulation.specs.Kept.{kept_of, kept_verb, verb_in, verb_of}
-use Rattle.law_simulation.specs.Law.{AlwaysFollows, Follows, FollowsRun, IsEventInRange, IsInRange, Law, joined_steps, kept}
+use Rattle.law_simulation.specs.Carries.{Allows}
+use Rattle.law_simulation.specs.Law.{IsEventInRange, IsInRange, kept}
+use Rattle.law_simulation.specs.Named.{EventsFollowByName, FollowsByName, RunFollowsByName, run_steps, steps_of_each}
 use Rattle.law_simulation.specs.Stands.{Stands}
-use Rattle.law_settling.specs.Settling.{ComesOf, IsSettling, IsTurn, SettlingFollows, SettlingIsEvents}
+use Rattle.law_simulation.proofs.runs.Inner.{named_inner}
+use Rattle.law_settling.specs.Events.{settling_events}
+use Rattle.law_settling.specs.Settling.{IsMade, IsSettling, IsTurn, SettlingFollowsByName, SettlingHasEvents}
 use Rattle.law_headline.specs.Does.{IsLineInRange, IsWithin, IsWithinOf, before, happening_of, happenings_of}
-use Rattle.law_headline.specs.Follows.{FollowsAll, FollowsBy}
+use Rattle.law_headline.specs.Follows.{FollowsAll, FollowsLine, line_steps, lines_steps}
 use Rattle.law_headline.specs.Left.{ReachesAll}
-use Rattle.law_headline.specs.Script.{heard_from, world_left}
+use Rattle.law_headline.specs.Script.{heard_from}
 
 -- ---- what settling makes
 
@@ -67,47 +70,42 @@ none_kept w (e ∷ es) each =
 
 -- what the laws say, of which all else follows
 pub record AreLaws : Type 0 where
-  pub step : (e : WorldEvent) → AlwaysFollows e
-  pub settling : SettlingIsEvents
-  pub settling_follows : SettlingFollows
+  pub named : EventsFollowByName
+  pub settling : SettlingHasEvents
+  pub settling_follows : SettlingFollowsByName
 
-pub laws_of : Law → SettlingIsEvents → SettlingFollows → AreLaws
-laws_of law settling settling_follows = record { step = law.step; settling = settling; settling_follows = settling_follows }
+pub laws_of : EventsFollowByName → SettlingHasEvents → SettlingFollowsByName → AreLaws
+laws_of named settling settling_follows = record { named = named; settling = settling; settling_follows = settling_follows }
 
-event_followed : (w : World) (m : Machine) (e : WorldEvent) (f : Follows w m e) → FollowsBy w m (script.Event e) f.steps
+event_followed : (w : World) (m : Machine) (e : WorldEvent) → FollowsByName w m e → FollowsLine w m (script.Event e)
 unfolding happens
-event_followed w m e f = record { is_run = f.is_run; heard = f.heard; caused = f.allowed; stands = f.stands }
+event_followed w m e f = record { is_run = f.is_run; heard = f.heard; caused = subst (Allows w m e (world_step w e).answer) (sym (named_inner w m e)) f.allowed; stands = f.stands }
 
-dump_followed : (w : World) (m : Machine) (name : Name) → Stands w m → FollowsBy w m (script.Dump name) []
+dump_followed : (w : World) (m : Machine) (name : Name) → Stands w m → FollowsLine w m (script.Dump name)
 unfolding happens dumps
 dump_followed w m name s = record { is_run = tt; heard = refl; caused = refl; stands = s }
 
-settling_followed : (w : World) (m : Machine) (t : ComesOf w (settled w).world) (f : FollowsRun w m t.events) → FollowsBy w m script.Settles (joined_steps f.steps)
+settling_followed : (w : World) (m : Machine) → IsMade w → RunFollowsByName w m (settling_events w) → FollowsLine w m script.Settles
 unfolding happens settles
 settling_followed w m t f = record {
   is_run = f.is_run;
-  heard = f.heard ∙ none_kept w t.events t.each;
-  caused = record { events = t.events; each = t.each; reached = t.after; parts = f.steps; joined = refl; allowed = f.allowed };
-  stands = subst (λ (x : World). Stands x (after m (joined_steps f.steps))) t.after f.stands;
+  heard = f.heard ∙ none_kept w (settling_events w) t.each;
+  caused = record { events = settling_events w; each = t.each; reached = t.after; parts = steps_of_each w m (settling_events w); joined = refl; allowed = f.allowed };
+  stands = subst (λ (x : World). Stands x (after m (run_steps w m (settling_events w)))) t.after f.stands;
 }
 
-line_followed : AreLaws → (w : World) (m : Machine) (h : Happening) → IsWithin h → Stands w m → (ss : List IdealStep) × FollowsBy w m h ss
-line_followed laws w m (script.Event e) within s =
-    let f : Follows w m e = laws.step e w m within s in
-    (f.steps, event_followed w m e f)
-line_followed laws w m (script.Dump name) within s = ([], dump_followed w m name s)
-line_followed laws w m script.Settles within s =
-    let t : ComesOf w (settled w).world = laws.settling w in
-    let f : FollowsRun w m t.events = laws.settling_follows w m t.events t.each s in
-    (joined_steps f.steps, settling_followed w m t f)
+line_followed : AreLaws → (w : World) (m : Machine) (h : Happening) → IsWithin h → Stands w m → FollowsLine w m h
+line_followed laws w m (script.Event e) within s = event_followed w m e (laws.named e w m within s)
+line_followed laws w m (script.Dump name) within s = dump_followed w m name s
+line_followed laws w m script.Settles within s = settling_followed w m (laws.settling w) (laws.settling_follows w m s)
 
 -- ---- all lines
 
 pub all_followed : AreLaws → (w : World) (m : Machine) (hs : List Happening) → All IsWithin hs → Stands w m → FollowsAll w m hs
 all_followed laws w m [] within s = s
 all_followed laws w m (h ∷ hs) within s =
-    let f = line_followed laws w m h (All-head IsWithin h hs within) s in
-    (f.0, f.1, all_followed laws (happens w h).world (after m f.0) hs (All-tail IsWithin h hs within) f.1.stands)
+    let f : FollowsLine w m h = line_followed laws w m h (All-head IsWithin h hs within) s in
+    (f, all_followed laws (happens w h).world (after m (line_steps w m h)) hs (All-tail IsWithin h hs within) f.stands)
 
 -- what lines do is in its ranges, where each line is
 pub all_within : (ls : List Line) → All IsLineInRange ls → All IsWithin (happenings_of ls)
@@ -133,21 +131,23 @@ seen_on m [] ts = refl
 seen_on m (s ∷ ss) ts = ap (λ x. seen_of m s ++ x) (seen_on (effect m s) ss ts) ∙ sym (append_assoc (seen_of m s) (seen (effect m s) ss) (seen (after (effect m s) ss) ts))
 
 pub all_reached : (w : World) (m : Machine) (hs : List Happening) → FollowsAll w m hs → ReachesAll w m hs
-all_reached w m [] f = record { steps = []; is_run = tt; heard_all = refl; stands = f }
+unfolding lines_steps
+all_reached w m [] f = record { is_run = tt; heard_all = refl; stands = f }
 all_reached w m (h ∷ hs) f =
-    let rest = all_reached (happens w h).world (after m f.0) hs f.2 in
+    let m1 : Machine = after m (line_steps w m h) in
+    let rest : ReachesAll (happens w h).world m1 hs = all_reached (happens w h).world m1 hs f.1 in
+    let more : List IdealStep = lines_steps (happens w h).world m1 hs in
     record {
-      steps = f.0 ++ rest.steps;
-      is_run = runs_on m f.0 rest.steps f.1.is_run rest.is_run;
-      heard_all = seen_on m f.0 rest.steps ∙ rw (f.1.heard, rest.heard_all) refl;
-      stands = rw (after_on m f.0 rest.steps) rest.stands;
+      is_run = runs_on m (line_steps w m h) more f.0.is_run rest.is_run;
+      heard_all = seen_on m (line_steps w m h) more ∙ rw (f.0.heard, rest.heard_all) refl;
+      stands = rw (after_on m (line_steps w m h) more) rest.stands;
     }
 
 pub all_legal : (w : World) (m : Machine) (hs : List Happening) → FollowsAll w m hs → IsLegalFrom m (heard_from w hs)
-all_legal w m hs f = let r = all_reached w m hs f in record { run = r.steps; is_run = r.is_run; heard_all = r.heard_all }
+all_legal w m hs f = let r : ReachesAll w m hs = all_reached w m hs f in record { run = lines_steps w m hs; is_run = r.is_run; heard_all = r.heard_all }
 
 -- ---- fronts
 
 pub front_followed : (w : World) (m : Machine) (front rest : List Happening) → Stands w m → FollowsAll w m (front ++ rest) → FollowsAll w m front
 front_followed w m [] rest s f = s
-front_followed w m (h ∷ hs) rest s f = (f.0, f.1, front_followed (happens w h).world (after m f.0) hs rest f.1.stands f.2)
+front_followed w m (h ∷ hs) rest s f = (f.0, front_followed (happens w h).world (after m (line_steps w m h)) hs rest f.0.stands f.1)

@@ -1,5 +1,5 @@
 -- How the packetless machine follows the lines of a script.
-use Rattle.std.specs.Prelude.{◌≡◌, List, [], ◌∷◌, All}
+use Rattle.std.specs.Prelude.{◌≡◌, List, [], ◌∷◌, ◌++◌, All}
 use Rattle.protocol.specs.declared.events.WorldEvent.{WorldEvent}
 use Rattle.protocol.specs.Script.{Happening, Event, Dump, Settles, happens}
 use Rattle.protocol.specs.Settle.{settled}
@@ -10,7 +10,9 @@ use Rattle.ideal_model.specs.Legal.{IsRun, after, seen}
 use Rattle.ideal_model.specs.Machine.{Machine}
 use Rattle.law_simulation.specs.Carries.{Allows}
 use Rattle.law_simulation.specs.Law.{AllowsAll, inner_of, joined_steps}
+use Rattle.law_simulation.specs.Named.{event_steps, run_steps}
 use Rattle.law_simulation.specs.Stands.{Stands}
+use Rattle.law_settling.specs.Events.{settling_events}
 use Rattle.law_settling.specs.Settling.{IsSettling}
 use Rattle.law_headline.specs.Script.{heard_of}
 
@@ -30,15 +32,27 @@ Causes w m (Event e) ss = Allows w m e (world_step w e).answer (inner_of ss)
 Causes w m (Dump name) ss = ss ≡ []
 Causes w m Settles ss = AreOfSettling w m ss
 
--- the machine follows a line by these steps: it may make them, an application hears of them what it hears of the line, the
--- line may cause them, and the next world stands for the machine after them
-pub record FollowsBy (w : World) (m : Machine) (h : Happening) (ss : List IdealStep) : Type 0 where
-  pub is_run : IsRun m ss
-  pub heard : seen m ss ≡ heard_of w h
-  pub caused : Causes w m h ss
-  pub stands : Stands (happens w h).world (after m ss)
+-- the steps of the machine at a line: those that are named at its event, and none at a dump; at a settling those at each of the
+-- deliveries, transmissions, expiries and ends of RNR timers that it is made of, in their order
+abbrev pub line_steps : World → Machine → Happening → List IdealStep
+line_steps w m (Event e) = event_steps w m e
+line_steps w m (Dump name) = []
+line_steps w m Settles = run_steps w m (settling_events w)
+
+-- the machine follows a line by exactly these steps: it may make them, an application hears of them what it hears of the line,
+-- the line may cause them, and the next world stands for the machine after them
+pub record FollowsLine (w : World) (m : Machine) (h : Happening) : Type 0 where
+  pub is_run : IsRun m (line_steps w m h)
+  pub heard : seen m (line_steps w m h) ≡ heard_of w h
+  pub caused : Causes w m h (line_steps w m h)
+  pub stands : Stands (happens w h).world (after m (line_steps w m h))
 
 -- the machine follows the lines, one after the other, and the last world stands for the state that it comes to
 abbrev pub FollowsAll : World → Machine → List Happening → Type 0
 FollowsAll w m [] = Stands w m
-FollowsAll w m (h ∷ hs) = (ss : List IdealStep) × FollowsBy w m h ss × FollowsAll (happens w h).world (after m ss) hs
+FollowsAll w m (h ∷ hs) = FollowsLine w m h × FollowsAll (happens w h).world (after m (line_steps w m h)) hs
+
+-- the steps at all lines, one after the other
+unfoldable pub lines_steps : World → Machine → List Happening → List IdealStep
+lines_steps w m [] = []
+lines_steps w m (h ∷ hs) = line_steps w m h ++ lines_steps (happens w h).world (after m (line_steps w m h)) hs

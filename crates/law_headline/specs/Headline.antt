@@ -19,8 +19,8 @@ use Rattle.law_headline.specs.Texts.{bad_dump_line, bad_line_line, depot_line, l
 
 -- ---- what is claimed of a script
 
--- the headline: the packetless machine follows the lines of the text before its first bad one, by inner steps only where a
--- line may cause them, and what applications made and heard is legal for it
+-- the headline: the packetless machine follows the lines of the text before its first bad one, each by exactly the steps that are
+-- named at it, which the line may cause, and what applications made and heard is legal for it
 pub record IsFollowed (text : List ℕ) : Type 0 where
   pub follows : FollowsAll empty_world empty (happenings text)
   pub legal : IsLegal (heard text)

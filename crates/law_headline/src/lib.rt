@@ -23,8 +23,8 @@ ghost use Rattle.law_headline.specs.Script.{happenings, heard_from};
 
 mod playing;
 
-use law_settling::steps::{settling_follows, settling_is_events};
-use law_simulation::runs::law_holds;
+use law_settling::steps::settling_is_named;
+use law_simulation::runs::{law_holds, steps_are_named};
 pub use playing::{
     answers_stand_in_order, scripts_are_played_line_by_line, scripts_say_their_lines,
 };
@@ -38,16 +38,16 @@ pub fn lines_are_in_range()
     ensures asked { (line : Line) → IsLawfulLine line → MayBeAskedOf (happening_of line) }
 {}
 
-/// The machine follows each list of lines whose fields are in their ranges, one line after the other, from each state for which
-/// the world stands; and what applications hear of lines from the empty world on is legal.
+/// The machine follows each list of lines whose fields are in their ranges, one line after the other and each by exactly the steps
+/// that are named at it, from each state for which the world stands; and what applications hear of lines from the empty world on is legal.
 pub fn lines_are_followed()
     ensures from_any { (w : World) (m : Machine) (hs : List Happening) → All IsWithin hs → Stands w m → FollowsAll w m hs }
     ensures follows { (ls : List Line) → All IsLineInRange ls → FollowsAll empty_world empty (happenings_of ls) }
     ensures legal { (ls : List Line) → All IsLineInRange ls → IsLegal (heard_from empty_world (happenings_of ls)) }
 {
     law_holds();
-    settling_is_events();
-    settling_follows();
+    steps_are_named();
+    settling_is_named();
 }
 
 /// The machine follows the lines of each text before its first bad one, and what applications hear of them is legal. The same

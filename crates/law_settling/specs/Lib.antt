@@ -1,7 +1,8 @@
 pub mod Drained
 pub mod Weights
-pub mod Settling
 pub mod Ends
+pub mod Events
+pub mod Settling
 pub mod Rests
 pub mod Stops
 pub mod Told

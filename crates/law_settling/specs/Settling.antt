@@ -10,6 +10,8 @@ use Rattle.protocol.specs.Settle.{settled}
 use Rattle.ideal_model.specs.Machine.{Machine}
 use Rattle.law_simulation.specs.Stands.{Stands}
 use Rattle.law_simulation.specs.Law.{FollowsRun}
+use Rattle.law_simulation.specs.Named.{RunFollowsByName}
+use Rattle.law_settling.specs.Events.{settling_events}
 
 -- a transmission, an expiry, or the end of an RNR timer
 abbrev pub IsTurn : Event → Type 0
@@ -37,3 +39,18 @@ SettlingIsEvents = (w : World) → ComesOf w (settled w).world
 -- the machine follows any of them, one after the other, so that the world stands for one of its states after each
 abbrev pub SettlingFollows : Type 0
 SettlingFollows = (w : World) (m : Machine) (es : List WorldEvent) → All IsSettling es → Stands w m → FollowsRun w m es
+
+-- ---- by name
+
+-- the events of a settling are such events, and lead to the settled world
+pub record IsMade (w : World) : Type 0 where
+  pub each : All IsSettling (settling_events w)
+  pub after : world_after w (settling_events w) ≡ (settled w).world
+
+-- .. of each settling
+abbrev pub SettlingHasEvents : Type 0
+SettlingHasEvents = (w : World) → IsMade w
+
+-- the machine follows them by the steps that are named
+abbrev pub SettlingFollowsByName : Type 0
+SettlingFollowsByName = (w : World) (m : Machine) → Stands w m → RunFollowsByName w m (settling_events w)

@@ -2,9 +2,9 @@
 //!
 //! The functions do nothing. Each promises the law that it names.
 
-ghost use Rattle.law_settling.specs.Settling.{SettlingFollows, SettlingIsEvents};
+ghost use Rattle.law_settling.specs.Settling.{SettlingFollows, SettlingFollowsByName, SettlingHasEvents, SettlingIsEvents};
 
-use law_simulation::runs::{events_follow, runs_follow};
+use law_simulation::runs::{events_follow, runs_follow, steps_are_named};
 
 /// Settling is made of deliveries, transmissions, expiries and ends of RNR timers.
 pub fn settling_is_events()
@@ -17,4 +17,13 @@ pub fn settling_follows()
 {
     runs_follow();
     events_follow();
+}
+
+/// Settling is made of exactly the events that `settling_events` names, in their order, and the machine follows them by the steps
+/// that `run_steps` names.
+pub fn settling_is_named()
+    ensures events { SettlingHasEvents }
+    ensures follows { SettlingFollowsByName }
+{
+    steps_are_named();
 }

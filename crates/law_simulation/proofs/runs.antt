@@ -1,4 +1,6 @@
 pub mod Runs
+pub mod Inner
+pub mod Named
 pub mod Table
 pub mod Requests
 pub mod Unchanged

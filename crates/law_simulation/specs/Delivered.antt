@@ -2,6 +2,7 @@
 use Rattle.std.specs.Prelude.{◌≡◌, ℕ, ◌-◌, List, [], ◌∷◌, slice_get, Bool, true, false, Option, Some, None, if◌then◌else◌}
 use Rattle.rdma_types.specs.declared.names.ObjName.{ObjName}
 use Rattle.rdma_types.specs.declared.answers.Answer.TheVariants as answers
+use Rattle.rdma_types.specs.declared.answers.Took.{Took}
 use Rattle.rdma_types.specs.declared.answers.Took.TheVariants as took
 use Rattle.protocol.specs.declared.events.WorldEvent.TheVariants.{Deliver}
 use Rattle.protocol.specs.Fabric.{Look, Here, IsGone, IsLost, IsAged, is_late, kept_flight, look}
@@ -22,7 +23,7 @@ use Rattle.law_simulation.specs.Views.{net_of, name_of, peer}
 use Rattle.law_simulation.specs.Facts.{Fact, PacketFact}
 use Rattle.law_simulation.specs.Carries.{CarriesNumbered}
 use Rattle.law_simulation.specs.Stands.{Stands}
-use Rattle.law_simulation.specs.Law.{Follows}
+use Rattle.law_simulation.specs.Named.{FollowsByName, numbered_steps}
 
 -- ---- a datagram at an end that lives in Rts
 
@@ -59,13 +60,18 @@ AreInner [] = Unit {0}
 AreInner (steps.Verb verb given ∷ ss) = ⊥
 AreInner (other ∷ ss) = AreInner ss
 
--- the machine makes inner steps that the datagram may carry, and comes to a state for which the world stands once the end
--- took the packet and its answers are on their way
+-- what the end took the packet for
+abbrev pub taken_for : World → ObjName → Link → Packet → Took
+taken_for w o l d = (takes (context_there w o) (end_there w o) l d).took
+
+-- the machine makes inner steps that the datagram may carry, those that are named, and comes to a state for which the world
+-- stands once the end took the packet and its answers are on their way
 pub record Takes (w : World) (m : Machine) (o : ObjName) (l : Link) (number : Option ℕ) (d : Packet) : Type 0 where
   pub steps : List IdealStep
   pub inner : AreInner steps
   pub is_run : IsRun m steps
   pub allowed : CarriesNumbered w m o number d.payload (class_of d) steps
+  pub named : steps ≡ numbered_steps w m o number d.payload (class_of d) (taken_for w o l d)
   pub stands : Stands (ran w (ended_step (home w o.context) (takes (context_there w o) (end_there w o) l d))).world (after m steps)
 
 -- ---- what must hold of each kind
@@ -138,14 +144,14 @@ IsAway IsGone = Unit {0}
 IsAway IsLost = Unit {0}
 IsAway IsAged = Unit {0}
 
--- the machine follows a delivery that brings nothing, since the datagram is gone, lost or aged
+-- the machine follows a delivery that brings nothing, since the datagram is gone, lost or aged, by the steps that are named
 abbrev pub FollowsAway : Type 0
-FollowsAway = (k : ℕ) (w : World) (m : Machine) → Stands w m → IsAway (look w.sent k (now_of w (kept_flight w.sent k))) → Follows w m (Deliver k)
+FollowsAway = (k : ℕ) (w : World) (m : Machine) → Stands w m → IsAway (look w.sent k (now_of w (kept_flight w.sent k))) → FollowsByName w m (Deliver k)
 
 -- datagram k, if it was sent, is of that kind
 abbrev pub IsOfKind : World → ℕ → Class → Type 0
 IsOfKind w k c = (f : Flight) (d : Packet) → slice_get w.sent (k - 1) ≡ Some f → packet_of f.bytes ≡ Some d → class_of d ≡ c
 
--- the machine follows each delivery of a datagram of that kind
+-- .. and each delivery of a datagram of that kind
 abbrev pub FollowsKind : Class → Type 0
-FollowsKind c = (k : ℕ) (w : World) (m : Machine) → Stands w m → IsOfKind w k c → Follows w m (Deliver k)
+FollowsKind c = (k : ℕ) (w : World) (m : Machine) → Stands w m → IsOfKind w k c → FollowsByName w m (Deliver k)

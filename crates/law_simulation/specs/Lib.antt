@@ -7,6 +7,7 @@ pub mod Facts
 pub mod Stands
 pub mod Quiet
 pub mod Law
+pub mod Named
 pub mod Delivered
 pub mod Unfound
 pub mod Taken

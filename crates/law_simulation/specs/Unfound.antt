@@ -7,7 +7,7 @@ use Rattle.protocol.specs.DeviceStep.{found_in}
 use Rattle.protocol.specs.WorldStep.{device_with}
 use Rattle.ideal_model.specs.Machine.{Machine}
 use Rattle.law_simulation.specs.Stands.{Stands}
-use Rattle.law_simulation.specs.Law.{Follows}
+use Rattle.law_simulation.specs.Named.{FollowsByName}
 
 -- no connected end of the device that datagram k goes to has its number
 abbrev pub FindsNoEnd : World → ℕ → Type 0
@@ -17,4 +17,4 @@ FindsNoEnd w k =
 
 -- the machine follows each delivery of such a datagram: a husk that has the number answers it, and else nothing happens
 abbrev pub FollowsUnfound : Type 0
-FollowsUnfound = (k : ℕ) (w : World) (m : Machine) → Stands w m → FindsNoEnd w k → Follows w m (Deliver k)
+FollowsUnfound = (k : ℕ) (w : World) (m : Machine) → Stands w m → FindsNoEnd w k → FollowsByName w m (Deliver k)

@@ -6,7 +6,7 @@
 ghost use Rattle.std.specs.Prelude.{ℕ};
 ghost use Rattle.protocol.specs.declared.events.WorldEvent.TheVariants.{Deliver};
 ghost use Rattle.law_simulation.specs.Packets.{Class, IsAck};
-ghost use Rattle.law_simulation.specs.Law.{AlwaysFollows};
+ghost use Rattle.law_simulation.specs.Named.{AlwaysFollowsByName};
 ghost use Rattle.law_simulation.specs.Delivered.{FollowsAway, FollowsKind, HusksAnswer, IsOwed, AreAllTaken};
 
 /// The machine follows a delivery that brings nothing, since the datagram is gone, lost or aged: it makes no step.
@@ -21,9 +21,9 @@ pub fn kind_follows()
     ensures { (c : Class) → HusksAnswer → IsOwed c → FollowsKind c }
 {}
 
-/// The machine follows each delivery, where it follows each kind of datagram.
+/// The machine follows each delivery by the steps that are named, where it follows each kind of datagram.
 pub fn deliveries_follow()
-    ensures { AreAllTaken → (k : ℕ) → AlwaysFollows (Deliver k) }
+    ensures { AreAllTaken → (k : ℕ) → AlwaysFollowsByName (Deliver k) }
 {}
 
 // How a crate above uses the law: it calls the function, and cites what it promises.

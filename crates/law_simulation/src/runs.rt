@@ -6,6 +6,7 @@
 ghost use Rattle.law_simulation.specs.Delivered.{AreAllTaken, RequestsAreTaken};
 ghost use Rattle.protocol.specs.declared.events.WorldEvent.{WorldEvent};
 ghost use Rattle.law_simulation.specs.Law.{AlwaysFollows, Law};
+ghost use Rattle.law_simulation.specs.Named.{EventsFollowByName, NamedIsMore, RunsFollowByName};
 ghost use Rattle.law_simulation.specs.Runs.{IsHeardLegal, RunsFollow};
 
 mod once;
@@ -95,4 +96,16 @@ pub fn law_holds()
     starts();
     runs_follow();
     events_follow();
+}
+
+/// The steps have names: at each event in range, from any world that stands, the machine follows by exactly the steps that
+/// `event_steps` gives, and so it follows each run by `run_steps`. To follow by the named steps is more than to follow.
+pub fn steps_are_named()
+    ensures events { EventsFollowByName }
+    ensures runs { RunsFollowByName }
+    ensures more { NamedIsMore }
+{
+    events_follow();
+    deliveries_follow();
+    datagrams_are_taken();
 }

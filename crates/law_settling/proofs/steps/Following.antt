@@ -7,7 +7,7 @@ use Rattle.law_simulation.specs.Law.{AlwaysFollows, IsInRange}
 use Rattle.law_simulation.specs.Runs.{RunsFollow}
 use Rattle.law_settling.specs.Settling.{IsSettling, SettlingFollows}
 
-in_range : (e : WorldEvent) → IsSettling e → IsInRange e
+pub in_range : (e : WorldEvent) → IsSettling e → IsInRange e
 in_range (world_events.AddDevice id address) u = absurd u
 in_range (world_events.MakeContext name device) u = absurd u
 in_range (world_events.Connect one two terms) u = absurd u

@@ -41,15 +41,15 @@ use Rattle.law_simulation.specs.Kept as kept
 use Rattle.law_simulation.specs.Facts.{Fact, BytesFact, PacketFact}
 use Rattle.law_simulation.specs.Carries.{Either, Carries, CarriesPacket, CarriesNumbered, finds_end, is_at, is_taken}
 use Rattle.law_simulation.specs.Stands.{Stands, IsPlaced, AreSent}
-use Rattle.law_simulation.specs.Law.{Reaches, Follows, inner_of}
+use Rattle.law_simulation.specs.Named.{FollowsByName, ReachesByName, delivery_steps, flight_steps, numbered_steps, packet_steps}
 use Rattle.law_simulation.proofs.relation.Tables.{name_tells, name-named_there, map-store_found}
 use Rattle.law_simulation.proofs.relation.EventNetwork.{sent_changed}
 use Rattle.law_simulation.proofs.relation.Connecting.{live_place}
 use Rattle.law_simulation.proofs.relation.Grown.{are_made}
 use Rattle.law_simulation.proofs.relation.InUse.{owned_of}
-use Rattle.law_simulation.proofs.relation.Verbs.{unheard_reached, ran_same}
+use Rattle.law_simulation.proofs.relation.Verbs.{ran_same}
 use Rattle.law_simulation.proofs.relation.Worlds.{home_holds, ids_once}
-use Rattle.law_simulation.specs.Delivered.{Arrives, Takes, AreInner, IsAway, HusksAnswer, context_there, end_there, mark_at}
+use Rattle.law_simulation.specs.Delivered.{Arrives, Takes, AreInner, IsAway, HusksAnswer, context_there, end_there, mark_at, taken_for}
 use Rattle.law_simulation.proofs.delivery.First.{first_passes}
 use Rattle.law_simulation.proofs.delivery.Found.{IsAt, found_at, lives_found, linked_there}
 
@@ -101,6 +101,21 @@ carried_same w m t o (Some n) bytes (IsResume body) ss h = h
 carried_same w m t o (Some n) bytes (IsResumeAck body) ss h = h
 carried_same w m t o (Some n) bytes IsNothing ss h = h
 
+named_same : (w : World) (m : Machine) (t : List Flight) (o : ObjName) (number : Option ℕ) (bytes : List ℕ) (c : Class) (took : Took) → numbered_steps w m o number bytes c took ≡ numbered_steps (record w { sent = t }) m o number bytes c took
+unfolding views.contexts_of views.context_of views.end_of
+named_same w m t o None bytes c took = refl
+named_same w m t o (Some n) bytes IsRequest took = refl
+named_same w m t o (Some n) bytes IsReadResponse took = refl
+named_same w m t o (Some n) bytes IsAtomicResponse took = refl
+named_same w m t o (Some n) bytes IsAck took = refl
+named_same w m t o (Some n) bytes IsSequenceNak took = refl
+named_same w m t o (Some n) bytes (IsRefusal is_access) took = refl
+named_same w m t o (Some n) bytes IsReceiverNotReady took = refl
+named_same w m t o (Some n) bytes (IsStopped count) took = refl
+named_same w m t o (Some n) bytes (IsResume body) took = refl
+named_same w m t o (Some n) bytes (IsResumeAck body) took = refl
+named_same w m t o (Some n) bytes IsNothing took = refl
+
 -- ---- how a delivery is followed
 
 unseen : (m : Machine) (ss : List IdealStep) → AreInner ss → seen m ss ≡ []
@@ -119,35 +134,22 @@ unseen m (steps.Expire q ∷ ss) h = unseen (effect m (steps.Expire q)) ss h
 unseen m (steps.Wait q ∷ ss) h = unseen (effect m (steps.Wait q)) ss h
 unseen m (steps.Bounce q ∷ ss) h = unseen (effect m (steps.Bounce q)) ss h
 
-all_inner : (ss : List IdealStep) → AreInner ss → inner_of ss ≡ ss
-all_inner [] h = refl
-all_inner (steps.Verb verb given ∷ ss) h = absurd h
-all_inner (steps.Run q n ∷ ss) h = ap (λ z. steps.Run q n ∷ z) (all_inner ss h)
-all_inner (steps.Atom q ∷ ss) h = ap (λ z. steps.Atom q ∷ z) (all_inner ss h)
-all_inner (steps.ReadTurn q ∷ ss) h = ap (λ z. steps.ReadTurn q ∷ z) (all_inner ss h)
-all_inner (steps.Refuse q why ∷ ss) h = ap (λ z. steps.Refuse q why ∷ z) (all_inner ss h)
-all_inner (steps.Dry q ∷ ss) h = ap (λ z. steps.Dry q ∷ z) (all_inner ss h)
-all_inner (steps.Offer q i off n ∷ ss) h = ap (λ z. steps.Offer q i off n ∷ z) (all_inner ss h)
-all_inner (steps.Land q o ∷ ss) h = ap (λ z. steps.Land q o ∷ z) (all_inner ss h)
-all_inner (steps.Known q bytes ∷ ss) h = ap (λ z. steps.Known q bytes ∷ z) (all_inner ss h)
-all_inner (steps.Tell q ∷ ss) h = ap (λ z. steps.Tell q ∷ z) (all_inner ss h)
-all_inner (steps.Expire q ∷ ss) h = ap (λ z. steps.Expire q ∷ z) (all_inner ss h)
-all_inner (steps.Wait q ∷ ss) h = ap (λ z. steps.Wait q ∷ z) (all_inner ss h)
-all_inner (steps.Bounce q ∷ ss) h = ap (λ z. steps.Bounce q ∷ z) (all_inner ss h)
+-- the steps of a delivery that took the datagram f, which says d, for t
+named_so : (w : World) (m : Machine) (k : ℕ) (f : Flight) (d : Packet) (a : Answer) (t : Took) → slice_get w.sent (k - 1) ≡ Some f → packet_of f.bytes ≡ Some d → delivery_steps w m k a ≡ flight_steps w m (slice_get w.sent (k - 1)) t → delivery_steps w m k a ≡ packet_steps w m f (Some d) t
+named_so w m k f d a t sent read took = took ∙ (ap (λ z. flight_steps w m z t) sent ∙ ap (λ z. packet_steps w m f z t) read)
 
--- a delivery that took the datagram f, which says d
-taken_reached : (w : World) (m : Machine) (k : ℕ) (f : Flight) (d : Packet) (w' : World) (a : Answer) (ss : List IdealStep) → slice_get w.sent (k - 1) ≡ Some f → packet_of f.bytes ≡ Some d → is_taken a ≡ true → AreInner ss → IsRun m ss → CarriesPacket w m f (Some d) ss → Stands w' (after m ss) → Reaches w m (world_events.Deliver k) w' a
+-- .. by which it is followed
+taken_reached : (w : World) (m : Machine) (k : ℕ) (f : Flight) (d : Packet) (w' : World) (a : Answer) (ss : List IdealStep) → slice_get w.sent (k - 1) ≡ Some f → packet_of f.bytes ≡ Some d → is_taken a ≡ true → AreInner ss → IsRun m ss → CarriesPacket w m f (Some d) ss → delivery_steps w m k a ≡ ss → Stands w' (after m ss) → ReachesByName w m (world_events.Deliver k) w' a
 unfolding kept.verb_of kept.kept_verb
-taken_reached w m k f d w' a ss sent read took inner run carried stands = record {
-  steps = ss;
-  is_run = run;
-  heard = unseen m ss inner;
+taken_reached w m k f d w' a ss sent read took inner run carried named stands = record {
+  is_run = subst (IsRun m) (sym named) run;
+  heard = subst (λ z. seen m z ≡ []) (sym named) (unseen m ss inner);
   allowed =
-      subst (λ b. Either b (Carries w m (slice_get w.sent (k - 1)) (inner_of ss)) (inner_of ss ≡ [])) (sym took)
-      (subst (λ z. Carries w m z (inner_of ss)) (sym sent)
-      (subst (λ z. CarriesPacket w m f z (inner_of ss)) (sym read)
-      (subst (λ z. CarriesPacket w m f (Some d) z) (sym (all_inner ss inner)) carried)));
-  stands = stands;
+      subst (λ b. Either b (Carries w m (slice_get w.sent (k - 1)) (delivery_steps w m k a)) (delivery_steps w m k a ≡ [])) (sym took)
+      (subst (λ z. Carries w m z (delivery_steps w m k a)) (sym sent)
+      (subst (λ z. CarriesPacket w m f z (delivery_steps w m k a)) (sym read)
+      (subst (λ z. CarriesPacket w m f (Some d) z) (sym named) carried)));
+  stands = subst (λ z. Stands w' (after m z)) (sym named) stands;
 }
 
 -- ---- the end that it names
@@ -213,6 +215,10 @@ answered : (w : World) (d : Device) (t : Took) (first count : ℕ) (sent : List 
 unfolding ran step.numbered is_taken
 answered w d t first count sent = refl
 
+steps_answered : (w v : World) (m : Machine) (k : ℕ) (d : Device) (t : Took) (first count : ℕ) (sent : List _) → delivery_steps w m k (ran v (device.gives d (answers.Took t first count) sent)).answer ≡ flight_steps w m (slice_get w.sent (k - 1)) t
+unfolding ran step.numbered
+steps_answered w v m k d t first count sent = refl
+
 -- a device of the world that answers without a change
 still : (w : World) (m : Machine) (test : Device → Bool) (d : Device) (a : Answer) → IsPlaced w m → first_that test w.devices ≡ Some d → (ran w (device.answers d a)).world ≡ w
 unfolding ran step.with_device fabric.sending
@@ -242,15 +248,19 @@ took_it : (w : World) (d : Device) (s : words.EndStep) → is_taken (ran w (ende
 unfolding ran step.numbered is_taken
 took_it w d s = refl
 
+steps_taken : (w v : World) (m : Machine) (k : ℕ) (d : Device) (s : words.EndStep) → delivery_steps w m k (ran v (ended_step d s)).answer ≡ flight_steps w m (slice_get w.sent (k - 1)) s.took
+unfolding ran step.numbered
+steps_taken w v m k d s = refl
+
 ended_takes : (c : state.Context) (e : state.End) (l : Link) (p : Packet) → l.ended ≡ true → takes c e l p ≡ words.silent c why.Ended
 unfolding takes
 ended_takes c e l p h = rw h refl
 
 -- ---- a datagram that comes
 
--- what the arrival of f is answered: Reaches, in the world where it is marked
+-- what the arrival of f is answered: ReachesByName, in the world where it is marked
 abbrev pub Reached : World → Machine → ℕ → Flight → Option Device → Type 0
-Reached w m k f d = Reaches w m (world_events.Deliver k) (reaches (with_taken w k) f d).world (reaches (with_taken w k) f d).answer
+Reached w m k f d = ReachesByName w m (world_events.Deliver k) (reaches (with_taken w k) f d).world (reaches (with_taken w k) f d).answer
 
 module _ (w : World) (m : Machine) (k : ℕ) (f : Flight) (p : Packet) (s : Stands w m) (sent : slice_get w.sent (k - 1) ≡ Some f) (read : packet_of f.bytes ≡ Some p)
     (fact : PacketFact ((net_of w m).side (name_of m p.dest)) ((net_of w m).side (peer (net_of w m) (name_of m p.dest))) ((net_of w m).end (name_of m p.dest)) ((net_of w m).end (peer (net_of w m) (name_of m p.dest))) f.number f.bytes p) where
@@ -264,8 +274,10 @@ module _ (w : World) (m : Machine) (k : ℕ) (f : Flight) (p : Packet) (s : Stan
   s' = taken_stands w m k s
 
   -- where nothing is found, nothing happens
-  lost_on : (w' : World) (a : Answer) → finds_end w m f p ≡ false → is_taken a ≡ true → Stands w' m → Reaches w m (world_events.Deliver k) w' a
-  lost_on w' a none took stands = taken_reached w m k f p w' a no_steps sent read took tt tt (subst (λ b. Either b (CarriesNumbered w m o f.number p.payload (class_of p) no_steps) (no_steps ≡ [])) (sym none) refl) stands
+  lost_on : (w' : World) (a : Answer) (t : Took) → finds_end w m f p ≡ false → is_taken a ≡ true → delivery_steps w m k a ≡ flight_steps w m (slice_get w.sent (k - 1)) t → Stands w' m → ReachesByName w m (world_events.Deliver k) w' a
+  lost_on w' a t none took by stands =
+      taken_reached w m k f p w' a no_steps sent read took tt tt (subst (λ b. Either b (CarriesNumbered w m o f.number p.payload (class_of p) no_steps) (no_steps ≡ [])) (sym none) refl)
+      (named_so w m k f p a t sent read by ∙ ap (λ b. if b then numbered_steps w m o f.number p.payload (class_of p) t else []) none) stands
 
   none_there : ((d : Device) → device_with w f.to ≡ Some d → found_in p.dest d.contexts ≡ []) → finds_end w m f p ≡ false
   none_there none = unfound w m f p s fact.connected fact.dest none
@@ -275,26 +287,26 @@ module _ (w : World) (m : Machine) (k : ℕ) (f : Flight) (p : Packet) (s : Stan
   unknown = refl
 
   pub no_device_there : device_with w f.to ≡ None → Reached w m k f None
-  no_device_there none = lost_on v (answers.Took (took.Silent why.Unknown) 0 0) (none_there (λ d h. absurd (cc))) unknown s'
+  no_device_there none = lost_on v (answers.Took (took.Silent why.Unknown) 0 0) (took.Silent why.Unknown) (none_there (λ d h. absurd (cc))) unknown refl s'
 
   abbrev pub AtHusk : Device → List HuskEntry → Type 0
-  AtHusk d hs = Reaches w m (world_events.Deliver k) (ran v (at_husk d f.from p hs)).world (ran v (at_husk d f.from p hs)).answer
+  AtHusk d hs = ReachesByName w m (world_events.Deliver k) (ran v (at_husk d f.from p hs)).world (ran v (at_husk d f.from p hs)).answer
 
   -- a device that knows no end with the number answers nothing
-  not_known : (d : Device) → device_with w f.to ≡ Some d → found_in p.dest d.contexts ≡ [] → Reaches w m (world_events.Deliver k) (ran v (device.answers d (answers.Took (took.Silent why.Unknown) 0 0))).world (ran v (device.answers d (answers.Took (took.Silent why.Unknown) 0 0))).answer
+  not_known : (d : Device) → device_with w f.to ≡ Some d → found_in p.dest d.contexts ≡ [] → ReachesByName w m (world_events.Deliver k) (ran v (device.answers d (answers.Took (took.Silent why.Unknown) 0 0))).world (ran v (device.answers d (answers.Took (took.Silent why.Unknown) 0 0))).answer
   not_known d is none =
-      lost_on _ _ (none_there (λ e h. subst (λ z. found_in p.dest z.contexts ≡ []) (some_device d e (sym is ∙ h)) none)) (answered v d (took.Silent why.Unknown) 0 0 [])
+      lost_on _ _ (took.Silent why.Unknown) (none_there (λ e h. subst (λ z. found_in p.dest z.contexts ≡ []) (some_device d e (sym is ∙ h)) none)) (answered v d (took.Silent why.Unknown) 0 0 []) (steps_answered w v m k d (took.Silent why.Unknown) 0 0 [])
       (subst (λ z. Stands z m) (sym (still v m (λ z. same_address z.address f.to) d (answers.Took (took.Silent why.Unknown) 0 0) s'.placed is)) s')
     where
       some_device : (a b : Device) → Some a ≡ Some b → a ≡ b
       some_device a b h = cc
 
   husk_by : (d : Device) → device_with w f.to ≡ Some d → found_in p.dest d.contexts ≡ [] → HusksAnswer → (h : HuskEntry) (hs : List HuskEntry) → husk_entries p.dest d.husks ≡ h ∷ hs → (b : Bool) → is_control p ≡ b →
-      Reaches w m (world_events.Deliver k) (ran v (if b then device.answers d (device.took_answer (took.Silent why.Unknown) []) else device.gives d (answers.Took took.Stopped 0 1) (record { to = f.from; number = None; bytes = wire_of (nak_stopped h p.psn) } ∷ []))).world
+      ReachesByName w m (world_events.Deliver k) (ran v (if b then device.answers d (device.took_answer (took.Silent why.Unknown) []) else device.gives d (answers.Took took.Stopped 0 1) (record { to = f.from; number = None; bytes = wire_of (nak_stopped h p.psn) } ∷ []))).world
       (ran v (if b then device.answers d (device.took_answer (took.Silent why.Unknown) []) else device.gives d (answers.Took took.Stopped 0 1) (record { to = f.from; number = None; bytes = wire_of (nak_stopped h p.psn) } ∷ []))).answer
   husk_by d is none husks h hs entries true t = not_known d is none
   husk_by d is none husks h hs entries false t =
-      lost_on _ _ (none_there (λ e g. subst (λ z. found_in p.dest z.contexts ≡ []) (some_device d e (sym is ∙ g)) none)) (answered v d took.Stopped 0 1 _)
+      lost_on _ _ took.Stopped (none_there (λ e g. subst (λ z. found_in p.dest z.contexts ≡ []) (some_device d e (sym is ∙ g)) none)) (answered v d took.Stopped 0 1 _) (steps_answered w v m k d took.Stopped 0 1 _)
       (husks v m f d p h hs s' is read (fact_same w m v.sent f (s.sent (k - 1) f sent)) none entries t)
     where
       some_device : (a b : Device) → Some a ≡ Some b → a ≡ b
@@ -339,6 +351,9 @@ module _ (w : World) (m : Machine) (k : ℕ) (f : Flight) (p : Packet) (s : Stan
     step_is : ended_step (home v o.context) (takes (context_there v o) (end_there v o) x.link p) ≡ ended_step d (takes x.context x.end x.link p)
     step_is = λ i. ended_step (at.home i) (takes (home_context i) (home_end i) x.link p)
 
+    took_is : (takes x.context x.end x.link p).took ≡ taken_for v o x.link p
+    took_is = sym (λ i. (takes (home_context i) (home_end i) x.link p).took)
+
     fresh_now : is_late f.number (now_of w (Some f)) ≡ false → is_late f.number (mark_at x.link p) ≡ false
     fresh_now h =
         let parts = read_opcode f.bytes p read in
@@ -349,66 +364,74 @@ module _ (w : World) (m : Machine) (k : ℕ) (f : Flight) (p : Packet) (s : Stan
         ∙ ap (λ z. if is_request z then x.link.receiver.expected else x.link.sender.top) (sym parts.0))))) ∙ h
 
     reached_by : (b : Bool) → x.link.ended ≡ b → is_late f.number (now_of w (Some f)) ≡ false → ((l : Link) → Arrives v m o l f.number f.bytes p → Takes v m o l f.number p) →
-        Reaches w m (world_events.Deliver k) (ran v (ended_step d (takes x.context x.end x.link p))).world (ran v (ended_step d (takes x.context x.end x.link p))).answer
+        ReachesByName w m (world_events.Deliver k) (ran v (ended_step d (takes x.context x.end x.link p))).world (ran v (ended_step d (takes x.context x.end x.link p))).answer
     reached_by true t fresh owed =
         let silent : ended_step (home v o.context) (words.stays (context_there v o) (took.Silent why.Ended)) ≡ ended_step d (takes x.context x.end x.link p) =
         ap (ended_step (home v o.context)) (sym (ended_takes (context_there v o) (end_there v o) x.link p t)) ∙ step_is in
-        lost_on _ _ (finds ∙ ap not t) (took_it v d (takes x.context x.end x.link p))
+        lost_on _ _ (takes x.context x.end x.link p).took (finds ∙ ap not t) (took_it v d (takes x.context x.end x.link p)) (steps_taken w v m k d (takes x.context x.end x.link p))
         (subst (λ z. Stands (ran v z).world m) silent (unchanged_stands v m o.context (took.Silent why.Ended) s' at.live))
     reached_by false t fresh owed =
         let taken : Takes v m o x.link f.number p = owed x.link (record { stands = s'; live = at.live; there = at.there; linked = ap (λ e. e.link) home_end ∙ at.linked; alive = t; named = refl; read = read; fact = packet_fact_same w m v.sent o f.number f.bytes p fact; fresh = fresh_now fresh }) in
         taken_reached w m k f p _ _ taken.steps sent read (took_it v d (takes x.context x.end x.link p)) taken.inner taken.is_run
         (subst (λ b. Either b (CarriesNumbered w m o f.number p.payload (class_of p) taken.steps) (taken.steps ≡ [])) (sym (finds ∙ ap not t)) (carried_same w m v.sent o f.number p.payload (class_of p) taken.steps taken.allowed))
+        (named_so w m k f p _ (takes x.context x.end x.link p).took sent read (steps_taken w v m k d (takes x.context x.end x.link p))
+        ∙ (ap (λ b. if b then numbered_steps w m o f.number p.payload (class_of p) (takes x.context x.end x.link p).took else []) (finds ∙ ap not t)
+        ∙ (ap (numbered_steps w m o f.number p.payload (class_of p)) took_is ∙ (named_same w m v.sent o f.number p.payload (class_of p) (taken_for v o x.link p) ∙ sym taken.named))))
         (subst (λ z. Stands (ran v z).world (after m taken.steps)) step_is taken.stands)
 
   at_device : (d : Device) → device_with w f.to ≡ Some d → HusksAnswer → is_late f.number (now_of w (Some f)) ≡ false → ((l : Link) → Arrives v m o l f.number f.bytes p → Takes v m o l f.number p) → (xs : List Found) → found_in p.dest d.contexts ≡ xs →
-      Reaches w m (world_events.Deliver k) (ran v (at_found d f.from p xs)).world (ran v (at_found d f.from p xs)).answer
+      ReachesByName w m (world_events.Deliver k) (ran v (at_found d f.from p xs)).world (ran v (at_found d f.from p xs)).answer
   at_device d is husks fresh owed [] found = at_husks d is found husks (husk_entries p.dest d.husks) refl
   at_device d is husks fresh owed (x ∷ xs) found = reached_by d is x xs found x.link.ended refl fresh owed
 
   pub comes : HusksAnswer → is_late f.number (now_of w (Some f)) ≡ false → ((l : Link) → Arrives v m o l f.number f.bytes p → Takes v m o l f.number p) → (d : Option Device) → device_with w f.to ≡ d → Reached w m k f d
   comes husks fresh owed None is = no_device_there is
   comes husks fresh owed (Some d) is =
-      subst (λ z. Reaches w m (world_events.Deliver k) (ran v z).world (ran v z).answer) (sym (arrives_is d f.from f.bytes p read))
+      subst (λ z. ReachesByName w m (world_events.Deliver k) (ran v z).world (ran v z).answer) (sym (arrives_is d f.from f.bytes p read))
       (at_device d is husks fresh owed (found_in p.dest d.contexts) refl)
 
 -- ---- a delivery
 
 -- what comes of datagram k, if it is here
 abbrev pub ComesOf : World → Machine → ℕ → Type 0
-ComesOf w m k = (f : Flight) → slice_get w.sent (k - 1) ≡ Some f → look w.sent k (now_of w (kept_flight w.sent k)) ≡ Here f → is_late f.number (now_of w (Some f)) ≡ false → Reaches w m (world_events.Deliver k) (reaches (with_taken w k) f (device_with w f.to)).world (reaches (with_taken w k) f (device_with w f.to)).answer
+ComesOf w m k = (f : Flight) → slice_get w.sent (k - 1) ≡ Some f → look w.sent k (now_of w (kept_flight w.sent k)) ≡ Here f → is_late f.number (now_of w (Some f)) ≡ false → ReachesByName w m (world_events.Deliver k) (reaches (with_taken w k) f (device_with w f.to)).world (reaches (with_taken w k) f (device_with w f.to)).answer
 
-away : (w : World) (m : Machine) (k : ℕ) (w' : World) (a : Answer) → is_taken a ≡ false → Stands w' m → Reaches w m (world_events.Deliver k) w' a
+away : (w : World) (m : Machine) (k : ℕ) (w' : World) (a : Answer) → is_taken a ≡ false → delivery_steps w m k a ≡ [] → Stands w' m → ReachesByName w m (world_events.Deliver k) w' a
 unfolding kept.verb_of kept.kept_verb
-away w m k w' a none stands = unheard_reached w m (world_events.Deliver k) w' a refl (subst (λ b. Either b (Carries w m (slice_get w.sent (k - 1)) no_steps) (no_steps ≡ [])) (sym none) refl) stands
+away w m k w' a none named stands = record {
+  is_run = subst (IsRun m) (sym named) tt;
+  heard = subst (λ z. seen m z ≡ []) (sym named) refl;
+  allowed = subst (λ b. Either b (Carries w m (slice_get w.sent (k - 1)) (delivery_steps w m k a)) (delivery_steps w m k a ≡ [])) (sym none) named;
+  stands = subst (λ z. Stands w' (after m z)) (sym named) stands;
+}
 
-delivered_by : (w : World) (m : Machine) (k : ℕ) (f : Flight) (b c : Bool) → Stands w m → (b ≡ false → c ≡ false → Reaches w m (world_events.Deliver k) (reaches (with_taken w k) f (device_with w f.to)).world (reaches (with_taken w k) f (device_with w f.to)).answer) →
-    Reaches w m (world_events.Deliver k) (delivers_by w k (if b then IsLost else if c then IsAged else Here f)).world (delivers_by w k (if b then IsLost else if c then IsAged else Here f)).answer
+delivered_by : (w : World) (m : Machine) (k : ℕ) (f : Flight) (b c : Bool) → Stands w m → (b ≡ false → c ≡ false → ReachesByName w m (world_events.Deliver k) (reaches (with_taken w k) f (device_with w f.to)).world (reaches (with_taken w k) f (device_with w f.to)).answer) →
+    ReachesByName w m (world_events.Deliver k) (delivers_by w k (if b then IsLost else if c then IsAged else Here f)).world (delivers_by w k (if b then IsLost else if c then IsAged else Here f)).answer
 unfolding is_taken
-delivered_by w m k f true c s comes = away w m k w answers.Lost refl s
-delivered_by w m k f false true s comes = away w m k (with_taken w k) answers.Aged refl (taken_stands w m k s)
+delivered_by w m k f true c s comes = away w m k w answers.Lost refl refl s
+delivered_by w m k f false true s comes = away w m k (with_taken w k) answers.Aged refl refl (taken_stands w m k s)
 delivered_by w m k f false false s comes = comes refl refl
 
 kept_if : (b : Bool) (r : Option Flight) (f : Flight) → (if b then r else None) ≡ Some f → r ≡ Some f
 kept_if true r f h = h
 kept_if false r f h = absurd (cc)
 
-by_kept : (w : World) (m : Machine) (k : ℕ) → Stands w m → (r : Option Flight) → kept_flight w.sent k ≡ r → ((f : Flight) → slice_get w.sent (k - 1) ≡ Some f → look_at r (now_of w r) ≡ Here f → is_late f.number (now_of w (Some f)) ≡ false → Reaches w m (world_events.Deliver k) (reaches (with_taken w k) f (device_with w f.to)).world (reaches (with_taken w k) f (device_with w f.to)).answer) →
-    Reaches w m (world_events.Deliver k) (delivers_by w k (look_at r (now_of w r))).world (delivers_by w k (look_at r (now_of w r))).answer
+by_kept : (w : World) (m : Machine) (k : ℕ) → Stands w m → (r : Option Flight) → kept_flight w.sent k ≡ r → ((f : Flight) → slice_get w.sent (k - 1) ≡ Some f → look_at r (now_of w r) ≡ Here f → is_late f.number (now_of w (Some f)) ≡ false → ReachesByName w m (world_events.Deliver k) (reaches (with_taken w k) f (device_with w f.to)).world (reaches (with_taken w k) f (device_with w f.to)).answer) →
+    ReachesByName w m (world_events.Deliver k) (delivers_by w k (look_at r (now_of w r))).world (delivers_by w k (look_at r (now_of w r))).answer
 unfolding kept_flight is_taken
-by_kept w m k s None h comes = away w m k w answers.Gone refl s
+by_kept w m k s None h comes = away w m k w answers.Gone refl refl s
 by_kept w m k s (Some f) h comes = delivered_by w m k f f.lost (is_late f.number (now_of w (Some f))) s (λ a b. comes f (kept_if (is_kept (length w.sent) k) (slice_get w.sent (k - 1)) f h) (rw (a, b) refl) b)
 
-pub delivered : (w : World) (m : Machine) (k : ℕ) → Stands w m → ComesOf w m k → Follows w m (world_events.Deliver k)
+pub delivered : (w : World) (m : Machine) (k : ℕ) → Stands w m → ComesOf w m k → FollowsByName w m (world_events.Deliver k)
 unfolding world_step delivers look
 delivered w m k s comes = by_kept w m k s (kept_flight w.sent k) refl comes
 
 -- where it is gone, lost or aged
-pub away_follows : (w : World) (m : Machine) (k : ℕ) → Stands w m → IsAway (look w.sent k (now_of w (kept_flight w.sent k))) → Follows w m (world_events.Deliver k)
+pub away_follows : (w : World) (m : Machine) (k : ℕ) → Stands w m → IsAway (look w.sent k (now_of w (kept_flight w.sent k))) → FollowsByName w m (world_events.Deliver k)
 away_follows w m k s h = delivered w m k s (λ f sent is fresh. absurd (subst IsAway is h))
 
 -- where it is here, and what is owed of it is known
-pub delivered_follows : (w : World) (m : Machine) (k : ℕ) → Stands w m → HusksAnswer → ((f : Flight) (d : Packet) (l : Link) → slice_get w.sent (k - 1) ≡ Some f → packet_of f.bytes ≡ Some d → Arrives (with_taken w k) m (name_of m d.dest) l f.number f.bytes d → Takes (with_taken w k) m (name_of m d.dest) l f.number d) → Follows w m (world_events.Deliver k)
+pub delivered_follows : (w : World) (m : Machine) (k : ℕ) → Stands w m → HusksAnswer → ((f : Flight) (d : Packet) (l : Link) → slice_get w.sent (k - 1) ≡ Some f → packet_of f.bytes ≡ Some d → Arrives (with_taken w k) m (name_of m d.dest) l f.number f.bytes d → Takes (with_taken w k) m (name_of m d.dest) l f.number d) → FollowsByName w m (world_events.Deliver k)
 delivered_follows w m k s husks owed = delivered w m k s (λ f sent is fresh.
     let r = read_of (net_of w m) f.number f.bytes (packet_of f.bytes) refl (s.sent (k - 1) f sent) in
     comes w m k f r.0 s sent r.1 r.2 husks fresh (λ l. owed f r.0 l sent r.1) (device_with w f.to) refl)

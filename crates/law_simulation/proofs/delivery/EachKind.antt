@@ -10,7 +10,7 @@ use Rattle.law_simulation.specs.Packets.{Class, class_of, IsRequest, IsReadRespo
 use Rattle.law_simulation.specs.Views.{Side, net_of, peer}
 use Rattle.law_simulation.specs.Facts.{ClassFact, NumberedFact, MoveFact}
 use Rattle.law_simulation.specs.Stands.{Stands}
-use Rattle.law_simulation.specs.Law.{Follows}
+use Rattle.law_simulation.specs.Named.{FollowsByName}
 use Rattle.law_simulation.specs.Delivered.{Arrives, Takes, IsOwed, IsOfKind, HusksAnswer, AreAllTaken}
 use Rattle.law_simulation.proofs.delivery.Arriving.{delivered_follows}
 
@@ -33,9 +33,9 @@ by_kind w m o l number bytes d all a (IsResumeAck body) is = all.resume_acks bod
 by_kind w m o l number bytes d all a IsNothing is = absurd (no_kind ((net_of w m).side o) ((net_of w m).side (peer (net_of w m) o)) ((net_of w m).end o) ((net_of w m).end (peer (net_of w m) o)) number d a.fact.fact is)
 
 -- one kind
-pub kind_follows : (c : Class) → HusksAnswer → IsOwed c → (k : ℕ) (w : World) (m : Machine) → Stands w m → IsOfKind w k c → Follows w m (world_events.Deliver k)
+pub kind_follows : (c : Class) → HusksAnswer → IsOwed c → (k : ℕ) (w : World) (m : Machine) → Stands w m → IsOfKind w k c → FollowsByName w m (world_events.Deliver k)
 kind_follows c husks owed k w m s is = delivered_follows w m k s husks (λ f d l sent read a. owed _ m _ l f.number f.bytes d a (is f d sent read))
 
 -- all kinds
-pub deliver_follows : AreAllTaken → (k : ℕ) (w : World) (m : Machine) → Stands w m → Follows w m (world_events.Deliver k)
+pub deliver_follows : AreAllTaken → (k : ℕ) (w : World) (m : Machine) → Stands w m → FollowsByName w m (world_events.Deliver k)
 deliver_follows all k w m s = delivered_follows w m k s all.husks (λ f d l sent read a. by_kind _ m _ l f.number f.bytes d all a (class_of d) refl)

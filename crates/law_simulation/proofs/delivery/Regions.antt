@@ -6,7 +6,7 @@ use Rattle.std.proofs.lemmas.Bool.Decides.{nat_tests, leb_tells}
 use Rattle.std.proofs.lemmas.List.{length-append, length-take, length-drop, take-append-drop}
 use Rattle.std.proofs.lemmas.List.Elements.{All-cons, All-head, All-tail, All-append, All-take, All-drop}
 use Rattle.rdma_types.specs.declared.names.Name.{Name}
-use Rattle.rdma_types.specs.Lists.{at, has_word, first_that}
+use Rattle.rdma_types.specs.Lists.{has_word, first_that}
 use Rattle.rdma_types.specs.Memory.{Right, put, grants, granted, holds, is_granted, local_key, remote_key}
 use Rattle.rdma_types.specs.Objects.{IsWhole, Region}
 use Rattle.protocol.specs.State.{Progress, NoMessage, InSend, InWrite}

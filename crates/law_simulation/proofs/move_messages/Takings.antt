@@ -36,7 +36,8 @@ use Rattle.law_simulation.proofs.relation.Connecting.{side_with}
 use Rattle.law_simulation.proofs.relation.EventNetwork.{sent_changed}
 use Rattle.law_simulation.proofs.relation.Grown.{are_made}
 use Rattle.law_simulation.proofs.relation.Linked.{linked_of}
-use Rattle.law_simulation.specs.Delivered.{Arrives, Takes, context_there, end_there}
+use Rattle.law_simulation.specs.Named.{numbered_steps}
+use Rattle.law_simulation.specs.Delivered.{Arrives, Takes, context_there, end_there, taken_for}
 use Rattle.law_simulation.proofs.delivery.Arriving.{unchanged_stands}
 use Rattle.law_simulation.proofs.delivery.Lifted.{answer_fact, sent_world, both_sent, answers_sent, unchanged_sent}
 use Rattle.law_simulation.proofs.move_messages.Wires.{reads_back, ack_fits, ack_class, control_stopped, resume_parts, control_resuming, no_aeth, resume_small}
@@ -58,6 +59,7 @@ no_steps w m o l number d none stands = record {
   inner = tt;
   is_run = tt;
   allowed = subst (λ z. CarriesNumbered w m o z d.payload (class_of d) []) (sym none) refl;
+  named = subst (λ z. [] ≡ numbered_steps w m o z d.payload (class_of d) (taken_for w o l d)) (sym none) refl;
   stands = stands;
 }
 

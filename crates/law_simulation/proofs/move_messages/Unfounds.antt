@@ -10,7 +10,7 @@ use Rattle.ideal_model.specs.Machine.{Machine}
 use Rattle.law_simulation.specs.Views.{net_of, name_of, peer}
 use Rattle.law_simulation.specs.Facts.{PacketFact}
 use Rattle.law_simulation.specs.Stands.{Stands}
-use Rattle.law_simulation.specs.Law.{Reaches, Follows}
+use Rattle.law_simulation.specs.Named.{FollowsByName, ReachesByName}
 use Rattle.law_simulation.specs.Delivered.{HusksAnswer}
 use Rattle.law_simulation.proofs.delivery.Arriving.{Reached, read_of, arrives_is, no_device_there, at_husks, delivered}
 use Rattle.law_simulation.specs.Unfound.{FindsNoEnd}
@@ -20,10 +20,10 @@ module _ (w : World) (m : Machine) (k : ℕ) (f : Flight) (p : Packet) (s : Stan
   by_device : (d : Option Device) → device_with w f.to ≡ d → ((e : Device) → device_with w f.to ≡ Some e → found_in p.dest e.contexts ≡ []) → Reached w m k f d
   by_device None is none = no_device_there w m k f p s sent read fact is
   by_device (Some d) is none =
-      subst (λ z. Reaches w m (Deliver k) (ran (with_taken w k) z).world (ran (with_taken w k) z).answer) (sym (arrives_is d f.from f.bytes p read ∙ ap (at_found d f.from p) (none d is)))
+      subst (λ z. ReachesByName w m (Deliver k) (ran (with_taken w k) z).world (ran (with_taken w k) z).answer) (sym (arrives_is d f.from f.bytes p read ∙ ap (at_found d f.from p) (none d is)))
       (at_husks w m k f p s sent read fact d is (none d is) husks (husk_entries p.dest d.husks) refl)
 
-pub unfound_follows : (w : World) (m : Machine) (k : ℕ) → HusksAnswer → Stands w m → FindsNoEnd w k → Follows w m (Deliver k)
+pub unfound_follows : (w : World) (m : Machine) (k : ℕ) → HusksAnswer → Stands w m → FindsNoEnd w k → FollowsByName w m (Deliver k)
 unfound_follows w m k husks s none = delivered w m k s (λ f sent is fresh.
     let r = read_of (net_of w m) f.number f.bytes (packet_of f.bytes) refl (s.sent (k - 1) f sent) in
     by_device w m k f r.0 s sent r.1 r.2 husks (device_with w f.to) refl (λ d at. none f r.0 d sent r.1 at))

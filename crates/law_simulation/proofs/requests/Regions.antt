@@ -1,5 +1,5 @@
 -- The protocol finds regions by their local keys, and puts the same bytes into them as the machine.
-use Rattle.std.proofs.Common.{arith, ◌≡◌, ◌-◌, ℕ, suc, List, [], ◌∷◌, length, true, false, Bool, refl, ap, ◌∙◌}
+use Rattle.std.proofs.Common.{arith, ◌≡◌, ℕ, suc, List, [], ◌∷◌, length, true, false, Bool, refl, ap, ◌∙◌}
 use Rattle.std.specs.Prelude.{if◌then◌else◌, ◌==◌, ◌&&◌, ◌||◌, All}
 use Rattle.std.proofs.lemmas.Bool.Decides.{nat_tests, eqb_tells}
 use Rattle.std.proofs.lemmas.List.Elements.{All-head, All-tail}

@@ -34,7 +34,8 @@ use Rattle.law_simulation.proofs.relation.Grown.{are_made}
 use Rattle.law_simulation.proofs.relation.Machines.{MachineChanged, context_name}
 use Rattle.law_simulation.proofs.relation.Linked.{context_with}
 use Rattle.law_simulation.proofs.relation.Tables.{name-named_there, named-absent}
-use Rattle.law_simulation.specs.Delivered.{Arrives, Takes, AreInner, context_there, end_there}
+use Rattle.law_simulation.specs.Named.{numbered_steps}
+use Rattle.law_simulation.specs.Delivered.{AreInner, Arrives, Takes, context_there, end_there, taken_for}
 use Rattle.law_simulation.proofs.delivery.Arriving.{stored_again, unchanged_stands}
 use Rattle.law_simulation.proofs.delivery.Pairs.{IsKept}
 use Rattle.law_simulation.proofs.delivery.Lifted.{IsPairStep, IsAnswer, side_now, sent_stands}
@@ -163,6 +164,11 @@ pub carries : (w : World) (m : Machine) (o : ObjName) (l : Link) (n : ℕ) (d : 
 carries w m o l n d ss link is same =
     subst (λ c. CarriesNumbered w m o (Some n) d.payload c ss) (sym is) (same ∙ ap (λ (z : Link). if is_paused z.moving.phase then [] else request_steps m (asker m o) n (length d.payload)) (sym link))
 
+-- .. and that are named
+named : (w : World) (m : Machine) (o : ObjName) (l : Link) (n : ℕ) (d : Packet) (ss : List IdealStep) (t : Took) → link_of w o ≡ l → class_of d ≡ IsRequest → ss ≡ (if is_paused l.moving.phase then [] else request_steps m (asker m o) n (length d.payload)) → ss ≡ numbered_steps w m o (Some n) d.payload (class_of d) t
+named w m o l n d ss t link is same =
+    subst (λ c. ss ≡ numbered_steps w m o (Some n) d.payload c t) (sym is) (same ∙ ap (λ (z : Link). if is_paused z.moving.phase then [] else request_steps m (asker m o) n (length d.payload)) (sym link))
+
 -- it is taken so
 pub takes_so : (w : World) (m : Machine) (o : ObjName) (l : Link) (number : Option ℕ) (d : Packet) (n : ℕ) (ss : List IdealStep) (z : words.EndStep) → number ≡ Some n → link_of w o ≡ l → class_of d ≡ IsRequest → AreInner ss → IsRun m ss →
     ss ≡ (if is_paused l.moving.phase then [] else request_steps m (asker m o) n (length d.payload)) → takes (context_there w o) (end_there w o) l d ≡ z → Stands (ran w (ended_step (home w o.context) z)).world (after m ss) → Takes w m o l number d
@@ -172,6 +178,7 @@ takes_so w m o l number d n ss z numbered link is inner run same step stands =
       inner = inner;
       is_run = run;
       allowed = carries w m o l n d ss link is same;
+      named = named w m o l n d ss (taken_for w o l d) link is same;
       stands = subst (λ k. Stands (ran w (ended_step (home w o.context) k)).world (after m ss)) (sym step) stands;
     })
 

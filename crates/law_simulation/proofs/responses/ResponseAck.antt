@@ -16,12 +16,13 @@ use Rattle.ideal_model.specs.Machine.{Machine}
 use Rattle.ideal_model.specs.Numbers.{due}
 use Rattle.law_simulation.specs.Carries.{TellsUpTo, before_barrier}
 use Rattle.law_simulation.specs.Facts.{ClassFact, MoveFact, NumberedFact}
+use Rattle.law_simulation.specs.Named.{acknowledged_steps}
 use Rattle.law_simulation.specs.Packets.{class_of, syndrome_class, nak_class, IsAck, IsSequenceNak, IsRefusal, IsStopped, IsNothing}
 use Rattle.law_simulation.specs.Views.{requests_of, side_of}
 use Rattle.law_simulation.specs.Delivered.{Arrives, Takes, AcksAreTaken, context_there, end_there}
 use Rattle.law_simulation.proofs.sending.GoLive.{LiveEnd}
 use Rattle.law_simulation.proofs.responses.ResponseArrives.{IsAcknowledge, ack_good, ack_header, answer_response, answered, live_end}
-use Rattle.law_simulation.proofs.responses.ResponseGoals.{IsTaken, learned_taken, no_tells, nothing_taken, taken_takes, tells_up}
+use Rattle.law_simulation.proofs.responses.ResponseGoals.{IsTaken, acked_named, heard_are, learned_taken, no_tells, nothing_taken, taken_takes, tells_up, useless_named}
 
 -- ACK alone says so
 only_ack : (y : Syndrome) (msn : ℕ) → syndrome_class y msn ≡ IsAck → y ≡ Ack
@@ -42,18 +43,19 @@ module _ (w : World) (m : Machine) (o : ObjName) (l : Link) (n : ℕ) (bytes : L
   h = live_end w m o l (Some n) bytes d a
 
   abbrev Reached : words.EndStep → Type 0
-  Reached step = IsTaken w m o (TellsUpTo m o (before_barrier m o (suc n))) step
+  Reached step = IsTaken w m o (TellsUpTo m o (before_barrier m o (suc n))) (acknowledged_steps m o (before_barrier m o (suc n))) step
 
   nothing : Reached (useless (context_there w o))
-  nothing = nothing_taken w m o l (TellsUpTo m o (before_barrier m o (suc n))) (Some n) bytes d a (no_tells m o _)
+  nothing = nothing_taken w m o l (TellsUpTo m o (before_barrier m o (suc n))) (acknowledged_steps m o (before_barrier m o (suc n))) (Some n) bytes d a (no_tells m o _) (useless_named m o _)
 
   next_is : n + 1 ≡ suc n
   next_is = omega arith
 
   by_moved : l.sender.una ≤ n → (b : Bool) → Reached (if b then words.stays (telling (context_there w o) (end_there w o) l (acknowledged l (n + 1))) took.Acked else useless (context_there w o))
   by_moved low true = subst (λ k. Reached (words.stays (telling (context_there w o) (end_there w o) l (acknowledged l k)) took.Acked)) (sym next_is)
-      (learned_taken w m o l a.stands h a.alive (suc n) (omega (arith, low)) (omega (arith, below)) (TellsUpTo m o (before_barrier m o (suc n))) took.Acked
-      (tells_up w m o l a.stands h a.alive (suc n) (omega (arith, low)) (omega (arith, below))))
+      (learned_taken w m o l a.stands h a.alive (suc n) (omega (arith, low)) (omega (arith, below)) (TellsUpTo m o (before_barrier m o (suc n))) (acknowledged_steps m o (before_barrier m o (suc n))) took.Acked
+      (tells_up w m o l a.stands h a.alive (suc n) (omega (arith, low)) (omega (arith, below)))
+      (acked_named m o _ _ (heard_are w m o l a.stands h a.alive (suc n) (omega (arith, low)) (omega (arith, below)))))
   by_moved low false = nothing
 
   by_range : (p q : Bool) → nat_le l.sender.una n ≡ p → Reached (if p && q then takes_ack (context_there w o) (end_there w o) l (n + 1) else useless (context_there w o))

@@ -1,5 +1,5 @@
 -- The owner of a live end in Rts learns that all numbers below one are in place: the machine's steps, and the requester.
-use Rattle.std.proofs.Common.{arith, ◌≡◌, ◌≢◌, ◌≤◌, ◌<◌, ◌+◌, ◌-◌, ◌/◌, ◌^◌, ℕ, suc, true, false, Bool, refl, sym, ap, ◌∙◌, subst}
+use Rattle.std.proofs.Common.{arith, ◌≡◌, ◌≢◌, ◌≤◌, ◌<◌, ◌+◌, ◌-◌, ◌/◌, ◌^◌, ℕ, suc, ◌++◌, true, false, Bool, refl, sym, ap, ◌∙◌, subst}
 use Rattle.std.specs.Prelude.{max, drop, nat_lt, if◌then◌else◌}
 use Rattle.std.proofs.lemmas.Bool.Decides.{nat_tests, leb_tells}
 use Rattle.rdma_types.specs.declared.names.ObjName.{ObjName}
@@ -19,6 +19,7 @@ use Rattle.ideal_model.specs.Machine.{Machine, End}
 use Rattle.ideal_model.specs.Numbers.{due, oldest, barrier}
 use Rattle.ideal_model.specs.Sound.{IsSound}
 use Rattle.ideal_model.specs.Steps as making
+use Rattle.law_simulation.specs.Named.{learning, tells}
 use Rattle.law_simulation.specs.Views.{requests_of}
 use Rattle.law_simulation.specs.Joined.{IsFencedIn, lands_untold_before}
 use Rattle.law_simulation.specs.Stands.{Stands}
@@ -30,7 +31,7 @@ use Rattle.law_simulation.proofs.sending.GoLive.{LiveEnd, connected_here, ended_
 use Rattle.law_simulation.proofs.sending.GoNumbers.{rest_small}
 use Rattle.law_simulation.proofs.sending.GoPieces.{first-drop}
 use Rattle.law_simulation.proofs.responses.ResponseLearns.{Learns, landing-drop, learns_more, learns_none}
-use Rattle.law_simulation.proofs.responses.ResponseTold.{Hears, Learned, entries_by, hears, learned_end}
+use Rattle.law_simulation.proofs.responses.ResponseTold.{Hears, Learned, entries_by, hears, known_last, learned_end}
 use Rattle.law_simulation.proofs.responses.ResponseTelling.{Advances, stays_here, telling_stands, ending_stands}
 
 -- the end of the numbers is near the first number that is not told
@@ -96,8 +97,9 @@ module _ (w : World) (m : Machine) (o : ObjName) (l : Link) (s : Stands w m) (h 
     abbrev pub end_then : End
     end_then = gone_end f (f.told + learn.count) learn.known learn.spent learn.waits f.ended
 
-    pub heard : Hears m o end_then (entries_by f learn.count)
-    heard = subst (λ z. Hears m o z (entries_by f learn.count)) learn.is (hears learn.count m o learn.last (stays_here w m o l s h) (connected_here w m o l s h) alive_here learn.may learn.last_may)
+    pub heard : Hears m o end_then (entries_by f learn.count) (learning o f n)
+    heard = subst (Hears m o end_then (entries_by f learn.count)) (learn.named o)
+        (subst (λ z. Hears m o z (entries_by f learn.count) (tells o learn.count ++ known_last o learn.last)) learn.is (hears learn.count m o learn.last (stays_here w m o l s h) (connected_here w m o l s h) alive_here learn.may learn.last_may))
 
     pub end_heard : machine.end_of (after m heard.steps) o ≡ end_then
     end_heard = learned_end m (after m heard.steps) o end_then (entries_by f learn.count) heard.learned (name_here w m o l s h)

@@ -5,6 +5,7 @@ use Rattle.std.proofs.Math.Nat.{zero-mod, zero-div}
 use Rattle.std.proofs.lemmas.Bool.Decides.{nat_tests, leb_tells, eqb_tells}
 use Rattle.std.proofs.lemmas.List.{get_or-drop, length-drop}
 use Rattle.rdma_types.specs.declared.names.ObjName.{ObjName}
+use Rattle.rdma_types.specs.declared.answers.Took.{Took}
 use Rattle.rdma_types.specs.declared.answers.Took.TheVariants as took
 use Rattle.rdma_types.specs.Kinds.{is_atomic, is_read, kind_of, size_of}
 use Rattle.rdma_types.specs.Memory.{is_granted, landing_right, local_key, word_bytes}
@@ -34,6 +35,7 @@ use Rattle.ideal_model.specs.Steps.{front, may_tell, success, tell, told_one, un
 use Rattle.law_simulation.specs.Carries.{LandsOld}
 use Rattle.law_simulation.specs.Facts.{ClassFact, IsOld, MoveFact, NumberedFact}
 use Rattle.law_simulation.specs.Joined.{IsFencedIn, lands_untold_before}
+use Rattle.law_simulation.specs.Named.{is_landed, learning, old_steps}
 use Rattle.law_simulation.specs.Packets.{class_of, aeth_class, nak_class, resume_class, syndrome_class, IsRequest, IsReadResponse, IsAtomicResponse, IsSequenceNak, IsRefusal, IsStopped, IsNothing, IsResume, IsResumeAck}
 use Rattle.law_simulation.specs.Stands.{Stands}
 use Rattle.law_simulation.specs.Views.{requests_of, side_of}
@@ -53,7 +55,8 @@ use Rattle.law_simulation.proofs.responses.ResponseLanding.{LearnedAt, entries_m
 use Rattle.law_simulation.proofs.delivery.Words.{word_length, word_said}
 use Rattle.law_simulation.proofs.responses.ResponseLast.{after_then, front_of, front_there, inner_then, run_then, untold_then}
 use Rattle.law_simulation.proofs.responses.ResponseLearns.{first_next}
-use Rattle.law_simulation.proofs.responses.ResponseOld.{lands_atomic, learned_at_then, learned_old, learned_regions, old_acted, old_regions, request_begins}
+use Rattle.law_simulation.proofs.responses.ResponseNumbers.{request_begins}
+use Rattle.law_simulation.proofs.responses.ResponseOld.{lands_atomic, learned_at_then, learned_old, learned_regions, old_acted, old_regions}
 use Rattle.law_simulation.proofs.responses.ResponseRegions.{landed_put}
 use Rattle.law_simulation.proofs.delivery.Regions.{put_like, put_said, put_whole}
 use Rattle.law_simulation.proofs.responses.ResponseTelling.{Advances, stays_here}
@@ -122,11 +125,15 @@ module _ (w : World) (m : Machine) (o : ObjName) (l : Link) (n : ℕ) (bytes : L
   abbrev Allowed : List IdealStep → Type 0
   Allowed ss = (ss ≡ []) ⊎ LandsOld m o n ss
 
+  abbrev Named : Took → List IdealStep
+  Named t = if is_landed t then old_steps o f n else []
+
   abbrev Reached : words.EndStep → Type 0
-  Reached step = IsTaken w m o Allowed step
+  Reached step = IsTaken w m o Allowed Named step
 
   nothing : Reached (useless (context_there w o))
-  nothing = nothing_taken w m o l Allowed (Some n) bytes d a (inl refl)
+  unfolding is_landed
+  nothing = nothing_taken w m o l Allowed Named (Some n) bytes d a (inl refl) refl
 
   -- the atomic acted
   acted_there : request_of f.posted f.mtu n < f.acted
@@ -346,6 +353,10 @@ module _ (w : World) (m : Machine) (o : ObjName) (l : Link) (n : ℕ) (bytes : L
         ∙ (landed_put (context_there w o) (regions_of m o.context) f.domain r'.request.lkey r'.request.local (size_of r') 0 (landing_right (kind_of r')) (word_bytes r.value) (live_same w m o.context a.stands h.live).regions (a.stands.sound o.context).keyed_once granted_there fits
         ∙ ap (λ k. record (context_there w o) { regions = put_at local_key r'.request.lkey k (word_bytes r.value) (regions_of m o.context) }) (sym none)))))
 
+    landed_named : ss ≡ learning o f n → ss ++ steps.Tell o ∷ [] ≡ Named took.Landed
+    unfolding is_landed old_steps
+    landed_named are = ap (λ z. z ++ steps.Tell o ∷ []) are
+
     lands_it : Reached (words.stays (telling (landing (context_there w o) l d x) (end_there w o) l (advanced l.sender (n + 1))) took.Landed)
     lands_it =
         let k = heard w m o l a.stands h a.alive n low within acts in
@@ -356,6 +367,7 @@ module _ (w : World) (m : Machine) (o : ObjName) (l : Link) (n : ℕ) (bytes : L
           inner = inner_then ss (steps.Tell o ∷ []) k.inner tt;
           is_run = run_then ss (steps.Tell o ∷ []) m k.is_run (enabled, tt);
           allowed = inr allowed;
+          named = landed_named k.are;
           stands = subst (Stands _) (sym (after_then ss (steps.Tell o ∷ []) m))
               (landing_stands w m o l a.stands h rs (put_like local_key r'.request.lkey r'.request.local (word_bytes r.value) (regions_of m o.context)) (put_whole local_key r'.request.lkey r'.request.local (word_bytes r.value) (regions_of m o.context) sound.whole) (put_said local_key r'.request.lkey r'.request.local (word_bytes r.value) (regions_of m o.context) (word_said r.value) sound.bytes)
               s2 (count + 1) 0 0 0 (tell m' o) a.alive advances knows learned on (took_answer took.Landed []));

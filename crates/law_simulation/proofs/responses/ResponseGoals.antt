@@ -1,7 +1,8 @@
 -- What is to be reached where a response is taken, and how: nothing happens, or the owner learns more.
-use Rattle.std.proofs.Common.{arith, ◌≡◌, ◌≤◌, ◌-◌, ℕ, suc, List, [], ◌∷◌, false, sym, subst}
-use Rattle.std.specs.Prelude.{Option, Some, min}
+use Rattle.std.proofs.Common.{arith, ◌≡◌, ◌≤◌, ◌-◌, ℕ, suc, List, [], ◌∷◌, ◌++◌, false, true, refl, sym, ap, ◌∙◌, subst}
+use Rattle.std.specs.Prelude.{Option, Some, min, if◌then◌else◌}
 use Rattle.std.proofs.lemmas.Bool.Decides.{nat_tests, leb_tells}
+use Rattle.std.proofs.lemmas.List.{append-nil}
 use Rattle.rdma_types.specs.declared.names.ObjName.{ObjName}
 use Rattle.rdma_types.specs.declared.answers.SilentWhy.TheVariants as why
 use Rattle.rdma_types.specs.declared.answers.Took.{Took}
@@ -22,36 +23,64 @@ use Rattle.ideal_model.specs.Machine as machine
 use Rattle.ideal_model.specs.Machine.{Machine}
 use Rattle.ideal_model.specs.Numbers.{due, oldest}
 use Rattle.law_simulation.specs.Carries.{CarriesNumbered, TellsUpTo, before_barrier}
+use Rattle.law_simulation.specs.Named.{acknowledged_steps, is_learned, last_step, learning, numbered_steps}
 use Rattle.law_simulation.specs.Packets.{Class, class_of}
 use Rattle.law_simulation.specs.Stands.{Stands}
-use Rattle.law_simulation.specs.Delivered.{AreInner, Arrives, Takes, context_there, end_there}
+use Rattle.law_simulation.specs.Delivered.{AreInner, Arrives, Takes, context_there, end_there, taken_for}
 use Rattle.law_simulation.proofs.delivery.Arriving.{unchanged_stands}
 use Rattle.law_simulation.proofs.sending.GoLive.{LiveEnd, sends_here}
 use Rattle.law_simulation.proofs.responses.ResponseAdvance.{Knows, advanced_knows, barrier_same, due_at_most, heard, knows_stands, learn, oldest_then, una_is}
 
--- the machine makes such inner steps, and the relation is kept where the end's step was this
-pub record IsTaken (w : World) (m : Machine) (o : ObjName) (P : List IdealStep → Type 0) (step : words.EndStep) : Type 0 where
+-- the machine makes such inner steps, those that are named by what the datagram was taken for, and the relation is kept where
+-- the end's step was this
+pub record IsTaken (w : World) (m : Machine) (o : ObjName) (P : List IdealStep → Type 0) (N : Took → List IdealStep) (step : words.EndStep) : Type 0 where
   pub steps : List IdealStep
   pub inner : AreInner steps
   pub is_run : IsRun m steps
   pub allowed : P steps
+  pub named : steps ≡ N step.took
   pub stands : Stands (ran w (ended_step (home w o.context) step)).world (after m steps)
 
-pub taken_takes : (w : World) (m : Machine) (o : ObjName) (l : Link) (n : ℕ) (d : Packet) (c : Class) (step : words.EndStep) → class_of d ≡ c → takes (context_there w o) (end_there w o) l d ≡ step → IsTaken w m o (CarriesNumbered w m o (Some n) d.payload c) step → Takes w m o l (Some n) d
+pub taken_takes : (w : World) (m : Machine) (o : ObjName) (l : Link) (n : ℕ) (d : Packet) (c : Class) (step : words.EndStep) → class_of d ≡ c → takes (context_there w o) (end_there w o) l d ≡ step → IsTaken w m o (CarriesNumbered w m o (Some n) d.payload c) (numbered_steps w m o (Some n) d.payload c) step → Takes w m o l (Some n) d
 taken_takes w m o l n d c step is same t = record {
   steps = t.steps;
   inner = t.inner;
   is_run = t.is_run;
   allowed = subst (λ k. CarriesNumbered w m o (Some n) d.payload k t.steps) (sym is) t.allowed;
+  named = t.named ∙ (ap (λ (z : words.EndStep). numbered_steps w m o (Some n) d.payload c z.took) (sym same) ∙ ap (λ k. numbered_steps w m o (Some n) d.payload k (taken_for w o l d)) (sym is));
   stands = subst (λ z. Stands (ran w (ended_step (home w o.context) z)).world (after m t.steps)) (sym same) t.stands;
 }
 
 -- nothing happens
-pub nothing_taken : (w : World) (m : Machine) (o : ObjName) (l : Link) (P : List IdealStep → Type 0) (number : Option ℕ) (bytes : List ℕ) (d : Packet) → Arrives w m o l number bytes d → P [] → IsTaken w m o P (useless (context_there w o))
-nothing_taken w m o l P number bytes d a p = record { steps = []; inner = tt; is_run = tt; allowed = p; stands = unchanged_stands w m o.context (took.Silent why.Useless) a.stands a.live }
+pub nothing_taken : (w : World) (m : Machine) (o : ObjName) (l : Link) (P : List IdealStep → Type 0) (N : Took → List IdealStep) (number : Option ℕ) (bytes : List ℕ) (d : Packet) → Arrives w m o l number bytes d → P [] → [] ≡ N (took.Silent why.Useless) → IsTaken w m o P N (useless (context_there w o))
+nothing_taken w m o l P N number bytes d a p q = record { steps = []; inner = tt; is_run = tt; allowed = p; named = q; stands = unchanged_stands w m o.context (took.Silent why.Useless) a.stands a.live }
 
 pub no_tells : (m : Machine) (o : ObjName) (limit : ℕ) → TellsUpTo m o limit []
 no_tells m o limit = record { only = tt; limited = omega arith }
+
+-- ---- the steps of an acknowledge by name
+
+-- a useless one
+pub useless_named : (m : Machine) (o : ObjName) (limit : ℕ) → [] ≡ acknowledged_steps m o limit (took.Silent why.Useless)
+unfolding acknowledged_steps is_learned
+useless_named m o limit = refl
+
+-- what is learned, and the last step
+pub step_named : (m : Machine) (o : ObjName) (limit : ℕ) (t : Took) (ss last : List IdealStep) → is_learned t ≡ true → ss ≡ learning o (machine.end_of m o) limit → last ≡ last_step o t → ss ++ last ≡ acknowledged_steps m o limit t
+unfolding acknowledged_steps
+step_named m o limit t ss last learned are is =
+    ap (λ z. z ++ last) are
+    ∙ (ap (λ z. learning o (machine.end_of m o) limit ++ z) is
+    ∙ sym (ap (λ b. if b then learning o (machine.end_of m o) limit ++ last_step o t else []) learned))
+
+-- .. where it is none
+pub acked_named : (m : Machine) (o : ObjName) (limit : ℕ) (ss : List IdealStep) → ss ≡ learning o (machine.end_of m o) limit → ss ≡ acknowledged_steps m o limit took.Acked
+unfolding is_learned last_step
+acked_named m o limit ss are = sym (append-nil ss) ∙ step_named m o limit took.Acked ss [] refl are refl
+
+pub rewound_named : (m : Machine) (o : ObjName) (limit : ℕ) (ss : List IdealStep) → ss ≡ learning o (machine.end_of m o) limit → ss ≡ acknowledged_steps m o limit took.Rewound
+unfolding is_learned last_step
+rewound_named m o limit ss are = sym (append-nil ss) ∙ step_named m o limit took.Rewound ss [] refl are refl
 
 -- ---- the barrier
 
@@ -87,15 +116,19 @@ module _ (w : World) (m : Machine) (o : ObjName) (l : Link) (s : Stands w m) (h 
     limited = omega (arith, oldest_then w m o l s h alive (up_to l k) low_too within_too acts_too, barrier_same w m o l s h alive);
   }
 
+  pub heard_are : (heard w m o l s h alive (up_to l k) low_too within_too acts_too).steps ≡ learning o (machine.end_of m o) (before_barrier m o k)
+  heard_are = (heard w m o l s h alive (up_to l k) low_too within_too acts_too).are ∙ ap (λ b. learning o (machine.end_of m o) (min k b)) (barrier_same w m o l s h alive)
+
   -- .. and the requester goes on
-  pub learned_taken : (P : List IdealStep → Type 0) (t : Took) → P (heard w m o l s h alive (up_to l k) low_too within_too acts_too).steps → IsTaken w m o P (words.stays (telling (context_there w o) (end_there w o) l (acknowledged l k)) t)
-  learned_taken P t p =
+  pub learned_taken : (P : List IdealStep → Type 0) (N : Took → List IdealStep) (t : Took) → P (heard w m o l s h alive (up_to l k) low_too within_too acts_too).steps → (heard w m o l s h alive (up_to l k) low_too within_too acts_too).steps ≡ N t → IsTaken w m o P N (words.stays (telling (context_there w o) (end_there w o) l (acknowledged l k)) t)
+  learned_taken P N t p q =
       let x = heard w m o l s h alive (up_to l k) low_too within_too acts_too in
       record {
         steps = x.steps;
         inner = x.inner;
         is_run = x.is_run;
         allowed = p;
+        named = q;
         stands = knows_stands w m o l s h alive (up_to l k) low_too within_too acts_too (acknowledged l k) _ (advanced_knows w m o l s h alive (up_to l k) low_too within_too acts_too) (after m x.steps) x.learned (took_answer t []);
       }
 
@@ -115,13 +148,14 @@ module _ (w : World) (m : Machine) (o : ObjName) (l : Link) (s : Stands w m) (h 
       }
 
   -- .. and sends again from there
-  pub rewound_taken : (P : List IdealStep → Type 0) (t : Took) → P (heard w m o l s h alive (up_to l k) low_too within_too acts_too).steps → IsTaken w m o P (words.stays (telling (context_there w o) (end_there w o) l (rewound (acknowledged l k))) t)
-  rewound_taken P t p =
+  pub rewound_taken : (P : List IdealStep → Type 0) (N : Took → List IdealStep) (t : Took) → P (heard w m o l s h alive (up_to l k) low_too within_too acts_too).steps → (heard w m o l s h alive (up_to l k) low_too within_too acts_too).steps ≡ N t → IsTaken w m o P N (words.stays (telling (context_there w o) (end_there w o) l (rewound (acknowledged l k))) t)
+  rewound_taken P N t p q =
       let x = heard w m o l s h alive (up_to l k) low_too within_too acts_too in
       record {
         steps = x.steps;
         inner = x.inner;
         is_run = x.is_run;
         allowed = p;
+        named = q;
         stands = knows_stands w m o l s h alive (up_to l k) low_too within_too acts_too (rewound (acknowledged l k)) _ rewound_knows (after m x.steps) x.learned (took_answer t []);
       }

@@ -1,11 +1,10 @@
 -- One more step of the machine after its owner learned of all numbers before the oldest: what the first untold request is.
-use Rattle.std.proofs.Common.{arith, ◌≡◌, ◌≤◌, ◌<◌, ◌+◌, ◌-◌, ◌/◌, ℕ, zero, suc, List, [], ◌∷◌, ◌++◌, length, get_or, true, false, Bool, refl, sym, ap, ◌∙◌, inl, inr}
-use Rattle.std.specs.Prelude.{not, nat_lt, ◌&&◌, if◌then◌else◌}
+use Rattle.std.proofs.Common.{arith, ◌≡◌, ◌≤◌, ◌<◌, ◌+◌, ◌/◌, ℕ, suc, List, [], ◌∷◌, ◌++◌, length, true, false, Bool, refl, sym, ap, ◌∙◌, inl, inr}
+use Rattle.std.specs.Prelude.{not, nat_lt, ◌&&◌}
 use Rattle.std.proofs.lemmas.Bool.Decides.{nat_tests, leb_tells}
 use Rattle.std.proofs.lemmas.List.{append-nil}
 use Rattle.rdma_types.specs.declared.names.ObjName.{ObjName}
-use Rattle.rdma_types.specs.Objects.{Posted, no_posted}
-use Rattle.rdma_types.specs.Spans.{first_number, end_number, request_of, span_of}
+use Rattle.rdma_types.specs.Spans.{end_number, request_of, span_of}
 use Rattle.protocol.specs.Requester as requester
 use Rattle.protocol.specs.State.{World, Link}
 use Rattle.ideal_model.specs.declared.steps.IdealStep.{IdealStep}
@@ -23,6 +22,7 @@ use Rattle.law_simulation.proofs.sending.GoNumbers.{first_mono, first_past}
 use Rattle.law_simulation.proofs.sending.GoPieces.{known_within}
 use Rattle.law_simulation.proofs.responses.ResponseAdvance.{end_heard, heard, learn, mtu_here}
 use Rattle.law_simulation.proofs.responses.ResponseLearns.{first_next}
+use Rattle.law_simulation.proofs.responses.ResponseNumbers.{request_inside}
 
 -- ---- runs
 
@@ -56,18 +56,6 @@ then_none m o limit step ss t = record { tells = ss; last = []; are = sym (appen
 pub then_one : (m : Machine) (o : ObjName) (limit : ℕ) (step : IdealStep) (ss : List IdealStep) → TellsUpTo m o limit ss → TellsThenMaybe m o limit step (ss ++ step ∷ [])
 then_one m o limit step ss t = record { tells = ss; last = step ∷ []; are = refl; told = t; at_most = inr refl }
 
--- ---- the request of a number
-
-pub request_at : (posted : List Posted) (mtu i k : ℕ) → i < length posted → k < span_of (get_or posted i no_posted) mtu → request_of posted mtu (first_number posted mtu i + k) ≡ i
-unfolding request_of first_number
-request_at [] mtu i k l h = absurd (omega (arith, l))
-request_at (p ∷ posted) mtu zero k l h = grind (arith, nat_tests, leb_tells (suc (0 + k)) (span_of p mtu), h)
-request_at (p ∷ posted) mtu (suc i) k l h =
-    let less : (span_of p mtu + first_number posted mtu i) + k - span_of p mtu ≡ first_number posted mtu i + k = omega arith in
-    let past : nat_lt ((span_of p mtu + first_number posted mtu i) + k) (span_of p mtu) ≡ false = grind (arith, nat_tests, leb_tells (suc ((span_of p mtu + first_number posted mtu i) + k)) (span_of p mtu)) in
-    ap (λ b. if b then 0 else suc (request_of posted mtu ((span_of p mtu + first_number posted mtu i) + k - span_of p mtu))) past
-    ∙ (ap (λ j. suc (request_of posted mtu j)) less ∙ ap suc (request_at posted mtu i k (omega (arith, l)) h))
-
 less_tells : (a b : ℕ) → a < b → nat_lt a b ≡ true
 less_tells a b h = grind (arith, nat_tests, leb_tells (suc a) b)
 
@@ -100,7 +88,7 @@ module _ (w : World) (m : Machine) (o : ObjName) (l : Link) (s : Stands w m) (h 
 
   -- n is a number of it
   pub front_of : request_of f.posted f.mtu n ≡ told
-  front_of = ap (request_of f.posted f.mtu) (sym (learn w m o l s h alive n low within acts).oldest_is) ∙ request_at f.posted f.mtu told (bytes / f.mtu) front_there in_span
+  front_of = ap (request_of f.posted f.mtu) (sym (learn w m o l s h alive n low within acts).oldest_is) ∙ request_inside f.posted f.mtu told (bytes / f.mtu) front_there in_span
 
   -- where n acts next, it acts next
   pub front_acts : n ≡ due f → told ≡ f.acted

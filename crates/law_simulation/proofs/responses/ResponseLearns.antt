@@ -1,28 +1,31 @@
 -- What the owner of an end learns where it knows all numbers below one: which requests are told, and which bytes known.
-use Rattle.std.proofs.Common.{arith, ◌≡◌, ◌≤◌, ◌<◌, ◌+◌, ◌-◌, ◌*◌, ◌/◌, ◌%◌, ℕ, zero, suc, List, [], ◌∷◌, length, get_or, true, false, Bool, refl, sym, ap, ◌∙◌, subst, inl, inr}
+use Rattle.std.proofs.Common.{arith, ◌≡◌, ◌≤◌, ◌<◌, ◌+◌, ◌-◌, ◌*◌, ◌/◌, ◌%◌, ℕ, zero, suc, List, [], ◌∷◌, ◌++◌, length, get_or, true, false, Bool, refl, sym, ap, ◌∙◌, subst, inl, inr}
 use Rattle.std.specs.Prelude.{Option, Some, None, drop, slice_get, nat_lt, ◌==◌, if◌then◌else◌}
 use Rattle.std.proofs.lemmas.Bool.Decides.{nat_tests, leb_tells, eqb_tells}
 use Rattle.std.proofs.lemmas.List.{length-drop, get_or-drop}
+use Rattle.rdma_types.specs.declared.names.ObjName.{ObjName}
 use Rattle.rdma_types.specs.declared.requests.Kind.{Kind}
 use Rattle.rdma_types.specs.declared.requests.Kind.TheVariants.{Write, Send, Read, CompareSwap, FetchAdd}
 use Rattle.rdma_types.specs.Kinds.{is_atomic, kind_of, lands, size_of}
 use Rattle.rdma_types.specs.Limits.{is_mtu}
 use Rattle.rdma_types.specs.Objects.{Posted, no_posted}
-use Rattle.rdma_types.specs.Spans.{span_of, first_number, end_number, next_landing, request_of}
+use Rattle.rdma_types.specs.Spans.{span_of, first_number, end_number, next_landing, piece_of, request_of}
 use Rattle.ideal_model.specs.declared.reply.Reply.{Reply}
 use Rattle.ideal_model.specs.declared.reply.Reply.TheVariants.{Finished, OldValue, Denied}
 use Rattle.ideal_model.specs.Machine.{End, posted_at}
 use Rattle.ideal_model.specs.Numbers.{due, oldest, barrier}
 use Rattle.ideal_model.specs.Sound.{IsSound, IsReplyTo}
 use Rattle.ideal_model.specs.Steps.{current, front, in_place, told_one, with_known}
+use Rattle.law_simulation.specs.Carries.{piece_at, request_at}
 use Rattle.law_simulation.specs.Joined.{AreWholePieces}
+use Rattle.law_simulation.specs.Named.{known_bytes, learning, tells}
 use Rattle.law_simulation.proofs.relation.Numbers.{first-rest}
 use Rattle.law_simulation.proofs.sending.GoEnd.{gone_end}
 use Rattle.law_simulation.proofs.sending.GoNumbers.{first_mono, mtu_is}
 use Rattle.law_simulation.proofs.sending.GoPieces.{first-drop, head_dropped, known_within}
 use Rattle.law_simulation.proofs.sending.GoSound.{MayKnow, known_already}
-use Rattle.law_simulation.proofs.responses.ResponseNumbers.{IsOfFirst, bytes_inside, bytes_less, bytes_within, none_land, part_stays, pieces_back, request_end, request_first, request_high, request_low, request_within, whole_bytes}
-use Rattle.law_simulation.proofs.responses.ResponseTold.{LastOf, MayHear, MayTell, known_by, told_by}
+use Rattle.law_simulation.proofs.responses.ResponseNumbers.{IsOfFirst, bytes_inside, bytes_less, bytes_within, none_land, part_stays, piece_begins, piece_inside, pieces_back, request_begins, request_end, request_first, request_high, request_inside, request_low, request_within, whole_bytes}
+use Rattle.law_simulation.proofs.responses.ResponseTold.{LastOf, MayHear, MayTell, known_by, known_last, told_by}
 
 -- ---- kinds
 
@@ -115,6 +118,37 @@ may_tell_all (suc count) e acted posted replies stays =
       may_tell_all count (told_one e) (omega (arith, acted)) posted replies (λ i low high. stays i (omega (arith, low)) (omega (arith, high))),
     )
 
+-- ---- the steps by name
+
+-- nothing new
+none_named : (o : ObjName) (e : End) → tells o 0 ++ known_last o None ≡ learning o e (oldest e)
+unfolding learning tells known_last
+none_named o e = sym (ap (λ b. if b then tells o (request_at e (oldest e) - e.told) ++ known_bytes o (piece_at e (oldest e) * e.mtu) else []) (not_less (oldest e)))
+  where
+    not_less : (k : ℕ) → nat_lt k k ≡ false
+    not_less k = grind (arith, nat_tests, leb_tells (suc k) k)
+
+-- so many requests are told, and then bytes of the next one are known
+more_named : (o : ObjName) (e : End) (n count : ℕ) (last : Option ℕ) → oldest e < n → request_at e n ≡ e.told + count → known_last o last ≡ known_bytes o (piece_at e n * e.mtu) → tells o count ++ known_last o last ≡ learning o e n
+unfolding learning
+more_named o e n count last more at bytes =
+    let less : nat_lt (oldest e) n ≡ true = grind (arith, nat_tests, leb_tells (suc (oldest e)) n) in
+    let many : count ≡ request_at e n - e.told = omega (arith, at) in
+    ap (λ z. tells o count ++ z) bytes
+    ∙ (ap (λ k. tells o k ++ known_bytes o (piece_at e n * e.mtu)) many
+    ∙ sym (ap (λ b. if b then tells o (request_at e n - e.told) ++ known_bytes o (piece_at e n * e.mtu) else []) less))
+
+-- none are
+no_bytes : (o : ObjName) (mtu k : ℕ) → k ≡ 0 → known_last o None ≡ known_bytes o (k * mtu)
+unfolding known_last known_bytes
+no_bytes o mtu k h = let none : k * mtu ≡ 0 = ap (λ j. j * mtu) h ∙ omega arith in sym (ap (known_bytes o) none)
+
+-- .. or some
+some_known : (o : ObjName) (bytes : ℕ) → 0 < bytes → known_last o (Some bytes) ≡ known_bytes o bytes
+unfolding known_last known_bytes
+some_known o zero h = absurd (omega (arith, h))
+some_known o (suc bytes) h = refl
+
 -- ---- what is learned
 
 -- the owner of f learns that all numbers below n are in place
@@ -131,6 +165,7 @@ pub record Learns (f : End) (n : ℕ) : Type 0 where
   pub knows : MayKnow f (f.told + count) known
   pub oldest_is : first_number f.posted f.mtu (f.told + count) + known / f.mtu ≡ n
   pub telling : AreWholePieces f.mtu (posted_at f.posted (f.told + count)) known
+  pub named : (o : ObjName) → tells o count ++ known_last o last ≡ learning o f n
   pub fresh : oldest f < n → (spent ≡ 0) × (waits ≡ 0)
   pub still : oldest f ≡ n → (spent ≡ f.spent) × (waits ≡ f.waits)
 
@@ -167,6 +202,7 @@ module _ (f : End) (sound : IsSound f) (mtu : is_mtu f.mtu ≡ true) (alive : f.
         knows = subst (λ k. MayKnow f k f.known) same (known_already f sound alive);
         oldest_is = ap (λ k. first_number f.posted f.mtu k + f.known / f.mtu) (sym same);
         telling = subst (λ k. AreWholePieces f.mtu (posted_at f.posted k) f.known) same telling;
+        named = λ o. none_named o f;
         fresh = λ h. absurd (omega (arith, h));
         still = λ h. (refl, refl);
       }
@@ -223,6 +259,16 @@ module _ (f : End) (sound : IsSound f) (mtu : is_mtu f.mtu ≡ true) (alive : f.
     may_all : MayTell f j
     may_all = may_tell_all j f acted_after sound.acted_posted sound.replies stays_before
 
+    -- its request, and which of its pieces n is
+    begun : first_number us f.mtu j ≤ m → n ≡ first_number f.posted f.mtu (f.told + j) + (m - first_number us f.mtu j)
+    begun h = omega (arith, begins, low, h)
+
+    at_begin : first_number us f.mtu j ≡ m → n ≡ first_number f.posted f.mtu (f.told + j)
+    at_begin e = omega (arith, begins, low, e)
+
+    in_list : f.told + j ≤ length f.posted
+    in_list = omega (arith, request_within us f.mtu m, us_length, sound.told_posted)
+
     -- .. and is whole
     whole_request : first_number us f.mtu j ≡ m → Learns f n
     unfolding known_by LastOf oldest left
@@ -246,6 +292,8 @@ module _ (f : End) (sound : IsSound f) (mtu : is_mtu f.mtu ≡ true) (alive : f.
       });
       oldest_is = omega (arith, begins, e, low, ap (λ k. k / f.mtu) (gone f.known), zero_bytes f.mtu mtu);
       telling = subst (AreWholePieces f.mtu (posted_at f.posted (f.told + j))) (sym (gone f.known)) (zero_whole f.mtu mtu, inl refl);
+      named = λ o. more_named o f n j None more (ap (request_of f.posted f.mtu) (at_begin e) ∙ request_begins f.posted f.mtu (f.told + j) in_list)
+          (no_bytes o f.mtu (piece_at f n) (ap (piece_of f.posted f.mtu) (at_begin e) ∙ piece_begins f.posted f.mtu (f.told + j) in_list));
       fresh = λ h. (gone f.spent, gone f.waits);
       still = λ h. absurd (omega (arith, h, more));
     }
@@ -335,6 +383,8 @@ module _ (f : End) (sound : IsSound f) (mtu : is_mtu f.mtu ≡ true) (alive : f.
         };
         oldest_is = omega (arith, begins, pieces_back f.mtu k mtu, inside, low);
         telling = (whole_bytes f.mtu k mtu, inr in_size);
+        named = λ o. more_named o f n j (Some (k * f.mtu)) more (ap (request_of f.posted f.mtu) (begun at_most) ∙ request_inside f.posted f.mtu (f.told + j) k there in_span)
+            (some_known o (k * f.mtu) (some_bytes f.mtu k mtu (omega (arith, inside))) ∙ ap (λ i. known_bytes o (i * f.mtu)) (sym (ap (piece_of f.posted f.mtu) (begun at_most) ∙ piece_inside f.posted f.mtu (f.told + j) k there in_span)));
         fresh = λ h. (refl, refl);
         still = λ h. absurd (omega (arith, h, more));
       }

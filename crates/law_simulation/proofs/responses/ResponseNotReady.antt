@@ -7,6 +7,7 @@ use Rattle.std.proofs.lemmas.Bool.Decides.{nat_tests, leb_tells, eqb_tells}
 use Rattle.std.proofs.lemmas.List.{append-nil}
 use Rattle.std.proofs.lemmas.List.Folds.{list_any_at}
 use Rattle.rdma_types.specs.declared.names.ObjName.{ObjName}
+use Rattle.rdma_types.specs.declared.answers.Took.{Took}
 use Rattle.rdma_types.specs.declared.answers.Took.TheVariants as took
 use Rattle.rdma_types.specs.declared.requests.WcStatus.TheVariants as status
 use Rattle.rdma_types.specs.Lists.{store_named}
@@ -32,6 +33,7 @@ use Rattle.ideal_model.specs.Steps as making
 use Rattle.ideal_model.specs.Steps.{may_wait, wait}
 use Rattle.law_simulation.specs.Carries.{TellsThenMaybe, before_barrier}
 use Rattle.law_simulation.specs.Facts.{ClassFact, IsDry, MoveFact, NumberedFact}
+use Rattle.law_simulation.specs.Named.{acknowledged_steps, ending, is_learned, last_step}
 use Rattle.law_simulation.specs.Packets.{class_of, syndrome_class, nak_class, IsSequenceNak, IsRefusal, IsReceiverNotReady, IsStopped, IsNothing}
 use Rattle.law_simulation.specs.Stands.{Stands}
 use Rattle.law_simulation.specs.Views.{requests_of, side_of}
@@ -41,7 +43,7 @@ use Rattle.law_simulation.specs.Delivered.{Arrives, Takes, ReceiverNotReadyIsTak
 use Rattle.law_simulation.proofs.sending.GoLive.{LiveEnd, joined_here, link_is, name_here, ordered_here}
 use Rattle.law_simulation.proofs.responses.ResponseAdvance.{Knows, advanced_knows, due_at_most, end_heard, end_then, heard, knows_ends, knows_stands, learn}
 use Rattle.law_simulation.proofs.responses.ResponseArrives.{IsAcknowledge, acknowledge, is_answer, answer_response, answered, live_end}
-use Rattle.law_simulation.proofs.responses.ResponseGoals.{IsTaken, acts_too, learned_taken, low_too, no_tells, nothing_taken, taken_takes, tells_up, up_to, within_too}
+use Rattle.law_simulation.proofs.responses.ResponseGoals.{IsTaken, acked_named, acts_too, heard_are, learned_taken, low_too, no_tells, nothing_taken, step_named, taken_takes, tells_up, up_to, useless_named, within_too}
 use Rattle.law_simulation.proofs.responses.ResponseLast.{after_then, front_of, inner_then, run_then, then_none, then_one, untold_then}
 use Rattle.law_simulation.proofs.responses.ResponseTelling.{stays_here}
 use Rattle.law_simulation.proofs.responses.ResponseTold.{Learned, Stays, entries_by, learned_stays, learned_then, none_more}
@@ -74,6 +76,15 @@ learned_waited m o s =
       numbers = refl;
       keys = refl;
     }
+
+-- a wait by name, and the last one
+wait_named : (o : ObjName) → (is_learned took.Waits ≡ true) × (steps.Wait o ∷ [] ≡ last_step o took.Waits)
+unfolding is_learned last_step
+wait_named o = (refl, refl)
+
+last_named : (o : ObjName) → (is_learned (took.Ended status.RnrExceeded) ≡ true) × (steps.Wait o ∷ [] ≡ last_step o (took.Ended status.RnrExceeded))
+unfolding is_learned last_step ending
+last_named o = (refl, refl)
 
 -- the count of the last wait is no matter
 ends_same : (c : state.Context) (e : state.End) (l : Link) (s : Sender) → ends_after c e l (waited s) status.RnrExceeded ≡ ends_after c e l s status.RnrExceeded
@@ -108,15 +119,18 @@ module _ (w : World) (m : Machine) (o : ObjName) (l : Link) (n : ℕ) (bytes : L
   abbrev Allowed : List IdealStep → Type 0
   Allowed ss = TellsThenMaybe m o (before_barrier m o n) (steps.Wait o) ss
 
+  abbrev Named : Took → List IdealStep
+  Named = acknowledged_steps m o (before_barrier m o n)
+
   abbrev Reached : words.EndStep → Type 0
-  Reached step = IsTaken w m o Allowed step
+  Reached step = IsTaken w m o Allowed Named step
 
   -- the world after such a step of the end
   abbrev ran_world : words.EndStep → World
   ran_world step = (ran w (ended_step (home w o.context) step)).world
 
   nothing : Reached (useless (context_there w o))
-  nothing = nothing_taken w m o l Allowed (Some n) bytes d a (then_none m o _ (steps.Wait o) [] (no_tells m o _))
+  nothing = nothing_taken w m o l Allowed Named (Some n) bytes d a (then_none m o _ (steps.Wait o) [] (no_tells m o _)) (useless_named m o _)
 
   acts : n ≤ due f
   unfolding due
@@ -187,29 +201,30 @@ module _ (w : World) (m : Machine) (o : ObjName) (l : Link) (n : ℕ) (bytes : L
       }
 
       -- by a Wait
-      by_wait : (step : words.EndStep) → Stands (ran_world step) (wait m' o) → Reached step
-      by_wait step stands =
+      by_wait : (step : words.EndStep) → is_learned step.took ≡ true → steps.Wait o ∷ [] ≡ last_step o step.took → Stands (ran_world step) (wait m' o) → Reached step
+      by_wait step learned' one stands =
           let x = heard w m o l a.stands h a.alive up low' within' acts' in
           record {
             steps = ss ++ steps.Wait o ∷ [];
             inner = inner_then ss (steps.Wait o ∷ []) x.inner tt;
             is_run = run_then ss (steps.Wait o ∷ []) m x.is_run (enabled, tt);
             allowed = then_one m o _ (steps.Wait o) ss (tells_up w m o l a.stands h a.alive n low acts);
+            named = step_named m o _ step.took ss (steps.Wait o ∷ []) learned' (heard_are w m o l a.stands h a.alive n low acts) one;
             stands = subst (Stands (ran_world step)) (sym (after_then ss (steps.Wait o ∷ []) m)) stands;
           }
 
       abbrev counted_step : words.EndStep
       counted_step = words.stays (telling (context_there w o) (end_there w o) l (waiting (waited s))) took.Waits
 
-      abbrev last_step : words.EndStep
-      last_step = ends_after (context_there w o) (end_there w o) l (waited s) status.RnrExceeded
+      abbrev ended_step' : words.EndStep
+      ended_step' = ends_after (context_there w o) (end_there w o) l (waited s) status.RnrExceeded
 
       -- waits have no limit
       endless : f.rnr ≡ 7 → Reached counted_step
       unfolding wait
       endless e =
           let x = heard w m o l a.stands h a.alive up low' within' acts' in
-          by_wait counted_step (subst (Stands (ran_world counted_step)) (sym (ap (λ b. if b then m' else if (machine.end_of m' o).waits == (machine.end_of m' o).rnr then making.ended_with m' o status.RnrExceeded else machine.in_end m' o making.waited) (ap (λ z. z.rnr == 7) end_is ∙ same_eq f.rnr 7 e)))
+          by_wait counted_step (wait_named o).0 (wait_named o).1 (subst (Stands (ran_world counted_step)) (sym (ap (λ b. if b then m' else if (machine.end_of m' o).waits == (machine.end_of m' o).rnr then making.ended_with m' o status.RnrExceeded else machine.in_end m' o making.waited) (ap (λ z. z.rnr == 7) end_is ∙ same_eq f.rnr 7 e)))
           (knows_stands w m o l a.stands h a.alive up low' within' acts' (waiting (waited s)) count (waits_on count (λ ne. absurd (ne e))) m' x.learned (took_answer took.Waits [])))
 
       limited : f.rnr ≢ 7 → (u : Bool) → (count == f.rnr) ≡ u → wait m' o ≡ (if u then making.ended_with m' o status.RnrExceeded else machine.in_end m' o making.waited)
@@ -219,11 +234,11 @@ module _ (w : World) (m : Machine) (o : ObjName) (l : Link) (n : ℕ) (bytes : L
           ∙ ap (λ b. if b then making.ended_with m' o status.RnrExceeded else machine.in_end m' o making.waited) (ap (λ z. z.waits == z.rnr) end_is ∙ t)
 
       -- the last wait
-      last : f.rnr ≢ 7 → (count == f.rnr) ≡ true → Reached last_step
+      last : f.rnr ≢ 7 → (count == f.rnr) ≡ true → Reached ended_step'
       last ne t =
           let x = heard w m o l a.stands h a.alive up low' within' acts' in
           subst Reached (sym (ends_same (context_there w o) (end_there w o) l s))
-          (by_wait (ends_after (context_there w o) (end_there w o) l s status.RnrExceeded) (subst (Stands (ran_world (ends_after (context_there w o) (end_there w o) l s status.RnrExceeded))) (sym (limited ne true t))
+          (by_wait (ends_after (context_there w o) (end_there w o) l s status.RnrExceeded) (last_named o).0 (last_named o).1 (subst (Stands (ran_world (ends_after (context_there w o) (end_there w o) l s status.RnrExceeded))) (sym (limited ne true t))
           (knows_ends w m o l a.stands h a.alive up low' within' acts' s count v m' x.learned status.RnrExceeded (took_answer (took.Ended status.RnrExceeded) []))))
 
       -- another wait
@@ -237,7 +252,7 @@ module _ (w : World) (m : Machine) (o : ObjName) (l : Link) (n : ℕ) (bytes : L
           let both : Learned m (machine.in_end m' o making.waited) o (making.waited g) (entries_by f (learn w m o l a.stands h a.alive up low' within' acts').count) =
           subst (Learned m (machine.in_end m' o making.waited) o (making.waited g)) (append-nil _) (learned_then m m' (machine.in_end m' o making.waited) o g (making.waited g) _ [] (stays_here w m o l a.stands h) x.learned one (name_here w m o l a.stands h) refl) in
           let more : count ≢ f.rnr = eq_other count f.rnr t in
-          by_wait counted_step (subst (Stands (ran_world counted_step)) (sym (limited ne false t))
+          by_wait counted_step (wait_named o).0 (wait_named o).1 (subst (Stands (ran_world counted_step)) (sym (limited ne false t))
           (knows_stands w m o l a.stands h a.alive up low' within' acts' (waiting (waited s)) (suc count) (waits_on (suc count) (λ k. (omega (arith, (v.waits k).0, (v.waits k).1, rnr_small), omega (arith, (v.waits k).1, more))))
           (machine.in_end m' o making.waited) both (took_answer took.Waits [])))
 
@@ -246,7 +261,7 @@ module _ (w : World) (m : Machine) (o : ObjName) (l : Link) (n : ℕ) (bytes : L
       again = by_rnr (f.rnr == 7) refl
         where
           step_of : Bool → words.EndStep
-          step_of b = if b then last_step else counted_step
+          step_of b = if b then ended_step' else counted_step
 
           test : Bool
           test = not (l.terms.rnr == 7) && (min 255 (s.waits + 1) == l.terms.rnr + 1)
@@ -274,7 +289,7 @@ module _ (w : World) (m : Machine) (o : ObjName) (l : Link) (n : ℕ) (bytes : L
 
     -- it speaks of a later number: an ACK of those before it
     moved : (b : Bool) → Reached (if b then words.stays (telling (context_there w o) (end_there w o) l s) took.Acked else useless (context_there w o))
-    moved true = learned_taken w m o l a.stands h a.alive n low acts Allowed took.Acked (then_none m o _ (steps.Wait o) _ (tells_up w m o l a.stands h a.alive n low acts))
+    moved true = learned_taken w m o l a.stands h a.alive n low acts Allowed Named took.Acked (then_none m o _ (steps.Wait o) _ (tells_up w m o l a.stands h a.alive n low acts)) (acked_named m o _ _ (heard_are w m o l a.stands h a.alive n low acts))
     moved false = nothing
 
     waits : (t : Bool) → (s.una == n) ≡ t → Reached (if t then waits_again (context_there w o) (end_there w o) l (waited s) else moved_or_useless l s (context_there w o) (telling (context_there w o) (end_there w o) l s))

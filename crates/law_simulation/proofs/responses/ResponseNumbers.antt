@@ -5,7 +5,7 @@ use Rattle.std.proofs.lemmas.Bool.Decides.{nat_tests, leb_tells}
 use Rattle.rdma_types.specs.Kinds.{is_atomic, kind_of, lands, size_of}
 use Rattle.rdma_types.specs.Limits.{is_mtu}
 use Rattle.rdma_types.specs.Objects.{Posted, no_posted}
-use Rattle.rdma_types.specs.Spans.{pieces, span, span_of, first_number, end_number, next_landing, request_of}
+use Rattle.rdma_types.specs.Spans.{pieces, span, span_of, first_number, end_number, next_landing, piece_of, request_of}
 use Rattle.law_simulation.proofs.relation.Numbers.{span_positive}
 use Rattle.law_simulation.proofs.sending.GoNumbers.{mtu_is}
 
@@ -130,3 +130,48 @@ bytes_within mtu k bytes h l = mtu_is (λ m. k ≤ bytes / m → k * m ≤ bytes
 -- fewer whole pieces are fewer bytes
 pub bytes_less : (mtu known k : ℕ) → is_mtu mtu ≡ true → known % mtu ≡ 0 → known / mtu < k → known < k * mtu
 bytes_less mtu known k h whole l = mtu_is (λ m. known % m ≡ 0 → known / m < k → known < k * m) (λ w l. omega (arith, w, l)) (λ w l. omega (arith, w, l)) (λ w l. omega (arith, w, l)) (λ w l. omega (arith, w, l)) (λ w l. omega (arith, w, l)) mtu h whole l
+
+-- ---- the request that a number is of, and which of its pieces
+
+pub request_inside : (posted : List Posted) (mtu i k : ℕ) → i < length posted → k < span_of (get_or posted i no_posted) mtu → request_of posted mtu (first_number posted mtu i + k) ≡ i
+unfolding request_of first_number
+request_inside [] mtu i k l h = absurd (omega (arith, l))
+request_inside (p ∷ posted) mtu zero k l h = grind (arith, nat_tests, leb_tells (suc (0 + k)) (span_of p mtu), h)
+request_inside (p ∷ posted) mtu (suc i) k l h =
+    let less : (span_of p mtu + first_number posted mtu i) + k - span_of p mtu ≡ first_number posted mtu i + k = omega arith in
+    let past : nat_lt ((span_of p mtu + first_number posted mtu i) + k) (span_of p mtu) ≡ false = grind (arith, nat_tests, leb_tells (suc ((span_of p mtu + first_number posted mtu i) + k)) (span_of p mtu)) in
+    ap (λ b. if b then 0 else suc (request_of posted mtu ((span_of p mtu + first_number posted mtu i) + k - span_of p mtu))) past
+    ∙ (ap (λ j. suc (request_of posted mtu j)) less ∙ ap suc (request_inside posted mtu i k (omega (arith, l)) h))
+
+pub request_begins : (us : List Posted) (mtu i : ℕ) → i ≤ length us → request_of us mtu (first_number us mtu i) ≡ i
+unfolding request_of first_number
+request_begins [] mtu zero h = refl
+request_begins [] mtu (suc i) h = absurd (omega (arith, h))
+request_begins (p ∷ us) mtu zero h = grind (arith, nat_tests, leb_tells 1 (span_of p mtu), span_positive p mtu)
+request_begins (p ∷ us) mtu (suc i) h =
+    let less : (span_of p mtu + first_number us mtu i) - span_of p mtu ≡ first_number us mtu i = omega arith in
+    let past : nat_lt (span_of p mtu + first_number us mtu i) (span_of p mtu) ≡ false = grind (arith, nat_tests, leb_tells (suc (span_of p mtu + first_number us mtu i)) (span_of p mtu)) in
+    ap (λ b. if b then 0 else suc (request_of us mtu ((span_of p mtu + first_number us mtu i) - span_of p mtu))) past
+    ∙ (ap (λ j. suc (request_of us mtu j)) less ∙ ap suc (request_begins us mtu i (omega (arith, h))))
+
+-- which of its numbers it is
+pub piece_inside : (posted : List Posted) (mtu i k : ℕ) → i < length posted → k < span_of (get_or posted i no_posted) mtu → piece_of posted mtu (first_number posted mtu i + k) ≡ k
+unfolding piece_of first_number
+piece_inside [] mtu i k l h = absurd (omega (arith, l))
+piece_inside (p ∷ posted) mtu zero k l h = grind (arith, nat_tests, leb_tells (suc (0 + k)) (span_of p mtu), h)
+piece_inside (p ∷ posted) mtu (suc i) k l h =
+    let less : (span_of p mtu + first_number posted mtu i) + k - span_of p mtu ≡ first_number posted mtu i + k = omega arith in
+    let past : nat_lt ((span_of p mtu + first_number posted mtu i) + k) (span_of p mtu) ≡ false = grind (arith, nat_tests, leb_tells (suc ((span_of p mtu + first_number posted mtu i) + k)) (span_of p mtu)) in
+    ap (λ b. if b then (span_of p mtu + first_number posted mtu i) + k else piece_of posted mtu ((span_of p mtu + first_number posted mtu i) + k - span_of p mtu)) past
+    ∙ (ap (piece_of posted mtu) less ∙ piece_inside posted mtu i k (omega (arith, l)) h)
+
+pub piece_begins : (us : List Posted) (mtu i : ℕ) → i ≤ length us → piece_of us mtu (first_number us mtu i) ≡ 0
+unfolding piece_of first_number
+piece_begins [] mtu zero h = refl
+piece_begins [] mtu (suc i) h = absurd (omega (arith, h))
+piece_begins (p ∷ us) mtu zero h = grind (arith, nat_tests, leb_tells 1 (span_of p mtu), span_positive p mtu)
+piece_begins (p ∷ us) mtu (suc i) h =
+    let less : (span_of p mtu + first_number us mtu i) - span_of p mtu ≡ first_number us mtu i = omega arith in
+    let past : nat_lt (span_of p mtu + first_number us mtu i) (span_of p mtu) ≡ false = grind (arith, nat_tests, leb_tells (suc (span_of p mtu + first_number us mtu i)) (span_of p mtu)) in
+    ap (λ b. if b then span_of p mtu + first_number us mtu i else piece_of us mtu ((span_of p mtu + first_number us mtu i) - span_of p mtu)) past
+    ∙ (ap (piece_of us mtu) less ∙ piece_begins us mtu i (omega (arith, h)))

@@ -1,5 +1,5 @@
 -- An atomic is told with its old value: what changes of the machine.
-use Rattle.std.proofs.Common.{arith, ◌≡◌, ◌≤◌, ◌<◌, ◌+◌, ◌-◌, ◌⊎◌, ℕ, zero, suc, List, [], ◌∷◌, ◌++◌, length, true, false, Bool, refl, sym, ap, ◌∙◌, subst, inl, inr}
+use Rattle.std.proofs.Common.{arith, ◌≡◌, ◌<◌, ◌+◌, ◌-◌, ◌⊎◌, ℕ, zero, suc, List, [], ◌∷◌, ◌++◌, length, true, false, Bool, refl, sym, ap, ◌∙◌, subst, inl, inr}
 use Rattle.std.specs.Prelude.{Some, nat_lt, slice_get, if◌then◌else◌}
 use Rattle.std.proofs.lemmas.Bool.Decides.{nat_tests, leb_tells, eqb_tells}
 use Rattle.rdma_types.specs.declared.names.Name.{Name}
@@ -11,7 +11,7 @@ use Rattle.rdma_types.specs.Kinds.{is_atomic, is_read, kind_of, lands}
 use Rattle.rdma_types.specs.Lists.{has_name, named, store_named}
 use Rattle.rdma_types.specs.Memory.{local_key, word_bytes}
 use Rattle.rdma_types.specs.Objects.{Posted, Region}
-use Rattle.rdma_types.specs.Spans.{Piece, first_number, next_landing, piece_at, request_of, span_of}
+use Rattle.rdma_types.specs.Spans.{Piece, next_landing, piece_at, span_of}
 use Rattle.ideal_model.specs.declared.reply.Reply.{Reply}
 use Rattle.ideal_model.specs.declared.reply.Reply.TheVariants.{OldValue}
 use Rattle.ideal_model.specs.Machine as machine
@@ -22,7 +22,6 @@ use Rattle.law_simulation.proofs.relation.Machines as machines
 use Rattle.law_simulation.proofs.relation.Machines.{MachineChanged, context_name, with_context_changed, queue_stored}
 use Rattle.law_simulation.proofs.relation.Ends.{with_more}
 use Rattle.law_simulation.proofs.relation.Linked.{end_changed}
-use Rattle.law_simulation.proofs.relation.Numbers.{span_positive}
 use Rattle.law_simulation.proofs.sending.GoOver.{made_still}
 use Rattle.law_simulation.proofs.sending.GoTables.{changed_twice, stored_twice}
 use Rattle.law_simulation.proofs.responses.ResponseLanding.{LearnedAt}
@@ -105,17 +104,6 @@ pub learned_regions : (m m1 : Machine) (o : ObjName) (g1 : End) (xs : List Compl
 learned_regions m m1 o g1 xs a = ap (λ z. z.regions) (machines.context_here m m1 o.context _ a.changed)
 
 -- ---- numbers
-
-pub request_begins : (us : List Posted) (mtu i : ℕ) → i ≤ length us → request_of us mtu (first_number us mtu i) ≡ i
-unfolding request_of first_number
-request_begins [] mtu zero h = refl
-request_begins [] mtu (suc i) h = absurd (omega (arith, h))
-request_begins (p ∷ us) mtu zero h = grind (arith, nat_tests, leb_tells 1 (span_of p mtu), span_positive p mtu)
-request_begins (p ∷ us) mtu (suc i) h =
-    let less : (span_of p mtu + first_number us mtu i) - span_of p mtu ≡ first_number us mtu i = omega arith in
-    let past : nat_lt (span_of p mtu + first_number us mtu i) (span_of p mtu) ≡ false = grind (arith, nat_tests, leb_tells (suc (span_of p mtu + first_number us mtu i)) (span_of p mtu)) in
-    ap (λ b. if b then 0 else suc (request_of us mtu ((span_of p mtu + first_number us mtu i) - span_of p mtu))) past
-    ∙ (ap (λ j. suc (request_of us mtu j)) less ∙ ap suc (request_begins us mtu i (omega (arith, h))))
 
 -- what is found at the barrier lands
 same_piece : (a b : Piece) → Some a ≡ Some b → a ≡ b

@@ -1,11 +1,13 @@
 -- A READ response arrives at a live end in Rts: at the barrier its bytes land, and after its last piece the Read is told.
 use Rattle.std.proofs.Common.{arith, ◌≡◌, ◌≢◌, ◌≤◌, ◌<◌, ◌+◌, ◌-◌, ◌*◌, ◌/◌, ℕ, suc, List, [], ◌∷◌, ◌++◌, length, true, false, Bool, refl, sym, ap, ◌∙◌, subst, inl, inr}
-use Rattle.std.specs.Prelude.{Option, Some, None, All, min, not, max, drop, nat_lt, nat_le, slice_get, ◌⊎◌, ◌==◌, ◌&&◌, ◌||◌, if◌then◌else◌}
+use Rattle.std.specs.Prelude.{Option, Some, None, All, Contains, bytes_eq, min, not, max, drop, nat_lt, nat_le, slice_get, ◌⊎◌, ◌==◌, ◌&&◌, ◌||◌, if◌then◌else◌}
 use Rattle.std.proofs.Math.Nat.{zero-mod, zero-div}
 use Rattle.std.proofs.lemmas.Bool.Decides.{nat_tests, leb_tells, eqb_tells}
 use Rattle.std.proofs.lemmas.List.Elements.{All-contains}
 use Rattle.std.proofs.lemmas.List.{append-nil, get_or-drop, length-drop}
+use Rattle.std.proofs.lemmas.Slice.Eq.{bytes_eq-Decides}
 use Rattle.rdma_types.specs.declared.names.ObjName.{ObjName}
+use Rattle.rdma_types.specs.declared.answers.Took.{Took}
 use Rattle.rdma_types.specs.declared.answers.Took.TheVariants as took
 use Rattle.rdma_types.specs.declared.requests.Kind.{Kind}
 use Rattle.rdma_types.specs.declared.requests.Kind.TheVariants.{Write, Send, Read, CompareSwap, FetchAdd}
@@ -35,11 +37,13 @@ use Rattle.ideal_model.specs.declared.steps.IdealStep.TheVariants as steps
 use Rattle.ideal_model.specs.Legal.{IsRun, after}
 use Rattle.ideal_model.specs.Machine as machine
 use Rattle.ideal_model.specs.Machine.{Machine, End, Offered, posted_at, put_at, regions_of}
+use Rattle.ideal_model.specs.Tables.{place_where}
 use Rattle.ideal_model.specs.Numbers.{due, oldest}
 use Rattle.ideal_model.specs.Steps.{front, has_untold, landed, may_land, may_land_offer, may_tell, success, tell, told_one, untold, with_known}
 use Rattle.law_simulation.specs.Carries.{Lands, land_steps, tell_steps}
 use Rattle.law_simulation.specs.Facts.{ClassFact, IsOffered, MoveFact, NumberedFact}
 use Rattle.law_simulation.specs.Joined.{AreWholePieces, IsFencedIn, lands_untold_before}
+use Rattle.law_simulation.specs.Named.{is_landed, is_offer, learning, offer_place, read_steps}
 use Rattle.law_simulation.specs.Packets.{class_of, aeth_class, nak_class, resume_class, syndrome_class, IsRequest, IsReadResponse, IsAtomicResponse, IsSequenceNak, IsRefusal, IsStopped, IsNothing, IsResume, IsResumeAck}
 use Rattle.law_simulation.specs.Stands.{Stands}
 use Rattle.law_simulation.specs.Views.{requests_of, side_of}
@@ -55,13 +59,16 @@ use Rattle.law_simulation.proofs.responses.ResponseAdvance.{end_heard, end_then,
 use Rattle.law_simulation.proofs.responses.ResponseArrives.{live_end}
 use Rattle.law_simulation.proofs.responses.ResponseFound.{found_here, landing_control, landing_is}
 use Rattle.law_simulation.proofs.responses.ResponseGoals.{IsTaken, nothing_taken, taken_takes, una_barrier}
-use Rattle.law_simulation.proofs.responses.ResponseLand.{at_end, at_stays, at_then, got_at, landed_regions, learned_landed, learned_same, piece_found, whole_is}
+use Rattle.law_simulation.proofs.responses.ResponseLand.{at_end, at_stays, at_then, landed_regions, learned_landed, learned_same, piece_found, whole_is}
 use Rattle.law_simulation.proofs.responses.ResponseLanding.{LearnedAt, entries_more, landing_stands}
-use Rattle.law_simulation.proofs.responses.ResponseLast.{after_then, front_of, front_there, inner_then, request_at, run_then, untold_then}
+use Rattle.law_simulation.proofs.responses.ResponseLast.{after_then, front_of, front_there, inner_then, run_then, untold_then}
 use Rattle.law_simulation.proofs.responses.ResponseLearns.{first_next}
-use Rattle.law_simulation.proofs.responses.ResponseNumbers.{bytes_inside, pieces_back, request_high, whole_bytes}
-use Rattle.law_simulation.proofs.responses.ResponseOld.{learned_at_then, learned_regions, request_begins}
+use Rattle.law_simulation.proofs.responses.ResponseNumbers.{bytes_inside, pieces_back, request_inside, request_begins, request_high, whole_bytes}
+use Rattle.law_simulation.proofs.responses.ResponseOld.{learned_at_then, learned_regions}
 use Rattle.law_simulation.proofs.responses.ResponseRegions.{landed_put}
+use Rattle.law_simulation.proofs.relation.Grants.{contains_cases}
+use Rattle.law_simulation.proofs.relation.Tables.{same_name}
+use Rattle.law_simulation.proofs.delivery.Arriving.{and_parts}
 use Rattle.law_simulation.proofs.delivery.Regions.{put_like, put_nothing, put_said, put_whole}
 use Rattle.law_simulation.proofs.responses.ResponseTelling.{Advances, stays_here}
 use Rattle.law_simulation.proofs.responses.ResponseTold.{Learned, Stays, entries_by, known_by, learned_none, learned_stays, learned_told, told_by, untold_there}
@@ -106,6 +113,36 @@ finished p (Some Finished) h t = refl
 finished p (Some (OldValue value)) h t = absurd (cc (h, t))
 finished p (Some (Denied why)) h t = absurd t
 
+same_words : (xs ys : List ℕ) → bytes_eq xs ys ≡ true → xs ≡ ys
+same_words xs ys h = (bytes_eq-Decides xs ys).0 h
+
+-- an offer, and the test for it
+abbrev offer_of : ℕ → ℕ → List ℕ → Offered
+offer_of request offset bytes = record { request = request; offset = offset; bytes = bytes }
+
+fits_itself : (request offset : ℕ) (bytes : List ℕ) → is_offer request offset bytes (offer_of request offset bytes) ≡ true
+fits_itself request offset bytes =
+    ap (λ b. b && ((offset == offset) && bytes_eq bytes bytes)) (same_eq request request refl) ∙ (ap (λ b. b && bytes_eq bytes bytes) (same_eq offset offset refl) ∙ same_name bytes)
+
+fits_it : (request offset : ℕ) (bytes : List ℕ) (x : Offered) → is_offer request offset bytes x ≡ true → x ≡ offer_of request offset bytes
+fits_it request offset bytes x t =
+    let one = and_parts (x.request == request) ((x.offset == offset) && bytes_eq x.bytes bytes) t in
+    let two = and_parts (x.offset == offset) (bytes_eq x.bytes bytes) one.1 in
+    λ i. record { request = eq_same x.request request one.0 i; offset = eq_same x.offset offset two.0 i; bytes = same_words x.bytes bytes two.1 i }
+
+-- the first offer that fits is there, where one is
+offer_found : (request offset : ℕ) (bytes : List ℕ) (xs : List Offered) → Contains xs (offer_of request offset bytes) → slice_get xs (place_where (is_offer request offset bytes) xs) ≡ Some (offer_of request offset bytes)
+unfolding place_where
+offer_found request offset bytes [] h = absurd (omega (arith, h.1))
+offer_found request offset bytes (x ∷ xs) h = by_test (is_offer request offset bytes x) refl (λ later. offer_found request offset bytes xs later)
+  where
+    by_test : (b : Bool) → is_offer request offset bytes x ≡ b → (Contains xs (offer_of request offset bytes) → slice_get xs (place_where (is_offer request offset bytes) xs) ≡ Some (offer_of request offset bytes)) → slice_get (x ∷ xs) (if b then 0 else suc (place_where (is_offer request offset bytes) xs)) ≡ Some (offer_of request offset bytes)
+    by_test true t rest = ap Some (fits_it request offset bytes x t)
+    by_test false t rest = elim (contains_cases (offer_of request offset bytes) x xs h) [
+      | inl e ↦ absurd (cc (t, ap (is_offer request offset bytes) e, fits_itself request offset bytes))
+      | inr later ↦ rest later
+    ]
+
 -- the last piece ends where the request does, and any other is a whole one before that
 last_piece : (size mtu k : ℕ) → is_mtu mtu ≡ true → suc k ≡ max 1 ((size + (mtu - 1)) / mtu) → k * mtu + min mtu (size - k * mtu) ≡ size
 last_piece size mtu k h e = mtu_is (λ m. suc k ≡ max 1 ((size + (m - 1)) / m) → k * m + min m (size - k * m) ≡ size) (λ t. omega (arith, t)) (λ t. omega (arith, t)) (λ t. omega (arith, t)) (λ t. omega (arith, t)) (λ t. omega (arith, t)) mtu h e
@@ -127,11 +164,15 @@ module _ (w : World) (m : Machine) (o : ObjName) (l : Link) (n : ℕ) (bytes : L
   abbrev Allowed : List IdealStep → Type 0
   Allowed ss = (ss ≡ []) ⊎ Lands m o n d.payload ss
 
+  abbrev Named : Took → List IdealStep
+  Named t = if is_landed t then read_steps o f n d.payload else []
+
   abbrev Reached : words.EndStep → Type 0
-  Reached step = IsTaken w m o Allowed step
+  Reached step = IsTaken w m o Allowed Named step
 
   nothing : Reached (useless (context_there w o))
-  nothing = nothing_taken w m o l Allowed (Some n) bytes d a (inl refl)
+  unfolding is_landed
+  nothing = nothing_taken w m o l Allowed Named (Some n) bytes d a (inl refl) refl
 
   below : n < due f
   unfolding due
@@ -226,10 +267,11 @@ module _ (w : World) (m : Machine) (o : ObjName) (l : Link) (n : ℕ) (bytes : L
     -- ---- the offer
 
     abbrev place : ℕ
-    place = r.offer.0
+    place = offer_place f n d.payload
 
     offer_at : slice_get f.offers place ≡ Some (record { request = request_of f.posted f.mtu n; offset = piece_of f.posted f.mtu n * f.mtu; bytes = d.payload })
-    offer_at = got_at f.offers place _ r.offer.1 r.offer.2
+    unfolding offer_place
+    offer_at = offer_found _ _ d.payload f.offers r.offer
 
     piece_k : piece_of f.posted f.mtu n ≡ x.k
     piece_k = piece_found f.posted f.mtu n x found_all
@@ -413,6 +455,10 @@ module _ (w : World) (m : Machine) (o : ObjName) (l : Link) (n : ℕ) (bytes : L
       after_is : after m all ≡ after m2 more
       after_is = after_then ss (land_steps o place d.payload ++ more) m ∙ after_then (land_steps o place d.payload) more m'
 
+      landed_named : ss ≡ learning o f n → all ≡ Named took.Landed
+      unfolding is_landed read_steps
+      landed_named are = ap (λ z. z ++ (land_steps o place d.payload ++ more)) are ∙ ap (λ z. learning o f n ++ (land_steps o place d.payload ++ z)) (sym is)
+
       lands_so : Reached (words.stays (telling (landing (context_there w o) l d x) (end_there w o) l (advanced l.sender (n + 1))) took.Landed)
       lands_so =
           let k = heard w m o l a.stands h a.alive n low within acts in
@@ -423,6 +469,7 @@ module _ (w : World) (m : Machine) (o : ObjName) (l : Link) (n : ℕ) (bytes : L
             inner = inner_then ss (land_steps o place d.payload ++ more) k.inner (inner_then (land_steps o place d.payload) more landed_there.inner inner);
             is_run = run_then ss (land_steps o place d.payload ++ more) m k.is_run (run_then (land_steps o place d.payload) more m' landed_there.is_run run);
             allowed = inr allowed;
+            named = landed_named k.are;
             stands = subst (Stands _) (sym after_is)
                 (landing_stands w m o l a.stands h rs (put_like local_key r'.request.lkey (r'.request.local + g.known) d.payload (regions_of m o.context)) (put_whole local_key r'.request.lkey (r'.request.local + g.known) d.payload (regions_of m o.context) sound.whole) (put_said local_key r'.request.lkey (r'.request.local + g.known) d.payload (regions_of m o.context) payload_said sound.bytes)
                 s2 count' known' 0 0 (after m2 more) a.alive advances knows learned on (took_answer took.Landed []));
@@ -514,7 +561,7 @@ module _ (w : World) (m : Machine) (o : ObjName) (l : Link) (n : ℕ) (bytes : L
       counts_part =
           let back : (f.told + count) - f.told ≡ count = omega arith in
           let in_us : n + 1 - l.sender.first ≡ first_number us f.mtu count + suc x.k = omega (arith, first-drop f.posted f.mtu f.told (f.told + count) (omega arith), ap (first_number us f.mtu) back, place_is, first_is) in
-          ap (request_of us f.mtu) in_us ∙ request_at us f.mtu count (suc x.k) (omega (arith, there, length-drop f.told f.posted)) (omega (arith, more_follow, ap (λ z. span_of z f.mtu) (get_or-drop f.told f.posted count no_posted)))
+          ap (request_of us f.mtu) in_us ∙ request_inside us f.mtu count (suc x.k) (omega (arith, there, length-drop f.told f.posted)) (omega (arith, more_follow, ap (λ z. span_of z f.mtu) (get_or-drop f.told f.posted count no_posted)))
 
       reads_part : Done
       reads_part =

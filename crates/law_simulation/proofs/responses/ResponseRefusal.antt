@@ -4,6 +4,7 @@ use Rattle.std.proofs.Common.{arith, ◌≡◌, ◌≤◌, ◌<◌, ◌+◌, ℕ
 use Rattle.std.specs.Prelude.{Option, Some, None, nat_lt, nat_le, slice_get, ◌&&◌, ◌==◌, if◌then◌else◌}
 use Rattle.std.proofs.lemmas.Bool.Decides.{nat_tests, leb_tells, eqb_tells}
 use Rattle.rdma_types.specs.declared.names.ObjName.{ObjName}
+use Rattle.rdma_types.specs.declared.answers.Took.{Took}
 use Rattle.rdma_types.specs.declared.answers.Took.TheVariants as took
 use Rattle.rdma_types.specs.declared.answers.Why.{Why}
 use Rattle.rdma_types.specs.declared.answers.Why.TheVariants as whys
@@ -31,6 +32,7 @@ use Rattle.ideal_model.specs.Steps as making
 use Rattle.ideal_model.specs.Steps.{bounce, bounce_status, is_denied, may_bounce}
 use Rattle.law_simulation.specs.Carries.{TellsThenMaybe, before_barrier}
 use Rattle.law_simulation.specs.Facts.{ClassFact, IsRefused, MoveFact, NumberedFact, is_access_denied}
+use Rattle.law_simulation.specs.Named.{acknowledged_steps, ending, is_learned, last_step, learning}
 use Rattle.law_simulation.specs.Packets.{class_of, syndrome_class, nak_class, IsSequenceNak, IsRefusal, IsStopped, IsNothing}
 use Rattle.law_simulation.specs.Stands.{Stands}
 use Rattle.law_simulation.specs.Views.{requests_of, side_of}
@@ -38,7 +40,7 @@ use Rattle.law_simulation.specs.Delivered.{Arrives, Takes, RefusalsAreTaken, con
 use Rattle.law_simulation.proofs.sending.GoLive.{LiveEnd, ordered_here}
 use Rattle.law_simulation.proofs.responses.ResponseAdvance.{advanced_knows, end_heard, heard, knows_ends, learn}
 use Rattle.law_simulation.proofs.responses.ResponseArrives.{IsAcknowledge, acknowledge, is_answer, answer_response, answered, live_end}
-use Rattle.law_simulation.proofs.responses.ResponseGoals.{IsTaken, acts_too, low_too, no_tells, nothing_taken, rewound_taken, taken_takes, tells_up, up_to, within_too}
+use Rattle.law_simulation.proofs.responses.ResponseGoals.{IsTaken, acts_too, heard_are, low_too, no_tells, nothing_taken, rewound_named, rewound_taken, step_named, taken_takes, tells_up, up_to, useless_named, within_too}
 use Rattle.law_simulation.proofs.responses.ResponseLast.{after_then, front_acts, inner_then, run_then, then_none, then_one, untold_then}
 
 refusal_good : (b : Bool) → is_answer (IsRefusal b) ≡ true
@@ -65,6 +67,12 @@ row_is c e l n (Nak code) msn b says = by_code (code == 0) (code == 1) (code == 
     by_code false false false true says = absurd (cc)
     by_code false false false false says = absurd (cc)
 
+-- what is learned, and the end that is refused, by name
+ended_named : (m : Machine) (o : ObjName) (limit : ℕ) (b : Bool) (ss : List IdealStep) → ss ≡ learning o (machine.end_of m o) limit → ss ++ steps.Bounce o ∷ [] ≡ acknowledged_steps m o limit (took.Ended (status_of b))
+unfolding is_learned last_step ending
+ended_named m o limit true ss are = step_named m o limit (took.Ended status.RemoteAccess) ss (steps.Bounce o ∷ []) refl are refl
+ended_named m o limit false ss are = step_named m o limit (took.Ended status.RemoteInvalid) ss (steps.Bounce o ∷ []) refl are refl
+
 -- the owner sees that status
 bounced : (why : Why) (b : Bool) → is_access_denied why ≡ b → bounce_status (Some (Denied why)) ≡ status_of b
 unfolding is_access_denied bounce_status
@@ -82,11 +90,14 @@ module _ (w : World) (m : Machine) (o : ObjName) (l : Link) (n : ℕ) (bytes : L
   abbrev Allowed : List IdealStep → Type 0
   Allowed ss = TellsThenMaybe m o (before_barrier m o n) (steps.Bounce o) ss
 
+  abbrev Named : Took → List IdealStep
+  Named = acknowledged_steps m o (before_barrier m o n)
+
   abbrev Reached : words.EndStep → Type 0
-  Reached step = IsTaken w m o Allowed step
+  Reached step = IsTaken w m o Allowed Named step
 
   nothing : Reached (useless (context_there w o))
-  nothing = nothing_taken w m o l Allowed (Some n) bytes d a (then_none m o _ (steps.Bounce o) [] (no_tells m o _))
+  nothing = nothing_taken w m o l Allowed Named (Some n) bytes d a (then_none m o _ (steps.Bounce o) [] (no_tells m o _)) (useless_named m o _)
 
   is_due : n ≡ due f
   unfolding due
@@ -138,12 +149,13 @@ module _ (w : World) (m : Machine) (o : ObjName) (l : Link) (n : ℕ) (bytes : L
             inner = inner_then x.steps (steps.Bounce o ∷ []) x.inner tt;
             is_run = run_then x.steps (steps.Bounce o ∷ []) m x.is_run (enabled, tt);
             allowed = then_one m o _ (steps.Bounce o) x.steps (tells_up w m o l a.stands h a.alive n low acts);
+            named = ended_named m o _ b x.steps (heard_are w m o l a.stands h a.alive n low acts);
             stands = subst (Stands _) (sym (after_then x.steps (steps.Bounce o ∷ []) m ∙ effect_is))
                 (knows_ends w m o l a.stands h a.alive up low' within' acts' (acknowledged l n) _ (advanced_knows w m o l a.stands h a.alive up low' within' acts') m' x.learned (status_of b) (took_answer (took.Ended (status_of b)) []));
           }
 
     rewinds : Reached (goes_back (context_there w o) (end_there w o) l (acknowledged l n))
-    rewinds = rewound_taken w m o l a.stands h a.alive n low acts Allowed took.Rewound (then_none m o _ (steps.Bounce o) _ (tells_up w m o l a.stands h a.alive n low acts))
+    rewinds = rewound_taken w m o l a.stands h a.alive n low acts Allowed Named took.Rewound (then_none m o _ (steps.Bounce o) _ (tells_up w m o l a.stands h a.alive n low acts)) (rewound_named m o _ _ (heard_are w m o l a.stands h a.alive n low acts))
 
     una_is' : (acknowledged l n).una ≡ up
     una_is' = (advanced_knows w m o l a.stands h a.alive up low' within' acts').una

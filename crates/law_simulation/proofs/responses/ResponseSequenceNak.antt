@@ -19,12 +19,13 @@ use Rattle.ideal_model.specs.Machine.{Machine}
 use Rattle.ideal_model.specs.Numbers.{due}
 use Rattle.law_simulation.specs.Carries.{TellsUpTo, before_barrier}
 use Rattle.law_simulation.specs.Facts.{ClassFact, MoveFact, NumberedFact}
+use Rattle.law_simulation.specs.Named.{acknowledged_steps}
 use Rattle.law_simulation.specs.Packets.{class_of, syndrome_class, nak_class, IsSequenceNak, IsRefusal, IsStopped, IsNothing}
 use Rattle.law_simulation.specs.Views.{requests_of, side_of}
 use Rattle.law_simulation.specs.Delivered.{Arrives, Takes, SequenceNaksAreTaken, context_there, end_there}
 use Rattle.law_simulation.proofs.sending.GoLive.{LiveEnd}
 use Rattle.law_simulation.proofs.responses.ResponseArrives.{IsAcknowledge, acknowledge, is_answer, answer_response, answered, live_end}
-use Rattle.law_simulation.proofs.responses.ResponseGoals.{IsTaken, rewound_taken, no_tells, nothing_taken, taken_takes, tells_up}
+use Rattle.law_simulation.proofs.responses.ResponseGoals.{IsTaken, heard_are, no_tells, nothing_taken, rewound_named, rewound_taken, taken_takes, tells_up, useless_named}
 
 sequence_good : is_answer IsSequenceNak ≡ true
 unfolding is_answer
@@ -50,15 +51,15 @@ module _ (w : World) (m : Machine) (o : ObjName) (l : Link) (n : ℕ) (bytes : L
   h = live_end w m o l (Some n) bytes d a
 
   abbrev Reached : words.EndStep → Type 0
-  Reached step = IsTaken w m o (TellsUpTo m o (before_barrier m o n)) step
+  Reached step = IsTaken w m o (TellsUpTo m o (before_barrier m o n)) (acknowledged_steps m o (before_barrier m o n)) step
 
   nothing : Reached (useless (context_there w o))
-  nothing = nothing_taken w m o l (TellsUpTo m o (before_barrier m o n)) (Some n) bytes d a (no_tells m o _)
+  nothing = nothing_taken w m o l (TellsUpTo m o (before_barrier m o n)) (acknowledged_steps m o (before_barrier m o n)) (Some n) bytes d a (no_tells m o _) (useless_named m o _)
 
   by_range : (p q : Bool) → nat_le l.sender.una n ≡ p → Reached (if p && q then goes_back (context_there w o) (end_there w o) l (acknowledged l n) else useless (context_there w o))
   by_range true true t =
       let low : l.sender.una ≤ n = grind (arith, nat_tests, leb_tells l.sender.una n, t) in
-      rewound_taken w m o l a.stands h a.alive n low below (TellsUpTo m o (before_barrier m o n)) took.Rewound (tells_up w m o l a.stands h a.alive n low below)
+      rewound_taken w m o l a.stands h a.alive n low below (TellsUpTo m o (before_barrier m o n)) (acknowledged_steps m o (before_barrier m o n)) took.Rewound (tells_up w m o l a.stands h a.alive n low below) (rewound_named m o _ _ (heard_are w m o l a.stands h a.alive n low below))
   by_range true false t = nothing
   by_range false q t = nothing
 

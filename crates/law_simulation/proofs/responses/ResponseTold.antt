@@ -19,6 +19,7 @@ use Rattle.ideal_model.specs.Machine as machine
 use Rattle.ideal_model.specs.Machine.{Machine, End, has_context, posted_at}
 use Rattle.ideal_model.specs.Steps.{front, has_untold, in_place, knowing, may_know, may_tell, put_old, success, tell, tell_at, told_one, with_known}
 use Rattle.law_simulation.specs.Carries.{OnlyTells}
+use Rattle.law_simulation.specs.Named.{tells}
 use Rattle.law_simulation.proofs.relation.Tables.{has_name-store, name-named_there, named-store_same}
 use Rattle.law_simulation.proofs.relation.Machines as machines
 use Rattle.law_simulation.proofs.relation.Machines.{MachineChanged, context_name, with_context_changed, queue_stored}
@@ -231,9 +232,15 @@ unfoldable pub known_by : End → Option ℕ → End
 known_by e None = e
 known_by e (Some bytes) = with_known e bytes
 
--- requests are told, and then perhaps bytes become known
-pub record Hears (m : Machine) (o : ObjName) (g : End) (more : List Completion) : Type 0 where
+-- .. as a step
+unfoldable pub known_last : ObjName → Option ℕ → List IdealStep
+known_last o None = []
+known_last o (Some bytes) = steps.Known o bytes ∷ []
+
+-- requests are told, and then perhaps bytes become known: by the steps that are named
+pub record Hears (m : Machine) (o : ObjName) (g : End) (more : List Completion) (named : List IdealStep) : Type 0 where
   pub steps : List IdealStep
+  pub are : steps ≡ named
   pub inner : AreInner steps
   pub only : OnlyTells o steps
   pub is_run : IsRun m steps
@@ -264,13 +271,13 @@ known_enabled : (m : Machine) (o : ObjName) (bytes : ℕ) → (machine.end_of m 
 unfolding may_know
 known_enabled m o bytes connected alive n = rw (untold_there m o connected alive n.there, n.stays, less_tells _ _ n.more, most_tells _ _ n.placed) refl
 
-last_heard : (m : Machine) (o : ObjName) (last : Option ℕ) → Stays m o → (machine.end_of m o).connected ≡ true → (machine.end_of m o).ended ≡ false → LastOf (machine.end_of m o) last → Hears m o (known_by (machine.end_of m o) last) []
-unfolding LastOf known_by
-last_heard m o None s connected alive l = record { steps = []; inner = tt; only = tt; is_run = tt; learned = learned_none m o s }
-last_heard m o (Some bytes) s connected alive l = record { steps = steps.Known o bytes ∷ []; inner = tt; only = (refl, tt); is_run = (known_enabled m o bytes connected alive l, tt); learned = learned_known m o bytes s }
+last_heard : (m : Machine) (o : ObjName) (last : Option ℕ) → Stays m o → (machine.end_of m o).connected ≡ true → (machine.end_of m o).ended ≡ false → LastOf (machine.end_of m o) last → Hears m o (known_by (machine.end_of m o) last) [] (known_last o last)
+unfolding LastOf known_by known_last
+last_heard m o None s connected alive l = record { steps = []; are = refl; inner = tt; only = tt; is_run = tt; learned = learned_none m o s }
+last_heard m o (Some bytes) s connected alive l = record { steps = steps.Known o bytes ∷ []; are = refl; inner = tt; only = (refl, tt); is_run = (known_enabled m o bytes connected alive l, tt); learned = learned_known m o bytes s }
 
-pub hears : (count : ℕ) (m : Machine) (o : ObjName) (last : Option ℕ) → Stays m o → (machine.end_of m o).connected ≡ true → (machine.end_of m o).ended ≡ false → MayTell (machine.end_of m o) count → LastOf (told_by (machine.end_of m o) count) last → Hears m o (known_by (told_by (machine.end_of m o) count) last) (entries_by (machine.end_of m o) count)
-unfolding MayTell told_by entries_by
+pub hears : (count : ℕ) (m : Machine) (o : ObjName) (last : Option ℕ) → Stays m o → (machine.end_of m o).connected ≡ true → (machine.end_of m o).ended ≡ false → MayTell (machine.end_of m o) count → LastOf (told_by (machine.end_of m o) count) last → Hears m o (known_by (told_by (machine.end_of m o) count) last) (entries_by (machine.end_of m o) count) (tells o count ++ known_last o last)
+unfolding MayTell told_by entries_by tells
 hears zero m o last s connected alive may l = last_heard m o last s connected alive l
 hears (suc count) m o last s connected alive may l =
     let f : End = machine.end_of m o in
@@ -278,12 +285,13 @@ hears (suc count) m o last s connected alive may l =
     let one : Learned m (tell m o) o g (success f (front f)) = learned_told m o s may.0.answer in
     let name : g.name ≡ o.name = told_name f ∙ s.named in
     let end : machine.end_of (tell m o) o ≡ g = learned_end m (tell m o) o g (success f (front f)) one name in
-    let rest : Hears (tell m o) o (known_by (told_by (machine.end_of (tell m o) o) count) last) (entries_by (machine.end_of (tell m o) o) count) =
+    let rest : Hears (tell m o) o (known_by (told_by (machine.end_of (tell m o) o) count) last) (entries_by (machine.end_of (tell m o) o) count) (tells o count ++ known_last o last) =
     hears count (tell m o) o last (learned_stays m (tell m o) o g (success f (front f)) one name (told_queue f) s) (ap (λ z. z.connected) end ∙ (told_connected f ∙ connected)) (ap (λ z. z.ended) end ∙ (told_ended f ∙ alive))
     (subst (λ z. MayTell z count) (sym end) may.1) (subst (λ z. LastOf (told_by z count) last) (sym end) l) in
-    let same : Hears (tell m o) o (known_by (told_by g count) last) (entries_by g count) = subst (λ z. Hears (tell m o) o (known_by (told_by z count) last) (entries_by z count)) end rest in
+    let same : Hears (tell m o) o (known_by (told_by g count) last) (entries_by g count) (tells o count ++ known_last o last) = subst (λ z. Hears (tell m o) o (known_by (told_by z count) last) (entries_by z count) (tells o count ++ known_last o last)) end rest in
     record {
       steps = steps.Tell o ∷ same.steps;
+      are = ap (λ z. steps.Tell o ∷ z) same.are;
       inner = same.inner;
       only = (refl, same.only);
       is_run = (tell_enabled m o connected alive may.0, same.is_run);

@@ -13,15 +13,15 @@ use Rattle.law_simulation.specs.Law.{AlwaysFollows, Follows, FollowsRun, IsInRan
 
 -- ---- two runs, one after the other
 
-runs_on : (m : Machine) (ss ts : List IdealStep) → IsRun m ss → IsRun (after m ss) ts → IsRun m (ss ++ ts)
+pub runs_on : (m : Machine) (ss ts : List IdealStep) → IsRun m ss → IsRun (after m ss) ts → IsRun m (ss ++ ts)
 runs_on m [] ts first second = second
 runs_on m (s ∷ ss) ts first second = (first.0, runs_on (effect m s) ss ts first.1 second)
 
-after_on : (m : Machine) (ss ts : List IdealStep) → after m (ss ++ ts) ≡ after (after m ss) ts
+pub after_on : (m : Machine) (ss ts : List IdealStep) → after m (ss ++ ts) ≡ after (after m ss) ts
 after_on m [] ts = refl
 after_on m (s ∷ ss) ts = after_on (effect m s) ss ts
 
-seen_on : (m : Machine) (ss ts : List IdealStep) → seen m (ss ++ ts) ≡ seen m ss ++ seen (after m ss) ts
+pub seen_on : (m : Machine) (ss ts : List IdealStep) → seen m (ss ++ ts) ≡ seen m ss ++ seen (after m ss) ts
 seen_on m [] ts = refl
 seen_on m (s ∷ ss) ts = ap (λ x. seen_of m s ++ x) (seen_on (effect m s) ss ts) ∙ sym (append_assoc (seen_of m s) (seen (effect m s) ss) (seen (after (effect m s) ss) ts))
 

@@ -1,6 +1,6 @@
 -- The table of events, and the whole law.
-use Rattle.std.proofs.Common.{◌≡◌, ℕ, List, [], ◌∷◌, refl, subst}
-use Rattle.std.specs.Prelude.{All, Option, Some, None}
+use Rattle.std.proofs.Common.{ℕ, List}
+use Rattle.std.specs.Prelude.{Option}
 use Rattle.rdma_types.specs.declared.names.ObjName.{ObjName}
 use Rattle.protocol.specs.declared.events.Event.{Event}
 use Rattle.protocol.specs.declared.events.Event.TheVariants as events
@@ -12,16 +12,12 @@ use Rattle.rdma_types.specs.declared.requests.Receive.{Receive}
 use Rattle.rdma_types.specs.declared.requests.Request.{Request}
 use Rattle.rdma_types.specs.declared.requests.Terms.{Terms}
 use Rattle.rdma_types.specs.declared.rights.Rights.{Rights}
-use Rattle.protocol.specs.State.{World, Link, empty_world}
-use Rattle.protocol.specs.Wire.{Packet}
-use Rattle.protocol.specs.WorldStep.{world_step, with_taken}
-use Rattle.ideal_model.specs.Machine.{Machine, empty, End}
-use Rattle.law_simulation.specs.Packets.{Class, class_of, IsRequest, IsReadResponse, IsAtomicResponse, IsAck, IsSequenceNak, IsRefusal, IsReceiverNotReady, IsStopped, IsResume, IsResumeAck, IsNothing}
-use Rattle.law_simulation.specs.Views.{Side, net_of, peer}
-use Rattle.law_simulation.specs.Facts.{ClassFact, NumberedFact, MoveFact}
+use Rattle.protocol.specs.State.{empty_world}
+use Rattle.ideal_model.specs.Machine.{empty}
+use Rattle.law_simulation.specs.Views.{peer}
 use Rattle.law_simulation.specs.Stands.{Stands}
-use Rattle.law_simulation.specs.Law.{AlwaysFollows, Follows, IsInRange, Law}
-use Rattle.law_simulation.specs.Delivered.{AreAllTaken, RequestsAreTaken, Arrives, Takes, HusksAnswer, AcksAreTaken, SequenceNaksAreTaken, RefusalsAreTaken, ReceiverNotReadyIsTaken, ReadResponsesAreTaken, AtomicResponsesAreTaken, StoppedIsTaken, ResumesAreTaken, ResumeAcksAreTaken}
+use Rattle.law_simulation.specs.Law.{AlwaysFollows, Law}
+use Rattle.law_simulation.specs.Delivered.{AreAllTaken, RequestsAreTaken, HusksAnswer, AcksAreTaken, SequenceNaksAreTaken, RefusalsAreTaken, ReceiverNotReadyIsTaken, ReadResponsesAreTaken, AtomicResponsesAreTaken, StoppedIsTaken, ResumesAreTaken, ResumeAcksAreTaken}
 use Rattle.law_simulation.specs.Runs.{IsHeardLegal, RunsFollow}
 
 -- ---- the events of a context

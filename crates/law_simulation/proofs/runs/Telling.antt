@@ -1,7 +1,6 @@
 -- The count of the requests that are finished for their owner, after each step of the machine.
-use Rattle.std.proofs.Common.{arith, ◌≡◌, ◌≢◌, ◌+◌, ℕ, suc, List, [], ◌∷◌, ◌++◌, length, drop, true, false, Bool, refl, sym, ap, ◌∙◌, subst, inl, inr}
-use Rattle.std.specs.Prelude.{◌⊎◌, Option, Some, None, bytes_eq, if◌then◌else◌, ◌==◌, is_some, ◌&&◌, slice_get}
-use Rattle.std.proofs.lemmas.Bool.Decides.{nat_tests, eqb_tells}
+use Rattle.std.proofs.Common.{◌≡◌, ◌+◌, ℕ, suc, List, [], ◌∷◌, ◌++◌, drop, true, false, Bool, refl, sym, ap, ◌∙◌, subst, inl, inr}
+use Rattle.std.specs.Prelude.{◌⊎◌, Option, Some, None, if◌then◌else◌, ◌==◌, is_some, ◌&&◌, slice_get}
 use Rattle.rdma_types.specs.declared.names.Name.{Name}
 use Rattle.rdma_types.specs.declared.names.ObjName.{ObjName}
 use Rattle.rdma_types.specs.declared.requests.Receive.{Receive}
@@ -17,18 +16,15 @@ use Rattle.rdma_types.specs.declared.requests.WcKind.TheVariants as wc_kinds
 use Rattle.rdma_types.specs.Kinds.{is_send, kind_of, receive_done, request_done}
 use Rattle.rdma_types.specs.Lists.{named}
 use Rattle.rdma_types.specs.Objects.{CompletionQueue, Region}
-use Rattle.ideal_model.specs.declared.reply.Reply.TheVariants.{Finished, OldValue}
+use Rattle.ideal_model.specs.declared.reply.Reply.TheVariants.{Finished}
 use Rattle.ideal_model.specs.declared.steps.IdealStep.{IdealStep}
 use Rattle.ideal_model.specs.declared.steps.IdealStep.TheVariants as steps
-use Rattle.ideal_model.specs.Tables.{place_where, replaced}
-use Rattle.ideal_model.specs.Machine.{Machine, Context, End, no_context, nobody, new_end, context_of, end_of, regions_of, with_context, with_end, with_end_in, with_regions, with_queues, with_queue, with_queue_in, completing, in_end}
+use Rattle.ideal_model.specs.Machine.{Machine, Context, End, no_context, nobody, new_end, context_of, end_of, with_context, with_end, with_regions, with_queues, with_queue, with_queue_in, completing, in_end}
 use Rattle.ideal_model.specs.Steps as ideal
 use Rattle.ideal_model.specs.Steps.{advanced, acted_with, fills, receiving, placing, put_in_receive, put_in_range, run_towards, run, atom, atom_on, read_turn, refuse, refuse_at, denied, closed, dried, dried_at, offered, with_offer, landed, land_at, with_known, knowing, tell, tell_at, told_one, expire, expired, ended_with, wait, waited, bounce, peer_of, receive_for, current, put_old}
 use Rattle.ideal_model.specs.Verbs as verbal
 use Rattle.ideal_model.specs.Verbs.{refusal_of, after_answer, done}
-use Rattle.ideal_model.specs.Legal.{after, effect}
 use Rattle.ideal_model.proofs.Views.{end_of-with_context, end_of-with_regions, end_of-completing, end_of-put_old}
-use Rattle.law_simulation.proofs.relation.Tables.{name_or_not, name_tells, same_name}
 use Rattle.law_simulation.specs.Told.{told_of, IsTellOf, AreAllTold, TellsByOne}
 use Rattle.law_simulation.proofs.runs.Acting.{related, pushed, end_related, end_other, object_or_not}
 

@@ -1,7 +1,5 @@
 -- An event that no application asks for, and by which no datagram is taken, leaves the machine as it is.
-use Rattle.std.proofs.Common.{◌≡◌, List, [], ◌∷◌, refl, sym, ap, ◌∙◌, subst}
-use Rattle.std.specs.Prelude.{All}
-use Rattle.protocol.specs.declared.events.Event.{Event}
+use Rattle.std.proofs.Common.{◌≡◌, List, [], ◌∷◌, refl, sym, ◌∙◌, subst}
 use Rattle.protocol.specs.declared.events.Event.TheVariants as events
 use Rattle.protocol.specs.declared.events.WorldEvent.{WorldEvent}
 use Rattle.protocol.specs.declared.events.WorldEvent.TheVariants as world_events
@@ -15,10 +13,9 @@ use Rattle.ideal_model.specs.Legal.{after, seen}
 use Rattle.law_simulation.specs.Kept as kept
 use Rattle.law_simulation.specs.Kept.{kept_of}
 use Rattle.law_simulation.specs.Carries.{Allows}
-use Rattle.law_simulation.specs.Stands.{Stands, AreSame}
-use Rattle.law_simulation.specs.Views as views
+use Rattle.law_simulation.specs.Stands.{Stands}
 use Rattle.law_simulation.specs.Law.{Follows, FollowsRun, IsInRange, Law, inner_of, joined_steps}
-use Rattle.law_simulation.specs.Unseen.{IsUnseen, IsUnseenAt, AreUnchanged, UnseenChangesNothing}
+use Rattle.law_simulation.specs.Unseen.{IsUnseen, AreUnchanged, UnseenChangesNothing}
 
 -- what is neither seen nor an inner step is nothing
 no_steps : (m : Machine) (ss : List IdealStep) → seen m ss ≡ [] → inner_of ss ≡ [] → ss ≡ []

@@ -1,3 +1,5 @@
+use Rattle.protocol.specs.declared.events.WorldEvent.TheVariants.{Deliver}
+use Rattle.law_simulation.proofs.runs.Inner.{named_more}
 use Rattle.law_simulation.proofs.runs.Table.{each_follows}
 use Rattle.law_simulation.proofs.runs.events_follow.Goals as goal
 
@@ -24,4 +26,4 @@ returns c = each_follows (record {
   stop = c.stop_follows.ensures;
   restore = c.restore_follows.ensures;
   release = c.release_follows.ensures;
-}) (c.deliveries_follow.ensures c.datagrams_are_taken.ensures)
+}) (λ k w m r s. named_more w m (Deliver k) (c.deliveries_follow.ensures c.datagrams_are_taken.ensures k w m r s))
