@@ -149,21 +149,26 @@ impl Machines {
         Ok(device.end_at(context, 0))
     }
 
+    /// One packet of an end, where it may send one now.
+    fn send_one(&mut self, id: u8, end: ObjName) -> Result<bool, Fault> {
+        let before = self.link.len();
+        self.step(id, Event::Transmit { end })?;
+        Ok(self.link.len() > before)
+    }
+
     /// The end of a machine sends what it may now. One that is Running sends until it has nothing to send, or its window is
     /// full; one that is Resuming sends its RESUME once.
     pub(crate) fn transmit(&mut self, id: u8) -> Result<(), Fault> {
         let Some(end) = self.end(id)? else {
             return Ok(());
         };
-        let steps = match end.state {
+        let most = match end.state {
             EndState::Running => 16,
             EndState::Resuming => 1,
             _ => 0,
         };
-        for _ in 0..steps {
-            let before = self.link.len();
-            self.step(id, Event::Transmit { end: end.name })?;
-            if self.link.len() == before {
+        for _ in 0..most {
+            if !self.send_one(id, end.name)? {
                 break;
             }
         }
