@@ -20,7 +20,7 @@ use Rattle.settle_core.specs.declared.notes.Notes.{Notes}
 use Rattle.settle_core.specs.declared.notes.Wait.{Wait}
 use Rattle.settle_core.proofs.Visits.{link_shown, shows_as}
 
-when : {A : Type 0} (b : Bool) (x y : A) → b ≡ true → (if b then x else y) ≡ x
+pub when : {A : Type 0} (b : Bool) (x y : A) → b ≡ true → (if b then x else y) ≡ x
 when true x y h = refl
 when false x y h = absurd (cc)
 
@@ -101,14 +101,14 @@ may_is w l (Some x) = refl
 ended_is : (w : World) (n : Notes) (s : Settling) (l : Link) (v : LinkView) (ended : Bool) → Shows w n s → v ≡ link_view l → ended ≡ has_ended w v.peer → ended ≡ partner_ended s.world l
 ended_is w n s l v ended shows same is = is ∙ (ap (λ (x : LinkView). has_ended w x.peer) same ∙ ended_shown w n s l.peer shows)
 
-may_shown : (w : World) (n : Notes) (s : Settling) (o : ObjName) (l : Link) (v : LinkView) (ended : Bool) → Shows w n s → v ≡ link_view l → ended ≡ has_ended w v.peer →
+pub may_shown : (w : World) (n : Notes) (s : Settling) (o : ObjName) (l : Link) (v : LinkView) (ended : Bool) → Shows w n s → v ≡ link_view l → ended ≡ has_ended w v.peer →
     may_wait v ended (get same_object n.waited o) ≡ may_step s.world l (last_wait s o)
 may_shown w n s o l v ended shows same is =
     ap (λ x. may_wait x ended (get same_object n.waited o)) same
     ∙ (ap (λ b. may_wait (link_view l) b (get same_object n.waited o)) (ended_is w n s l v ended shows same is)
     ∙ (ap (may_wait (link_view l) (has_ended s.world l.peer)) (shows.waited o) ∙ may_is s.world l (last_wait s o)))
 
-waits_is : (l : Link) (v : LinkView) (b : Bool) → v ≡ link_view l → v.rnr_wait ≡ b → l.sender.rnr_wait ≡ b
+pub waits_is : (l : Link) (v : LinkView) (b : Bool) → v ≡ link_view l → v.rnr_wait ≡ b → l.sender.rnr_wait ≡ b
 waits_is l v b same h = sym (ap (λ (x : LinkView). x.rnr_wait) same) ∙ h
 
 rnr_nothing : (s : Settling) (o : ObjName) (l : Option Link) → None ≡ option_map link_view l → rnr_by s o l ≡ s

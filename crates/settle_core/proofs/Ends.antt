@@ -61,7 +61,7 @@ timers_expired w w1 w2 n n1 n2 es before h goes s shows =
 
 -- ---- a round
 
-names_shown : (w : World) (n : Notes) (s : Settling) (es : List LiveEnd) → Shows w n s → es ≡ live_list w → names_of es ≡ live_names s.world
+pub names_shown : (w : World) (n : Notes) (s : Settling) (es : List LiveEnd) → Shows w n s → es ≡ live_list w → names_of es ≡ live_names s.world
 unfolding live_names
 names_shown w n s es shows h = ap names_of h ∙ (names_listed w ∙ ap (λ (x : World). live_names x) shows.world)
 

@@ -1,23 +1,30 @@
 -- Rounds one after another, and a whole settling.
-use Rattle.std.proofs.Common.{arith, ◌≡◌, ◌≤◌, ◌<◌, ◌+◌, ◌-◌, ◌*◌, ℕ, suc, List, [], length, take, get_or, Bool, true, false, refl, sym, ap, ◌∙◌, subst, sum_by, map, Result, Ok, Err, ◌^◌}
+use Rattle.std.proofs.Common.{arith, ◌≡◌, ◌≤◌, ◌<◌, ◌+◌, ◌-◌, ◌*◌, ℕ, suc, List, [], ◌++◌, length, take, get_or, Bool, true, false, refl, sym, ap, ◌∙◌, subst, sum_by, map, Result, Ok, Err, ◌^◌}
 use Rattle.std.specs.Prelude.{◌||◌, option_map, Option, None, Some, IfOk, IfSome, OnErr}
 use Rattle.std.specs.Option.{SomeIff, ok_or}
 use Rattle.std.specs.declared.alloc.AllocError.{AllocError}
-use Rattle.std.proofs.lemmas.List.{take_all}
+use Rattle.std.proofs.lemmas.List.{append_assoc, take_all}
 use Rattle.std.proofs.lemmas.List.Sums.{sum_by_more}
 use Rattle.indexmap.specs.IndexMap.{get}
 use Rattle.rdma_types.specs.Lists.{first_that, same_object}
 use Rattle.rdma_types.specs.declared.names.ObjName.{ObjName}
+use Rattle.protocol.specs.declared.events.WorldEvent.{WorldEvent}
 use Rattle.protocol.specs.State.{World}
-use Rattle.protocol.specs.Settle.{Settled, Settling, begun, last_wait, load_of, marks, round, rounds_of, settled, unfinished}
+use Rattle.protocol.specs.WorldStep.{world_after}
+use Rattle.protocol.specs.Settle.{Settled, Settling, begun, last_wait, live_ends, load_of, marks, round, rounds_of, settled, unfinished}
 use Rattle.law_kept_datagrams.specs.Alike.{with_kept_datagrams}
-use Rattle.world_core.specs.Settled.{IsSettled}
+use Rattle.law_settling.specs.Ends.{started}
+use Rattle.law_settling.specs.Events.{round_events, rounds_events, settling_events}
+use Rattle.law_settling.proofs.steps.Events.{round_lead, settled_lead}
+use Rattle.world_core.specs.Settled.{IsCut, IsLeft, IsSettled}
 use Rattle.context_core.specs.declared.lives.LiveEnd.{LiveEnd}
 use Rattle.world_core.specs.declared.settling.Quiet.{Quiet}
 use Rattle.settle_core.specs.Loads.{view_numbers}
 use Rattle.settle_core.specs.Marks.{view_mark}
-use Rattle.settle_core.specs.Shown.{Ends, Settles, Shows, wait_of}
+use Rattle.settle_core.specs.Shown.{Cuts, Ends, Settles, Shows, wait_of}
 use Rattle.settle_core.specs.declared.notes.Notes.{Notes}
+use Rattle.settle_core.proofs.Cuts.{cut_after, cut_all, cut_as, cut_first, cut_none}
+use Rattle.settle_core.proofs.Worlds.{after_append}
 
 pub on_err : {T P : Type 0} (r : Result T AllocError) → P → OnErr r P
 on_err (Ok x) h = tt
@@ -72,9 +79,25 @@ pub record Going (w : World) (n : Notes) (s : Settling) (most left done : ℕ) :
   pub at : Settling
   pub shows : Shows w n at
   pub way : rounds_of left done at ≡ rounds_of most 0 s
+  -- the events by which it came there, before those that are left
+  pub made : List WorldEvent
+  pub led : world_after s.world made ≡ at.world
+  pub events : made ++ rounds_events left at ≡ rounds_events most s
 
 pub going_begins : (w : World) (n : Notes) (s : Settling) (most : ℕ) → Shows w n s → Going w n s most (most - 0) 0
-going_begins w n s most shows = record { at = s; shows = shows; way = let e : most - 0 ≡ most = omega arith in ap (λ f. rounds_of f 0 s) e }
+unfolding world_after
+going_begins w n s most shows =
+    let e : most - 0 ≡ most = omega arith in
+    record { at = s; shows = shows; way = ap (λ f. rounds_of f 0 s) e; made = []; led = refl; events = ap (λ f. rounds_events f s) e }
+
+-- the events of one more round
+events_more : (f : ℕ) (t : Settling) → ((round t).changed || (round t).stepped) ≡ true → rounds_events (suc f) t ≡ round_events t ++ rounds_events f (begun (round t))
+unfolding rounds_events
+events_more f t h = by ((round t).changed || (round t).stepped) h
+  where
+    by : (b : Bool) → b ≡ true → round_events t ++ (elim b as (λ z. List WorldEvent) [ true ↦ rounds_events f (begun (round t)) | false ↦ [] ]) ≡ round_events t ++ rounds_events f (begun (round t))
+    by true e = refl
+    by false e = absurd (cc)
 
 told : (w : World) (n : Notes) (t : Settling) (b : Bool) → Shows w n t → (n.changed || n.stepped) ≡ b → (t.changed || t.stepped) ≡ b
 told w n t b g h = ap (λ x. x || t.stepped) (sym g.changed) ∙ (ap (λ x. n.changed || x) (sym g.stepped) ∙ h)
@@ -88,6 +111,11 @@ going_goes w w1 n n1 n2 s most i below h goes more begins =
       at = begun (round h.at);
       shows = begins w1 (round h.at) g;
       way = sym (rounds_more (most - (i + 1)) i h.at (told w1 n1 (round h.at) true g more)) ∙ (ap (λ f. rounds_of f i h.at) (sym e) ∙ h.way);
+      made = h.made ++ round_events h.at;
+      led = after_append h.made (round_events h.at) s.world ∙ (ap (λ (x : World). world_after x (round_events h.at)) h.led ∙ (round_lead h.at).after);
+      events =
+          append_assoc h.made (round_events h.at) (rounds_events (most - (i + 1)) (begun (round h.at)))
+          ∙ (ap (λ z. h.made ++ z) (sym (ap (λ f. rounds_events f h.at) e ∙ events_more (most - (i + 1)) h.at (told w1 n1 (round h.at) true g more))) ∙ h.events);
     }
 
 ends_as : (w : World) (count : ℕ) (end end' : Settled) → end ≡ end' → Ends end w count → Ends end' w count
@@ -104,6 +132,18 @@ pub going_ends : (w : World) (n : Notes) (s : Settling) (most i : ℕ) → most 
 going_ends w n s most i all h =
     let none : most - i ≡ 0 = omega arith in
     ends_as w most (ended h.at i) (rounds_of most 0 s) (sym (rounds_none i h.at) ∙ (ap (λ f. rounds_of f i h.at) (sym none) ∙ h.way)) (record { world = h.shows.world; rounds = all })
+
+-- a round that runs out of memory on the way
+round_first : (f : ℕ) (t : Settling) (new : World) → IsCut t.world (round_events t) new → IsCut t.world (rounds_events (suc f) t) new
+unfolding rounds_events
+round_first f t new c = cut_first t.world new (round_events t) _ c
+
+pub going_cut : (w new : World) (n : Notes) (s : Settling) (most i : ℕ) → i < most → (h : Going w n s most (most - i) i) → Cuts (λ t. round_events t) w n new → IsCut s.world (rounds_events most s) new
+going_cut w new n s most i below h c =
+    let e : suc (most - (i + 1)) ≡ most - i = omega arith in
+    cut_as s.world new (h.made ++ rounds_events (most - i) h.at) (rounds_events most s) h.events
+    (cut_after s.world h.at.world new h.made (rounds_events (most - i) h.at) h.led
+    (subst (λ f. IsCut h.at.world (rounds_events f h.at) new) e (round_first (most - (i + 1)) h.at new (c h.at h.shows))))
 
 -- ---- a whole settling
 
@@ -129,3 +169,40 @@ settles_as w w' n most q kept changed stepped none unseen is goes left =
     let all : rounds_of most 0 (first w) ≡ settled w = ap (λ f. rounds_of f 0 (first w)) is in
     let end = ends_as w' q.rounds (rounds_of most 0 (first w)) (settled w) all (goes (first w) (shown_first w n kept changed stepped none unseen)) in
     record { world = end.world; rounds = end.rounds; unfinished = left ∙ unfinished_shown w' (settled w).world end.world }
+
+-- ---- a settling that runs out of memory
+
+-- a whole world with the same last datagrams is shown
+shown_whole : (w v : World) (n : Notes) → with_kept_datagrams w ≡ w → with_kept_datagrams v ≡ with_kept_datagrams w → n.changed ≡ false → n.stepped ≡ false → n.waited.entries ≡ [] → n.seen ≡ None → Shows w n (started v)
+shown_whole w v n kept same changed stepped none unseen = record {
+  world = sym kept ∙ sym same;
+  changed = changed;
+  stepped = stepped;
+  waited = λ o. none_waited v n o none;
+  seen = λ still. subst (λ o. IfSome o (λ ends. map view_mark ends ≡ marks w)) (sym unseen) tt;
+}
+
+load_whole : (w v : World) → with_kept_datagrams w ≡ w → with_kept_datagrams v ≡ with_kept_datagrams w → load_of w ≡ load_of v
+unfolding load_of live_ends
+load_whole w v kept same = ap (λ (x : World). load_of x) (sym kept ∙ sym same)
+
+-- before its first round
+pub left_none : (w : World) → with_kept_datagrams w ≡ w → IsLeft w w
+left_none w kept v same = cut_none v w (settling_events v) (sym kept ∙ sym same)
+
+-- in its rounds
+pub left_rounds : (w new : World) (n : Notes) (most : ℕ) → with_kept_datagrams w ≡ w → n.changed ≡ false → n.stepped ≡ false → n.waited.entries ≡ [] → n.seen ≡ None → most ≡ 32 * load_of w →
+    Cuts (λ s. rounds_events most s) w n new → IsLeft w new
+unfolding settling_events
+left_rounds w new n most kept changed stepped none unseen is c v same =
+    cut_as v new (rounds_events most (started v)) (rounds_events (32 * load_of v) (started v)) (ap (λ f. rounds_events f (started v)) (is ∙ ap (λ k. 32 * k) (load_whole w v kept same)))
+    (c (started v) (shown_whole w v n kept same changed stepped none unseen))
+
+-- after the last one
+pub left_all : (w new : World) (n : Notes) (most count : ℕ) → with_kept_datagrams w ≡ w → n.changed ≡ false → n.stepped ≡ false → n.waited.entries ≡ [] → n.seen ≡ None → most ≡ 32 * load_of w →
+    ((s : Settling) → Shows w n s → Ends (rounds_of most 0 s) new count) → IsLeft w new
+unfolding settled
+left_all w new n most count kept changed stepped none unseen is goes v same =
+    let all : rounds_of most 0 (started v) ≡ settled v = ap (λ f. rounds_of f 0 (started v)) (is ∙ ap (λ k. 32 * k) (load_whole w v kept same)) in
+    let end = ends_as new count (rounds_of most 0 (started v)) (settled v) all (goes (started v) (shown_whole w v n kept same changed stepped none unseen)) in
+    cut_all v new (settling_events v) (end.world ∙ ap with_kept_datagrams (sym (settled_lead v).after))

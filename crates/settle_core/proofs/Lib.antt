@@ -7,7 +7,10 @@ pub mod Compared
 pub mod Noted
 pub mod Visits
 pub mod LeftEnds
+pub mod Cuts
+pub mod Passes
 pub mod Ends
 pub mod EndTimers
 pub mod Goings
 pub mod Quieting
+pub mod Parts

@@ -1,6 +1,6 @@
 -- A step of the world with a note of changes, as a call leaves it.
 use Rattle.std.proofs.Common.{◌≡◌, List, map, Bool, true, false, refl, sym, ap, ◌∙◌, Result, Ok, Err}
-use Rattle.std.specs.Prelude.{◌||◌, not, Option, Some, None, IfOk, IfSome, OnOk, OnErr}
+use Rattle.std.specs.Prelude.{◌||◌, not, Option, Some, None, IfOk, IfSome, OnOk}
 use Rattle.std.specs.declared.alloc.AllocError.{AllocError}
 use Rattle.rdma_types.specs.declared.answers.Answer.{Answer}
 use Rattle.rdma_types.specs.declared.names.ObjName.{ObjName}
@@ -9,26 +9,21 @@ use Rattle.protocol.specs.State.{World}
 use Rattle.protocol.specs.WorldStep.{world_step}
 use Rattle.protocol.specs.Settle.{Settling, marks, same_marks, settle_step, transmit}
 use Rattle.law_kept_datagrams.specs.Alike.{with_kept_datagrams}
-use Rattle.law_settling.specs.Settling.{IsSettling}
 use Rattle.world_core.specs.Kept.{Makes}
 use Rattle.world_core.specs.Lives.{live_list}
 use Rattle.world_core.specs.Places.{HaveOwnIds}
 use Rattle.context_core.specs.declared.lives.LiveEnd.{LiveEnd}
 use Rattle.settle_core.specs.Marks.{view_mark}
-use Rattle.settle_core.specs.Shown.{Comes, HasSeen, Settles, Shows}
+use Rattle.settle_core.specs.Shown.{HasSeen, Settles, Shows}
 use Rattle.settle_core.specs.declared.notes.Notes.{Notes}
 use Rattle.settle_core.proofs.Listed.{marks_listed}
 use Rattle.settle_core.proofs.Sweeps.{same_marks_same}
 use Rattle.settle_core.proofs.Transmitting.{transmit_marks}
-use Rattle.settle_core.proofs.Worlds.{answer_shown, comes_same, comes_step, marks_shown, shown_step}
+use Rattle.settle_core.proofs.Worlds.{answer_shown, marks_shown, shown_step}
 
 -- where the round has changed already
 pub changed_step : (w w' : World) (n : Notes) (e : WorldEvent) → w' ≡ with_kept_datagrams (world_step w e).world → n.changed ≡ true → Settles (λ s. settle_step s e) w n w' n
 changed_step w w' n e left is s shows = shown_step w w' n n s e shows left (is ∙ sym (ap (λ b. b || not (same_marks (marks w) (marks w'))) is)) refl refl (λ still. absurd (cc))
-
-pub comes_result : (r : Result Answer AllocError) (w w' : World) (e : WorldEvent) → IsSettling e → IfOk r (λ answer. Makes (world_step w e) answer w') → OnErr r (w' ≡ w) → Comes w w'
-comes_result (Ok answer) w w' e is h same = comes_step w w' e is h.left
-comes_result (Err x) w w' e is h same = comes_same w w' same
 
 -- where the marks are compared
 pub list_marked : (w : World) (xs : List LiveEnd) → xs ≡ live_list w → map view_mark xs ≡ marks w

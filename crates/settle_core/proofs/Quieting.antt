@@ -11,16 +11,15 @@ use Rattle.protocol.specs.Settle as settle
 use Rattle.protocol.specs.Settle.{settled}
 use Rattle.ideal_model.specs.Machine.{Machine}
 use Rattle.law_simulation.specs.Quiet.{AreReasons, IsQuiet, reason_of, unfinished}
-use Rattle.law_simulation.specs.Stands.{Stands}
 use Rattle.law_simulation.specs.Views.{context_of, contexts_of, end_of}
 use Rattle.fabric.proofs.Histories.{pending-forgetting}
 use Rattle.law_kept_datagrams.specs.Alike.{AreAlike, with_kept_datagrams}
 use Rattle.law_kept_datagrams.proofs.Rounds.{line_alike}
-use Rattle.law_settling.specs.Settling.{ComesOf, SettlingFollows, SettlingIsEvents}
+use Rattle.law_settling.specs.Settling.{SettlingFollowsByName, SettlingHasEvents}
 use Rattle.law_settling.specs.Leaves.{SettlingLeaves}
 use Rattle.world_core.specs.Settled.{IsSettled}
 use Rattle.world_core.specs.declared.settling.Quiet.{Quiet}
-use Rattle.settle_core.specs.Quieted.{IsQuieted, Quiets}
+use Rattle.settle_core.specs.Quieted.{IsQuieted}
 use Rattle.settle_core.proofs.Worlds.{alike_kept_datagrams, kept_datagrams_alike}
 
 -- ---- reasons do not look at datagrams
@@ -49,15 +48,15 @@ settled_alike : (w : World) → AreAlike (settled (with_kept_datagrams w)).world
 unfolding happens settles
 settled_alike w = (line_alike (with_kept_datagrams w) w script.Settles (kept_datagrams_alike w)).world
 
-pub quieted : SettlingLeaves → SettlingIsEvents → SettlingFollows → (old new : World) (q : Quiet) → All IsLawful old.carried → IsSettled old new q → IsQuieted old new q.unfinished
+pub quieted : SettlingLeaves → SettlingHasEvents → SettlingFollowsByName → (old new : World) (q : Quiet) → All IsLawful old.carried → IsSettled old new q → IsQuieted old new q.unfinished
 quieted leaves made follows old new q lawful is w m kept stands =
     let alike : AreAlike (settled old).world (settled w).world = subst (λ z. AreAlike (settled z).world (settled w).world) kept (settled_alike w) in
     let same : with_kept_datagrams (settled old).world ≡ with_kept_datagrams (settled w).world = alike_kept_datagrams (settled old).world (settled w).world alike in
     let left : new ≡ with_kept_datagrams (settled w).world = is.world ∙ same in
     let listed : settle.unfinished (settled w).world ≡ q.unfinished = sym (is.unfinished ∙ list_alike (settled old).world (settled w).world same) in
     record {
-      comes = made w;
-      followed = follows w m (made w).events (made w).each stands;
+      made = made w;
+      followed = follows w m stands;
       left = left;
       quiet = λ m' stands'.
           subst (λ z. IsQuiet z m' q.unfinished) (sym left)

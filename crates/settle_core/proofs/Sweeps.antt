@@ -33,7 +33,7 @@ still_to s w h =
     ap (λ (x : World). s.changed || not (same_marks (marks s.world) (marks x))) h ∙ (ap (λ b. s.changed || not b) (same_marks_same (marks s.world)) ∙ or_false s.changed) in
     λ i. record { world = h i; changed = same i; stepped = s.stepped; waited = s.waited }
 
-gone_still : (s : Settling) (k : ℕ) → kept_flight s.world.sent k ≡ None → settle_step s (world_event.Deliver k) ≡ s
+pub gone_still : (s : Settling) (k : ℕ) → kept_flight s.world.sent k ≡ None → settle_step s (world_event.Deliver k) ≡ s
 unfolding settle_step world_step delivers look
 gone_still s k h = still_to s (world_step s.world (world_event.Deliver k)).world (ap (λ (o : Option Flight). (delivers_by s.world k (look_at o (now_of s.world o))).world) h)
 
@@ -53,13 +53,13 @@ stays_behind w w' k h j f ne there =
     by false = there
 
 -- the flights fs stand in the state's list from number k on, the last of `count` flights of before
-record Stand (s : Settling) (k count : ℕ) (fs : List Flight) : Type 0 where
-  first : 1 ≤ k
-  all : k - 1 + length fs ≡ count
-  grown : count ≤ length s.world.sent
-  there : (j : ℕ) (f : Flight) → slice_get fs j ≡ Some f → slice_get s.world.sent (k - 1 + j) ≡ Some f
+pub record Stand (s : Settling) (k count : ℕ) (fs : List Flight) : Type 0 where
+  pub first : 1 ≤ k
+  pub all : k - 1 + length fs ≡ count
+  pub grown : count ≤ length s.world.sent
+  pub there : (j : ℕ) (f : Flight) → slice_get fs j ≡ Some f → slice_get s.world.sent (k - 1 + j) ≡ Some f
 
-stand_rest : (s : Settling) (k count : ℕ) (x : Flight) (xs : List Flight) → Stand s k count (x ∷ xs) → Stand s (k + 1) count xs
+pub stand_rest : (s : Settling) (k count : ℕ) (x : Flight) (xs : List Flight) → Stand s k count (x ∷ xs) → Stand s (k + 1) count xs
 stand_rest s k count x xs h = record {
   first = omega arith;
   all = omega (arith, h.all, h.first);
@@ -67,7 +67,7 @@ stand_rest s k count x xs h = record {
   there = λ j f g. let e : k - 1 + suc j ≡ k + 1 - 1 + j = omega (arith, h.first) in subst (λ i. slice_get s.world.sent i ≡ Some f) e (h.there (suc j) f g);
 }
 
-stand_step : (s : Settling) (k count : ℕ) (fs : List Flight) → 1 ≤ k → Stand s (k + 1) count fs → Stand (settle_step s (world_event.Deliver k)) (k + 1) count fs
+pub stand_step : (s : Settling) (k count : ℕ) (fs : List Flight) → 1 ≤ k → Stand s (k + 1) count fs → Stand (settle_step s (world_event.Deliver k)) (k + 1) count fs
 unfolding settle_step stepped_to
 stand_step s k count fs one h =
     let d : IsDelivered s.world (world_step s.world (world_event.Deliver k)).world k = delivered s.world k in
@@ -126,12 +126,12 @@ swept (x ∷ xs) s k count h = by_kept (is_kept (length s.world.sent) k) (is_kep
 
 -- ---- from the first pending one on
 
-record Begins (count k : ℕ) (fs : List Flight) (first : ℕ) : Type 0 where
-  above : k ≤ first
-  within : first - k < length fs
-  same : pending_from count k fs ≡ pending_from count first (drop (first - k) fs)
+pub record Begins (count k : ℕ) (fs : List Flight) (first : ℕ) : Type 0 where
+  pub above : k ≤ first
+  pub within : first - k < length fs
+  pub same : pending_from count k fs ≡ pending_from count first (drop (first - k) fs)
 
-begins : (fs : List Flight) (count k first : ℕ) → first_of (pending_from count k fs) ≡ Some first → Begins count k fs first
+pub begins : (fs : List Flight) (count k first : ℕ) → first_of (pending_from count k fs) ≡ Some first → Begins count k fs first
 unfolding pending_from
 begins [] count k first h = absurd (cc)
 begins (x ∷ xs) count k first h = by_test (is_kept count k && (not x.lost && not x.taken)) refl h (λ g. begins xs count (k + 1) first g)
@@ -156,7 +156,7 @@ begins (x ∷ xs) count k first h = by_test (is_kept count k && (not x.lost && n
               ∙ (rest.same ∙ subst (λ i. pending_from count first (drop (first - (k + 1)) xs) ≡ pending_from count first (drop i (x ∷ xs))) place refl);
         }
 
-get_drop : {A : Type 0} (xs : List A) (n j : ℕ) (x : A) → slice_get (drop n xs) j ≡ Some x → slice_get xs (n + j) ≡ Some x
+pub get_drop : {A : Type 0} (xs : List A) (n j : ℕ) (x : A) → slice_get (drop n xs) j ≡ Some x → slice_get xs (n + j) ≡ Some x
 get_drop xs zero j x h = let e : j ≡ 0 + j = omega arith in subst (λ i. slice_get xs i ≡ Some x) e h
 get_drop [] (suc n) j x h = absurd (cc)
 get_drop (y ∷ xs) (suc n) j x h = let e : suc (n + j) ≡ suc n + j = omega arith in subst (λ i. slice_get (y ∷ xs) i ≡ Some x) e (get_drop xs n j x h)

@@ -2,18 +2,21 @@
 use Rattle.std.proofs.Common.{arith, ◌≡◌, ◌≤◌, ◌<◌, ◌+◌, ◌-◌, ◌*◌, ℕ, suc, List, [], ◌∷◌, ◌++◌, Bool, true, false, refl, sym, ap, ◌∙◌, subst, Result, Ok, Err, map, take, get_or, length}
 use Rattle.std.specs.Prelude.{Option, Some, None, option_map, OnOk, if◌then◌else◌}
 use Rattle.std.specs.declared.alloc.AllocError.{AllocError}
-use Rattle.std.proofs.lemmas.List.{take_more, map-append}
+use Rattle.std.proofs.lemmas.List.{append_assoc, take_more, map-append}
 use Rattle.rdma_types.specs.declared.answers.Answer.{Answer}
 use Rattle.rdma_types.specs.declared.names.ObjName.{ObjName}
+use Rattle.protocol.specs.declared.events.WorldEvent.{WorldEvent}
 use Rattle.protocol.specs.declared.events.WorldEvent.TheVariants as world_event
 use Rattle.protocol.specs.EndWords.{is_resuming_link, is_running}
 use Rattle.protocol.specs.Fabric.{first_of, pending}
 use Rattle.protocol.specs.State.{Link, World}
-use Rattle.protocol.specs.WorldStep.{home, live_context, world_step}
+use Rattle.protocol.specs.WorldStep.{home, live_context, world_after, world_step}
 use Rattle.protocol.specs.Settle.{Settling, drained, is_sent, link_at, pass, sending_all, sending_fuel, sends_all, sends_if_running, settle_step, transmit, visited, visiting}
 use Rattle.fabric.proofs.Histories.{forgetting-forgetting, kept_flight-forgetting, length-forgetting}
 use Rattle.law_kept_datagrams.specs.Alike.{with_kept_datagrams}
 use Rattle.law_kept_datagrams.proofs.Stores.{pending_alike}
+use Rattle.law_settling.specs.Events.{send_events, sending_events}
+use Rattle.law_settling.proofs.steps.Events.{send_lead}
 use Rattle.world_core.specs.Lives.{is_open, is_pending, link_view}
 use Rattle.world_core.specs.Places.{HaveOwnIds}
 use Rattle.context_core.specs.declared.lives.LinkView.{LinkView}
@@ -23,6 +26,7 @@ use Rattle.settle_core.specs.Steps.{IsLinkAt, delivered_at, sent_once, sweeping,
 use Rattle.settle_core.specs.declared.notes.Notes.{Notes}
 use Rattle.settle_core.proofs.Sweeps.{pass_stays, pass_sweeps, sweeping-more}
 use Rattle.settle_core.proofs.Turns.{unsent_stays}
+use Rattle.settle_core.proofs.Worlds.{after_append}
 
 pub on_ok : {T P Q : Type 0} (r : Result T AllocError) → (P → Q) → OnOk r P → OnOk r Q
 on_ok (Ok x) f h = f h
@@ -113,9 +117,25 @@ pub record OnWay (w : World) (n : Notes) (s : Settling) (o : ObjName) (most left
   pub at : Settling
   pub shows : Shows w n at
   pub way : sending_all left at o ≡ sending_all most s o
+  -- the events by which it came there, before those that are left
+  pub made : List WorldEvent
+  pub led : world_after s.world made ≡ at.world
+  pub events : made ++ sending_events left at o ≡ sending_events most s o
 
 pub way_begins : (w : World) (n : Notes) (s : Settling) (o : ObjName) (most : ℕ) → Shows w n s → OnWay w n s o most (most - 0)
-way_begins w n s o most shows = record { at = s; shows = shows; way = let e : most - 0 ≡ most = omega arith in ap (λ f. sending_all f s o) e }
+unfolding world_after
+way_begins w n s o most shows =
+    let e : most - 0 ≡ most = omega arith in
+    record { at = s; shows = shows; way = ap (λ f. sending_all f s o) e; made = []; led = refl; events = ap (λ f. sending_events f s o) e }
+
+-- the events of one more transmission
+events_next : (f : ℕ) (t : Settling) (o : ObjName) → is_sent (world_step t.world (transmit o)).answer ≡ true → sending_events (suc f) t o ≡ send_events t o ++ sending_events f (drained (settle_step t (transmit o))) o
+unfolding sending_events
+events_next f t o h = by (is_sent (world_step t.world (transmit o)).answer) h
+  where
+    by : (b : Bool) → b ≡ true → (elim b as (λ z. List WorldEvent) [ true ↦ send_events t o ++ sending_events f (drained (settle_step t (transmit o))) o | false ↦ [] ]) ≡ send_events t o ++ sending_events f (drained (settle_step t (transmit o))) o
+    by true e = refl
+    by false e = absurd (cc)
 
 pub way_goes : (w w' : World) (n n' : Notes) (s : Settling) (o : ObjName) (most i : ℕ) (sent : Bool) → i < most → (h : OnWay w n s o most (most - i)) → sent ≡ true →
     ((s : Settling) → Shows w n s → (sent ≡ is_sent (world_step s.world (transmit o)).answer) × Shows w' n' (sent_once sent s o)) → OnWay w' n' s o most (most - (i + 1))
@@ -126,6 +146,11 @@ way_goes w w' n n' s o most i sent below h is goes =
       at = drained (settle_step h.at (transmit o));
       shows = shows_as w' n' (sent_once sent h.at o) (drained (settle_step h.at (transmit o))) (by_true sent _ _ is) g.1;
       way = sym (sends_next (most - (i + 1)) h.at o (sym g.0 ∙ is)) ∙ (ap (λ f. sending_all f h.at o) (sym e) ∙ h.way);
+      made = h.made ++ send_events h.at o;
+      led = after_append h.made (send_events h.at o) s.world ∙ (ap (λ (x : World). world_after x (send_events h.at o)) h.led ∙ (send_lead h.at o).after);
+      events =
+          append_assoc h.made (send_events h.at o) (sending_events (most - (i + 1)) (drained (settle_step h.at (transmit o))) o)
+          ∙ (ap (λ z. h.made ++ z) (sym (ap (λ f. sending_events f h.at o) e ∙ events_next (most - (i + 1)) h.at o (sym g.0 ∙ is))) ∙ h.events);
     }
 
 pub way_stops : (w w' : World) (n n' : Notes) (s : Settling) (o : ObjName) (most i : ℕ) (sent : Bool) → i < most → (h : OnWay w n s o most (most - i)) → sent ≡ false →
@@ -140,7 +165,7 @@ pub way_ends : (w : World) (n : Notes) (s : Settling) (o : ObjName) (most left :
 unfolding sending_all
 way_ends w n s o most left none h = shows_as w n h.at (sending_all most s o) (ap (λ f. sending_all f h.at o) (sym none) ∙ h.way) h.shows
 
-fuel_some : (l : Option Link) (v : LinkView) → Some v ≡ option_map link_view l → sending_fuel l ≡ 2 * (v.last - v.una) + 2
+pub fuel_some : (l : Option Link) (v : LinkView) → Some v ≡ option_map link_view l → sending_fuel l ≡ 2 * (v.last - v.una) + 2
 fuel_some None v h = absurd (cc)
 fuel_some (Some l) v h = let same : v ≡ link_view l = cc in sym (ap (λ (x : LinkView). 2 * (x.last - x.una) + 2) same)
 
@@ -157,10 +182,10 @@ resumes_is : (l : Option Link) (v : LinkView) → Some v ≡ option_map link_vie
 resumes_is None v h = absurd (cc)
 resumes_is (Some l) v h = let same : v ≡ link_view l = cc in sym (ap view_resumes same)
 
-runs_shown : (w : World) (n : Notes) (s : Settling) (o : ObjName) (v : LinkView) (b : Bool) → Shows w n s → IsLinkAt w o v → view_runs v ≡ b → is_running (link_at s.world o) ≡ b
+pub runs_shown : (w : World) (n : Notes) (s : Settling) (o : ObjName) (v : LinkView) (b : Bool) → Shows w n s → IsLinkAt w o v → view_runs v ≡ b → is_running (link_at s.world o) ≡ b
 runs_shown w n s o v b shows at h = ap is_running (sym (link_shown w n s o shows)) ∙ (runs_is (link_at w o) v at ∙ h)
 
-resumes_shown : (w : World) (n : Notes) (s : Settling) (o : ObjName) (v : LinkView) (b : Bool) → Shows w n s → IsLinkAt w o v → view_resumes v ≡ b → is_resuming_link (link_at s.world o) ≡ b
+pub resumes_shown : (w : World) (n : Notes) (s : Settling) (o : ObjName) (v : LinkView) (b : Bool) → Shows w n s → IsLinkAt w o v → view_resumes v ≡ b → is_resuming_link (link_at s.world o) ≡ b
 resumes_shown w n s o v b shows at h = ap is_resuming_link (sym (link_shown w n s o shows)) ∙ (resumes_is (link_at w o) v at ∙ h)
 
 pub runs_on : (w w' : World) (n n' : Notes) (o : ObjName) (v : LinkView) → IsLinkAt w o v → view_runs v ≡ true → Settles (λ s. sends_all s o) w n w' n' → Settles (λ s. sends_if_running s o) w n w' n'

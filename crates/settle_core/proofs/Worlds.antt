@@ -2,7 +2,6 @@
 use Rattle.std.proofs.Common.{◌≡◌, List, [], ◌∷◌, ◌++◌, false, refl, sym, ap, ◌∙◌, subst}
 use Rattle.std.specs.Prelude.{◌||◌, not, option_map}
 use Rattle.indexmap.specs.IndexMap.{get}
-use Rattle.std.proofs.lemmas.List.Elements.{All-nil, All-append, All-cons}
 use Rattle.rdma_types.specs.declared.answers.Answer.{Answer}
 use Rattle.rdma_types.specs.Lists.{same_object}
 use Rattle.protocol.specs.declared.events.WorldEvent.{WorldEvent}
@@ -12,10 +11,8 @@ use Rattle.protocol.specs.Settle.{Settling, begun, last_wait, live_ends, marks, 
 use Rattle.fabric.proofs.Histories.{forgetting-forgetting}
 use Rattle.law_kept_datagrams.specs.Alike.{AreAlike, StepAlike, with_kept_datagrams}
 use Rattle.law_kept_datagrams.proofs.Steps.{step_alike}
-use Rattle.law_settling.specs.Settling.{IsSettling}
-use Rattle.world_core.specs.Settled.{IsLeft}
 use Rattle.world_core.specs.Kept.{Makes}
-use Rattle.settle_core.specs.Shown.{Comes, HasSeen, Shows, wait_of}
+use Rattle.settle_core.specs.Shown.{HasSeen, Shows, wait_of}
 use Rattle.settle_core.specs.declared.notes.Notes.{Notes}
 
 -- ---- worlds that keep the last datagrams
@@ -36,41 +33,12 @@ kept_twice v w h = alike_kept_datagrams v w (kept_alike v w h) ∙ sym h
 pub steps_shown : (v w : World) (e : WorldEvent) → v ≡ with_kept_datagrams w → StepAlike (world_step v e) (world_step w e)
 steps_shown v w e h = step_alike v w e (kept_alike v w h)
 
--- ---- worlds that come of others
+-- ---- runs, one after another
 
-after_alike : (es : List WorldEvent) (a b : World) → AreAlike a b → AreAlike (world_after a es) (world_after b es)
-unfolding world_after
-after_alike [] a b h = h
-after_alike (e ∷ es) a b h = after_alike es (world_step a e).world (world_step b e).world (step_alike a b e h).world
-
-after_append : (es fs : List WorldEvent) (w : World) → world_after w (es ++ fs) ≡ world_after (world_after w es) fs
+pub after_append : (es fs : List WorldEvent) (w : World) → world_after w (es ++ fs) ≡ world_after (world_after w es) fs
 unfolding world_after
 after_append [] fs w = refl
 after_append (e ∷ es) fs w = after_append es fs (world_step w e).world
-
-pub comes_nothing : (w : World) → Comes w w
-unfolding world_after
-comes_nothing w kept = record { events = []; each = All-nil IsSettling; world = sym kept }
-
-pub comes_step : (old new : World) (e : WorldEvent) → IsSettling e → new ≡ with_kept_datagrams (world_step old e).world → Comes old new
-unfolding world_after
-comes_step old new e is h kept = record { events = e ∷ []; each = All-cons IsSettling e [] is (All-nil IsSettling); world = h }
-
-pub comes_then : (a b c : World) → Comes a b → Comes b c → Comes a c
-comes_then a b c first second kept =
-    let one : IsLeft a b = first kept in
-    let two : IsLeft b c = second (kept_twice b (world_after a one.events) one.world) in
-    record {
-      events = one.events ++ two.events;
-      each = All-append IsSettling one.events two.events one.each two.each;
-      world =
-          two.world
-          ∙ (alike_kept_datagrams (world_after b two.events) (world_after (world_after a one.events) two.events) (after_alike two.events b (world_after a one.events) (kept_alike b (world_after a one.events) one.world))
-          ∙ ap with_kept_datagrams (sym (after_append one.events two.events a)));
-    }
-
-pub comes_same : (a b : World) → b ≡ a → Comes a b
-comes_same a b h = subst (λ (x : World). Comes a x) (sym h) (comes_nothing a)
 
 -- ---- states that are shown
 

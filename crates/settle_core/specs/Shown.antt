@@ -1,12 +1,13 @@
 -- How the state of a settling stands in the code.
-use Rattle.std.specs.Prelude.{◌≡◌, ℕ, false, map, option_map, IfSome}
+use Rattle.std.specs.Prelude.{◌≡◌, ℕ, List, false, map, option_map, IfSome}
 use Rattle.rdma_types.specs.declared.names.ObjName.{ObjName}
 use Rattle.rdma_types.specs.Lists.{same_object}
+use Rattle.protocol.specs.declared.events.WorldEvent.{WorldEvent}
 use Rattle.protocol.specs.State.{World}
 use Rattle.protocol.specs.Settle.{Settled, Settling, Waited, last_wait, marks}
 use Rattle.law_kept_datagrams.specs.Alike.{with_kept_datagrams}
 use Rattle.indexmap.specs.IndexMap.{get}
-use Rattle.world_core.specs.Settled.{IsLeft}
+use Rattle.world_core.specs.Settled.{IsCut}
 use Rattle.settle_core.specs.Marks.{view_mark}
 use Rattle.settle_core.specs.declared.notes.Notes.{Notes}
 use Rattle.settle_core.specs.declared.notes.Wait.{Wait}
@@ -31,9 +32,9 @@ pub record Shows (w : World) (n : Notes) (s : Settling) : Type 0 where
 abbrev pub Settles : (Settling → Settling) → World → Notes → World → Notes → Type 0
 Settles f w n w' n' = (s : Settling) → Shows w n s → Shows w' n' (f s)
 
--- a world that keeps the last datagrams comes of another such one by some of settling's events
-abbrev pub Comes : World → World → Type 0
-Comes old new = with_kept_datagrams old ≡ old → IsLeft old new
+-- a call that runs out of memory has made the first of these events of each state that it begins with, and not the rest
+abbrev pub Cuts : (Settling → List WorldEvent) → World → Notes → World → Type 0
+Cuts events w n w' = (s : Settling) → Shows w n s → IsCut s.world (events s) w'
 
 -- the world keeps the last datagrams of a settled one, and its rounds are counted
 pub record Ends (end : Settled) (w : World) (count : ℕ) : Type 0 where

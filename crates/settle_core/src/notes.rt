@@ -1,11 +1,10 @@
 //! What a settling remembers besides the world, and one step of it.
 
-ghost use Rattle.std.specs.Prelude.{◌≡◌, map, IfOk, IfSome, OnOk};
+ghost use Rattle.std.specs.Prelude.{◌≡◌, ◌∷◌, [], map, IfOk, IfSome, OnErr, OnOk};
 ghost use Rattle.protocol.specs.Events.{IsLawfulWorldEvent};
 ghost use Rattle.protocol.specs.Settle.{Settling, marks, same_marks, settle_step, transmit};
 ghost use Rattle.protocol.specs.WorldStep.{world_step};
-ghost use Rattle.law_settling.specs.Settling.{IsSettling};
-ghost use Rattle.settle_core.specs.Shown.{Comes, Settles, Shows};
+ghost use Rattle.settle_core.specs.Shown.{Cuts, Settles, Shows};
 ghost use Rattle.settle_core.specs.Marks.{same_mark, view_code, view_mark};
 ghost use Rattle.world_core.specs.Places.{HaveOwnIds};
 
@@ -45,10 +44,9 @@ impl Notes {
         world: &mut World,
         event: &WorldEvent,
     ) -> Result<(), AllocError>
-        requires lawful { IsLawfulWorldEvent event.now }
-        requires settling { IsSettling event.now }
+        requires { IsLawfulWorldEvent event.now }
         ensures ok { OnOk result (Settles (λ s. settle_step s event.now) world.old self.old world.new self.new) }
-        ensures comes { Comes world.old world.new }
+        ensures cut { OnErr result (Cuts (λ s. event.now ∷ []) world.old self.old world.new) }
     {
         if self.changed {
             let _answer = world.step(alloc, event)?;
@@ -72,7 +70,7 @@ pub(crate) fn transmit(
     ensures ok { OnOk result ((n : Notes) → Settles (λ s. settle_step s (transmit end.now)) world.old n world.new n) }
     ensures answer { IfOk result (λ answer. (n : Notes) (s : Settling) → Shows world.old n s → answer ≡ (world_step s.world (transmit end.now)).answer) }
     ensures ids { HaveOwnIds world.old.devices }
-    ensures comes { Comes world.old world.new }
+    ensures err { OnErr result (world.new ≡ world.old) }
 {
     let event = Event::Transmit { end: *end };
     world.step(alloc, &WorldEvent::At { event })

@@ -4,9 +4,10 @@ ghost use Rattle.std.specs.Prelude.{◌≡◌, ◌*◌, ◌+◌, ◌≤◌, ◌|
 ghost use Rattle.protocol.specs.Lawful.{IsLawful};
 ghost use Rattle.protocol.specs.Settle.{Settling, begun, load_of, round, rounds_of};
 ghost use Rattle.protocol.specs.State as state;
+ghost use Rattle.law_settling.specs.Events.{round_events, rounds_events};
 ghost use Rattle.settle_core.specs.Loads.{view_numbers};
 ghost use Rattle.settle_core.specs.Quieted.{IsQuieted};
-ghost use Rattle.settle_core.specs.Shown.{Comes, Ends, Settles, Shows};
+ghost use Rattle.settle_core.specs.Shown.{Cuts, Ends, Settles, Shows};
 ghost use Rattle.world_core.specs.Settled.{IsLeft, IsSettled};
 
 use crate::laws::settled_worlds_are_quiet;
@@ -62,7 +63,7 @@ impl Notes {
     /// One round: drain, send, and where nothing changed in this round the timers.
     fn round(&mut self, alloc: Global, world: &mut World) -> Result<(), AllocError>
         ensures ok { OnOk result (Settles round world.old self.old world.new self.new) }
-        ensures comes { Comes world.old world.new }
+        ensures cut { OnErr result (Cuts (λ s. round_events s) world.old self.old world.new) }
     {
         let live = world.live_ends(alloc)?;
         let ends = live.as_slice();
@@ -94,7 +95,7 @@ impl Notes {
     fn go_round(&mut self, alloc: Global, world: &mut World, most: u64) -> Result<u64, AllocError>
         ensures ok { IfOk result (λ rounds. (s : Settling) → Shows world.old self.old s → Ends (rounds_of most 0 s) world.new rounds) }
         ensures bounded { IfOk result (λ rounds. rounds ≤ most) }
-        ensures comes { Comes world.old world.new }
+        ensures cut { OnErr result (Cuts (λ s. rounds_events most s) world.old self.old world.new) }
     {
         for rounds in 0..most {
             self.round(alloc, world)?;
@@ -115,8 +116,8 @@ impl Settler for Rounds {
     ///
     /// # Errors
     ///
-    /// `AllocError` when out of memory, or where the most rounds do not fit in 64 bits. The world is then one that some
-    /// steps of settling lead to.
+    /// `AllocError` when out of memory, or where the most rounds do not fit in 64 bits. The world is then the one that the first
+    /// events of this settling lead to, in their order, and the rest were not made.
     fn settle(&self, alloc: Global, world: &mut World) -> Result<Quiet, AllocError>
         ensures settled { IfOk result (λ quiet. IsSettled world.old world.new quiet) }
         ensures bounded { IfOk result (λ quiet. quiet.rounds ≤ 32 * load_of world.old) }

@@ -1,10 +1,11 @@
 //! Sending: each end transmits until it has nothing to send now.
 
-ghost use Rattle.std.specs.Prelude.{◌≡◌, ◌<◌, ◌^◌, map, IfOk, OnOk};
+ghost use Rattle.std.specs.Prelude.{◌≡◌, ◌<◌, ◌^◌, map, IfOk, OnErr, OnOk};
 ghost use Rattle.protocol.specs.Settle.{Settling, drained, is_sent, sends_all, sends_if_running, settle_step, transmit, visited, visiting};
 ghost use Rattle.protocol.specs.WorldStep.{world_step};
-ghost use Rattle.settle_core.specs.Shown.{Comes, Settles, Shows};
-ghost use Rattle.settle_core.specs.Steps.{IsLinkAt, sent_once, view_resumes, view_runs};
+ghost use Rattle.law_settling.specs.Events.{running_events, send_all_events, visit_events, visiting_events};
+ghost use Rattle.settle_core.specs.Shown.{Cuts, Settles, Shows};
+ghost use Rattle.settle_core.specs.Steps.{IsLinkAt, announce_events, once_events, sent_once, view_resumes, view_runs};
 
 use crate::notes::{Notes, transmit};
 use rdma_types::{Answer, ObjName};
@@ -36,7 +37,7 @@ impl Notes {
     /// An end transmits once, and what it sent is drained; and whether it sent anything. Otherwise nothing is changed.
     fn send(&mut self, alloc: Global, world: &mut World, end: &ObjName) -> Result<bool, AllocError>
         ensures ok { IfOk result (λ sent. (s : Settling) → Shows world.old self.old s → (sent ≡ is_sent (world_step s.world (transmit end.now)).answer) × Shows world.new self.new (sent_once sent s end.now)) }
-        ensures comes { Comes world.old world.new }
+        ensures cut { OnErr result (Cuts (λ s. once_events s end.now) world.old self.old world.new) }
     {
         let answer = transmit(alloc, world, end)?;
         if !is_sent(&answer) {
@@ -57,7 +58,7 @@ impl Notes {
         requires link { IsLinkAt world.old end.now link.now }
         requires bounded { link.now.last < 2 ^ 62 }
         ensures ok { OnOk result (Settles (λ s. sends_all s end.now) world.old self.old world.new self.new) }
-        ensures comes { Comes world.old world.new }
+        ensures cut { OnErr result (Cuts (λ s. send_all_events s end.now) world.old self.old world.new) }
     {
         let most = 2 * link.last.saturating_sub(link.una) + 2;
         for turn in 0..most {
@@ -79,7 +80,7 @@ impl Notes {
         requires link { IsLinkAt world.old end.now link.now }
         requires bounded { link.now.last < 2 ^ 62 }
         ensures ok { OnOk result (Settles (λ s. sends_if_running s end.now) world.old self.old world.new self.new) }
-        ensures comes { Comes world.old world.new }
+        ensures cut { OnErr result (Cuts (λ s. running_events s end.now) world.old self.old world.new) }
     {
         if is_running(link) {
             return self.send_all(alloc, world, end, link);
@@ -95,7 +96,7 @@ impl Notes {
         end: &ObjName,
     ) -> Result<(), AllocError>
         ensures ok { OnOk result (Settles (λ s. sends_if_running (drained (settle_step s (transmit end.now))) end.now) world.old self.old world.new self.new) }
-        ensures comes { Comes world.old world.new }
+        ensures cut { OnErr result (Cuts (λ s. announce_events s end.now) world.old self.old world.new) }
     {
         let _answer = transmit(alloc, world, end)?;
         self.drain(alloc, world)?;
@@ -108,7 +109,7 @@ impl Notes {
     /// One end sends what it can.
     fn visit(&mut self, alloc: Global, world: &mut World, end: &ObjName) -> Result<(), AllocError>
         ensures ok { OnOk result (Settles (λ s. visited s end.now) world.old self.old world.new self.new) }
-        ensures comes { Comes world.old world.new }
+        ensures cut { OnErr result (Cuts (λ s. visit_events s end.now) world.old self.old world.new) }
     {
         let Some(link) = world.link_at(end) else {
             return Ok(());
@@ -127,7 +128,7 @@ impl Notes {
         ends: &[LiveEnd],
     ) -> Result<(), AllocError>
         ensures ok { OnOk result (Settles (λ s. visiting visited s (map (λ e. e.name) ends.now)) world.old self.old world.new self.new) }
-        ensures comes { Comes world.old world.new }
+        ensures cut { OnErr result (Cuts (λ s. visiting_events visited visit_events s (map (λ e. e.name) ends.now)) world.old self.old world.new) }
     {
         for end in ends {
             self.visit(alloc, world, &end.name)?;

@@ -1,11 +1,12 @@
 //! Timers: where nothing changed in a round, the ends that wait for their RNR timers are let go on, and else retransmission
 //! timeouts expire.
 
-ghost use Rattle.std.specs.Prelude.{◌≡◌, map, true, if◌then◌else◌, Some, OnOk};
+ghost use Rattle.std.specs.Prelude.{◌≡◌, map, true, if◌then◌else◌, Some, OnErr, OnOk};
 ghost use Rattle.protocol.specs.Settle.{expire_visit, rnr_visit, timers, visiting};
 ghost use Rattle.rdma_types.specs.Lists.{same_object};
 ghost use Rattle.indexmap.specs.IndexMap.{get};
-ghost use Rattle.settle_core.specs.Shown.{Comes, Settles};
+ghost use Rattle.law_settling.specs.Events.{expire_events, rnr_events, timer_events, visiting_events};
+ghost use Rattle.settle_core.specs.Shown.{Cuts, Settles};
 ghost use Rattle.settle_core.specs.Waits.{may_wait, view_expires};
 
 use crate::notes::{Notes, Wait};
@@ -59,7 +60,7 @@ impl Notes {
         end: &ObjName,
     ) -> Result<(), AllocError>
         ensures ok { OnOk result (Settles (λ s. rnr_visit s end.now) world.old self.old world.new self.new) }
-        ensures comes { Comes world.old world.new }
+        ensures cut { OnErr result (Cuts (λ s. rnr_events s end.now) world.old self.old world.new) }
     {
         let Some(link) = world.link_at(end) else {
             return Ok(());
@@ -80,7 +81,7 @@ impl Notes {
     /// The retransmission timeout of one end.
     fn expire(&mut self, alloc: Global, world: &mut World, end: &ObjName) -> Result<(), AllocError>
         ensures ok { OnOk result (Settles (λ s. expire_visit s end.now) world.old self.old world.new self.new) }
-        ensures comes { Comes world.old world.new }
+        ensures cut { OnErr result (Cuts (λ s. expire_events s end.now) world.old self.old world.new) }
     {
         let Some(link) = world.link_at(end) else {
             return Ok(());
@@ -102,7 +103,7 @@ impl Notes {
         ends: &[LiveEnd],
     ) -> Result<(), AllocError>
         ensures ok { OnOk result (Settles (λ s. visiting rnr_visit s (map (λ e. e.name) ends.now)) world.old self.old world.new self.new) }
-        ensures comes { Comes world.old world.new }
+        ensures cut { OnErr result (Cuts (λ s. visiting_events rnr_visit rnr_events s (map (λ e. e.name) ends.now)) world.old self.old world.new) }
     {
         for end in ends {
             self.step_timer(alloc, world, &end.name)?;
@@ -118,7 +119,7 @@ impl Notes {
         ends: &[LiveEnd],
     ) -> Result<(), AllocError>
         ensures ok { OnOk result (Settles (λ s. visiting expire_visit s (map (λ e. e.name) ends.now)) world.old self.old world.new self.new) }
-        ensures comes { Comes world.old world.new }
+        ensures cut { OnErr result (Cuts (λ s. visiting_events expire_visit expire_events s (map (λ e. e.name) ends.now)) world.old self.old world.new) }
     {
         for end in ends {
             self.expire(alloc, world, &end.name)?;
@@ -134,7 +135,7 @@ impl Notes {
         ends: &[LiveEnd],
     ) -> Result<(), AllocError>
         ensures ok { OnOk result (Settles (λ s. timers s (map (λ e. e.name) ends.now)) world.old self.old world.new self.new) }
-        ensures comes { Comes world.old world.new }
+        ensures cut { OnErr result (Cuts (λ s. timer_events s (map (λ e. e.name) ends.now)) world.old self.old world.new) }
     {
         self.step_timers(alloc, world, ends)?;
         if self.stepped {

@@ -1,10 +1,10 @@
 -- What a settler must do.
-use Rattle.std.specs.Prelude.{◌≡◌, List, All}
+use Rattle.std.specs.Prelude.{◌≡◌, List, ◌++◌}
 use Rattle.protocol.specs.declared.events.WorldEvent.{WorldEvent}
 use Rattle.protocol.specs.State.{World}
 use Rattle.protocol.specs.WorldStep.{world_after}
 use Rattle.protocol.specs.Settle.{settled, unfinished}
-use Rattle.law_settling.specs.Settling.{IsSettling}
+use Rattle.law_settling.specs.Events.{settling_events}
 use Rattle.law_kept_datagrams.specs.Alike.{with_kept_datagrams}
 use Rattle.world_core.specs.declared.settling.Quiet.{Quiet}
 
@@ -15,8 +15,14 @@ pub record IsSettled (old new : World) (q : Quiet) : Type 0 where
   pub rounds : q.rounds ≡ (settled old).rounds
   pub unfinished : q.unfinished ≡ unfinished (settled old).world
 
--- the world comes of another by some of settling's events
-pub record IsLeft (old new : World) : Type 0 where
-  pub events : List WorldEvent
-  pub each : All IsSettling events
-  pub world : new ≡ with_kept_datagrams (world_after old events)
+-- the first of these events were made of another world, and the rest were not; of the world that they lead to this one is what is
+-- kept
+pub record IsCut (old : World) (events : List WorldEvent) (new : World) : Type 0 where
+  pub made : List WorldEvent
+  pub rest : List WorldEvent
+  pub are : events ≡ made ++ rest
+  pub world : new ≡ with_kept_datagrams (world_after old made)
+
+-- .. of the events of a settling, for each whole world with the same last datagrams
+abbrev pub IsLeft : World → World → Type 0
+IsLeft old new = (w : World) → with_kept_datagrams w ≡ with_kept_datagrams old → IsCut w (settling_events w) new

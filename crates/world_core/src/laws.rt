@@ -8,13 +8,13 @@ ghost use Rattle.world_core.specs.Followed.{IsFollowed};
 ghost use Rattle.world_core.specs.Kept.{Makes};
 
 use law_kept_datagrams::alike_worlds_are_answered_alike;
-use law_simulation::runs::events_follow;
+use law_simulation::runs::steps_are_named;
 
 /// A call that makes the rules' step of a world makes it of each whole world whose last datagrams this one keeps, and the
-/// packetless machine follows it.
+/// packetless machine follows it by exactly the steps that are named.
 pub fn steps_are_followed()
     ensures { (old new : World) (e : WorldEvent) (answer : Answer) → Makes (world_step old e) answer new → IsFollowed old e answer new }
 {
     alike_worlds_are_answered_alike();
-    events_follow();
+    steps_are_named();
 }

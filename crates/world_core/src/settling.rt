@@ -20,7 +20,7 @@ pub trait Settler {
     ///
     /// # Errors
     ///
-    /// `AllocError` when out of memory; the world is then one that some steps of settling lead to.
+    /// `AllocError` when out of memory; the world is then one that the first events of this settling lead to.
     fn settle(&self, alloc: Global, world: &mut World) -> Result<Quiet, AllocError>
         ensures settled { IfOk result (λ quiet. IsSettled world.old world.new quiet) }
         ensures left { OnErr result (IsLeft world.old world.new) };

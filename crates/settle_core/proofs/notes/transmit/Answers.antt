@@ -1,5 +1,4 @@
-use Rattle.protocol.specs.Settle.{transmit}
-use Rattle.settle_core.proofs.Noted.{comes_result, transmit_shown, transmit_told}
+use Rattle.settle_core.proofs.Noted.{transmit_shown, transmit_told}
 use Rattle.settle_core.proofs.notes.transmit.Goals as goal
 
 pub returns-clause-ok : goal.returns-clause-ok
@@ -7,6 +6,3 @@ returns-clause-ok c = transmit_shown c.step.result c.args.world.now c.step.new.s
 
 pub returns-clause-answer : goal.returns-clause-answer
 returns-clause-answer c = transmit_told c.step.result c.args.world.now c.step.new.self c.args.end.now c.step.ensures.ok
-
-pub returns-clause-comes : goal.returns-clause-comes
-returns-clause-comes c = comes_result c.step.result c.args.world.now c.step.new.self (transmit c.args.end.now) tt c.step.ensures.ok c.step.ensures.err

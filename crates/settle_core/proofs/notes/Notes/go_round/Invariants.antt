@@ -1,11 +1,10 @@
 use Rattle.std.proofs.Common.{◌-◌, ◌≤◌}
 use Rattle.protocol.specs.Settle.{Settling}
-use Rattle.settle_core.specs.Shown.{Comes, Shows}
+use Rattle.settle_core.specs.Shown.{Shows}
 use Rattle.settle_core.proofs.Goings.{Going}
 use Rattle.settle_core.proofs.notes.Notes.go_round.Given as goal
 
 abbrev pub invariant-loop-rounds : goal.invariant-loop-rounds
 invariant-loop-rounds l =
     ((s : Settling) → Shows l.initial.world l.initial.self s → Going l.world l.self s l.fn.most (l.fn.most - l.rounds) l.rounds)
-    × Comes l.initial.world l.world
     × (l.rounds ≤ l.fn.most)

@@ -4,26 +4,13 @@ use Rattle.protocol.specs.Settle.{marks}
 use Rattle.world_core.specs.Lives.{live_list}
 use Rattle.settle_core.specs.Marks.{view_mark}
 use Rattle.settle_core.proofs.Noted.{changed_step, changed_told, list_marked}
-use Rattle.settle_core.proofs.Worlds.{comes_nothing, comes_same, comes_step, shown_step}
+use Rattle.settle_core.proofs.Worlds.{shown_step}
+use Rattle.settle_core.proofs.Cuts.{none_cuts, step_cuts}
+use Rattle.settle_core.proofs.Goings.{on_err}
 use Rattle.settle_core.proofs.notes.Notes.step.Goals as goal
-
-pub returns-in_err-_answer-clause-comes : goal.returns-in_err-_answer-clause-comes
-returns-in_err-_answer-clause-comes c = comes_same c.args.world.now c.step.new.self c.in_err-_answer.ensures.err
 
 pub returns-then-self-clause-ok : goal.returns-then-self-clause-ok
 returns-then-self-clause-ok c = changed_step c.args.world.now c.step.new.self c.args.self.now c.args.event.now c.in_ok-_answer.ensures.ok.left c.if-self.true
-
-pub returns-then-self-clause-comes : goal.returns-then-self-clause-comes
-returns-then-self-clause-comes c = comes_step c.args.world.now c.step.new.self c.args.event.now c.requires.settling c.in_ok-_answer.ensures.ok.left
-
-pub returns-in_err-before-clause-comes : goal.returns-in_err-before-clause-comes
-returns-in_err-before-clause-comes c = comes_nothing c.args.world.now
-
-pub returns-in_err-_answer-2-clause-comes : goal.returns-in_err-_answer-2-clause-comes
-returns-in_err-_answer-2-clause-comes c = comes_same c.args.world.now c.step-2.new.self c.in_err-_answer-2.ensures.err
-
-pub returns-in_err-after-clause-comes : goal.returns-in_err-after-clause-comes
-returns-in_err-after-clause-comes c = comes_step c.args.world.now c.step-2.new.self c.args.event.now c.requires.settling c.in_ok-_answer-2.ensures.ok.left
 
 pub returns-clause-ok : goal.returns-clause-ok
 returns-clause-ok c s shows =
@@ -35,5 +22,22 @@ returns-clause-ok c s shows =
     (changed_told c.args.world.now c.step-2.new.self c.args.self.now c.are_same.result c.as_slice.result.now c.as_slice-2.result.now c.if-self.false before
     (ap (map view_mark) c.as_slice-2.ensures ∙ after) c.are_same.ensures) refl refl (λ still. after)
 
-pub returns-clause-comes : goal.returns-clause-comes
-returns-clause-comes c = comes_step c.args.world.now c.step-2.new.self c.args.event.now c.requires.settling c.in_ok-_answer-2.ensures.ok.left
+pub returns-in_err-_answer-clause-cut : goal.returns-in_err-_answer-clause-cut
+returns-in_err-_answer-clause-cut c =
+    on_err c.from_residual.result
+    (none_cuts c.args.world.now c.step.new.self c.args.self.now _ c.in_err-_answer.ensures.err)
+
+pub returns-in_err-before-clause-cut : goal.returns-in_err-before-clause-cut
+returns-in_err-before-clause-cut c =
+    on_err c.from_residual-in_err-before.result
+    (none_cuts c.args.world.now c.args.world.now c.args.self.now _ refl)
+
+pub returns-in_err-_answer-2-clause-cut : goal.returns-in_err-_answer-2-clause-cut
+returns-in_err-_answer-2-clause-cut c =
+    on_err c.from_residual-in_err-_answer-2.result
+    (none_cuts c.args.world.now c.step-2.new.self c.args.self.now _ c.in_err-_answer-2.ensures.err)
+
+pub returns-in_err-after-clause-cut : goal.returns-in_err-after-clause-cut
+returns-in_err-after-clause-cut c =
+    on_err c.from_residual-in_err-after.result
+    (step_cuts c.args.world.now c.step-2.new.self c.args.self.now c.args.event.now c.in_ok-_answer-2.ensures.ok.left)

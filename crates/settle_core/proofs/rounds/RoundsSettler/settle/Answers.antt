@@ -1,16 +1,19 @@
 use Rattle.std.proofs.Common.{refl, false, None}
-use Rattle.settle_core.proofs.Goings.{on_err, settles_as}
-use Rattle.settle_core.proofs.Worlds.{comes_nothing}
+use Rattle.settle_core.proofs.Goings.{left_all, left_none, left_rounds, on_err, settles_as}
 use Rattle.settle_core.proofs.rounds.RoundsSettler.settle.Goals as goal
 
 pub returns-in_err-most-clause-left : goal.returns-in_err-most-clause-left
-returns-in_err-most-clause-left c = on_err c.from_residual.result (comes_nothing c.args.world.now c.next-next.ensures.kept)
+returns-in_err-most-clause-left c = on_err c.from_residual.result (left_none c.args.world.now c.next-next.ensures.kept)
 
 pub returns-in_err-rounds-clause-left : goal.returns-in_err-rounds-clause-left
-returns-in_err-rounds-clause-left c = on_err c.from_residual-in_err-rounds.result (c.go_round.ensures.comes c.next-next.ensures.kept)
+returns-in_err-rounds-clause-left c =
+    on_err c.from_residual-in_err-rounds.result
+    (left_rounds c.args.world.now c.go_round.new.world (record { changed = false; stepped = false; waited = c.new.result; seen = None }) c.in_ok-most.most c.next-next.ensures.kept refl refl c.new.ensures.empty refl c.in_ok-most.ensures c.in_err-rounds.ensures.cut)
 
 pub returns-in_err-unfinished-clause-left : goal.returns-in_err-unfinished-clause-left
-returns-in_err-unfinished-clause-left c = on_err c.from_residual-in_err-unfinished.result (c.go_round.ensures.comes c.next-next.ensures.kept)
+returns-in_err-unfinished-clause-left c =
+    on_err c.from_residual-in_err-unfinished.result
+    (left_all c.args.world.now c.go_round.new.world (record { changed = false; stepped = false; waited = c.new.result; seen = None }) c.in_ok-most.most c.in_ok-rounds.rounds c.next-next.ensures.kept refl refl c.new.ensures.empty refl c.in_ok-most.ensures c.in_ok-rounds.ensures.ok)
 
 pub returns-clause-settled : goal.returns-clause-settled
 returns-clause-settled c =
