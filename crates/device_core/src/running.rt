@@ -1,9 +1,10 @@
 //! One step of a device.
 
-ghost use Rattle.std.specs.Prelude.{ℕ, List, ◌≡◌, ◌≤◌, ◌^◌, length, IfOk, IfSome, IsOk, OnErr};
-ghost use Rattle.rdma_types.specs.declared.requests.Address.{Address};
-ghost use Rattle.law_arrivals.specs.Touched.{ArrivesWithin, ChangesOnly, is_touched};
+ghost use Rattle.std.specs.Prelude.{◌≡◌, ◌≤◌, ◌^◌, length, IfOk, IfSome, IsOk, OnErr};
+ghost use Rattle.protocol.specs.declared.events.Event.{Event};
 ghost use Rattle.protocol.specs.DeviceStep.{device_step};
+ghost use Rattle.law_arrivals.specs.Touched.{ChangesOnly, is_touched};
+ghost use Rattle.law_arrivals.specs.Turns.{IsOfTurn, is_touched_by_event};
 ghost use Rattle.protocol.specs.Events.{IsLawfulEvent};
 ghost use Rattle.protocol.specs.Lawful.{IsLawful};
 ghost use Rattle.protocol.specs.Wire.{packet_of};
@@ -13,7 +14,7 @@ ghost use Rattle.device_core.specs.Readings.{DoNothing, TakesNoMemoryAt};
 use crate::Device;
 use crate::device::answered;
 use context_core::{ContextFault, NewEnd};
-use law_arrivals::arrivals_change_what_they_may;
+use law_arrivals::turns_change_what_arrivals_may;
 use protocol::{ContextImage, Event, Outcome};
 use rdma_types::{Address, Answer};
 use std::alloc::{AllocError, Global};
@@ -84,17 +85,18 @@ impl Device {
         }
     }
 
-    /// Bytes that arrive here will change only what they may.
-    fn bounds_arrivals(&self)
-        ensures { (from : Address) (bytes : List ℕ) → ChangesOnly (is_touched self.now bytes) self.now (device_step self.now (Event.Arrive from bytes)).device }
+    /// What arrives here will change only what it may, and a transmission, an expiry or the end of a timer no memory.
+    fn bounds_turns(&self)
+        ensures { (e : Event) → IsOfTurn e → ChangesOnly (is_touched_by_event self.now e) self.now (device_step self.now e).device }
     {
-        arrivals_change_what_they_may();
+        turns_change_what_arrivals_may();
         let _ = &self.id;
     }
 
     /// One step on an event. A refusal is an answer, and the device is then as before. Errors: `AllocError` when out of
     /// memory; the device is then as before. Connect, DropRegion, Store, PostRecv, Expire, RnrOver, Release and bytes that
-    /// do nothing (as at `arrive`) take no memory.
+    /// do nothing (as at `arrive`) take no memory. Transmit, Expire and RnrOver change no byte of a region, and Arrive only
+    /// those that `arrive` may change.
     pub fn step(&mut self, alloc: Global, event: &Event) -> Result<Outcome, AllocError>
         requires { IsLawfulEvent event.now }
         ensures ok { IfOk result (λ o. device_step self.old event.now ≡ record { device = self.new; outcome = o }) }
@@ -103,10 +105,10 @@ impl Device {
         ensures id { self.new.id ≡ self.old.id }
         ensures address { self.new.address ≡ self.old.address }
         ensures never_out_of_memory { TakesNoMemoryAt self.old event.now → IsOk result }
-        ensures touched { ArrivesWithin event.now self.old self.new }
+        ensures touched { IsOfTurn event.now → ChangesOnly (is_touched_by_event self.old event.now) self.old self.new }
         ensures err { OnErr result (self.new ≡ self.old) }
     {
-        self.bounds_arrivals();
+        self.bounds_turns();
         let done = self.run(alloc, event);
         told_step(alloc, done)
     }
@@ -127,7 +129,8 @@ impl Device {
 
     /// The step on `Event::Arrive`, with bytes that stay with their owner. Errors: `AllocError` when out of memory; the
     /// device is then as before. No memory is taken for bytes that are no datagram, for a datagram whose number is not
-    /// here, nor for a message of moving that reaches a husk.
+    /// here, nor for a message of moving that reaches a husk. Whatever the bytes are, they change no byte of a region but
+    /// those that the queue pair that they name let them change (`is_touched`).
     pub fn arrive(
         &mut self,
         alloc: Global,
@@ -142,7 +145,7 @@ impl Device {
         ensures touched { ChangesOnly (is_touched self.old bytes.now) self.old self.new }
         ensures err { OnErr result (self.new ≡ self.old) }
     {
-        self.bounds_arrivals();
+        self.bounds_turns();
         let done = self.take_bytes(alloc, from, bytes);
         told_step(alloc, done)
     }

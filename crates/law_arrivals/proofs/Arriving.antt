@@ -55,9 +55,9 @@ module _ (c : Context) (e : End) (l : Link) (s : IsSoundContext c) (here : IsHer
 -- ---- a device
 
 -- a context that is found under its name
-record IsNamed (cs : List Context) (c : Context) : Type 0 where
-  there : has_name (λ x. x.name) c.name cs ≡ true
-  is : named (λ x. x.name) no_context c.name cs ≡ c
+pub record IsNamed (cs : List Context) (c : Context) : Type 0 where
+  pub there : has_name (λ x. x.name) c.name cs ≡ true
+  pub is : named (λ x. x.name) no_context c.name cs ≡ c
 
 ends-named : (cs : List Context) (n : ℕ) (c : Context) (es : List End) → IsNamed cs c → All (λ f. IsNamed cs f.context) (ends_with n c es)
 unfolding ends_with
@@ -83,8 +83,12 @@ all-named d apart = all-at (IsNamed d.contexts) d.contexts (λ i c there. let bo
 pub changes-nothing : (touched : Name → ℕ → ℕ → Bool) (d : Device) → ChangesOnly touched d d
 changes-nothing touched d = record { bytes = λ name lkey k out. refl; frames = refl; husks = refl; id = refl; address = refl; qp_count = refl; key_count = refl }
 
+-- .. and more may be touched
+pub changes-more : (touched touched' : Name → ℕ → ℕ → Bool) (d d' : Device) → ((name : Name) (lkey k : ℕ) → touched' name lkey k ≡ false → touched name lkey k ≡ false) → ChangesOnly touched d d' → ChangesOnly touched' d d'
+changes-more touched touched' d d' less h = record { bytes = λ name lkey k out. h.bytes name lkey k (less name lkey k out); frames = h.frames; husks = h.husks; id = h.id; address = h.address; qp_count = h.qp_count; key_count = h.key_count }
+
 -- the device with a context in which only bytes that may change have changed
-changes-context : (d : Device) (c c' : Context) (may : Region → ℕ → Bool) → IsNamed d.contexts c → Changes may c c' → ChangesOnly (λ name lkey k. bytes_eq c.name name && may (region_of_key c lkey) k) d (with_context d c')
+pub changes-context : (d : Device) (c c' : Context) (may : Region → ℕ → Bool) → IsNamed d.contexts c → Changes may c c' → ChangesOnly (λ name lkey k. bytes_eq c.name name && may (region_of_key c lkey) k) d (with_context d c')
 unfolding with_context
 changes-context d c c' may h changes = record {
   bytes = λ name lkey k out. by_name name lkey k (name_tells c.name name) out;
@@ -97,9 +101,6 @@ changes-context d c c' may h changes = record {
   key_count = refl;
 }
   where
-    new : List Context
-    new = store_named (λ x. x.name) c'.name c' d.contexts
-
     by_name : (name : Name) (lkey k : ℕ) → ((bytes_eq c.name name ≡ true) × (c.name ≡ name)) ⊎ ((bytes_eq c.name name ≡ false) × (c.name ≢ name)) → (bytes_eq c.name name && may (region_of_key c lkey) k) ≡ false
         → slice_get (region_of_key (named (λ x. x.name) no_context name (store_named (λ x. x.name) c'.name c' d.contexts)) lkey).bytes k ≡ slice_get (region_of_key (named (λ x. x.name) no_context name d.contexts) lkey).bytes k
     by_name name lkey k (inl t) out =
@@ -117,7 +118,7 @@ at-husk : (touched : Name → ℕ → ℕ → Bool) (d : Device) (from : Address
 at-husk touched d from p [] = changes-nothing touched d
 at-husk touched d from p (h ∷ hs) = either touched d (is_control p) (answers d (took_answer (took.Silent why.Unknown) [])) (gives d (answer.Took took.Stopped 0 1) (record { to = from; number = None; bytes = wire_of (nak_stopped h p.psn) } ∷ [])) (changes-nothing touched d) (changes-nothing touched d)
 
-arriving : (d : Device) (from : Address) (bytes : List ℕ) → IsSoundDevice d → HasDistinctContexts d → ChangesOnly (is_touched d bytes) d (arrives d from bytes).device
+pub arriving : (d : Device) (from : Address) (bytes : List ℕ) → IsSoundDevice d → HasDistinctContexts d → ChangesOnly (is_touched d bytes) d (arrives d from bytes).device
 unfolding arrives is_touched
 arriving d from bytes s apart = by_packet (packet_of bytes) refl
   where

@@ -4,3 +4,4 @@ pub mod Steps
 pub mod Landing
 pub mod Serving
 pub mod Arriving
+pub mod Turns

@@ -1,13 +1,11 @@
 -- What bytes that arrive may change on a device, whatever they are and wherever they come from: named bytes of memory, by
 -- what stood there before, and nothing else that has a name, a number, a key or a right (IBA 10.6; what is safe is this
 -- project's choice).
-use Rattle.std.specs.Prelude.{ℕ, ◌≡◌, ◌≢◌, ◌+◌, ◌==◌, ◌&&◌, Bool, false, List, [], ◌∷◌, map, AllPairs, Option, Some, None, bytes_eq, slice_get, if◌then◌else◌, ⊤}
+use Rattle.std.specs.Prelude.{ℕ, ◌≡◌, ◌≢◌, ◌+◌, ◌==◌, ◌&&◌, Bool, false, List, [], ◌∷◌, map, AllPairs, Option, Some, None, bytes_eq, slice_get, if◌then◌else◌}
 use Rattle.rdma_types.specs.declared.names.Name.{Name}
 use Rattle.rdma_types.specs.Kinds.{lands}
 use Rattle.rdma_types.specs.Lists.{some}
 use Rattle.rdma_types.specs.Objects.{CompletionQueue, Posted, Region, no_address}
-use Rattle.protocol.specs.declared.events.Event.{Event}
-use Rattle.protocol.specs.declared.events.Event.TheVariants as event
 use Rattle.protocol.specs.DeviceStep.{Found, found_in}
 use Rattle.protocol.specs.Memory.{region_of_key}
 use Rattle.protocol.specs.State.{Context, Device, End, Link, context_at, fresh_link}
@@ -77,8 +75,3 @@ pub record ChangesOnly (touched : Name → ℕ → ℕ → Bool) (old new : Devi
 -- no two contexts have the same name
 abbrev pub HasDistinctContexts : Device → Type 0
 HasDistinctContexts d = AllPairs (λ a b. a ≢ b) (map (λ c. c.name) d.contexts)
-
--- where the event is an arrival, it changed only what its bytes may touch
-abbrev pub ArrivesWithin : Event → Device → Device → Type 0
-ArrivesWithin (event.Arrive from bytes) old new = ChangesOnly (is_touched old bytes) old new
-ArrivesWithin e old new = ⊤

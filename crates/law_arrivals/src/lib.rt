@@ -3,4 +3,4 @@
 
 mod laws;
 
-pub use laws::arrivals_change_what_they_may;
+pub use laws::{arrivals_change_what_they_may, turns_change_what_arrivals_may};

@@ -14,7 +14,7 @@ use Rattle.protocol.specs.Fabric.{Look, kept_flight, look}
 use Rattle.protocol.specs.State.{Device, Flight, World, device_at, no_device}
 use Rattle.protocol.specs.WorldStep.{device_with, now_of}
 use Rattle.law_arrivals.specs.Touched.{ChangesOnly, is_touched}
-use Rattle.law_arrivals.proofs.Arriving.{changes-nothing}
+use Rattle.law_arrivals.proofs.Arriving.{changes-more, changes-nothing}
 use Rattle.law_arrivals.proofs.Bytes.{at-store}
 use Rattle.world_core.specs.Delivered.{ChangesWorldOnly, DeliversWithin, is_delivered, is_touched_by, is_touched_on, is_touched_with}
 use Rattle.world_core.specs.Places.{HaveOwnIds}
@@ -30,27 +30,15 @@ delivers-nothing touched old new devices carried stopped = record {
   stopped = stopped;
 }
 
--- where what may be touched is none, a device changes as it does where nothing else may be
-narrowed : (touched touched' : Name → ℕ → ℕ → Bool) (d d' : Device) → ((name : Name) (lkey k : ℕ) → touched' name lkey k ≡ touched name lkey k) → ChangesOnly touched d d' → ChangesOnly touched' d d'
-narrowed touched touched' d d' same h = record {
-  bytes = λ name lkey k out. h.bytes name lkey k (sym (same name lkey k) ∙ out);
-  frames = h.frames;
-  husks = h.husks;
-  id = h.id;
-  address = h.address;
-  qp_count = h.qp_count;
-  key_count = h.key_count;
-}
-
 -- a device at a place changed only what bytes may touch there
 delivers-at : (old new : World) (place : ℕ) (d d' : Device) (f : Flight) → HaveOwnIds old.devices → slice_get old.devices place ≡ Some d → d'.id ≡ d.id → ChangesOnly (is_touched d f.bytes) d d'
     → new.devices ≡ set old.devices place d' → new.carried ≡ old.carried → new.stopped ≡ old.stopped → ChangesWorldOnly (is_touched_on d f) old new
 delivers-at old new place d d' f ids here same only devices carried stopped = record {
-    devices = λ id. subst (ChangesOnly (is_touched_on d f id) (device_at old id)) (sym (after id)) (by_id id (eqb_tells d.id id));
-    ids = ap (map (λ (x : Device). x.id)) devices ∙ map-place (λ (x : Device). x.id) place old.devices d d' here same;
-    carried = carried;
-    stopped = stopped;
-  }
+  devices = λ id. subst (ChangesOnly (is_touched_on d f id) (device_at old id)) (sym (after id)) (by_id id (eqb_tells d.id id));
+  ids = ap (map (λ (x : Device). x.id)) devices ∙ map-place (λ (x : Device). x.id) place old.devices d d' here same;
+  carried = carried;
+  stopped = stopped;
+}
   where
     after : (id : ℕ) → device_at new id ≡ (if d.id == id then d' else device_at old id)
     after id =
@@ -64,7 +52,7 @@ delivers-at old new place d d' f ids here same only devices carried stopped = re
     by_id id (inl t) =
         subst (λ (b : Bool). ChangesOnly (is_touched_on d f id) (device_at old id) (if b then d' else device_at old id)) (sym t.0)
         (subst (λ x. ChangesOnly (is_touched_on d f id) x d') (sym before ∙ ap (device_at old) t.1)
-        (narrowed (is_touched d f.bytes) (is_touched_on d f id) d d' (λ name lkey k. ap (λ b. b && is_touched d f.bytes name lkey k) t.0) only))
+        (changes-more (is_touched d f.bytes) (is_touched_on d f id) d d' (λ name lkey k out. ap (λ b. b && is_touched d f.bytes name lkey k) (sym t.0) ∙ out) only))
     by_id id (inr t) =
         subst (λ (b : Bool). ChangesOnly (is_touched_on d f id) (device_at old id) (if b then d' else device_at old id)) (sym t.0) (changes-nothing (is_touched_on d f id) (device_at old id))
 
@@ -93,6 +81,9 @@ other : (e : WorldEvent) (old new : World) → IsNoDelivery e → DeliversWithin
 other (event.Deliver n) old new h = absurd h
 other e old new h = tt
 
+pub delivers-otherwise : (e e' : WorldEvent) (old new : World) → e ≡ e' → IsNoDelivery e' → DeliversWithin e old new
+delivers-otherwise e e' old new is h = subst (λ x. DeliversWithin x old new) (sym is) (other e' old new h)
+
 pub delivers-other : (e e' : WorldEvent) (old new : World) (r : Result Answer AllocError) → e ≡ e' → IsNoDelivery e' → IfOk r (λ a. DeliversWithin e old new)
-delivers-other e e' old new (Ok a) is h = subst (λ x. DeliversWithin x old new) (sym is) (other e' old new h)
+delivers-other e e' old new (Ok a) is h = delivers-otherwise e e' old new is h
 delivers-other e e' old new (Err x) is h = tt

@@ -69,7 +69,8 @@ impl World {
     }
 
     /// What an event does: the first refusal in its order, or its answer. In an answer the first datagram sent has its
-    /// number in the network, counted from 1.
+    /// number in the network, counted from 1. A delivery changes no byte of a region but those that its datagram may change
+    /// on the device that has its address.
     ///
     /// # Errors
     ///

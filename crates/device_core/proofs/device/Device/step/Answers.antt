@@ -13,4 +13,4 @@ pub returns-clause-image : goal.returns-clause-image
 returns-clause-image c = told-image c.run-done.result c.told_step.result c.told_step.ensures c.run-done.ensures.image
 
 pub returns-clause-touched : goal.returns-clause-touched
-returns-clause-touched c = stepped-within c.args.self.now c.run-done.new.self c.args.event.now c.run-done.result c.bounds_arrivals.ensures c.run-done.ensures.done
+returns-clause-touched c = stepped-within c.args.self.now c.run-done.new.self c.args.event.now c.run-done.result c.bounds_turns.ensures c.run-done.ensures.done

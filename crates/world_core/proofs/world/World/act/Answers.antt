@@ -5,7 +5,7 @@ use Rattle.protocol.specs.WorldStep.{world_step}
 use Rattle.world_core.specs.Kept.{Makes}
 use Rattle.protocol.specs.declared.events.WorldEvent.TheVariants as event
 use Rattle.world_core.specs.Delivered.{DeliversWithin}
-use Rattle.world_core.proofs.Delivering.{delivers-other}
+use Rattle.world_core.proofs.Delivering.{delivers-other, delivers-otherwise}
 use Rattle.world_core.proofs.world.World.act.Goals as goal
 
 pub returns-in-AddDevice-clause-ok : goal.returns-in-AddDevice-clause-ok
@@ -58,10 +58,10 @@ pub returns-in-At-clause-touched : goal.returns-in-At-clause-touched
 returns-in-At-clause-touched c = delivers-other _ _ _ _ _ c.in-At.is tt
 
 pub returns-in-Connect-clause-touched : goal.returns-in-Connect-clause-touched
-returns-in-Connect-clause-touched c = delivers-other _ _ _ _ _ c.in-Connect.is tt
+returns-in-Connect-clause-touched c = delivers-otherwise c.args.event.now _ c.args.self.now c.connect.new.self c.in-Connect.is tt
 
 pub returns-in-Lose-clause-touched : goal.returns-in-Lose-clause-touched
-returns-in-Lose-clause-touched c = delivers-other _ _ _ _ _ c.in-Lose.is tt
+returns-in-Lose-clause-touched c = delivers-otherwise c.args.event.now _ c.args.self.now c.lose.new.self c.in-Lose.is tt
 
 pub returns-in-Wire-clause-touched : goal.returns-in-Wire-clause-touched
 returns-in-Wire-clause-touched c = delivers-other _ _ _ _ _ c.in-Wire.is tt
