@@ -65,27 +65,46 @@ release n k = Event (world_event.Release n k)
 abbrev pub takes : World → Name → ℕ → Bool
 takes w n t = is_done (world_step w (world_event.Restore n t)).answer
 
+-- the tries to restore a context: how far they have come, and the target that took it
+pub record Tried : Type 0 where
+  pub state : Evacuation
+  pub target : Option ℕ
+
+-- it is restored on the first target that takes it, where one does
+unfoldable pub tries : Evacuation → Name → List ℕ → Tried
+tries s n [] = record { state = s; target = None }
+tries s n (t ∷ ts) = (elim (takes s.world n t) [
+  | true ↦ record { state = doing s (restore n t); target = Some t }
+  | false ↦ tries (doing s (restore n t)) n ts
+])
+
 -- no target took the context: its husk is forgotten, it is restored where it was, and all settles
 abbrev pub returned : Evacuation → ℕ → Name → Evacuation
 returned s from n = failed (doing (doing (doing s (release n from)) (restore n from)) Settles) (Stays n why.NoTarget)
 
--- the context is restored on the first target that takes it, and all settles
-unfoldable pub placed : Evacuation → ℕ → Name → List ℕ → Evacuation
-placed s from n [] = returned s from n
-placed s from n (t ∷ ts) = (elim (takes s.world n t) [
-  | true ↦ with_moved (doing (doing s (restore n t)) Settles) n t
-  | false ↦ placed (doing s (restore n t)) from n ts
-])
+-- after the tries: all settles, and the context moved, or it is taken back
+abbrev pub placed_by : Evacuation → ℕ → Name → Option ℕ → Evacuation
+placed_by s from n None = returned s from n
+placed_by s from n (Some t) = with_moved (doing s Settles) n t
 
--- a stop was answered
-abbrev pub stopped_by : Evacuation → ℕ → List ℕ → Name → Answer → Evacuation
-stopped_by s from targets n (answer.Refused refusal.PeerMoving) = failed s (Stays n why.PeerMoving)
-stopped_by s from targets n (answer.Refused refusal.TooMany) = failed s (Stays n why.TooMany)
-stopped_by s from targets n a = placed s from n targets
+-- a stopped context is put on a target, or taken back
+abbrev pub placed : Evacuation → ℕ → List ℕ → Name → Evacuation
+placed s from targets n = let x = tries s n targets in placed_by x.state from n x.target
+
+-- why a context stays, by the answer to its stop
+abbrev pub stay_of : Answer → Option StayWhy
+stay_of (answer.Refused refusal.PeerMoving) = Some why.PeerMoving
+stay_of (answer.Refused refusal.TooMany) = Some why.TooMany
+stay_of a = None
+
+-- a stop was refused, or the context is put on a target
+abbrev pub stopped_by : Evacuation → ℕ → List ℕ → Name → Option StayWhy → Evacuation
+stopped_by s from targets n (Some y) = failed s (Stays n y)
+stopped_by s from targets n None = placed s from targets n
 
 -- a context is stopped, and put on a target
 unfoldable pub moves : Evacuation → ℕ → List ℕ → Name → Evacuation
-moves s from targets n = stopped_by (doing s (stop n)) from targets n (world_step s.world (world_event.Stop n)).answer
+moves s from targets n = stopped_by (doing s (stop n)) from targets n (stay_of (world_step s.world (world_event.Stop n)).answer)
 
 -- ---- all of them
 

@@ -1,8 +1,10 @@
 -- All that evacuations compute with, opened for worked examples.
-use Rattle.std.specs.Prelude.{ℕ, List, [], ◌∷◌, Option}
+use Rattle.std.specs.Prelude.{ℕ, List, Option}
 use Rattle.protocol.specs.Evaluate.{played}
-use Rattle.protocol.specs.Script.{Happening, happens}
+use Rattle.protocol.specs.Script.{Happening}
 use Rattle.protocol.specs.State.{World}
+use Rattle.protocol.specs.WorldStep.{world_after}
+use Rattle.protocol.specs.declared.events.WorldEvent.{WorldEvent}
 use Rattle.evac_rules.specs.declared.moves.Shifted.{Shifted}
 use Rattle.evac_rules.specs.Evacuation as in_evacuation
 use Rattle.evac_rules.specs.Evacuation.{Fault, evacuation}
@@ -15,15 +17,10 @@ pub record Told : Type 0 where
 
 -- what an evacuation of a world does and tells
 unfoldable pub evacuated : World → ℕ → List ℕ → Told
-unfolding played in_evacuation.placed in_evacuation.moves in_evacuation.moving in_evacuation.evacuation
+unfolding played in_evacuation.tries in_evacuation.moves in_evacuation.moving in_evacuation.evacuation
 evacuated w from targets = let s = evacuation w from targets in record { steps = s.steps; moved = s.moved; fault = s.fault }
 
--- the world after some steps
-abbrev pub after : World → List Happening → World
-after w [] = w
-after w (h ∷ hs) = after (happens w h).world hs
-
--- .. and what an evacuation of it does and tells
-unfoldable pub evacuated_after : World → List Happening → ℕ → List ℕ → Told
+-- .. of the world after some events
+unfoldable pub evacuated_after : World → List WorldEvent → ℕ → List ℕ → Told
 unfolding evacuated
-evacuated_after w before from targets = evacuated (after w before) from targets
+evacuated_after w events from targets = evacuated (world_after w events) from targets

@@ -5,7 +5,8 @@
 
 ghost use Rattle.std.specs.Prelude.{◌≡◌, ◌∷◌, []};
 ghost use Rattle.protocol.specs.State.{empty_world};
-ghost use Rattle.evac_rules.specs.Evaluate.{evacuated, evacuated_after, after};
+ghost use Rattle.protocol.specs.WorldStep.{world_after};
+ghost use Rattle.evac_rules.specs.Evaluate.{evacuated, evacuated_after};
 ghost use Rattle.example_evacuation.specs.Opening.{opening, with_husks};
 ghost use Rattle.example_evacuation.specs.Emptied as cases;
 
@@ -36,5 +37,5 @@ pub fn no_such_device()
 
 /// The device may have no more husks.
 pub fn device_is_full_of_husks()
-    ensures { evacuated (with_husks (after empty_world opening)) 2 (3 ∷ []) ≡ cases.stays_as_husks_are_many }
+    ensures { evacuated (with_husks (world_after empty_world opening)) 2 (3 ∷ []) ≡ cases.stays_as_husks_are_many }
 {}
