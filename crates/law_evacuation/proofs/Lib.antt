@@ -4,3 +4,6 @@ pub mod Homes
 pub mod Stops
 pub mod Restores
 pub mod Settles
+pub mod Leading
+pub mod Trying
+pub mod Emptying

@@ -22,7 +22,7 @@ use Rattle.protocol.specs.WorldStep.{carried_image, has_device, is_done, live_co
 use Rattle.ideal_model.specs.Machine.{Machine}
 use Rattle.law_simulation.specs.Stands.{Stands}
 use Rattle.law_simulation.proofs.relation.Refusing.{first_no}
-use Rattle.law_simulation.proofs.relation.Tables.{at-store_same, has_name-push, named-append_lacks, number-at, same_name}
+use Rattle.law_simulation.proofs.relation.Tables.{at-store_part, at-store_same, has_name-push, named-append_lacks, number-at, same_name}
 use Rattle.law_simulation.proofs.stop_restore.Devices.{ran_stays}
 use Rattle.law_simulation.proofs.stop_restore.Movers.{image_name}
 use Rattle.evac_rules.specs.Evacuation.{takes}
@@ -152,3 +152,37 @@ pub record IsReleased (w w' : World) : Type 0 where
   pub contexts : (j : ℕ) → (device_at w' j).contexts ≡ (device_at w j).contexts
   pub carried : w'.carried ≡ w.carried
   pub stopped : w'.stopped ≡ w.stopped
+
+module _ (w : World) (k : ℕ) (n : Name) where
+  abbrev e : Device
+  e = device_at w k
+
+  released_itself : IsReleased w w
+  released_itself = record { contexts = λ j. refl; carried = refl; stopped = refl }
+
+  abbrev e' : Device
+  e' = record e { husks = without (λ h. h.name) n e.husks }
+
+  husk_gone : has_device w k ≡ true → IsReleased w (ran w (device.answers e' answer.Done)).world
+  unfolding ran with_device
+  husk_gone made =
+      let id : e.id ≡ k = number-at (λ z. z.id) no_device k w.devices made in
+      record {
+        contexts = λ j. ap (λ i. (at (λ z. z.id) no_device j (store (λ z. z.id) i e' w.devices)).contexts) id ∙ at-store_part (λ z. z.contexts) (λ z. z.id) no_device k j e' w.devices id refl;
+        carried = refl;
+        stopped = refl;
+      }
+
+  released_by : has_device w k ≡ true → (r : Option Refusal) → IsReleased w (ran w (device.by_refusal e (event.Release n) r)).world
+  unfolding device.releases
+  released_by made (Some r) = subst (IsReleased w) (sym (ran_stays w k (answer.Refused r) made)) released_itself
+  released_by made None = husk_gone made
+
+  released_where : (b : Bool) → has_device w k ≡ b → IsReleased w (step.by_refusal w (first_cause (cause refusal.NoSuch (not b) ∷ [])) (runs w e (event.Release n))).world
+  unfolding first_cause device.device_step
+  released_where false is = released_itself
+  released_where true is = released_by is (refusal_of e (event.Release n))
+
+  pub release_ends : IsReleased w (world_step w (world_event.Release n k)).world
+  unfolding world_step step.releases
+  release_ends = released_where (has_device w k) refl
