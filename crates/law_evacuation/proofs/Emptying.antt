@@ -62,7 +62,7 @@ at-shapes k (d ∷ ds) = grind (arith, nat_tests, at-shapes k ds)
 kept_names : (w w' : World) (k : ℕ) → IsKept w w' → names_on w' k ≡ names_on w k
 kept_names w w' k kept = ap (λ s. s.names) (sym (at-shapes k w'.devices) ∙ (ap (at (λ (s : Shape). s.id) (shape_of no_device) k) kept.shapes ∙ at-shapes k w.devices))
 
-kept_lives : (w w' : World) (k : ℕ) (n : Name) → IsKept w w' → LivesOn w k n → LivesOn w' k n
+pub kept_lives : (w w' : World) (k : ℕ) (n : Name) → IsKept w w' → LivesOn w k n → LivesOn w' k n
 kept_lives w w' k n kept lives = lives_by w' k n ∙ (ap (has_word n) (kept_names w w' k kept) ∙ (sym (lives_by w k n) ∙ lives))
 
 names_without : (n : Name) (ns : List Name) (cs : List Context) → map (λ c. c.name) cs ≡ n ∷ ns → map (λ c. c.name) (without (λ c. c.name) n cs) ≡ ns
@@ -100,7 +100,7 @@ all_live_too w k ns more is =
 
 -- ---- which contexts stay where they live, but on the device that is emptied
 
-abbrev Grows : ℕ → World → World → Type 0
+abbrev pub Grows : ℕ → World → World → Type 0
 Grows from w w' = (k : ℕ) → k ≢ from → (n : Name) → LivesOn w k n → LivesOn w' k n
 
 grows_then : (from : ℕ) (a b c : World) → Grows from a b → Grows from b c → Grows from a c
@@ -112,7 +112,7 @@ gone_grows from w w' n g k ne c l = ap (λ (d : Device). has_context d c) (g.oth
 kept_grows : (from : ℕ) (w w' : World) → IsKept w w' → Grows from w w'
 kept_grows from w w' kept k ne n l = kept_lives w w' k n kept l
 
-taken_grows : (from t : ℕ) (w w' : World) (n : Name) (i : ContextImage) → IsTaken w w' t n i → Grows from w w'
+pub taken_grows : (from t : ℕ) (w w' : World) (n : Name) (i : ContextImage) → IsTaken w w' t n i → Grows from w w'
 taken_grows from t w w' n i taken k ne c l = elim (number_or_not k t) [
   | inl is ↦
       ap (λ j. has_context (device_at w' j) c) is
@@ -142,7 +142,7 @@ either : (a b : Bool) → b ≡ true → (a || b) ≡ true
 either true b h = refl
 either false b h = h
 
-image_carried : (n : Name) (i : ContextImage) (xs : List ContextImage) → first_that (λ z. bytes_eq z.name n) xs ≡ Some i → has_name (λ z. z.name) n xs ≡ true
+pub image_carried : (n : Name) (i : ContextImage) (xs : List ContextImage) → first_that (λ z. bytes_eq z.name n) xs ≡ Some i → has_name (λ z. z.name) n xs ≡ true
 unfolding first_that has_name
 image_carried n i [] h = absurd (cc)
 image_carried n i (x ∷ xs) h = grind (arith, image_carried n i xs)
@@ -256,7 +256,7 @@ module _ (laws : AreLaws) (w0 : World) (from : ℕ) (targets : List ℕ) (are : 
     w2 = x.state.world
 
     leads2 : Leads s x.state
-    leads2 = leads_on s s1 x.state (step_leads s (stop n)) (tries_lead s1 n targets)
+    leads2 = leads_on s s1 x.state (step_leads s (stop n) tt) (tries_lead s1 n targets)
 
     reached2 : w2 ≡ world_left w0 x.state.steps
     reached2 = reached_on w0 s x.state v.reached leads2
@@ -316,7 +316,7 @@ module _ (laws : AreLaws) (w0 : World) (from : ℕ) (targets : List ℕ) (are : 
 
       goes : IsMoving w0 from targets s3 ns
       goes = record {
-        reached = reached_on w0 x.state (doing x.state Settles) reached2 (step_leads x.state Settles);
+        reached = reached_on w0 x.state (doing x.state Settles) reached2 (step_leads x.state Settles tt);
         stands = stands_on laws w2 Settles tt stands2;
         fault = p.tale.fault ∙ v.fault;
         remain = remain3;
@@ -416,7 +416,7 @@ module _ (laws : AreLaws) (w0 : World) (from : ℕ) (targets : List ℕ) (are : 
           }
         where
           leads_c : Leads s c
-          leads_c = leads_on s x.state c leads2 (leads_on x.state b c (leads_on x.state a b (step_leads x.state (release n from)) (step_leads a (restore n from))) (step_leads b Settles))
+          leads_c = leads_on s x.state c leads2 (leads_on x.state b c (leads_on x.state a b (step_leads x.state (release n from) tt) (step_leads a (restore n from) tt)) (step_leads b Settles tt))
 
     -- .. either way
     by_tries : EndsTries s1 n targets i x → IsMoving w0 from targets (placed s1 from targets n) ns ⊎ IsStuck w0 from targets (placed s1 from targets n)

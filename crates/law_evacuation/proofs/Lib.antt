@@ -7,3 +7,4 @@ pub mod Settles
 pub mod Leading
 pub mod Trying
 pub mod Emptying
+pub mod Staying

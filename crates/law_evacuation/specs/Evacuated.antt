@@ -3,13 +3,16 @@ use Rattle.std.specs.Prelude.{ℕ, ◌≡◌, ◌⊎◌, true, List, [], ◌∷�
 use Rattle.std.specs.List.{count_by}
 use Rattle.rdma_types.specs.declared.names.Name.{Name}
 use Rattle.rdma_types.specs.Lists.{has_word}
+use Rattle.protocol.specs.declared.events.WorldEvent.{WorldEvent}
 use Rattle.protocol.specs.Images.{IsMoved, image_of}
 use Rattle.protocol.specs.Refusals.{has_context}
 use Rattle.protocol.specs.Script.{Happening}
 use Rattle.protocol.specs.State.{World, device_at}
-use Rattle.protocol.specs.WorldStep.{is_carried, live_context}
+use Rattle.protocol.specs.WorldStep.{is_carried, live_context, world_after}
 use Rattle.ideal_model.specs.Machine.{Machine}
 use Rattle.law_simulation.specs.Stands.{Stands, names_of}
+use Rattle.law_settling.specs.Settling.{IsSettling}
+use Rattle.law_headline.specs.Follows.{FollowsAll}
 use Rattle.law_headline.specs.Script.{world_left}
 use Rattle.evac_rules.specs.declared.moves.Shifted.{Shifted}
 use Rattle.evac_rules.specs.declared.moves.StayWhy.{StayWhy}
@@ -72,3 +75,18 @@ abbrev pub DevicesKeepTheRest : Type 0
 DevicesKeepTheRest =
     (w : World) (m : Machine) (from : ℕ) (targets : List ℕ) (n : Name) (y : StayWhy) → Stands w m → AreTargets from targets →
     (evacuation w from targets).fault ≡ Some (Stays n y) → IsLeftWith w from targets n y (evacuation w from targets)
+
+-- the machine follows the steps of an evacuation, one after the other
+abbrev pub EvacuationsAreFollowed : Type 0
+EvacuationsAreFollowed = (w : World) (m : Machine) (from : ℕ) (targets : List ℕ) → Stands w m → FollowsAll w m (evacuation w from targets).steps
+
+-- a context lives on one device or is carried in one image, and not both
+abbrev pub IsSomewhere : World → Name → Type 0
+IsSomewhere w n = count_by (λ k. bytes_eq k n) (names_of w) ≡ 1
+
+-- some steps and then some events of a settling lose no context
+abbrev pub NothingIsLost : Type 0
+NothingIsLost =
+    (w : World) (m : Machine) (from : ℕ) (targets : List ℕ) (front back : List Happening) (events : List WorldEvent) (n : Name) → Stands w m →
+    (evacuation w from targets).steps ≡ front ++ back → All IsSettling events → has_word n (names_of w) ≡ true →
+    IsSomewhere (world_after (world_left w front) events) n
