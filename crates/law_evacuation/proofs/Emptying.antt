@@ -1,6 +1,6 @@
 -- The contexts of a device leave one by one, and each lives where the list says.
-use Rattle.std.proofs.Common.{arith, ◌≡◌, ◌≢◌, ◌<◌, ◌≤◌, ℕ, suc, List, [], ◌∷◌, ◌++◌, map, length, true, false, Bool, refl, sym, ap, ◌∙◌, subst, ◌⊎◌, inl, inr, Option, Some, None}
-use Rattle.std.specs.Prelude.{bytes_eq, ◌||◌, ◌==◌, if◌then◌else◌, All, AllPairs, Contains}
+use Rattle.std.proofs.Common.{arith, ◌≡◌, ◌≢◌, ℕ, suc, List, [], ◌∷◌, ◌++◌, map, true, false, Bool, refl, sym, ap, ◌∙◌, subst, ◌⊎◌, inl, inr, Option, Some, None}
+use Rattle.std.specs.Prelude.{bytes_eq, ◌||◌, ◌==◌, if◌then◌else◌, All, Contains}
 use Rattle.std.proofs.lemmas.Bool.Decides.{nat_tests, eqb_tells}
 use Rattle.std.proofs.lemmas.List.{append_assoc, append-nil, map-append}
 use Rattle.std.proofs.lemmas.List.Elements.{All-append, All-cons, All-nil, All-tail, All-weaker}
@@ -8,7 +8,6 @@ use Rattle.rdma_types.specs.declared.names.Name.{Name}
 use Rattle.rdma_types.specs.Lists.{at, first_that, has_name, has_word, without}
 use Rattle.protocol.specs.declared.events.WorldEvent.TheVariants as world_event
 use Rattle.protocol.specs.declared.images.ContextImage.{ContextImage}
-use Rattle.protocol.specs.DeviceStep.{husked, restored}
 use Rattle.protocol.specs.Images.{IsMoved, context_of, image_of, moved}
 use Rattle.protocol.specs.Refusals.{has_context}
 use Rattle.protocol.specs.Script.{Happening, Settles, happens}
@@ -17,8 +16,7 @@ use Rattle.protocol.specs.WorldStep.{carried_image, is_carried, live_context, wo
 use Rattle.ideal_model.specs.Machine.{Machine}
 use Rattle.law_simulation.specs.Stands.{Stands}
 use Rattle.law_simulation.proofs.relation.Tables.{has_name-push, same_name}
-use Rattle.law_simulation.proofs.relation.Worlds.{Shape, ids_once, shape_of, shapes_of}
-use Rattle.law_settling.specs.Settling.{SettlingIsEvents}
+use Rattle.law_simulation.proofs.relation.Worlds.{Shape, shape_of}
 use Rattle.law_headline.specs.Does.{IsWithin}
 use Rattle.law_headline.specs.Follows.{FollowsAll}
 use Rattle.law_headline.specs.Script.{world_left}
@@ -27,17 +25,17 @@ use Rattle.evac_rules.specs.declared.moves.StayWhy.{StayWhy}
 use Rattle.evac_rules.specs.declared.moves.StayWhy.TheVariants as why
 use Rattle.evac_rules.specs.Evacuation.{AreTargets, Evacuation, Fault, NoSuch, Stays, Tried, are_devices, begun, doing, emptying, evacuation, failed, moves, moving, names_on, placed, placed_by, release, restore, returned, stay_of, stop, stopped_by, takes, tries, with_moved}
 use Rattle.law_evacuation.specs.Evacuated.{DevicesAreEmptied, DevicesKeepTheRest, IsEvacuated, IsLeftWith, IsShifted, IsThere, LivesOn, StaysBy, shift}
-use Rattle.law_evacuation.proofs.Leading.{Leads, left_on, leads_on, moves_leads, step_leads, tries_lead}
+use Rattle.law_evacuation.proofs.Leading.{Leads, left_on, leads_on, step_leads, tries_lead}
 use Rattle.law_evacuation.proofs.Lists.{has_word-names}
 use Rattle.law_evacuation.proofs.Restores.{IsCarried, IsHere, IsReleased, IsTaken, IsTried, release_ends, restore_ends, taken_here}
-use Rattle.law_evacuation.proofs.Settles.{IsKept, settling_is_kept}
-use Rattle.law_evacuation.proofs.Stops.{IsGone, IsHeld, IsStopped, stop_ends}
+use Rattle.law_evacuation.proofs.Settles.{IsKept, SettlingLaws, settling_is_kept}
+use Rattle.law_evacuation.proofs.Stops.{IsGone, IsStopped, stop_ends}
 use Rattle.law_evacuation.proofs.Trying.{EndsTries, IsPlaced, IsUntaken, tries_end}
 
 -- what the laws of lines, of settling and of images say
 pub record AreLaws : Type 0 where
   pub follow : (w : World) (m : Machine) (hs : List Happening) → All IsWithin hs → Stands w m → FollowsAll w m hs
-  pub made : SettlingIsEvents
+  pub settling : SettlingLaws
   pub moved : (i : ContextImage) → IsMoved i (moved (context_of i))
 
 -- a world stands for a state of the machine
@@ -188,7 +186,7 @@ pub record IsStuck (w : World) (from : ℕ) (targets : List ℕ) (s : Evacuation
   pub why : StayWhy
   pub fault : s.fault ≡ Some (Stays context why)
   pub stands : IsStanding s.world
-  pub left : IsLeftWith w from targets context why s
+  pub left : IsLeftWith w from targets context why s.steps s.world s.moved
 
 reached_on : (w : World) (s s' : Evacuation) → s.world ≡ world_left w s.steps → Leads s s' → s'.world ≡ world_left w s'.steps
 reached_on w s s' reached l = l.world ∙ (ap (λ v. world_left v l.done) reached ∙ (sym (left_on w s.steps l.done) ∙ ap (world_left w) (sym l.steps)))
@@ -279,7 +277,7 @@ module _ (laws : AreLaws) (w0 : World) (from : ℕ) (targets : List ℕ) (are : 
       is_here = taken_here s1.world w2 stands2.0 p.target n i image_name stands2.1 p.taken
 
       kept : IsKept w2 w3
-      kept = settling_is_kept laws.made w2 (ids_once w2 stands2.0 stands2.1.placed)
+      kept = settling_is_kept laws.settling w2 stands2.0 stands2.1
 
       grows3 : Grows from w w3
       grows3 = grows_then from w s1.world w3 grows1 (grows_then from s1.world w2 w3 (taken_grows from p.target s1.world w2 n i p.taken) (kept_grows from w2 w3 kept))
@@ -351,7 +349,7 @@ module _ (laws : AreLaws) (w0 : World) (from : ℕ) (targets : List ℕ) (are : 
       stands_b = stands_on laws a.world (restore n from) tt stands_a
 
       kept_c : IsKept b.world c.world
-      kept_c = settling_is_kept laws.made b.world (ids_once b.world stands_b.0 stands_b.1.placed)
+      kept_c = settling_is_kept laws.settling b.world stands_b.0 stands_b.1
 
       carried_a : IsCarried a.world n i
       unfolding carried_image
@@ -479,7 +477,7 @@ module _ (laws : AreLaws) (w0 : World) (from : ℕ) (targets : List ℕ) (are : 
       reached = refl;
       stands = stands_on laws w0 Settles tt (m, stands);
       fault = refl;
-      remain = kept_names w0 s0.world from (settling_is_kept laws.made w0 (ids_once w0 m stands.placed));
+      remain = kept_names w0 s0.world from (settling_is_kept laws.settling w0 m stands);
       named = refl;
       placed = All-nil _;
       shifted = All-nil _;
@@ -503,7 +501,7 @@ no_contexts : (cs : List Context) → map (λ c. c.name) cs ≡ [] → cs ≡ []
 no_contexts [] h = refl
 no_contexts (c ∷ cs) h = absurd (cc)
 
-emptied : (w : World) (from : ℕ) (targets : List ℕ) (s : Evacuation) → IsMoving w from targets s [] → IsEvacuated w from targets s
+emptied : (w : World) (from : ℕ) (targets : List ℕ) (s : Evacuation) → IsMoving w from targets s [] → IsEvacuated w from targets s.steps s.world s.moved
 emptied w from targets s v = record {
   emptied = no_contexts (device_at s.world from).contexts v.remain;
   named = sym (append-nil (map (λ (x : Shifted). x.context) s.moved)) ∙ v.named;
@@ -515,7 +513,7 @@ emptied w from targets s v = record {
 pub devices_emptied : AreLaws → DevicesAreEmptied
 devices_emptied laws w m from targets stands are none = by (evacuation_ends laws w from targets are m stands)
   where
-    by : (evacuation w from targets ≡ failed (begun w) NoSuch) ⊎ Ends w from targets (evacuation w from targets) → IsEvacuated w from targets (evacuation w from targets)
+    by : (evacuation w from targets ≡ failed (begun w) NoSuch) ⊎ Ends w from targets (evacuation w from targets) → IsEvacuated w from targets (evacuation w from targets).steps (evacuation w from targets).world (evacuation w from targets).moved
     by (inl nothing) = absurd (cc (ap (λ (s : Evacuation). s.fault) nothing, none))
     by (inr (inl v)) = emptied w from targets (evacuation w from targets) v
     by (inr (inr stuck)) = absurd (cc (stuck.fault, none))
@@ -526,9 +524,10 @@ devices_keep laws w m from targets n y stands are stays = by (evacuation_ends la
     same_stay : (k n : Name) (x y : StayWhy) → Some (Stays k x) ≡ Some (Stays n y) → (k ≡ n) × (x ≡ y)
     same_stay k n x y h = (cc, cc)
 
-    by : (evacuation w from targets ≡ failed (begun w) NoSuch) ⊎ Ends w from targets (evacuation w from targets) → IsLeftWith w from targets n y (evacuation w from targets)
+    by : (evacuation w from targets ≡ failed (begun w) NoSuch) ⊎ Ends w from targets (evacuation w from targets) → IsLeftWith w from targets n y (evacuation w from targets).steps (evacuation w from targets).world (evacuation w from targets).moved
     by (inl nothing) = absurd (cc (ap (λ (s : Evacuation). s.fault) nothing, stays))
     by (inr (inl v)) = absurd (cc (v.fault, stays))
     by (inr (inr stuck)) =
         let e = same_stay stuck.context n stuck.why y (sym stuck.fault ∙ stays) in
-        subst (λ k. IsLeftWith w from targets k y (evacuation w from targets)) e.0 (subst (λ z. IsLeftWith w from targets stuck.context z (evacuation w from targets)) e.1 stuck.left)
+        let s : Evacuation = evacuation w from targets in
+        subst (λ k. IsLeftWith w from targets k y s.steps s.world s.moved) e.0 (subst (λ z. IsLeftWith w from targets stuck.context z s.steps s.world s.moved) e.1 stuck.left)

@@ -1,23 +1,21 @@
 -- The device where a context lives, in a world that stands for a state of the machine.
-use Rattle.std.proofs.Common.{arith, ◌≡◌, ◌≢◌, ◌≤◌, ◌+◌, ℕ, List, [], ◌∷◌, ◌++◌, map, true, false, Bool, refl, sym, ap, ◌∙◌, subst}
-use Rattle.std.specs.Prelude.{bytes_eq, ◌||◌, ◌==◌, if◌then◌else◌, flat_map, Option, Some, None}
-use Rattle.std.proofs.lemmas.Bool.Decides.{nat_tests, eqb_tells}
+use Rattle.std.proofs.Common.{arith, ◌≡◌, ◌≤◌, ◌+◌, ℕ, List, [], ◌∷◌, ◌++◌, map, true, false, Bool, refl, ap, ◌∙◌}
+use Rattle.std.specs.Prelude.{bytes_eq, ◌==◌, if◌then◌else◌, flat_map, Some}
 use Rattle.std.proofs.lemmas.List.Sums.{sum_by-append}
 use Rattle.std.specs.List.{count_by}
 use Rattle.rdma_types.specs.declared.names.Name.{Name}
-use Rattle.rdma_types.specs.Lists.{at, first_that, has, has_name, has_word, some}
+use Rattle.rdma_types.specs.Lists.{at, first_that, has, has_name}
 use Rattle.protocol.specs.Images as images
 use Rattle.protocol.specs.Refusals.{has_context}
 use Rattle.protocol.specs.State.{Context, Device, World, device_at, no_device}
 use Rattle.protocol.specs.WorldStep.{has_device, home, is_carried, is_live, or_none}
 use Rattle.ideal_model.specs.Machine.{Machine}
-use Rattle.law_simulation.specs.Stands.{IsPlaced, Stands, names_of}
+use Rattle.law_simulation.specs.Stands.{IsPlaced}
 use Rattle.law_simulation.specs.Views.{contexts_of}
 use Rattle.law_simulation.proofs.relation.Connecting.{live_not_carried}
 use Rattle.law_simulation.proofs.relation.Worlds.{holds_it, has_name-flat}
 use Rattle.law_simulation.proofs.stop_restore.Lists.{count_map, present_counted}
-use Rattle.evac_rules.specs.Evacuation.{names_on}
-use Rattle.law_evacuation.proofs.Lists.{at-absent, found_some, has_word-names}
+use Rattle.law_evacuation.proofs.Lists.{at-absent, found_some}
 
 -- a name among contexts
 abbrev is_named : Name → Context → Bool

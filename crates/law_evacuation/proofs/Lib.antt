@@ -1,4 +1,3 @@
-pub mod Taking
 pub mod Lists
 pub mod Homes
 pub mod Stops

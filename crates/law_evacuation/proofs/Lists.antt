@@ -1,15 +1,11 @@
 -- Lists of devices and of things with names.
-use Rattle.std.proofs.Common.{arith, ◌≡◌, ◌≢◌, ◌≤◌, ◌+◌, ℕ, List, [], ◌∷◌, ◌++◌, map, true, false, Bool, refl, sym, ap, ◌∙◌, inl, inr}
-use Rattle.std.specs.Prelude.{bytes_eq, ◌||◌, ◌==◌, if◌then◌else◌, flat_map, Option, Some, None}
+use Rattle.std.proofs.Common.{arith, ◌≡◌, ◌≢◌, ◌+◌, ℕ, List, [], ◌∷◌, ◌++◌, map, true, false, Bool, refl, ap}
+use Rattle.std.specs.Prelude.{bytes_eq, ◌||◌, if◌then◌else◌, Some}
 use Rattle.std.proofs.lemmas.Bool.Decides.{nat_tests, eqb_tells}
 use Rattle.std.proofs.lemmas.List.Sums.{sum_by-append}
 use Rattle.std.specs.List.{count_by}
 use Rattle.rdma_types.specs.declared.names.Name.{Name}
-use Rattle.rdma_types.specs.Lists.{at, first_that, has, has_name, has_word, named, some, store, without}
-use Rattle.protocol.specs.State.{Device, no_device}
-use Rattle.law_simulation.proofs.relation.Tables.{name_tells, has_name-append}
-use Rattle.law_simulation.proofs.relation.Worlds.{holds_it, has_name-flat}
-use Rattle.law_simulation.proofs.stop_restore.Lists.{present_counted}
+use Rattle.rdma_types.specs.Lists.{at, first_that, has, has_name, has_word, some, store}
 
 -- the other things stay where one is stored
 pub at-store_other : {A : Type 0} (number : A → ℕ) (none : A) (j k : ℕ) (e : A) (xs : List A) → number e ≡ j → k ≢ j → at number none k (store number j e xs) ≡ at number none k xs

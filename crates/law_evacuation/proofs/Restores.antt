@@ -1,21 +1,19 @@
 -- What a restore of a carried context leaves, and a release of a husk.
-use Rattle.std.proofs.Common.{arith, ◌≡◌, ◌≢◌, ◌<◌, ℕ, List, [], ◌∷◌, ◌++◌, map, length, true, false, Bool, refl, sym, ap, ◌∙◌, subst, ◌⊎◌, inl, inr}
+use Rattle.std.proofs.Common.{arith, ◌≡◌, ◌≢◌, ℕ, [], ◌∷◌, true, false, Bool, refl, sym, ap, ◌∙◌, subst, ◌⊎◌, inl, inr}
 use Rattle.std.specs.Prelude.{bytes_eq, ◌||◌, not, if◌then◌else◌, Option, Some, None}
-use Rattle.rdma_types.specs.declared.answers.Answer.{Answer}
 use Rattle.rdma_types.specs.declared.answers.Answer.TheVariants as answer
 use Rattle.rdma_types.specs.declared.answers.Refusal.{Refusal}
 use Rattle.rdma_types.specs.declared.answers.Refusal.TheVariants as refusal
 use Rattle.rdma_types.specs.declared.names.Name.{Name}
-use Rattle.rdma_types.specs.Causes.{Cause, cause, first_cause}
-use Rattle.rdma_types.specs.Lists.{at, has, has_name, has_word, named, store, without}
+use Rattle.rdma_types.specs.Causes.{cause, first_cause}
+use Rattle.rdma_types.specs.Lists.{at, has, has_word, named, store, without}
 use Rattle.protocol.specs.declared.events.Event.TheVariants as event
 use Rattle.protocol.specs.declared.events.WorldEvent.TheVariants as world_event
 use Rattle.protocol.specs.declared.images.ContextImage.{ContextImage}
 use Rattle.protocol.specs.DeviceStep as device
 use Rattle.protocol.specs.DeviceStep.{restored}
-use Rattle.protocol.specs.Images.{IsMoved, context_of, moved}
-use Rattle.protocol.specs.Refusals as refusing
-use Rattle.protocol.specs.Refusals.{has_context, has_husk, refusal_of}
+use Rattle.protocol.specs.Images.{context_of, moved}
+use Rattle.protocol.specs.Refusals.{has_context, refusal_of}
 use Rattle.protocol.specs.State.{Context, Device, World, context_at, device_at, no_context, no_device}
 use Rattle.protocol.specs.WorldStep as step
 use Rattle.protocol.specs.WorldStep.{carried_image, has_device, is_done, live_context, ran, runs, with_device, world_step}

@@ -1,21 +1,18 @@
 -- No step of an evacuation loses a context.
-use Rattle.std.proofs.Common.{arith, ◌≡◌, ◌≢◌, ◌≤◌, ℕ, suc, ◌==◌, List, [], ◌∷◌, ◌++◌, map, true, false, Bool, refl, sym, ap, ◌∙◌, subst, ◌⊎◌, inl, inr, Option, Some, None}
+use Rattle.std.proofs.Common.{arith, ◌≡◌, ◌≢◌, ℕ, suc, ◌==◌, List, [], ◌∷◌, true, false, Bool, refl, sym, ap, ◌∙◌, subst, ◌⊎◌, inl, inr, Option, Some, None}
 use Rattle.std.specs.Prelude.{bytes_eq, ◌||◌, ◌&&◌, not, All, if◌then◌else◌}
-use Rattle.std.specs.List.{count_by}
 use Rattle.std.proofs.lemmas.List.Elements.{All-head, All-tail, All-weaker}
 use Rattle.std.proofs.lemmas.Bool.Decides.{nat_tests, eqb_tells}
 use Rattle.rdma_types.specs.declared.answers.Refusal.TheVariants as refusal
 use Rattle.rdma_types.specs.declared.names.Name.{Name}
 use Rattle.rdma_types.specs.Causes.{Cause, cause, first_cause}
 use Rattle.rdma_types.specs.Lists.{first_that, has_name, has_word, without}
-use Rattle.protocol.specs.declared.events.WorldEvent.{WorldEvent}
 use Rattle.protocol.specs.declared.events.WorldEvent.TheVariants as world_event
 use Rattle.protocol.specs.declared.images.ContextImage.{ContextImage}
-use Rattle.protocol.specs.DeviceStep.{restored}
-use Rattle.protocol.specs.Images.{context_of, image_of, moved}
+use Rattle.protocol.specs.Images.{image_of}
 use Rattle.protocol.specs.Refusals.{has_context}
 use Rattle.protocol.specs.Script.{Happening, Event, Dump, Settles, happens}
-use Rattle.protocol.specs.State.{Context, Device, World, device_at}
+use Rattle.protocol.specs.State.{Device, World, device_at}
 use Rattle.protocol.specs.WorldStep as step
 use Rattle.protocol.specs.WorldStep.{carried_image, has_device, home, is_carried, is_live, live_context, world_after, world_step}
 use Rattle.ideal_model.specs.Machine.{Machine}
@@ -23,23 +20,19 @@ use Rattle.ideal_model.specs.Legal.{after}
 use Rattle.law_simulation.specs.Stands.{Stands, names_of}
 use Rattle.law_simulation.specs.Views.{contexts_of}
 use Rattle.law_simulation.specs.Law.{FollowsRun, joined_steps}
-use Rattle.law_simulation.proofs.relation.Tables.{has_name-push, name_tells, same_name}
-use Rattle.law_simulation.proofs.relation.Worlds.{has_context_is, has_name-names, home_device, home_holds, ids_once}
+use Rattle.law_simulation.proofs.relation.Tables.{has_name-push, name_tells}
+use Rattle.law_simulation.proofs.relation.Worlds.{has_context_is, has_name-names, home_device, home_holds}
 use Rattle.law_simulation.proofs.stop_restore.Lists.{all_before, has_without, present_counted}
-use Rattle.law_settling.specs.Settling.{IsSettling, SettlingFollows}
 use Rattle.law_headline.specs.Does.{IsWithin}
-use Rattle.law_headline.specs.Follows.{FollowsAll}
-use Rattle.law_headline.specs.Left.{ReachesAll}
 use Rattle.law_headline.specs.Script.{world_left}
-use Rattle.law_headline.proofs.Following.{all_reached}
 use Rattle.evac_rules.specs.Evacuation.{evacuation}
-use Rattle.law_evacuation.specs.Evacuated.{EvacuationsAreFollowed, IsSomewhere, LivesOn, NothingIsLost}
+use Rattle.law_evacuation.specs.Evacuated.{EvacuationsAreFollowed, LivesOn, NothingIsLost}
 use Rattle.law_evacuation.proofs.Emptying.{AreLaws, IsStanding, image_carried, kept_lives, stands_on, taken_grows}
 use Rattle.law_evacuation.proofs.Homes.{IsHome, home_is}
-use Rattle.law_evacuation.proofs.Leading.{IsMove, IsStep, evacuation_leads, step_within}
-use Rattle.law_evacuation.proofs.Restores.{IsCarried, IsReleased, IsTaken, IsTried, release_ends, restore_ends, taken_here}
+use Rattle.law_evacuation.proofs.Leading.{IsStep, evacuation_leads, step_within}
+use Rattle.law_evacuation.proofs.Restores.{IsReleased, IsTaken, IsTried, release_ends, restore_ends, taken_here}
 use Rattle.law_evacuation.proofs.Settles.{IsKept, events_keep, settling_is_kept}
-use Rattle.law_evacuation.proofs.Stops.{IsGone, IsHeld, IsStopped, stop_ends}
+use Rattle.law_evacuation.proofs.Stops.{IsGone, IsStopped, stop_ends}
 
 named_image : (n : Name) (i : ContextImage) (xs : List ContextImage) → first_that (λ c. bytes_eq c.name n) xs ≡ Some i → i.name ≡ n
 unfolding first_that
@@ -192,7 +185,7 @@ step_stays laws w (Event (world_event.Restore n k)) is s s' = restore_stays w (h
 step_stays laws w (Event (world_event.Release n k)) is s s' = release_stays w (happens w (Event (world_event.Release n k))).world s.0 s'.0 s.1 s'.1 n k refl
 step_stays laws w (Event other) is s s' = absurd is
 step_stays laws w (Dump n) is s s' = absurd is
-step_stays laws w Settles is s s' = kept_stays w (happens w Settles).world s.0 s'.0 s.1 s'.1 (settling_is_kept laws.made w (ids_once w s.0 s.1.placed))
+step_stays laws w Settles is s s' = kept_stays w (happens w Settles).world s.0 s'.0 s.1 s'.1 (settling_is_kept laws.settling w s.0 s.1)
 
 -- ---- all of them
 
@@ -217,13 +210,13 @@ all_followed laws w m from targets s = laws.follow w m (evacuation w from target
 is_named : (w : World) (c : Name) → has_word c (names_of w) ≡ (is_live w c || is_carried w c)
 is_named w c = has_name-names c (contexts_of w) ∙ has_context_is w c
 
-pub nothing_lost : AreLaws → SettlingFollows → NothingIsLost
-nothing_lost laws follows w m from targets front back es n s splits each there =
+pub nothing_lost : AreLaws → NothingIsLost
+nothing_lost laws w m from targets front back es n s splits each there =
     let steps : All IsStep front = all_before IsStep front back (subst (All IsStep) splits (all_steps w from targets)) in
     let first : IsStayed w (world_left w front) = steps_stay laws w front steps (m, s) in
     let v : World = world_left w front in
     let m1 : Machine = first.stands.0 in
-    let run : FollowsRun v m1 es = follows v m1 es each first.stands.1 in
-    let last : Stays v (world_after v es) = kept_stays v (world_after v es) m1 (after m1 (joined_steps run.steps)) first.stands.1 run.stands (events_keep v es (ids_once v m1 first.stands.1.placed) each) in
+    let run : FollowsRun v m1 es = laws.settling.follows v m1 es each first.stands.1 in
+    let last : Stays v (world_after v es) = kept_stays v (world_after v es) m1 (after m1 (joined_steps run.steps)) first.stands.1 run.stands (events_keep laws.settling v m1 es first.stands.1 each) in
     let known : has_word n (names_of (world_after v es)) ≡ true = is_named (world_after v es) n ∙ last n (first.stays n (sym (is_named w n) ∙ there)) in
     omega (arith, run.stands.placed.once n, present_counted (λ k. k) n (names_of (world_after v es)) known)

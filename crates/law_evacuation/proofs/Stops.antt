@@ -1,15 +1,13 @@
 -- What a stop of a live context leaves.
-use Rattle.std.proofs.Common.{arith, ◌≡◌, ◌≢◌, ℕ, List, [], ◌∷◌, ◌++◌, map, length, true, false, Bool, refl, sym, ap, ◌∙◌, subst, ◌⊎◌, inl, inr}
-use Rattle.std.specs.Prelude.{bytes_eq, ◌&&◌, ◌||◌, ◌==◌, not, if◌then◌else◌, nat_le, Option, Some, None}
-use Rattle.std.proofs.lemmas.List.{append-nil}
+use Rattle.std.proofs.Common.{arith, ◌≡◌, ◌≢◌, ℕ, List, [], ◌∷◌, ◌++◌, length, true, false, Bool, refl, sym, ap, ◌∙◌, subst, ◌⊎◌, inl, inr}
+use Rattle.std.specs.Prelude.{bytes_eq, ◌&&◌, ◌||◌, not, if◌then◌else◌, nat_le, Some, None}
 use Rattle.rdma_types.specs.declared.answers.Answer.{Answer}
 use Rattle.rdma_types.specs.declared.answers.Answer.TheVariants as answer
-use Rattle.rdma_types.specs.declared.answers.Refusal.{Refusal}
 use Rattle.rdma_types.specs.declared.answers.Refusal.TheVariants as refusal
 use Rattle.rdma_types.specs.declared.names.Name.{Name}
-use Rattle.rdma_types.specs.Causes.{Cause, cause, first_cause}
+use Rattle.rdma_types.specs.Causes.{cause, first_cause}
 use Rattle.rdma_types.specs.Limits.{most_husks}
-use Rattle.rdma_types.specs.Lists.{at, first_that, has, has_name, has_word, some, store, without}
+use Rattle.rdma_types.specs.Lists.{at, first_that, has, has_name, has_word, some, store}
 use Rattle.protocol.specs.declared.events.Event.TheVariants as event
 use Rattle.protocol.specs.declared.events.WorldEvent.TheVariants as world_event
 use Rattle.protocol.specs.declared.images.ContextImage.{ContextImage}
@@ -29,9 +27,9 @@ use Rattle.law_simulation.proofs.relation.Live.{live_name}
 use Rattle.law_simulation.proofs.stop_restore.Devices.{ran_stays}
 use Rattle.evac_rules.specs.declared.moves.StayWhy.{StayWhy}
 use Rattle.evac_rules.specs.declared.moves.StayWhy.TheVariants as why
-use Rattle.evac_rules.specs.Evacuation.{names_on, stay_of}
+use Rattle.evac_rules.specs.Evacuation.{stay_of}
 use Rattle.law_evacuation.proofs.Homes.{IsHome, home_is}
-use Rattle.law_evacuation.proofs.Lists.{at-store_other, has-store, has_word-names}
+use Rattle.law_evacuation.proofs.Lists.{at-store_other, has-store}
 
 -- ---- what it leaves
 

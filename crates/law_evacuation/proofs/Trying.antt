@@ -1,14 +1,12 @@
 -- The tries to restore a context: some targets refuse it, which changes nothing, and one may take it.
-use Rattle.std.proofs.Common.{◌≡◌, ℕ, List, [], ◌∷◌, ◌++◌, map, true, false, Bool, refl, sym, ap, ◌∙◌, subst, ◌⊎◌, inl, inr, Option, Some, None}
+use Rattle.std.proofs.Common.{◌≡◌, ℕ, List, [], ◌∷◌, ◌++◌, map, true, false, Bool, refl, sym, ap, ◌∙◌, subst, ◌⊎◌, inl, inr, Some, None}
 use Rattle.std.specs.Prelude.{Contains}
 use Rattle.std.proofs.lemmas.List.{append_assoc, append-nil}
 use Rattle.std.proofs.lemmas.List.Elements.{All-contains, All-contains_itself, All-head, All-tail}
 use Rattle.rdma_types.specs.declared.names.Name.{Name}
 use Rattle.protocol.specs.declared.images.ContextImage.{ContextImage}
-use Rattle.protocol.specs.Script.{Happening, happens}
-use Rattle.protocol.specs.State.{World}
-use Rattle.evac_rules.specs.declared.moves.Shifted.{Shifted}
-use Rattle.evac_rules.specs.Evacuation.{Evacuation, Fault, Tried, doing, restore, takes, tries}
+use Rattle.protocol.specs.Script.{happens}
+use Rattle.evac_rules.specs.Evacuation.{Evacuation, Tried, doing, restore, takes, tries}
 use Rattle.law_evacuation.proofs.Restores.{IsCarried, IsTaken, IsTried, restore_ends}
 
 -- what both ends of the tries keep

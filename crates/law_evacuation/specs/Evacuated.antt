@@ -17,7 +17,7 @@ use Rattle.law_headline.specs.Script.{world_left}
 use Rattle.evac_rules.specs.declared.moves.Shifted.{Shifted}
 use Rattle.evac_rules.specs.declared.moves.StayWhy.{StayWhy}
 use Rattle.evac_rules.specs.declared.moves.StayWhy.TheVariants as why
-use Rattle.evac_rules.specs.Evacuation.{AreTargets, Evacuation, Stays, evacuation, names_on, restore, stop}
+use Rattle.evac_rules.specs.Evacuation.{AreTargets, Stays, evacuation, names_on, restore, stop}
 
 -- a context is stopped, some targets refuse it, and it is restored
 abbrev pub shift : Name → List ℕ → ℕ → List Happening
@@ -39,20 +39,21 @@ LivesOn w k n = has_context (device_at w k) n ≡ true
 abbrev pub IsThere : World → Shifted → Type 0
 IsThere w x = LivesOn w x.target x.context
 
--- a device is emptied by these steps: no context lives there; the list names each context that was there, once and in order,
--- with the target on which it now lives; and each was restored as the image that its stop gave
-pub record IsEvacuated (w : World) (from : ℕ) (targets : List ℕ) (s : Evacuation) : Type 0 where
-  pub emptied : (device_at s.world from).contexts ≡ []
-  pub named : map (λ x. x.context) s.moved ≡ names_on w from
-  pub targeted : All (λ x. Contains targets x.target) s.moved
-  pub lives : All (IsThere s.world) s.moved
-  pub shifted : All (IsShifted w s.steps) s.moved
+-- a device is emptied by these steps, which lead to `new`: no context lives there; the list names each context that was there,
+-- once and in order, with the target on which it now lives; and each was restored as the image that its stop gave
+pub record IsEvacuated (w : World) (from : ℕ) (targets : List ℕ) (steps : List Happening) (new : World) (moved : List Shifted) : Type 0 where
+  pub emptied : (device_at new from).contexts ≡ []
+  pub named : map (λ x. x.context) moved ≡ names_on w from
+  pub targeted : All (λ x. Contains targets x.target) moved
+  pub lives : All (IsThere new) moved
+  pub shifted : All (IsShifted w steps) moved
 
 -- .. where a world stands for a state of the packetless machine and there is no fault
 abbrev pub DevicesAreEmptied : Type 0
 DevicesAreEmptied =
     (w : World) (m : Machine) (from : ℕ) (targets : List ℕ) → Stands w m → AreTargets from targets →
-    (evacuation w from targets).fault ≡ None → IsEvacuated w from targets (evacuation w from targets)
+    (evacuation w from targets).fault ≡ None →
+    IsEvacuated w from targets (evacuation w from targets).steps (evacuation w from targets).world (evacuation w from targets).moved
 
 -- where a context stays, it lives on the device; where no target took it, it lives there or is carried
 abbrev pub StaysBy : StayWhy → World → ℕ → Name → Type 0
@@ -61,20 +62,21 @@ StaysBy why.TooMany w from n = LivesOn w from n
 StaysBy why.NoTarget w from n = LivesOn w from n ⊎ (is_carried w n ≡ true)
 
 -- one context stays, as do those after it, and those before it moved
-pub record IsLeftWith (w : World) (from : ℕ) (targets : List ℕ) (n : Name) (y : StayWhy) (s : Evacuation) : Type 0 where
+pub record IsLeftWith (w : World) (from : ℕ) (targets : List ℕ) (n : Name) (y : StayWhy) (steps : List Happening) (new : World) (moved : List Shifted) : Type 0 where
   pub later : List Name
-  pub named : map (λ x. x.context) s.moved ++ n ∷ later ≡ names_on w from
-  pub stays : StaysBy y s.world from n
-  pub remain : All (LivesOn s.world from) later
-  pub targeted : All (λ x. Contains targets x.target) s.moved
-  pub lives : All (IsThere s.world) s.moved
-  pub shifted : All (IsShifted w s.steps) s.moved
+  pub named : map (λ x. x.context) moved ++ n ∷ later ≡ names_on w from
+  pub stays : StaysBy y new from n
+  pub remain : All (LivesOn new from) later
+  pub targeted : All (λ x. Contains targets x.target) moved
+  pub lives : All (IsThere new) moved
+  pub shifted : All (IsShifted w steps) moved
 
 -- .. where a world stands for a state of the packetless machine and a context stays
 abbrev pub DevicesKeepTheRest : Type 0
 DevicesKeepTheRest =
     (w : World) (m : Machine) (from : ℕ) (targets : List ℕ) (n : Name) (y : StayWhy) → Stands w m → AreTargets from targets →
-    (evacuation w from targets).fault ≡ Some (Stays n y) → IsLeftWith w from targets n y (evacuation w from targets)
+    (evacuation w from targets).fault ≡ Some (Stays n y) →
+    IsLeftWith w from targets n y (evacuation w from targets).steps (evacuation w from targets).world (evacuation w from targets).moved
 
 -- the machine follows the steps of an evacuation, one after the other
 abbrev pub EvacuationsAreFollowed : Type 0

@@ -7,6 +7,7 @@ ghost use Rattle.law_evacuation.specs.Evacuated.{DevicesAreEmptied, DevicesKeepT
 
 use law_headline::lines_are_followed;
 use law_settling::steps::{settling_follows, settling_is_events};
+use law_settling::weights::taking_lightens;
 use protocol::a_restored_context_is_its_moved_image;
 
 /// The machine follows the steps of an evacuation of any world that stands for one of its states.
@@ -15,6 +16,8 @@ pub fn evacuations_are_followed()
 {
     lines_are_followed();
     settling_is_events();
+    settling_follows();
+    taking_lightens();
     a_restored_context_is_its_moved_image();
 }
 
@@ -26,6 +29,8 @@ pub fn devices_are_emptied()
 {
     lines_are_followed();
     settling_is_events();
+    settling_follows();
+    taking_lightens();
     a_restored_context_is_its_moved_image();
 }
 
@@ -35,6 +40,8 @@ pub fn devices_keep_the_rest()
 {
     lines_are_followed();
     settling_is_events();
+    settling_follows();
+    taking_lightens();
     a_restored_context_is_its_moved_image();
 }
 
@@ -46,5 +53,6 @@ pub fn nothing_is_lost()
     lines_are_followed();
     settling_is_events();
     settling_follows();
+    taking_lightens();
     a_restored_context_is_its_moved_image();
 }
