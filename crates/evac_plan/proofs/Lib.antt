@@ -1,0 +1,5 @@
+pub mod Shown
+pub mod Cuts
+pub mod Askings
+pub mod Tries
+pub mod Putting
