@@ -16,6 +16,16 @@ pub all-any : (ids : List ℕ) (ds : List Device) (ks : List ℕ) → ids ≡ ma
 all-any ids ds [] is = refl
 all-any ids ds (k ∷ ks) is = ap (λ b. b && list_all (λ z. list_any (λ j. j == z) ids) ks) (ap (list_any (λ j. j == k)) is ∙ has-any (λ d. d.id) k ds) ∙ ap (λ b. has (λ d. d.id) k ds && b) (all-any ids ds ks is)
 
+-- the first of them is not there, or the others decide
+pub first_lacks : (ids : List ℕ) (ds : List Device) (k : ℕ) (ks : List ℕ) (slice : List ℕ) → slice ≡ ids → ids ≡ map (λ d. d.id) ds → list_any (λ j. j == k) slice ≡ false → false ≡ list_all (λ z. has (λ d. d.id) z ds) (k ∷ ks)
+first_lacks ids ds k ks slice same is none =
+    sym (ap (λ b. b && list_all (λ z. list_any (λ j. j == z) ids) ks) (ap (list_any (λ j. j == k)) (sym same) ∙ none)) ∙ all-any ids ds (k ∷ ks) is
+
+pub others_decide : (ids : List ℕ) (ds : List Device) (k : ℕ) (ks : List ℕ) (slice : List ℕ) (b : Bool) → slice ≡ ids → ids ≡ map (λ d. d.id) ds → list_any (λ j. j == k) slice ≡ true → b ≡ list_all (λ z. list_any (λ j. j == z) slice) ks → b ≡ list_all (λ z. has (λ d. d.id) z ds) (k ∷ ks)
+others_decide ids ds k ks slice b same is there rest =
+    rest ∙ (ap (λ xs. list_all (λ z. list_any (λ j. j == z) xs) ks) same
+    ∙ (sym (ap (λ c. c && list_all (λ z. list_any (λ j. j == z) ids) ks) (ap (list_any (λ j. j == k)) (sym same) ∙ there)) ∙ all-any ids ds (k ∷ ks) is))
+
 -- a list begins with another
 pub record IsPrefix {A : Type 0} (xs ys : List A) : Type 0 where
   pub rest : List A
@@ -59,4 +69,4 @@ all_read f xs ys n p at is = prefix_end (map f xs) ys p (there f xs ys n None at
 pub shorter : {A B : Type 0} (f : A → B) (xs : List A) (ys zs : List B) (n : ℕ) (x : B) → n ≡ length ys → Some x ≡ option_map f (slice_get xs n) → zs ≡ ys ++ x ∷ [] → length xs - length zs < length xs - length ys
 shorter f xs ys zs n x at is push =
     let within : length ys < length (map f xs) = slice_get_within (map f xs) (length ys) x (there f xs ys n (Some x) at is) in
-    omega (arith, within, length-map f xs, ap length push, length-append ys (x ∷ []))
+    omega (arith, within, length-map xs f, ap length push, length-append ys (x ∷ []))

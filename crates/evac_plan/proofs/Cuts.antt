@@ -1,6 +1,7 @@
 -- Evacuations that stopped on their way.
-use Rattle.std.proofs.Common.{◌≡◌, List, [], ◌∷◌, ◌++◌, refl, sym, ap, ◌∙◌, append_assoc}
-use Rattle.std.specs.Prelude.{All, OnErr, Result, Ok, Err}
+use Rattle.std.proofs.Common.{◌≡◌, List, [], ◌∷◌, ◌++◌, refl, sym, ap, ◌∙◌, subst, append_assoc}
+use Rattle.std.specs.Prelude.{All, IfErr, OnErr, Result, Ok, Err}
+use Rattle.std.specs.Result.{IsErrAnd}
 use Rattle.protocol.specs.declared.events.WorldEvent.{WorldEvent}
 use Rattle.protocol.specs.Script.{Happening, Event, Dump, Settles}
 use Rattle.protocol.specs.State.{World}
@@ -17,6 +18,10 @@ use Rattle.evac_plan.proofs.Shown.{after_alike, alike_kept, kept_alike}
 pub on_err : {T E : Type 0} (P : Type 0) (r : Result T E) → P → OnErr r P
 on_err P (Ok x) h = tt
 on_err P (Err e) h = h
+
+pub if_err_is : {T E : Type 0} (P : E → Type 0) (r : Result T E) (e : E) → IsErrAnd r (λ x. x ≡ e) → P e → IfErr r P
+if_err_is P (Ok x) e h p = tt
+if_err_is P (Err y) e h p = subst P (sym h) p
 
 -- nothing was done
 pub cut_here : (s s' : Evacuation) (w : World) → Shows w s → Leads s s' → IsCut s s' w

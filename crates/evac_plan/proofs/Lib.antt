@@ -3,3 +3,5 @@ pub mod Cuts
 pub mod Askings
 pub mod Tries
 pub mod Putting
+pub mod Ways
+pub mod Wholes

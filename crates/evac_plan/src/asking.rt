@@ -1,6 +1,6 @@
 //! What a world has: its devices, and the contexts on one of them.
 
-ghost use Rattle.std.specs.Prelude.{◌≡◌, ◌==◌, ◌&&◌, ◌∷◌, map, IfOk};
+ghost use Rattle.std.specs.Prelude.{◌≡◌, ◌==◌, ◌∷◌, map, IfOk};
 ghost use Rattle.std.specs.List.{list_all, list_any};
 ghost use Rattle.evac_rules.specs.Evacuation as rules;
 
@@ -26,11 +26,11 @@ fn is_among(ids: &[u8], id: u8) -> bool
     ids.iter().any(|k| *k == id)
 }
 
-/// Whether an id and others are among ids.
-fn are_among(ids: &[u8], first: u8, others: &[u8]) -> bool
-    ensures { result ≡ (list_any (λ j. j == first) ids.now && list_all (λ k. list_any (λ j. j == k) ids.now) others.now) }
+/// Whether all are among ids.
+fn are_among(ids: &[u8], wanted: &[u8]) -> bool
+    ensures { result ≡ list_all (λ k. list_any (λ j. j == k) ids.now) wanted.now }
 {
-    is_among(ids, first) && others.iter().all(|id| is_among(ids, *id))
+    wanted.iter().all(|id| is_among(ids, *id))
 }
 
 /// Whether the device and all targets are there.
@@ -43,7 +43,11 @@ pub(crate) fn are_devices(
     ensures { IfOk result (λ there. there ≡ rules.are_devices world.now (from ∷ targets.now)) }
 {
     let ids = device_ids(alloc, world)?;
-    Ok(are_among(ids.as_slice(), from, targets))
+    let ids = ids.as_slice();
+    if !is_among(ids, from) {
+        return Ok(false);
+    }
+    Ok(are_among(ids, targets))
 }
 
 /// The names of the contexts that live on a device, in order of making or restoring.

@@ -37,6 +37,7 @@ fn move_each<T: Settler>(
 ) -> Result<Vec<Shifted>, EvacFault>
     ensures ok { IfOk result (λ moved. (s : Evacuation) → Shows world.old s → IsFresh s → Ends (rules.moving s from targets.now names.now) moved.items None world.new) }
     ensures err { IfErr result (λ fault. (s : Evacuation) → Shows world.old s → IsFresh s → IsFaultOf fault s (rules.moving s from targets.now names.now) world.new) }
+    ensures told { IfErr result (IfNoSuch ⊥) }
 {
     let mut moved = Vec::new(alloc);
     for name in names {

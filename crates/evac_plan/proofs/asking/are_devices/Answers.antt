@@ -1,11 +1,13 @@
-use Rattle.std.proofs.Common.{◌∷◌, ◌∙◌, ap, sym}
-use Rattle.std.specs.Prelude.{◌==◌, ◌&&◌}
-use Rattle.std.specs.List.{list_all, list_any}
-use Rattle.evac_plan.proofs.Askings.{all-any}
+use Rattle.std.proofs.Common.{rules, ◌≡◌, ◌∙◌, sym, true, false}
+use Rattle.evac_plan.proofs.Askings.{first_lacks, others_decide}
 use Rattle.evac_plan.proofs.asking.are_devices.Goals as goal
+
+pub returns-then-not-is_among : goal.returns-then-not-is_among
+returns-then-not-is_among c =
+    let none : c.is_among.result ≡ false = search (rules, c.if-not-is_among.true) in
+    first_lacks c.in_ok-ids.ids.items c.args.world.now.devices c.args.from c.args.targets.now c.as_slice-ids.result.now c.as_slice-ids.ensures.value c.in_ok-ids.ensures (sym c.is_among.ensures ∙ none)
 
 pub returns : goal.returns
 returns c =
-    c.are_among.ensures
-    ∙ (ap (λ ids. list_any (λ j. j == c.args.from) ids && list_all (λ k. list_any (λ j. j == k) ids) c.args.targets.now) c.as_slice.ensures.value
-    ∙ all-any c.in_ok-ids.ids.items c.args.world.now.devices (c.args.from ∷ c.args.targets.now) c.in_ok-ids.ensures)
+    let there : c.is_among.result ≡ true = search (rules, c.if-not-is_among.false) in
+    others_decide c.in_ok-ids.ids.items c.args.world.now.devices c.args.from c.args.targets.now c.as_slice-ids.result.now c.are_among.result c.as_slice-ids.ensures.value c.in_ok-ids.ensures (sym c.is_among.ensures ∙ there) c.are_among.ensures
