@@ -1,0 +1,77 @@
+-- Evacuations that stopped on their way.
+use Rattle.std.proofs.Common.{◌≡◌, List, [], ◌∷◌, ◌++◌, refl, sym, ap, ◌∙◌, subst, append_assoc}
+use Rattle.std.specs.Prelude.{All, IfErr, OnErr, Result, Ok, Err}
+use Rattle.std.specs.Result.{IsErrAnd}
+use Rattle.protocol.specs.declared.events.WorldEvent.{WorldEvent}
+use Rattle.protocol.specs.Script.{Happening, Event, Dump, Settles}
+use Rattle.protocol.specs.State.{World}
+use Rattle.protocol.specs.WorldStep.{world_after}
+use Rattle.law_kept_datagrams.specs.Alike.{with_kept_datagrams}
+use Rattle.law_settling.specs.Settling.{IsSettling}
+use Rattle.law_headline.specs.Script.{world_left}
+use Rattle.world_core.specs.Settled.{IsLeft}
+use Rattle.evac_rules.specs.Evacuation.{Evacuation, doing}
+use Rattle.law_evacuation.proofs.Leading.{Leads, left_on}
+use Rattle.evac_plan.specs.Steps.{AreUnderWay, IsCut, Shows}
+use Rattle.evac_plan.proofs.Shown.{after_alike, alike_kept, kept_alike}
+
+pub on_err : {T E : Type 0} (P : Type 0) (r : Result T E) → P → OnErr r P
+on_err P (Ok x) h = tt
+on_err P (Err e) h = h
+
+pub if_err_is : {T E : Type 0} (P : E → Type 0) (r : Result T E) (e : E) → IsErrAnd r (λ x. x ≡ e) → P e → IfErr r P
+if_err_is P (Ok x) e h p = tt
+if_err_is P (Err y) e h p = subst P (sym h) p
+
+-- nothing was done
+pub cut_here : (s s' : Evacuation) (w : World) → Shows w s → Leads s s' → IsCut s s' w
+unfolding world_after
+cut_here s s' w shows l = record { front = []; back = l.done; splits = l.steps; events = []; under_way = tt; world = shows.world }
+
+-- a settling stopped on its way
+under_settling : (es : List WorldEvent) → All IsSettling es → AreUnderWay es (Settles ∷ [])
+under_settling [] each = tt
+under_settling (e ∷ es) each = each
+
+pub cut_settling : (s : Evacuation) (w new : World) → Shows w s → IsLeft w new → IsCut s (doing s Settles) new
+cut_settling s w new shows l = record {
+  front = [];
+  back = Settles ∷ [];
+  splits = refl;
+  events = l.events;
+  under_way = under_settling l.events l.each;
+  world = l.world ∙ alike_kept (world_after w l.events) (world_after s.world l.events) (after_alike l.events w s.world (kept_alike w s.world shows.world));
+}
+
+-- more steps would follow
+under_on : (es : List WorldEvent) (back more : List Happening) → AreUnderWay es back → AreUnderWay es (back ++ more)
+under_on [] back more h = tt
+under_on (e ∷ es) [] more h = absurd h
+under_on (e ∷ es) (Event x ∷ back) more h = absurd h
+under_on (e ∷ es) (Dump n ∷ back) more h = absurd h
+under_on (e ∷ es) (Settles ∷ back) more h = h
+
+pub cut_before : (s mid s' : Evacuation) (w : World) → IsCut s mid w → Leads mid s' → IsCut s s' w
+cut_before s mid s' w c l = record {
+  front = c.front;
+  back = c.back ++ l.done;
+  splits = l.steps ∙ (ap (λ hs. hs ++ l.done) c.splits ∙ (append_assoc s.steps (c.front ++ c.back) l.done ∙ ap (λ hs. s.steps ++ hs) (append_assoc c.front c.back l.done)));
+  events = c.events;
+  under_way = under_on c.events c.back l.done c.under_way;
+  world = c.world;
+}
+
+-- other steps were made before
+pub cut_after : (s mid s' : Evacuation) (w : World) → Leads s mid → IsCut mid s' w → IsCut s s' w
+cut_after s mid s' w l c = record {
+  front = l.done ++ c.front;
+  back = c.back;
+  splits = c.splits ∙ (ap (λ hs. hs ++ (c.front ++ c.back)) l.steps ∙ (append_assoc s.steps l.done (c.front ++ c.back) ∙ ap (λ hs. s.steps ++ hs) (sym (append_assoc l.done c.front c.back))));
+  events = c.events;
+  under_way = c.under_way;
+  world = c.world ∙ ap (λ v. with_kept_datagrams (world_after v c.events)) (ap (λ v. world_left v c.front) l.world ∙ sym (left_on s.world l.done c.front));
+}
+
+-- it is of evacuations with the same steps
+pub cut_as : (s a b : Evacuation) (w : World) → b.steps ≡ a.steps → IsCut s a w → IsCut s b w
+cut_as s a b w same c = record { front = c.front; back = c.back; splits = same ∙ c.splits; events = c.events; under_way = c.under_way; world = c.world }

@@ -1,0 +1,2 @@
+pub mod Evacuation
+pub mod Evaluate
