@@ -1,5 +1,5 @@
 -- Lists that are read by place until their end, and ids among ids.
-use Rattle.std.proofs.Common.{arith, ◌≡◌, ◌<◌, ℕ, List, [], ◌∷◌, ◌++◌, map, length, true, false, Bool, refl, sym, ap, ◌∙◌, Option, Some, None, append_assoc, append-nil, ◌+◌, ◌-◌, subst, slice_get}
+use Rattle.std.proofs.Common.{arith, ◌≡◌, ◌<◌, ℕ, List, [], ◌∷◌, ◌++◌, map, length, true, false, Bool, refl, sym, ap, ◌∙◌, Option, Some, None, append_assoc, append-nil, ◌-◌, subst, slice_get}
 use Rattle.std.specs.Prelude.{◌==◌, ◌||◌, ◌&&◌, option_map}
 use Rattle.std.proofs.lemmas.List.{length-append, length-map}
 use Rattle.std.proofs.lemmas.Option.{slice_get-map, slice_get_within}

@@ -1,5 +1,5 @@
 -- What becomes of one context.
-use Rattle.std.proofs.Common.{◌≡◌, ℕ, List, [], ◌∷◌, ◌++◌, true, false, Bool, refl, sym, ap, ◌∙◌, subst, Option, Some, None}
+use Rattle.std.proofs.Common.{◌≡◌, ℕ, List, [], ◌∷◌, ◌++◌, true, false, Bool, refl, sym, ap, subst, Option, Some, None}
 use Rattle.rdma_types.specs.declared.names.Name.{Name}
 use Rattle.protocol.specs.declared.events.WorldEvent.TheVariants as world_event
 use Rattle.protocol.specs.Script.{Settles}
@@ -7,11 +7,11 @@ use Rattle.protocol.specs.State.{World}
 use Rattle.protocol.specs.WorldStep.{world_step}
 use Rattle.evac_rules.specs.declared.moves.StayWhy.{StayWhy}
 use Rattle.evac_rules.specs.declared.moves.StayWhy.TheVariants as why
-use Rattle.evac_rules.specs.Evacuation.{Evacuation, Stays, Tried, doing, moves, placed, placed_by, release, restore, returned, stay_of, stop, stopped_by, takes, tries}
-use Rattle.law_evacuation.proofs.Leading.{Leads, leads_as, leads_on, placed_leads, step_leads, stopped_by_leads}
+use Rattle.evac_rules.specs.Evacuation.{Evacuation, Tried, doing, moves, placed, placed_by, release, restore, returned, stay_of, stop, stopped_by, takes, tries}
+use Rattle.law_evacuation.proofs.Leading.{Leads, leads_as, leads_on, step_leads}
 use Rattle.evac_plan.specs.declared.moving.Place.{Place}
 use Rattle.evac_plan.specs.declared.moving.Place.TheVariants as place
-use Rattle.evac_plan.specs.Steps.{Becomes, IsCut, Shows}
+use Rattle.evac_plan.specs.Steps.{Becomes, Shows}
 
 -- ---- taken back
 

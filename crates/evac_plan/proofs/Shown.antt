@@ -1,12 +1,12 @@
 -- A world that keeps the last datagrams of an evacuation's goes the same steps.
-use Rattle.std.proofs.Common.{◌≡◌, List, [], ◌∷◌, refl, sym, ap, ◌∙◌, subst}
+use Rattle.std.proofs.Common.{◌≡◌, List, [], ◌∷◌, refl, sym, ◌∙◌, subst}
 use Rattle.rdma_types.specs.declared.answers.Answer.{Answer}
 use Rattle.fabric.proofs.Histories.{forgetting-forgetting}
 use Rattle.protocol.specs.declared.events.WorldEvent.{WorldEvent}
 use Rattle.protocol.specs.Script.{Happening, Event, Settles, happens, settles}
 use Rattle.protocol.specs.State.{World}
 use Rattle.protocol.specs.WorldStep.{world_after, world_step}
-use Rattle.law_kept_datagrams.specs.Alike.{AreAlike, StepAlike, with_kept_datagrams}
+use Rattle.law_kept_datagrams.specs.Alike.{AreAlike, with_kept_datagrams}
 use Rattle.law_kept_datagrams.proofs.Rounds.{line_alike}
 use Rattle.law_kept_datagrams.proofs.Steps.{step_alike}
 use Rattle.world_core.specs.Kept.{Makes}

@@ -1,6 +1,5 @@
 -- A loop over the targets of a context.
-use Rattle.std.proofs.Common.{arith, ◌≡◌, ◌≤◌, ℕ, ◌+◌, suc, zero, List, [], ◌∷◌, length, drop, true, false, Bool, refl, sym, ap, ◌∙◌, subst, Option, Some, None, slice_get, add-one}
-use Rattle.std.proofs.lemmas.Option.{slice_get_past}
+use Rattle.std.proofs.Common.{arith, ◌≡◌, ◌≤◌, ℕ, ◌+◌, suc, zero, List, [], ◌∷◌, length, drop, true, false, Bool, refl, sym, ap, ◌∙◌, subst, Some, None, slice_get, add-one}
 use Rattle.rdma_types.specs.declared.names.Name.{Name}
 use Rattle.protocol.specs.State.{World}
 use Rattle.evac_rules.specs.Evacuation.{Evacuation, Tried, doing, restore, takes, tries}

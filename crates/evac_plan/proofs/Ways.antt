@@ -1,5 +1,5 @@
 -- A loop over the contexts of a device.
-use Rattle.std.proofs.Common.{◌≡◌, ◌≤◌, ℕ, ◌+◌, suc, List, [], ◌∷◌, ◌++◌, length, drop, Bool, refl, sym, ap, ◌∙◌, subst, Option, Some, None, slice_get, add-one}
+use Rattle.std.proofs.Common.{◌≡◌, ◌≤◌, ℕ, ◌+◌, suc, List, [], ◌∷◌, ◌++◌, length, drop, refl, sym, ap, ◌∙◌, subst, Option, Some, None, slice_get, add-one}
 use Rattle.rdma_types.specs.declared.names.Name.{Name}
 use Rattle.protocol.specs.State.{World}
 use Rattle.evac_rules.specs.declared.moves.Shifted.{Shifted}
@@ -10,7 +10,6 @@ use Rattle.evac_plan.specs.declared.moving.Place.{Place}
 use Rattle.evac_plan.specs.declared.moving.Place.TheVariants as place
 use Rattle.evac_plan.specs.Steps.{Becomes, Ends, IsCut, IsFresh, Shows}
 use Rattle.evac_plan.proofs.Cuts.{cut_after, cut_before, cut_here}
-use Rattle.evac_plan.proofs.Shown.{shows_same}
 use Rattle.evac_plan.proofs.Tries.{drop_all, drop_at}
 
 moving_next : (s : Evacuation) (from : ℕ) (targets : List ℕ) (n : Name) (ns : List Name) → (moves s from targets n).fault ≡ None → moving s from targets (n ∷ ns) ≡ moving (moves s from targets n) from targets ns

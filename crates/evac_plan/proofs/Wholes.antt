@@ -1,7 +1,7 @@
 -- A whole evacuation, and what the laws say of it.
 use Rattle.std.proofs.Common.{◌≡◌, ℕ, List, [], ◌∷◌, ◌++◌, true, false, Bool, refl, sym, ap, ◌∙◌, subst, Option, Some, None, append-nil}
 use Rattle.std.specs.Prelude.{All, IfErr, IfOk, Result, Ok, Err}
-use Rattle.std.proofs.lemmas.List.Elements.{All-nil}
+use Rattle.std.proofs.lemmas.List.Elements.{All-cons, All-head, All-nil, All-tail}
 use Rattle.rdma_types.specs.declared.names.Name.{Name}
 use Rattle.rdma_types.specs.Lists.{has_word}
 use Rattle.protocol.specs.declared.events.WorldEvent.{WorldEvent}
@@ -10,12 +10,11 @@ use Rattle.protocol.specs.State.{World}
 use Rattle.protocol.specs.WorldStep.{world_after}
 use Rattle.ideal_model.specs.Legal.{after}
 use Rattle.ideal_model.specs.Machine.{Machine}
-use Rattle.law_simulation.specs.Law.{FollowsRun}
 use Rattle.law_simulation.specs.Stands.{Stands, names_of}
 use Rattle.law_simulation.specs.Views.{contexts_of}
 use Rattle.law_kept_datagrams.specs.Alike.{with_kept_datagrams}
-use Rattle.law_settling.specs.Settling.{IsSettling, SettlingFollows}
-use Rattle.law_headline.specs.Follows.{FollowsAll}
+use Rattle.law_settling.specs.Settling.{IsSettling, SettlingFollows, SettlingHasEvents}
+use Rattle.law_headline.specs.Follows.{FollowsAll, line_steps}
 use Rattle.law_headline.specs.Script.{world_left}
 use Rattle.evac_rules.specs.declared.moves.Shifted.{Shifted}
 use Rattle.evac_rules.specs.declared.moves.StayWhy.{StayWhy}
@@ -92,16 +91,20 @@ module _ (old : World) (from : ℕ) (targets : List ℕ) (w : World) (kept : old
 
 -- ---- what the laws say
 
-under_all : (es : List WorldEvent) (back : List Happening) → AreUnderWay es back → All IsSettling es
-under_all [] back h = All-nil IsSettling
-under_all (e ∷ es) [] h = absurd h
-under_all (e ∷ es) (Event x ∷ back) h = absurd h
-under_all (e ∷ es) (Dump n ∷ back) h = absurd h
-under_all (e ∷ es) (Settles ∷ back) h = h
+front_each : (es rest : List WorldEvent) → All IsSettling (es ++ rest) → All IsSettling es
+front_each [] rest h = All-nil IsSettling
+front_each (e ∷ es) rest h = All-cons IsSettling e es (All-head IsSettling e (es ++ rest) h) (front_each es rest (All-tail IsSettling e (es ++ rest) h))
+
+under_all : SettlingHasEvents → (w : World) (es : List WorldEvent) (back : List Happening) → AreUnderWay w es back → All IsSettling es
+under_all made w [] back h = All-nil IsSettling
+under_all made w (e ∷ es) [] h = absurd h
+under_all made w (e ∷ es) (Event x ∷ back) h = absurd h
+under_all made w (e ∷ es) (Dump n ∷ back) h = absurd h
+under_all made w (e ∷ es) (Settles ∷ back) h = front_each (e ∷ es) h.rest (subst (All IsSettling) h.are (made w).each)
 
 front_follows : (w : World) (m : Machine) (front back : List Happening) → Stands w m → FollowsAll w m (front ++ back) → FollowsAll w m front
 front_follows w m [] back stands h = stands
-front_follows w m (x ∷ front) back stands h = (h.0, h.1, front_follows (happens w x).world (after m h.0) front back h.1.stands h.2)
+front_follows w m (x ∷ front) back stands h = (h.0, front_follows (happens w x).world (after m (line_steps w m x)) front back h.0.stands h.1)
 
 module _ (w : World) (m : Machine) (from : ℕ) (targets : List ℕ) (stands : Stands w m) (new : World) where
   abbrev ev : Evacuation
@@ -110,7 +113,7 @@ module _ (w : World) (m : Machine) (from : ℕ) (targets : List ℕ) (stands : S
   reached : ev.world ≡ world_left w ev.steps
   reached = let l : Leads (begun w) ev = evacuation_leads w from targets in l.world ∙ ap (world_left w) (sym l.steps)
 
-  module _ (follows : EvacuationsAreFollowed) (settling : SettlingFollows) where
+  module _ (follows : EvacuationsAreFollowed) (made : SettlingHasEvents) (settling : SettlingFollows) where
     ended : (moved : List Shifted) (stays : Option Fault) → Ends ev moved stays new → IsFollowed w m from targets new
     unfolding world_after
     ended moved stays e = record {
@@ -132,7 +135,7 @@ module _ (w : World) (m : Machine) (from : ℕ) (targets : List ℕ) (stands : S
       events = c.events;
       under_way = c.under_way;
       follows = front_follows w m c.front c.back stands (subst (FollowsAll w m) c.splits (follows w m from targets stands));
-      goes_on = λ m' s'. settling (world_left w c.front) m' c.events (under_all c.events c.back c.under_way) s';
+      goes_on = λ m' s'. settling (world_left w c.front) m' c.events (under_all made (world_left w c.front) c.events c.back c.under_way) s';
       left = c.world;
     }
 
@@ -146,10 +149,10 @@ module _ (w : World) (m : Machine) (from : ℕ) (targets : List ℕ) (stands : S
     call_followed items (Ok v) ok err = ended (items v) None ok
     call_followed items (Err e) ok err = fault_followed e err
 
-  pub call_loses_nothing : NothingIsLost → (n : Name) → has_word n (names_of w) ≡ true → IsFollowed w m from targets new → IsSomewhere new n
+  pub call_loses_nothing : NothingIsLost → SettlingHasEvents → (n : Name) → has_word n (names_of w) ≡ true → IsFollowed w m from targets new → IsSomewhere new n
   unfolding contexts_of
-  call_loses_nothing lost n there f =
-      subst (λ z. IsSomewhere z n) (sym f.left) (lost w m from targets f.front f.back f.events n stands f.splits (under_all f.events f.back f.under_way) there)
+  call_loses_nothing lost made n there f =
+      subst (λ z. IsSomewhere z n) (sym f.left) (lost w m from targets f.front f.back f.events n stands f.splits (under_all made (world_left w f.front) f.events f.back f.under_way) there)
 
   module _ (are : AreTargets from targets) where
     pub call_empties : DevicesAreEmptied → (moved : List Shifted) → Ends ev moved None new → IsEvacuated w from targets ev.steps new moved

@@ -1,5 +1,5 @@
 -- What a call tells of an evacuation.
-use Rattle.std.specs.Prelude.{◌≡◌, ℕ, List, [], ◌++◌, Some, None}
+use Rattle.std.specs.Prelude.{◌≡◌, ℕ, List, [], ◌++◌, Some}
 use Rattle.protocol.specs.declared.events.WorldEvent.{WorldEvent}
 use Rattle.protocol.specs.Script.{Happening}
 use Rattle.protocol.specs.State.{World}
@@ -11,7 +11,7 @@ use Rattle.law_kept_datagrams.specs.Alike.{with_kept_datagrams}
 use Rattle.law_headline.specs.Follows.{FollowsAll}
 use Rattle.law_headline.specs.Script.{world_left}
 use Rattle.law_evacuation.specs.Evacuated.{IsLeftWith}
-use Rattle.evac_rules.specs.Evacuation.{AreTargets, Evacuation, NoSuch, Stays, begun, evacuation}
+use Rattle.evac_rules.specs.Evacuation.{Evacuation, NoSuch, Stays, begun, evacuation}
 use Rattle.evac_plan.specs.declared.fault.EvacFault.{EvacFault}
 use Rattle.evac_plan.specs.declared.fault.EvacFault.TheVariants as fault
 use Rattle.evac_plan.specs.Steps.{AreUnderWay, Ends, IsCut}
@@ -40,14 +40,14 @@ IsKept fault.NoSuch w from targets new = Unit {0}
 IsKept (fault.Stays moved context why) w from targets new = IsLeftWith w from targets context why (evacuation w from targets).steps new moved.items
 IsKept fault.OutOfMemory w from targets new = Unit {0}
 
--- the machine comes from m by the steps that were made, all of the evacuation's or a prefix of them, and by the events of a
--- settling under way
+-- the machine comes from m by the steps that were made, all of the evacuation's or a prefix of them, and by the first
+-- events of a settling under way
 pub record IsFollowed (w : World) (m : Machine) (from : ℕ) (targets : List ℕ) (new : World) : Type 0 where
   pub front : List Happening
   pub back : List Happening
   pub splits : (evacuation w from targets).steps ≡ front ++ back
   pub events : List WorldEvent
-  pub under_way : AreUnderWay events back
+  pub under_way : AreUnderWay (world_left w front) events back
   pub follows : FollowsAll w m front
   pub goes_on : (m' : Machine) → Stands (world_left w front) m' → FollowsRun (world_left w front) m' events
   pub left : new ≡ with_kept_datagrams (world_after (world_left w front) events)

@@ -21,7 +21,7 @@ use evac_rules::Shifted;
 use law_evacuation::{
     devices_are_emptied, devices_keep_the_rest, evacuations_are_followed, nothing_is_lost,
 };
-use law_settling::steps::settling_follows;
+use law_settling::steps::{settling_follows, settling_is_named};
 use rdma_types::Name;
 use std::alloc::Global;
 use world_core::{Settler, World};
@@ -107,6 +107,7 @@ pub fn evacuate<T: Settler>(
     devices_keep_the_rest();
     nothing_is_lost();
     settling_follows();
+    settling_is_named();
     let _next = world.next();
     empty(alloc, world, settler, from, targets)
 }

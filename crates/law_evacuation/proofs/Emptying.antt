@@ -45,7 +45,7 @@ IsStanding w = (m : Machine) × Stands w m
 pub stands_on : AreLaws → (w : World) (h : Happening) → IsWithin h → IsStanding w → IsStanding (happens w h).world
 stands_on laws w h within s =
     let f = laws.follow w s.0 (h ∷ []) (All-cons IsWithin h [] within (All-nil IsWithin)) s.1 in
-    (_, f.2)
+    (_, f.1)
 
 -- ---- names on devices
 

@@ -1,4 +1,4 @@
-use Rattle.std.proofs.Common.{rules, ◌≡◌, ◌∙◌, ◌∷◌, refl, sym, true, false}
+use Rattle.std.proofs.Common.{rules, ◌≡◌, ◌∙◌, refl, sym, true, false}
 use Rattle.std.proofs.lemmas.Result.{IfErr-weaker, IfOk-weaker}
 use Rattle.evac_plan.specs.declared.fault.EvacFault.{EvacFault}
 use Rattle.evac_plan.specs.declared.fault.EvacFault.TheVariants as fault

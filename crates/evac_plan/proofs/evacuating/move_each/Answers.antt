@@ -1,4 +1,4 @@
-use Rattle.std.proofs.Common.{arith, refl, sym, subst}
+use Rattle.std.proofs.Common.{arith, refl, subst}
 use Rattle.std.specs.Prelude.{length}
 use Rattle.std.proofs.lemmas.Option.{slice_get_read}
 use Rattle.evac_plan.specs.declared.fault.EvacFault.TheVariants as fault
