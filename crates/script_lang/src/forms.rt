@@ -67,7 +67,7 @@ fn spells(word: &[u8], text: &[u8]) -> bool
 
 /// The verb that a first word names.
 #[tactic(auto, unfolding(crate::specs::Verbs::verb_form))]
-fn verb_form_of(word: &[u8]) -> Option<VerbForm>
+pub fn verb_form_of(word: &[u8]) -> Option<VerbForm>
     ensures { result ≡ verbs.verb_form word.now }
 {
     let form = match word {

@@ -64,7 +64,7 @@ fn line_of(alloc: Global, form: NodeForm, words: &mut Words<'_>) -> Result<NodeL
     ensures memory { result ≡ Err fault.OutOfMemory → form ≡ form_is.Verb verb_is.Store }
 {
     let line = match form {
-        NodeForm::Verb(verb) => NodeLine::Verb(verbs::verb(alloc, verb, words)?),
+        NodeForm::Verb(verb) => NodeLine::Verb(verbs::read_verb(alloc, verb, words)?),
         NodeForm::Context => NodeLine::Context(words.name()?),
         NodeForm::Link => link(words)?,
         NodeForm::Go => NodeLine::Go(words.object()?),

@@ -126,7 +126,7 @@ fn line_of(alloc: Global, form: Form, words: &mut Words<'_>) -> Result<Line, Lin
     ensures memory { result ≡ Err fault.OutOfMemory → form ≡ form_is.Verb verb_is.Store }
 {
     let line = match form {
-        Form::Verb(verb) => Line::Verb(verbs::verb(alloc, verb, words)?),
+        Form::Verb(verb) => Line::Verb(verbs::read_verb(alloc, verb, words)?),
         Form::Device => device(words)?,
         Form::Context => context(words)?,
         Form::Connect => connect(words)?,

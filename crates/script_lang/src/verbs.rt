@@ -324,7 +324,7 @@ fn poll(words: &mut Words<'_>) -> Result<Verb, Offence>
 /// # Errors
 ///
 /// The first offence, or `OutOfMemory`, which only a `store` can meet.
-pub fn verb(alloc: Global, form: VerbForm, words: &mut Words<'_>) -> Result<Verb, LineFault>
+pub fn read_verb(alloc: Global, form: VerbForm, words: &mut Words<'_>) -> Result<Verb, LineFault>
     ensures value { GivesOr result words.new (verbs.verb_line form words.old) }
     ensures lawful { IfOk result IsLawfulVerb }
     ensures shared { IfOk result IsOfNode }

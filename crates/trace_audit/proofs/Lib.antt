@@ -1,0 +1,5 @@
+pub mod Heard
+pub mod Asked
+pub mod Cutting
+pub mod Loop
+pub mod Fusion
