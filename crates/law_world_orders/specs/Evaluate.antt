@@ -15,13 +15,14 @@ use Rattle.law_world_orders.specs.Lines as in_lines
 use Rattle.law_world_orders.specs.Lines.{Line}
 use Rattle.law_world_orders.specs.Sides as in_sides
 use Rattle.law_world_orders.specs.Openings as in_openings
+use Rattle.law_world_orders.specs.Opened as in_opened
 use Rattle.law_world_orders.specs.Hears as in_hears
 use Rattle.law_world_orders.specs.Bridge as in_bridge
 
 -- the opening devices of that many workers
 unfoldable pub opened : ℕ → List Device
 unfolding computed reached in_kept.verb_in in_kept.verb_of in_kept.is_unmade_by in_kept.is_unmade in_kept.kept_verb
-    in_openings.pairs in_openings.opening_world in_openings.opening_verbs
+    in_openings.pairs in_openings.opening_world in_openings.opening_verbs in_openings.ends_of_a in_openings.ends_of_b in_openings.openings_apart in_opened.ends_from
     in_lines.events_on in_lines.held_by in_lines.device_after in_lines.flown_after
     in_sides.carried_after in_sides.world_of in_sides.stops_beside_a_mover
     in_hears.heard in_bridge.events_of
@@ -78,3 +79,8 @@ answers_after workers es = computed (in_openings.opening_world workers) es
 unfoldable pub answered : ℕ → List Line → List Answer
 unfolding recomputed
 answered workers ls = map (λ o. o.answer) (recomputed workers [] ls)
+
+-- the devices of the opening, each by events of its own
+unfoldable pub opened_apart : ℕ → List Device
+unfolding opened
+opened_apart workers = in_openings.openings_apart workers

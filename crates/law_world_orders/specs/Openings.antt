@@ -1,9 +1,10 @@
 -- The devices with which threads begin: those of the usual opening of a script, with a pair of ends for each worker (this
 -- project's choice).
-use Rattle.std.specs.Prelude.{ℕ, zero, suc, ◌+◌, ◌-◌, ◌*◌, List, [], ◌∷◌, ◌++◌, Some, None, codes, true, false}
+use Rattle.std.specs.Prelude.{◌≡◌, ◌≤◌, ℕ, zero, suc, ◌+◌, ◌-◌, ◌*◌, List, [], ◌∷◌, ◌++◌, Some, None, codes, true, false}
 use Rattle.rdma_types.specs.declared.answers.Answer.{Answer}
 use Rattle.rdma_types.specs.declared.names.Name.{Name}
 use Rattle.rdma_types.specs.declared.names.ObjName.{ObjName}
+use Rattle.rdma_types.specs.declared.requests.Address.{Address}
 use Rattle.rdma_types.specs.declared.requests.Kind.TheVariants as kind
 use Rattle.rdma_types.specs.declared.requests.Request.{Request}
 use Rattle.rdma_types.specs.declared.requests.Terms.{Terms}
@@ -13,7 +14,8 @@ use Rattle.protocol.specs.declared.events.Event.TheVariants as event
 use Rattle.protocol.specs.declared.events.WorldEvent.{WorldEvent}
 use Rattle.protocol.specs.declared.events.WorldEvent.TheVariants.{AddDevice, MakeContext, At, Connect}
 use Rattle.protocol.specs.State.{Device, World, empty_world}
-use Rattle.protocol.specs.WorldStep.{world_after}
+use Rattle.protocol.specs.Replay.{replay}
+use Rattle.protocol.specs.WorldStep.{exchanged, world_after}
 use Rattle.law_simulation.specs.Law.{kept}
 
 -- ---- names
@@ -54,8 +56,12 @@ pairs i zero = []
 pairs i (suc n) = pair i ++ pairs (i + 1) n
 
 -- 10.0.0.1, 10.0.0.2 and so on, at port 4791
+abbrev pub address_of : ℕ → Address
+address_of id = record { ip = 167772160 + id; port = 4791 }
+
+-- the device with that address
 abbrev pub adds_device : ℕ → WorldEvent
-adds_device id = AddDevice id (record { ip = 167772160 + id; port = 4791 })
+adds_device id = AddDevice id (address_of id)
 
 -- three devices; context a on the first and b on the second, each with a domain p, a region of 64 bytes with all rights
 -- and a completion queue c of 256 entries; a pair of connected ends for each worker
@@ -86,6 +92,56 @@ openings workers = (opening_world workers).devices
 unfoldable pub opening_verbs : ℕ → List (Verb × Answer)
 opening_verbs workers = kept empty_world (opening_events workers)
 
+-- ---- the same devices, each by events of its own
+
+-- a device without contexts
+abbrev pub bare_device : ℕ → Device
+bare_device id = record { id = id; address = address_of id; qp_count = 0; key_count = 0; contexts = []; husks = [] }
+
+-- the number of worker i's end on a device
+abbrev pub end_number_at : ℕ → ℕ → ℕ
+end_number_at id i = 65536 * id + i
+
+-- a worker's end is made and connected to the one with that number on that device
+abbrev pub joins_end : ObjName → ℕ → ℕ → Terms → List Event
+joins_end o peer id terms = makes_end o ∷ event.Connect o peer (address_of id) terms ∷ []
+
+-- the ends of a for that many workers from i on
+unfoldable pub ends_of_a : ℕ → ℕ → List Event
+ends_of_a i zero = []
+ends_of_a i (suc n) = joins_end (in_a (end_name i)) (end_number_at 2 i) 2 opening_terms ++ ends_of_a (i + 1) n
+
+-- .. of b
+unfoldable pub ends_of_b : ℕ → ℕ → List Event
+ends_of_b i zero = []
+ends_of_b i (suc n) = joins_end (in_b (end_name i)) (end_number_at 1 i) 1 (exchanged opening_terms) ++ ends_of_b (i + 1) n
+
+-- the events of the first device
+abbrev pub events_of_a : ℕ → List Event
+events_of_a workers =
+    event.MakeContext (codes "a")
+    ∷ event.MakeDomain (in_a (codes "p"))
+    ∷ event.MakeRegion (in_a (codes "m")) (Some (codes "p")) 4096 64 (record { 0 = 15 })
+    ∷ event.MakeCq (in_a (codes "c")) 256
+    ∷ ends_of_a 1 workers
+
+-- .. of the second
+abbrev pub events_of_b : ℕ → List Event
+events_of_b workers =
+    event.MakeContext (codes "b")
+    ∷ event.MakeDomain (in_b (codes "p"))
+    ∷ event.MakeRegion (in_b (codes "n")) (Some (codes "p")) 8192 64 (record { 0 = 15 })
+    ∷ event.MakeCq (in_b (codes "c")) 256
+    ∷ ends_of_b 1 workers
+
+-- the devices that these lead to
+unfoldable pub openings_apart : ℕ → List Device
+openings_apart workers = replay (bare_device 1) (events_of_a workers) ∷ replay (bare_device 2) (events_of_b workers) ∷ bare_device 3 ∷ []
+
+-- they are the devices of the world
+abbrev pub AreOpenedApart : Type 0
+AreOpenedApart = (workers : ℕ) → 1 ≤ workers → workers ≤ 8 → openings_apart workers ≡ openings workers
+
 -- ---- additions
 
 -- the keys that the opening gives: the local one of a's region, and the remote one of b's
@@ -97,7 +153,7 @@ remote_key = 33554435
 
 -- the queue pair number of a worker's end in the context a
 abbrev pub end_number : ℕ → ℕ
-end_number i = 65536 + i
+end_number i = end_number_at 1 i
 
 -- addition j of worker i: it adds 1 to b's word, and the old value goes to the worker's own place
 abbrev pub addition : ℕ → ℕ → Request

@@ -2,6 +2,7 @@
 #![tactic(auto)]
 
 ghost use Rattle.law_world_orders.specs.Bridge.{CopiesStand};
+ghost use Rattle.law_world_orders.specs.Openings.{AreOpenedApart};
 
 use protocol::{Event, Outcome};
 
@@ -33,4 +34,9 @@ pub struct OrderEntry {
 /// A datagram that was sent may be sent again, and the world stands for the same state of the packetless machine.
 pub fn copies_stand()
     ensures { CopiesStand }
+{}
+
+/// Each opening device comes by events of its own, without a world.
+pub fn devices_open_apart()
+    ensures { AreOpenedApart }
 {}
