@@ -22,7 +22,7 @@ use Rattle.law_world_orders.specs.Bridge as in_bridge
 -- the opening devices of that many workers
 unfoldable pub opened : ℕ → List Device
 unfolding computed reached in_kept.verb_in in_kept.verb_of in_kept.is_unmade_by in_kept.is_unmade in_kept.kept_verb
-    in_openings.pairs in_openings.opening_world in_openings.opening_verbs in_openings.ends_of_a in_openings.ends_of_b in_openings.openings_apart in_opened.ends_from
+    in_openings.pairs in_openings.opening_world in_openings.opening_verbs in_openings.ends_of in_openings.device_apart in_opened.ends_from
     in_lines.events_on in_lines.held_by in_lines.device_after in_lines.flown_after
     in_sides.carried_after in_sides.world_of in_sides.stops_beside_a_mover
     in_hears.heard in_bridge.events_of

@@ -106,37 +106,31 @@ end_number_at id i = 65536 * id + i
 abbrev pub joins_end : ObjName → ℕ → ℕ → Terms → List Event
 joins_end o peer id terms = makes_end o ∷ event.Connect o peer (address_of id) terms ∷ []
 
--- the ends of a for that many workers from i on
-unfoldable pub ends_of_a : ℕ → ℕ → List Event
-ends_of_a i zero = []
-ends_of_a i (suc n) = joins_end (in_a (end_name i)) (end_number_at 2 i) 2 opening_terms ++ ends_of_a (i + 1) n
+-- the ends of a context for that many workers from i on, connected to those of the device with that id
+unfoldable pub ends_of : Name → ℕ → Terms → ℕ → ℕ → List Event
+ends_of context other terms i zero = []
+ends_of context other terms i (suc n) = joins_end (record { context = context; name = end_name i }) (end_number_at other i) other terms ++ ends_of context other terms (i + 1) n
 
--- .. of b
-unfoldable pub ends_of_b : ℕ → ℕ → List Event
-ends_of_b i zero = []
-ends_of_b i (suc n) = joins_end (in_b (end_name i)) (end_number_at 1 i) 1 (exchanged opening_terms) ++ ends_of_b (i + 1) n
+-- what comes before the ends: a context, a domain p, a region of 64 bytes and a completion queue c
+abbrev pub base_events : Name → Name → ℕ → List Event
+base_events context region base =
+    event.MakeContext context
+    ∷ event.MakeDomain (record { context = context; name = codes "p" })
+    ∷ event.MakeRegion (record { context = context; name = region }) (Some (codes "p")) base 64 (record { 0 = 15 })
+    ∷ event.MakeCq (record { context = context; name = codes "c" }) 256
+    ∷ []
 
--- the events of the first device
-abbrev pub events_of_a : ℕ → List Event
-events_of_a workers =
-    event.MakeContext (codes "a")
-    ∷ event.MakeDomain (in_a (codes "p"))
-    ∷ event.MakeRegion (in_a (codes "m")) (Some (codes "p")) 4096 64 (record { 0 = 15 })
-    ∷ event.MakeCq (in_a (codes "c")) 256
-    ∷ ends_of_a 1 workers
+-- the device that these lead to
+unfoldable pub device_apart : ℕ → Name → Name → ℕ → ℕ → Terms → ℕ → Device
+device_apart id context region base other terms workers = replay (replay (bare_device id) (base_events context region base)) (ends_of context other terms 1 workers)
 
--- .. of the second
-abbrev pub events_of_b : ℕ → List Event
-events_of_b workers =
-    event.MakeContext (codes "b")
-    ∷ event.MakeDomain (in_b (codes "p"))
-    ∷ event.MakeRegion (in_b (codes "n")) (Some (codes "p")) 8192 64 (record { 0 = 15 })
-    ∷ event.MakeCq (in_b (codes "c")) 256
-    ∷ ends_of_b 1 workers
-
--- the devices that these lead to
-unfoldable pub openings_apart : ℕ → List Device
-openings_apart workers = replay (bare_device 1) (events_of_a workers) ∷ replay (bare_device 2) (events_of_b workers) ∷ bare_device 3 ∷ []
+-- the devices, each by events of its own
+abbrev pub openings_apart : ℕ → List Device
+openings_apart workers =
+    device_apart 1 (codes "a") (codes "m") 4096 2 opening_terms workers
+    ∷ device_apart 2 (codes "b") (codes "n") 8192 1 (exchanged opening_terms) workers
+    ∷ bare_device 3
+    ∷ []
 
 -- they are the devices of the world
 abbrev pub AreOpenedApart : Type 0

@@ -5,7 +5,7 @@ ghost use Rattle.std.specs.Prelude.{◌≡◌, IfOk};
 use protocol::{
     ContextImage, CqImage, EndImage, Event, LinkImage, PostedImage, RegionImage,
 };
-use rdma_types::Items;
+use rdma_types::{Items, Sent};
 use std::alloc::{AllocError, Global};
 
 /// Equal items.
@@ -267,4 +267,20 @@ pub fn copy_event(alloc: Global, event: &Event) -> Result<Event, AllocError>
         },
         Event::Release { context } => Event::Release { context: *context },
     })
+}
+
+/// Equal datagrams that are sent. Errors: `AllocError` when out of memory.
+pub fn copy_sent(alloc: Global, sent: &[Sent]) -> Result<Vec<Sent>, AllocError>
+    ensures { IfOk result (λ copies. copies.items ≡ sent.now) }
+{
+    let mut copies = Vec::with_capacity(alloc, sent.len())?;
+    for s in sent {
+        let bytes = copy_items(alloc, &s.bytes)?;
+        copies.push(Sent {
+            to: s.to,
+            number: s.number,
+            bytes,
+        })?;
+    }
+    Ok(copies)
 }

@@ -7,7 +7,7 @@ mod images;
 mod lists;
 mod outcomes;
 
-pub use copies::copy_event;
+pub use copies::{copy_event, copy_sent};
 pub use events::event_difference;
 pub use images::same_image;
 pub use outcomes::outcome_difference;
