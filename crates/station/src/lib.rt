@@ -3,11 +3,9 @@
 
 mod book;
 mod locks;
-
 mod order_book;
 
 pub use book::Book;
 pub use law_world_orders::{OrderEntry, Receipt};
 pub use locks::{Orders, Station};
-
 pub use order_book::{Claim, OrderBook};
