@@ -1,0 +1,12 @@
+-- So far the first ones are sent.
+use Rattle.std.proofs.Common.{◌≡◌, ◌+◌, length}
+use Rattle.protocol.specs.Fabric.{sending}
+use Rattle.fabric.specs.Store.{forgetting}
+use Rattle.station.proofs.order_book.send_all.Given as goal
+
+abbrev pub invariant-loop-datagram : goal.invariant-loop-datagram
+invariant-loop-datagram l =
+    (goal.iterator-loop-datagram).can_next l.datagram-iterator ×
+    (goal.iterator-loop-datagram).is_finite l.datagram-iterator ×
+    (l.fabric ≡ forgetting (sending l.initial.fabric l.from l.yielded)) ×
+    (length l.fabric ≡ length l.initial.fabric + length l.yielded)

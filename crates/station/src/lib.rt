@@ -1,0 +1,11 @@
+//! Devices behind locks, and the one order of their steps (this project's choice).
+#![tactic(auto)]
+
+mod book;
+mod locks;
+mod order_book;
+
+pub use book::Book;
+pub use law_world_orders::{OrderEntry, Receipt};
+pub use locks::{Orders, Station};
+pub use order_book::{Claim, OrderBook};

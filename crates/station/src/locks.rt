@@ -1,0 +1,196 @@
+//! Locks round the order and round devices.
+
+ghost use Rattle.std.specs.Prelude.{◌≡◌, IfOk};
+ghost use Rattle.protocol.specs.Events.{IsLawfulEvent};
+ghost use Rattle.station.specs.Books.{IsReceiptOf};
+
+use crate::{Book, Claim, OrderBook, Receipt};
+use protocol::{Event, Outcome};
+use rdma_types::Address;
+use std::alloc::{AllocError, Global};
+use std::marker::Model;
+use std::sync::{Condvar, Mutex, Wait};
+use step_differences::copy_event;
+
+/// The order book, and whether it is halted.
+#[derive(Drop)]
+struct Desk {
+    book: OrderBook,
+    halted: bool,
+}
+
+/// A lock round an order book. A thread that waits at it sleeps until something changed or the orders are halted.
+#[derive(Drop)]
+pub struct Orders {
+    desk: Mutex<Desk>,
+    changes: Condvar,
+}
+
+impl Orders {
+    /// The lock, which is not halted.
+    pub fn make(book: OrderBook) -> Orders {
+        Orders {
+            desk: Mutex::new(Desk {
+                book,
+                halted: false,
+            }),
+            changes: Condvar::new(),
+        }
+    }
+
+    /// Enters a step, and wakes all who wait.
+    fn enter<R: Wait>(
+        &self,
+        rt: &R,
+        alloc: Global,
+        device: u8,
+        place: u64,
+        from: Address,
+        outcome: &Outcome,
+    ) -> Result<(), AllocError> {
+        let mut desk = self.desk.lock(rt);
+        desk.book.enter(alloc, device, place, from, outcome)?;
+        self.changes.notify_all();
+        Ok(())
+    }
+
+    /// A copy of the pending datagram with the least number, as it is at that moment. Errors: `AllocError` when out of
+    /// memory.
+    pub fn pending<R: Wait>(&self, rt: &R, alloc: Global) -> Result<Option<Claim>, AllocError> {
+        self.desk.lock(rt).book.pending(alloc)
+    }
+
+    /// Datagram `k` is pending no more, where it is kept.
+    pub fn took<R: Wait>(&self, rt: &R, k: u64) {
+        self.desk.lock(rt).book.took(k);
+    }
+
+    /// How many steps changed something so far.
+    pub fn changed<R: Wait>(&self, rt: &R) -> u64 {
+        self.desk.lock(rt).book.changed()
+    }
+
+    /// From now on each wait ends.
+    pub fn halt<R: Wait>(&self, rt: &R) {
+        let mut desk = self.desk.lock(rt);
+        desk.halted = true;
+        self.changes.notify_all();
+    }
+
+    /// Waits until more steps than `seen` changed something, or the orders are halted; and whether they are not halted.
+    pub fn wait_past<R: Wait>(&self, rt: &R, seen: u64) -> bool {
+        let desk = self.changes.wait_while(rt, self.desk.lock(rt), |desk| {
+            !desk.halted && desk.book.changed() <= seen
+        });
+        !desk.halted
+    }
+
+    /// The order book, without its lock.
+    pub fn into_book(self) -> OrderBook {
+        let Orders { desk, .. } = self;
+        let Desk { book, .. } = desk.into_inner();
+        book
+    }
+}
+
+/// A lock round the book of a device. Contracts see the device's id.
+#[derive(Drop)]
+pub struct Station {
+    id: u8,
+    address: Address,
+    book: Mutex<Book>,
+}
+
+impl Model for Station {
+    ghost use Rattle.std.specs.Prelude.{ℕ};
+
+    ghost Value = { ℕ };
+
+    ghost view = { λ s. s.id };
+}
+
+/// The receipt of a step.
+fn receipt_of(worker: u32, device: u8, place: u64, event: Event, outcome: Outcome) -> Receipt
+    ensures { result ≡ record { worker = worker; device = device; place = place; event = event; outcome = outcome } }
+{
+    Receipt {
+        worker,
+        device,
+        place,
+        event,
+        outcome,
+    }
+}
+
+impl Station {
+    /// The lock round a book.
+    pub fn make(book: Book) -> Station
+        ensures { result ≡ book.opening.id }
+    {
+        let id = book.opening().id();
+        let address = book.opening().address();
+        Station {
+            id,
+            address,
+            book: Mutex::new(book),
+        }
+    }
+
+    /// The device's id.
+    pub fn id(&self) -> u8
+        ensures { result ≡ self.now }
+    {
+        self.id
+    }
+
+    /// The device's address.
+    pub fn address(&self) -> Address {
+        self.address
+    }
+
+    /// Steps the device on a lawful event under its lock, and enters the step into the orders before it lets go of the
+    /// lock; the receipt tells what was asked, by whom, and the outcome. Errors: `AllocError` when out of memory; the
+    /// orders are then halted, and the step may stand in the book alone.
+    pub fn call<R: Wait>(
+        &self,
+        rt: &R,
+        alloc: Global,
+        orders: &Orders,
+        worker: u32,
+        event: Event,
+    ) -> Result<Receipt, AllocError>
+        requires { IsLawfulEvent event }
+        ensures { IfOk result (λ r. IsReceiptOf self.now worker event r) }
+    {
+        let receipt = self.step(rt, alloc, orders, worker, event);
+        if receipt.is_err() {
+            orders.halt(rt);
+        }
+        receipt
+    }
+
+    /// The same, without a halt.
+    fn step<R: Wait>(
+        &self,
+        rt: &R,
+        alloc: Global,
+        orders: &Orders,
+        worker: u32,
+        event: Event,
+    ) -> Result<Receipt, AllocError>
+        requires { IsLawfulEvent event }
+        ensures { IfOk result (λ r. IsReceiptOf self.now worker event r) }
+    {
+        let asked = copy_event(alloc, &event)?;
+        let mut book = self.book.lock(rt);
+        let (place, outcome) = book.step(alloc, event)?;
+        orders.enter(rt, alloc, self.id, place, self.address, &outcome)?;
+        Ok(receipt_of(worker, self.id, place, asked, outcome))
+    }
+
+    /// The book, without its lock.
+    pub fn into_book(self) -> Book {
+        let Station { book, .. } = self;
+        book.into_inner()
+    }
+}

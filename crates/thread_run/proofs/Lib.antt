@@ -1,0 +1,5 @@
+pub mod Books
+pub mod Stops
+pub mod Upto
+pub mod Loops
+pub mod Counts

@@ -1,0 +1,134 @@
+//! The check of a run.
+
+ghost use Rattle.std.specs.Prelude.{◌≡◌, ◌<◌, IfErr, IfOk, OnOk, length, slice_index_or};
+ghost use Rattle.station.specs.Books.{AreApart};
+ghost use Rattle.thread_run.specs.Checks.{AreAtEnd, IsAdvanced};
+ghost use Rattle.thread_run.specs.Gathered.{IsGathered, IsGatheredRun, TellsValues};
+
+use crate::checks::{all_told, find_head, next_head, no_head, zeros};
+use crate::counts::{completions, word};
+use crate::replays::{Replay, all_replayed, find_book, openings, replay_at};
+use crate::run::{Run, RunFault, missing, same};
+use crate::sent::{Flown, flights_of, has_arrived};
+use crate::stops::{StopAt, note_stop, take_stop};
+use rdma_types::Items;
+use station::{Book, OrderBook, OrderEntry, Receipt};
+use std::alloc::Global;
+
+/// Checks the next entry: its device, its receipt, its numbers, what arrives and what is restored; and makes the step.
+fn advance(
+    alloc: Global,
+    books: &[Book],
+    receipts: &[Items<Receipt>],
+    entry: &OrderEntry,
+    replays: &mut Vec<Replay>,
+    heads: &mut Vec<usize>,
+    flights: &mut Vec<Flown>,
+    stops: &mut Vec<StopAt>,
+) -> Result<(), RunFault>
+    ensures ok { OnOk result (IsAdvanced books.now receipts.now entry.now replays.old.items heads.old.items flights.old.items stops.old.items replays.new.items heads.new.items flights.new.items stops.new.items) }
+    ensures err { IfErr result TellsValues }
+{
+    let place = entry.place;
+    let Some((i, address)) = find_book(books, entry.device) else {
+        return Err(missing(place));
+    };
+    let Some((worker, head, receipt)) = find_head(receipts, heads.as_slice(), entry) else {
+        return Err(no_head(receipts, heads.as_slice(), entry));
+    };
+    let sent = receipt.outcome.sent.as_slice();
+    same(place, u64::from(receipt.worker), worker as u64)?;
+    same(place, entry.first, flights.len() as u64 + 1)?;
+    same(place, entry.count, sent.len() as u64)?;
+    if !has_arrived(flights.as_slice(), address, &receipt.event) {
+        return Err(missing(place));
+    }
+    if !take_stop(receipts, stops, &receipt.event) {
+        return Err(missing(place));
+    }
+    note_stop(stops, worker, head, &receipt.outcome.image)?;
+    if next_head(heads, worker, head).is_none() {
+        return Err(missing(place));
+    }
+    replay_at(alloc, books, replays, i, receipt)?;
+    let mut more = flights_of(alloc, address, sent)?;
+    flights.append(&mut more)?;
+    Ok(())
+}
+
+/// Entry k.
+fn entry_at(entries: &[OrderEntry], k: usize) -> OrderEntry
+    requires { k < length entries.now }
+    ensures { result ≡ slice_index_or entries.now k result }
+{
+    entries[k]
+}
+
+/// Checks the entries, one after the other, and that no event and no receipt is left; the answer are the devices after
+/// all steps.
+fn check(
+    alloc: Global,
+    books: &[Book],
+    entries: &[OrderEntry],
+    receipts: &[Items<Receipt>],
+) -> Result<Vec<Replay>, RunFault>
+    requires { AreApart books.now }
+    ensures ok { IfOk result (λ rs. IsGathered books.now entries.now receipts.now × AreAtEnd books.now rs.items) }
+    ensures err { IfErr result TellsValues }
+{
+    let mut replays = openings(alloc, books)?;
+    let mut heads = zeros(alloc, receipts.len())?;
+    let mut flights = Vec::new(alloc);
+    let mut stops = Vec::new(alloc);
+    for k in 0..entries.len() {
+        let entry = entry_at(entries, k);
+        advance(
+            alloc,
+            books,
+            receipts,
+            &entry,
+            &mut replays,
+            &mut heads,
+            &mut flights,
+            &mut stops,
+        )?;
+    }
+    all_replayed(books, replays.as_slice())?;
+    all_told(receipts, heads.as_slice())?;
+    Ok(replays)
+}
+
+/// The run that books of different devices, the order of their steps and the receipts of the workers 0, 1, 2 and so on
+/// tell of: one world order of these books. Each entry of the order has one receipt, with the event of its device's
+/// journal and the outcome that the rules give there; each worker's receipts stand in that worker's order; what arrives
+/// was sent before; and each restore has the image of an earlier stop that no other restore took.
+///
+/// # Errors
+///
+/// `RunFault::Disagree` where they do not agree, with two values that differ, and `RunFault::OutOfMemory`.
+pub fn gather(
+    alloc: Global,
+    books: Vec<Book>,
+    order: OrderBook,
+    receipts: Vec<Items<Receipt>>,
+) -> Result<Run, RunFault>
+    requires { AreApart books.items }
+    ensures gathered { IfOk result (λ run. IsGatheredRun books.items order.entries receipts.items run) }
+    ensures disagreement { IfErr result TellsValues }
+{
+    let replays = check(
+        alloc,
+        books.as_slice(),
+        order.entries(),
+        receipts.as_slice(),
+    )?;
+    let completions = completions(receipts.as_slice())?;
+    let word = word(alloc, replays)?;
+    Ok(Run {
+        order: Items::new(order.into_entries()),
+        receipts: Items::new(receipts),
+        word,
+        completions,
+        alone: false,
+    })
+}

@@ -1,0 +1,14 @@
+//! Runs of threads over shared devices: the check that books, order and receipts tell of one world order (this project's
+//! choice).
+#![tactic(auto)]
+
+mod checks;
+mod counts;
+mod gather;
+mod replays;
+mod run;
+mod sent;
+mod stops;
+
+pub use gather::gather;
+pub use run::{Run, RunFault};
