@@ -1,15 +1,17 @@
 -- What each line of a script of a node does (this project's choice).
 use Rattle.std.specs.Prelude.{ℕ, true, List, [], ◌∷◌, Option, Some, None, codes}
 use Rattle.std.specs.Fmt.{decimal}
+use Rattle.law_headline.specs.Does.{event_of}
 use Rattle.protocol.specs.declared.events.Event.{Event}
 use Rattle.protocol.specs.declared.events.Event.TheVariants as event
+use Rattle.protocol.specs.declared.events.WorldEvent.{WorldEvent}
+use Rattle.protocol.specs.declared.events.WorldEvent.TheVariants as world_event
 use Rattle.protocol.specs.declared.images.ContextImage.{ContextImage}
 use Rattle.protocol.specs.Dumps.{Bad, Good, Reading, dump_bytes, read_dump}
 use Rattle.rdma_types.specs.declared.answers.Answer.{Answer}
 use Rattle.rdma_types.specs.declared.answers.Answer.TheVariants as answer
 use Rattle.rdma_types.specs.declared.names.Name.{Name}
 use Rattle.rdma_types.specs.declared.verbs.Verb.{Verb}
-use Rattle.rdma_types.specs.declared.verbs.Verb.TheVariants as verb
 use Rattle.script_lang.specs.declared.lines.NodeLine.{NodeLine}
 use Rattle.script_lang.specs.declared.lines.NodeLine.TheVariants as line_is
 use Rattle.script_lang.specs.Printed.{line, printed}
@@ -20,20 +22,14 @@ use Rattle.law_node.specs.Serve.{serving, turns}
 
 -- ---- events
 
--- the event of a verb
+-- the event that a world would hand to the device of its context
+abbrev pub handed_on : Option WorldEvent → Option Event
+handed_on (Some (world_event.At e)) = Some e
+handed_on other = None
+
+-- the event of a verb: the one that it is in a world of devices; no line of a node says a context or a connection of two ends as a verb
 abbrev pub verb_event : Verb → Option Event
-verb_event (verb.Context name made) = None
-verb_event (verb.Connect one two terms) = None
-verb_event (verb.MakeDomain o) = Some (event.MakeDomain o)
-verb_event (verb.MakeRegion o domain base size rights) = Some (event.MakeRegion o domain base size rights)
-verb_event (verb.MakeCq o capacity) = Some (event.MakeCq o capacity)
-verb_event (verb.MakeQp o domain send_cq recv_cq send_depth recv_depth) = Some (event.MakeQp o domain send_cq recv_cq send_depth recv_depth)
-verb_event (verb.DropRegion o) = Some (event.DropRegion o)
-verb_event (verb.Store o at bytes) = Some (event.Store o at bytes)
-verb_event (verb.Load o at size) = Some (event.Load o at size)
-verb_event (verb.PostSend o request) = Some (event.PostSend o request)
-verb_event (verb.PostRecv o receive) = Some (event.PostRecv o receive)
-verb_event (verb.Poll o max) = Some (event.Poll o max)
+verb_event v = handed_on (event_of v)
 
 -- ---- answers
 
