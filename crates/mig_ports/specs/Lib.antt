@@ -1,3 +1,4 @@
 pub mod Streams
 pub mod Memory
 pub mod Depots
+pub mod Links

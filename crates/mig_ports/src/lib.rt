@@ -5,18 +5,26 @@
 #![tactic(auto)]
 
 mod depot;
+mod link;
 mod mem_depot;
+mod mem_link;
 mod mem_sink;
 mod mem_source;
+mod mem_ticks;
 mod reading;
+mod ticks;
 mod writing;
 
 pub use depot::{Depot, DepotFault};
+pub use link::{Got, LONGEST_DATAGRAM, Link};
 pub use mem_depot::{EmptyDepot, MemDepot};
+pub use mem_link::{MemLink, ShutLink};
 pub use mem_sink::MemSink;
 pub use mem_source::MemSource;
+pub use mem_ticks::MemTicks;
 pub use reading::{ReadAllFault, Source, read_all};
 use thiserror::Error;
+pub use ticks::Ticks;
 pub use writing::{Sink, WriteFault, write_all_of};
 
 /// A call of the outside failed. The object counted the fault.

@@ -1,0 +1,10 @@
+pub mod Plan
+pub mod Node
+pub mod Serve
+pub mod Lines
+pub mod Script
+pub mod Outside
+pub mod Told
+pub mod Parts
+pub mod Stops
+pub mod Laws
