@@ -4,10 +4,12 @@
 
 ghost use Rattle.std.specs.Prelude.{◌≡◌, map, true, false};
 ghost use Rattle.protocol.specs.State.{empty_world};
+ghost use Rattle.protocol.specs.Evaluate.{reached};
 ghost use Rattle.ideal_model.specs.Machine.{empty};
-ghost use Rattle.example_relation.specs.Evaluate.{named_at, named_in, stands_at};
+ghost use Rattle.example_relation.specs.Evaluate.{named_at, named_in, settles_by, stands_at};
 ghost use Rattle.example_relation.specs.Opening.{a_q, b_q};
 ghost use Rattle.example_relation.specs.Choices as choices;
+ghost use Rattle.example_relation.specs.Settlings as settlings;
 ghost use Rattle.example_relation.specs.Worlds as moving;
 ghost use Rattle.example_relation.specs.Refusing as refusing;
 ghost use Rattle.example_relation.specs.Ending as ending;
@@ -72,4 +74,12 @@ pub fn ended_connection_by_name()
     ensures third { named_in ending.world_2 ending.machine_2 ending.events_3 ≡ ending.steps_3 }
     ensures fourth { named_in ending.world_3 ending.machine_3 ending.events_4 ≡ ending.steps_4 }
     ensures fifth { named_in ending.world_4 ending.machine_4 ending.events_5 ≡ ending.steps_5 }
+{}
+
+/// The events of three settlings: a message and an atomic go through; a lost piece is asked for by a NAK; and where the atomic is lost
+/// as well, the time of the end runs out.
+pub fn three_settlings_by_name()
+    ensures whole { settles_by moving.world_1 ≡ settlings.whole }
+    ensures again { settles_by (reached moving.world_1 settlings.loses_a_piece) ≡ settlings.sent_again }
+    ensures expired { settles_by (reached moving.world_1 settlings.loses_both) ≡ settlings.expired }
 {}
