@@ -15,6 +15,8 @@ use Rattle.law_simulation.specs.Facts as in_facts
 use Rattle.law_simulation.specs.Kept as in_kept
 use Rattle.law_simulation.specs.Named as in_named
 use Rattle.law_simulation.specs.Named.{inner_steps, run_steps}
+use Rattle.law_settling.specs.Events as in_events
+use Rattle.law_settling.specs.Events.{settling_events}
 use Rattle.example_relation.specs.Tests as in_tests
 use Rattle.example_relation.specs.Tests.{same_numbers, same_context, in_domains, all_sent}
 
@@ -38,3 +40,8 @@ named_at w m e = inner_steps w m e
 unfoldable pub named_in : World → Machine → List WorldEvent → List IdealStep
 unfolding named_at
 named_in w m es = run_steps w m es
+
+-- the events of the settling of a world
+unfoldable pub settles_by : World → List WorldEvent
+unfolding computed in_events.drain_events in_events.sending_events in_events.send_all_events in_events.running_events in_events.visit_events in_events.visiting_events in_events.rnr_events in_events.expire_events in_events.timer_events in_events.round_events in_events.rounds_events in_events.settling_events
+settles_by w = settling_events w
