@@ -74,7 +74,7 @@ wrong-unsaid m v h = by (refusal_of m v) h
     by None a = refl
 
 -- anything else is right
-wrong-none : (m : Machine) (v : Verb) (given : Option ℕ) → may_verb m v (unwrap_or given 0) ≡ true → is_said given (verb_answer m v (unwrap_or given 0)) ≡ true → wrong_given m v given ≡ None
+pub wrong-none : (m : Machine) (v : Verb) (given : Option ℕ) → may_verb m v (unwrap_or given 0) ≡ true → is_said given (verb_answer m v (unwrap_or given 0)) ≡ true → wrong_given m v given ≡ None
 unfolding wrong_given
 wrong-none m v given h s = by (refusal_of m v) given h s
   where

@@ -1,5 +1,5 @@
 -- The grammar of traces, line by line, and what reading has to do with it (this project's choice).
-use Rattle.std.specs.Prelude.{ℕ, ◌≡◌, ◌≤◌, ◌+◌, ◌↔◌, All, map, true, is_some, List, [], ◌∷◌, ◌++◌, length, Ok, Err, codes}
+use Rattle.std.specs.Prelude.{ℕ, ◌≡◌, ◌≤◌, ◌+◌, ◌↔◌, map, true, is_some, List, [], ◌∷◌, ◌++◌, length, Ok, Err, codes}
 use Rattle.std.specs.List.{slice_split}
 use Rattle.script_lang.specs.declared.lines.Offence.{Offence}
 use Rattle.script_lang.specs.Scripts.{is_newline}
@@ -12,13 +12,18 @@ use Rattle.trace_audit.specs.Traces.{Traced, Spoken, Made, trace_of}
 abbrev pub marked : List ℕ → List ℕ
 marked text = codes "= " ++ text
 
+-- each text is a line of an answer to some verb
+abbrev pub AreAnswers : List (List ℕ) → Type 0
+AreAnswers [] = Unit {0}
+AreAnswers (t ∷ ts) = (is_some (answer_of_line t) ≡ true) × AreAnswers ts
+
 -- the lines say these steps, one after the other, and the last of them is `end`
 abbrev pub AreLinesOf : List Traced → List (List ℕ) → Type 0
 AreLinesOf [] ls = (l : List ℕ) × (ls ≡ l ∷ []) × (traced_reading l ≡ Ok line.End)
 AreLinesOf (Made s ∷ ts) ls = (l : List ℕ) × (rest : List (List ℕ)) × (ls ≡ l ∷ rest) × (traced_reading l ≡ Ok (line.Step s)) × AreLinesOf ts rest
 AreLinesOf (Spoken v texts ∷ ts) ls =
     (l : List ℕ) × (rest : List (List ℕ)) × (ls ≡ l ∷ (map marked texts ++ rest)) × (traced_reading l ≡ Ok (line.Verb v))
-    × (1 ≤ length texts) × All (λ t. is_some (answer_of_line t) ≡ true) texts × AreLinesOf ts rest
+    × (1 ≤ length texts) × AreAnswers texts × AreLinesOf ts rest
 
 -- a text is a trace of these steps: newlines cut it into lines that say them, and nothing stands behind the last newline
 pub record IsTrace (bs : List ℕ) (ts : List Traced) : Type 0 where

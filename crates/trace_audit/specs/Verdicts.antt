@@ -1,11 +1,10 @@
 -- When a trace is a run of the packetless machine with these answers, and what an audit finds (this project's choice).
-use Rattle.std.specs.Prelude.{ℕ, suc, ◌≡◌, ◌+◌, ◌<◌, ◌^◌, ◌⊎◌, List, [], ◌∷◌, ◌++◌, length, take, drop, true, false, Option, Some, None, Result, Ok, Err, if◌then◌else◌, bytes_eq}
+use Rattle.std.specs.Prelude.{ℕ, suc, ◌≡◌, ◌+◌, ◌⊎◌, List, [], ◌∷◌, ◌++◌, length, take, drop, true, false, Option, Some, None, Result, Ok, Err, if◌then◌else◌, bytes_eq}
 use Rattle.rdma_types.specs.declared.answers.Refusal.{Refusal}
 use Rattle.rdma_types.specs.declared.verbs.Verb.{Verb}
-use Rattle.rdma_types.specs.declared.verbs.Verb.TheVariants as verbs
 use Rattle.ideal_model.specs.declared.steps.IdealStep.{IdealStep}
 use Rattle.ideal_model.specs.declared.steps.IdealStep.TheVariants as steps
-use Rattle.ideal_model.specs.Legal.{IsRun, after, effect, is_enabled}
+use Rattle.ideal_model.specs.Legal.{IsLegal, IsRun, after, effect, is_enabled, seen}
 use Rattle.ideal_model.specs.Machine.{Machine, empty}
 use Rattle.ideal_model.specs.Verbs.{after_verb, may_verb, refusal_of, verb_answer}
 use Rattle.script_lang.specs.Printed.{printed}
@@ -26,29 +25,30 @@ abbrev pub text_of_lines : List (List ℕ) → List ℕ
 text_of_lines [] = []
 text_of_lines (l ∷ ls) = l ++ 10 ∷ text_of_lines ls
 
--- a key of 32 bits, and a number of 24; any other verb gives none
-abbrev pub IsGivenInRange : Verb → ℕ → Type 0
-IsGivenInRange (verbs.MakeRegion name domain base count rights) given = given < 2 ^ 32
-IsGivenInRange (verbs.MakeQp name domain send_cq recv_cq send_depth recv_depth) given = given < 2 ^ 24
-IsGivenInRange other given = Unit {0}
+-- the steps of a trace: its verbs and inner steps, in order; a verb gives the key or number that its answer says, and 0
+-- where that says none
+abbrev pub steps_of : List Traced → List IdealStep
+steps_of [] = []
+steps_of (Made s ∷ ts) = s ∷ steps_of ts
+steps_of (Spoken v lines ∷ ts) = steps.Verb v (given_or_none (given_by v lines)) ∷ steps_of ts
 
--- a step of the machine is the traced one, with the lines of the machine's answer
-abbrev pub IsTraced : Machine → IdealStep → Traced → Type 0
-IsTraced m s (Made t) = s ≡ t
-IsTraced m s (Spoken v lines) = (given : ℕ) × (s ≡ steps.Verb v given) × IsGivenInRange v given × (printed (verb_answer m v given) ≡ text_of_lines lines)
+-- the machine's answer to a verb, and the machine after it, by what its answer's lines give
+abbrev pub answer_to : Machine → Verb → Option ℕ → List ℕ
+answer_to m v given = printed (verb_answer m v (given_or_none given))
 
--- the steps from m on are the traced ones, one by one
-abbrev pub AreTraced : Machine → List IdealStep → List Traced → Type 0
-AreTraced m [] [] = Unit {0}
-AreTraced m [] (t ∷ ts) = ⊥
-AreTraced m (s ∷ ss) [] = ⊥
-AreTraced m (s ∷ ss) (t ∷ ts) = IsTraced m s t × AreTraced (effect m s) ss ts
+abbrev pub machine_after : Machine → Verb → Option ℕ → Machine
+machine_after m v given = after_verb m v (given_or_none given)
+
+-- from m on, the lines of each answer are those that the machine's answer is printed as
+abbrev pub AreAnswered : Machine → List Traced → Type 0
+AreAnswered m [] = Unit {0}
+AreAnswered m (Made s ∷ ts) = AreAnswered (effect m s) ts
+AreAnswered m (Spoken v lines ∷ ts) = (answer_to m v (given_by v lines) ≡ text_of_lines lines) × AreAnswered (machine_after m v (given_by v lines)) ts
 
 -- the traced steps are a run of the machine from m on, with these answers
 pub record AreRunFrom (m : Machine) (ts : List Traced) : Type 0 where
-  pub steps : List IdealStep
-  pub is_run : IsRun m steps
-  pub traced : AreTraced m steps ts
+  pub is_run : IsRun m (steps_of ts)
+  pub answered : AreAnswered m ts
 
 -- .. from the empty machine on
 abbrev pub AreRun : List Traced → Type 0
@@ -121,13 +121,6 @@ abbrev pub fault_or : Option AuditWhy → Fault → Fault
 fault_or (Some because) rest = Some (1, because)
 fault_or None rest = rest
 
--- the machine's answer to a verb, and the machine after it, by what its answer's lines give
-abbrev pub answer_to : Machine → Verb → Option ℕ → List ℕ
-answer_to m v given = printed (verb_answer m v (given_or_none given))
-
-abbrev pub machine_after : Machine → Verb → Option ℕ → Machine
-machine_after m v given = after_verb m v (given_or_none given)
-
 -- what is wrong with the answer
 abbrev pub fault_of : Machine → Verb → List (List ℕ) → Fault
 fault_of m v lines = fault_or (wrong_given m v (given_by v lines)) (differs_at (first_wrong lines (answer_to m v (given_by v lines))))
@@ -190,15 +183,16 @@ pub record StopsAt (ts : List Traced) (line : ℕ) (because : AuditWhy) : Type 0
   pub are : ts ≡ front ++ wrong ∷ rest
   pub run : AreRun front
   pub place : ℕ
-  pub is_wrong : IsWrong (after empty run.steps) wrong place because
+  pub is_wrong : IsWrong (after empty (steps_of front)) wrong place because
   pub at : line ≡ lines_in front + 1 + place
 
 -- the law of audits: the verdict is Legal exactly where the steps are a run of the machine from the empty one with these
--- answers, and then counts them; and Illegal at the first line that can not be of a run
+-- answers, and then counts them; and Illegal at the first line that can not be of a run. So what was heard is legal
 pub record IsVerdict (ts : List Traced) : Type 0 where
   pub legal : (verbs inner : ℕ) → verdict_of ts ≡ Legal verbs inner → AreRun ts × (verbs ≡ verbs_in ts) × (inner ≡ inner_in ts)
   pub all : AreRun ts → verdict_of ts ≡ Legal (verbs_in ts) (inner_in ts)
   pub illegal : (line : ℕ) (because : AuditWhy) → verdict_of ts ≡ Illegal line because → StopsAt ts line because
+  pub heard : AreRun ts → IsLegal (seen empty (steps_of ts))
 
 -- of all steps
 abbrev pub VerdictsAreRight : Type 0

@@ -9,6 +9,7 @@ mod answers;
 mod auditing;
 mod due;
 mod forms;
+mod laws;
 mod lines;
 mod reading;
 mod run;
@@ -16,6 +17,7 @@ mod steps;
 mod verdicts;
 
 pub use auditing::audit;
+pub use laws::audits_are_right;
 pub use lines::TraceLine;
 pub use reading::read_trace_line;
 pub use verdicts::{AuditFault, AuditWhy, Verdict};
