@@ -1,0 +1,11 @@
+pub mod Cases
+pub mod Small
+pub mod OneWrite
+pub mod Shortened
+pub mod Acknowledges
+pub mod ChangedAndPaused
+pub mod KnownInside
+pub mod Moved
+pub mod NotReady
+pub mod Refusals
+pub mod RepeatedRead
