@@ -1,28 +1,16 @@
 -- Acknowledges of every kind: a sequence error that tells, one that a Read holds up, empty messages, a refusal.
 use Rattle.std.specs.Prelude.{ℕ, List, ◌++◌, codes}
+use Rattle.example_traces.specs.Opening.{contexts, pairs}
 
-abbrev pub trace : List ℕ
-trace =
-    codes "v context a made\n"
-    ++ codes "= ok\n"
-    ++ codes "v context b made\n"
-    ++ codes "= ok\n"
-    ++ codes "v domain a.p\n"
-    ++ codes "= ok\n"
-    ++ codes "v domain b.p\n"
-    ++ codes "= ok\n"
+-- its first 59 lines, up to the last line of an answer
+abbrev pub opening : List ℕ
+opening =
+    contexts
     ++ codes "v region a.m a.p 4096 600 lwra\n"
     ++ codes "= region 01000002 01000003\n"
     ++ codes "v region b.n b.p 8192 600 lwra\n"
     ++ codes "= region 02000002 02000003\n"
-    ++ codes "v cq a.c 16\n"
-    ++ codes "= ok\n"
-    ++ codes "v cq b.c 16\n"
-    ++ codes "= ok\n"
-    ++ codes "v qp a.q a.p a.c a.c 8 8\n"
-    ++ codes "= qp 010001\n"
-    ++ codes "v qp b.q b.p b.c b.c 8 8\n"
-    ++ codes "= qp 020001\n"
+    ++ pairs
     ++ codes "v connect a.q b.q mtu 256 psn 100 200 retry 7 rnr 7 reads 4\n"
     ++ codes "= ok\n"
     ++ codes "v write a.q 1 01000002 4096 4 8192 02000003\n"
@@ -62,8 +50,15 @@ trace =
     ++ codes "= wc 010001 3 write 0 4\n"
     ++ codes "= wc 010001 4 read 0 0\n"
     ++ codes "= wc 010001 5 write 0 4\n"
-    ++ codes "= wc 010001 6 send 0 0\n"
-    ++ codes "v poll b.c 9\n"
+
+-- the last line of that answer
+abbrev pub last_line : List ℕ
+last_line = codes "= wc 010001 6 send 0 0\n"
+
+-- up to a step that comes after such an answer
+abbrev pub between : List ℕ
+between =
+    codes "v poll b.c 9\n"
     ++ codes "= wc 020001 7 recv 0 0 imm 00000007\n"
     ++ codes "v write a.q 20 01000002 4096 4 8192 02000003\n"
     ++ codes "= ok\n"
@@ -83,8 +78,15 @@ trace =
     ++ codes "= ok\n"
     ++ codes "v write a.q 9 01000002 4096 4 9999 02000003\n"
     ++ codes "= ok\n"
-    ++ codes "i run a.q 4\n"
-    ++ codes "i refuse a.q access\n"
+
+-- that step
+abbrev pub later_step : List ℕ
+later_step = codes "i run a.q 4\n"
+
+-- what follows it
+abbrev pub after : List ℕ
+after =
+    codes "i refuse a.q access\n"
     ++ codes "i tell a.q\n"
     ++ codes "i bounce a.q\n"
     ++ codes "v poll a.c 9\n"
@@ -94,3 +96,15 @@ trace =
     ++ codes "= wc 010001 8 write 0 4\n"
     ++ codes "= wc 010001 9 write 10 0\n"
     ++ codes "end\n"
+
+-- as it was recorded
+abbrev pub trace : List ℕ
+trace = opening ++ last_line ++ between ++ later_step ++ after
+
+-- without the last line of the answer
+abbrev pub with_a_line_less : List ℕ
+with_a_line_less = opening ++ between ++ later_step ++ after
+
+-- without the later step
+abbrev pub with_a_later_step_less : List ℕ
+with_a_later_step_less = opening ++ last_line ++ between ++ after

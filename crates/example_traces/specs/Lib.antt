@@ -1,7 +1,7 @@
+pub mod Opening
 pub mod Cases
 pub mod Small
 pub mod OneWrite
-pub mod Shortened
 pub mod Acknowledges
 pub mod ChangedAndPaused
 pub mod KnownInside

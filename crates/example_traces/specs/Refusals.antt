@@ -1,28 +1,15 @@
 -- Requests that are refused, and an expiry that is the last.
 use Rattle.std.specs.Prelude.{ℕ, List, ◌++◌, codes}
+use Rattle.example_traces.specs.Opening.{contexts, pairs}
 
 abbrev pub trace : List ℕ
 trace =
-    codes "v context a made\n"
-    ++ codes "= ok\n"
-    ++ codes "v context b made\n"
-    ++ codes "= ok\n"
-    ++ codes "v domain a.p\n"
-    ++ codes "= ok\n"
-    ++ codes "v domain b.p\n"
-    ++ codes "= ok\n"
+    contexts
     ++ codes "v region a.m a.p 4096 64 lwra\n"
     ++ codes "= region 01000002 01000003\n"
     ++ codes "v region b.n b.p 8192 64 lwra\n"
     ++ codes "= region 02000002 02000003\n"
-    ++ codes "v cq a.c 16\n"
-    ++ codes "= ok\n"
-    ++ codes "v cq b.c 16\n"
-    ++ codes "= ok\n"
-    ++ codes "v qp a.q a.p a.c a.c 8 8\n"
-    ++ codes "= qp 010001\n"
-    ++ codes "v qp b.q b.p b.c b.c 8 8\n"
-    ++ codes "= qp 020001\n"
+    ++ pairs
     ++ codes "v connect a.q b.q mtu 256 psn 100 200 retry 0 rnr 7 reads 4\n"
     ++ codes "= ok\n"
     ++ codes "v send a.q 1 01000002 4096 8\n"

@@ -21,7 +21,6 @@ ghost use Rattle.example_traces.specs.NotReady as not_ready;
 ghost use Rattle.example_traces.specs.OneWrite as one_write;
 ghost use Rattle.example_traces.specs.Refusals as refusals;
 ghost use Rattle.example_traces.specs.RepeatedRead as repeated_read;
-ghost use Rattle.example_traces.specs.Shortened as shortened;
 ghost use Rattle.example_traces.specs.Small as small;
 
 /// The trace of one write is legal: sixteen verbs and two inner steps.
@@ -41,8 +40,8 @@ pub fn changed_traces_are_not()
 
 /// An answer of several lines without its last one, and a step that is left out after such an answer.
 pub fn shortened_traces_are_not()
-    ensures answer { audited shortened.with_a_line_less ≡ Ok (Illegal 60 Answer) }
-    ensures step { audited shortened.with_a_later_step_less ≡ Ok (Illegal 81 Step) }
+    ensures answer { audited acknowledges.with_a_line_less ≡ Ok (Illegal 60 Answer) }
+    ensures step { audited acknowledges.with_a_later_step_less ≡ Ok (Illegal 81 Step) }
 {}
 
 /// Small traces, legal, illegal and bad.

@@ -1,0 +1,26 @@
+-- How most traces begin: what two contexts need for a connection between them.
+use Rattle.std.specs.Prelude.{ℕ, List, ◌++◌, codes}
+
+-- two contexts, each with a domain
+abbrev pub contexts : List ℕ
+contexts =
+    codes "v context a made\n"
+    ++ codes "= ok\n"
+    ++ codes "v context b made\n"
+    ++ codes "= ok\n"
+    ++ codes "v domain a.p\n"
+    ++ codes "= ok\n"
+    ++ codes "v domain b.p\n"
+    ++ codes "= ok\n"
+
+-- their completion queues and queue pairs
+abbrev pub pairs : List ℕ
+pairs =
+    codes "v cq a.c 16\n"
+    ++ codes "= ok\n"
+    ++ codes "v cq b.c 16\n"
+    ++ codes "= ok\n"
+    ++ codes "v qp a.q a.p a.c a.c 8 8\n"
+    ++ codes "= qp 010001\n"
+    ++ codes "v qp b.q b.p b.c b.c 8 8\n"
+    ++ codes "= qp 020001\n"
