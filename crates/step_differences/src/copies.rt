@@ -2,9 +2,7 @@
 
 ghost use Rattle.std.specs.Prelude.{◌≡◌, IfOk};
 
-use protocol::{
-    ContextImage, CqImage, EndImage, Event, LinkImage, PostedImage, RegionImage,
-};
+use protocol::{ContextImage, CqImage, EndImage, Event, LinkImage, PostedImage, RegionImage};
 use rdma_types::{Items, Sent};
 use std::alloc::{AllocError, Global};
 
@@ -84,10 +82,7 @@ fn copy_link(alloc: Global, link: &LinkImage) -> Result<LinkImage, AllocError>
 }
 
 /// The same, where the end was ever connected.
-fn copy_linked(
-    alloc: Global,
-    linked: &Option<LinkImage>,
-) -> Result<Option<LinkImage>, AllocError>
+fn copy_linked(alloc: Global, linked: &Option<LinkImage>) -> Result<Option<LinkImage>, AllocError>
     ensures { IfOk result (λ copy. copy ≡ linked.now) }
 {
     match linked {
@@ -247,10 +242,7 @@ pub fn copy_event(alloc: Global, event: &Event) -> Result<Event, AllocError>
             end: *end,
             receive: *receive,
         },
-        Event::Poll { cq, max } => Event::Poll {
-            cq: *cq,
-            max: *max,
-        },
+        Event::Poll { cq, max } => Event::Poll { cq: *cq, max: *max },
         Event::Transmit { end } => Event::Transmit { end: *end },
         Event::Arrive { from, bytes } => Event::Arrive {
             from: *from,

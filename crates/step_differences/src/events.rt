@@ -164,14 +164,10 @@ fn same_posting(a: &Event, b: &Event) -> bool
     ensures { IsTrue result → a.now ≡ b.now }
 {
     match (a, b) {
-        (
-            Event::PostSend { end: x, request: r },
-            Event::PostSend { end: y, request: s },
-        ) => x == y && same_request(r, s),
-        (
-            Event::PostRecv { end: x, receive: r },
-            Event::PostRecv { end: y, receive: s },
-        ) => x == y && r == s,
+        (Event::PostSend { end: x, request: r }, Event::PostSend { end: y, request: s }) => x == y
+            && same_request(r, s),
+        (Event::PostRecv { end: x, receive: r }, Event::PostRecv { end: y, receive: s }) => x == y
+            && r == s,
         _ => false,
     }
 }
