@@ -33,7 +33,7 @@ found_at [] i b apart h = absurd cc
 found_at (x ∷ books) zero b apart h = let same : x ≡ b = cc in subst (λ y. IsFound (y ∷ books) b) (sym same) (found_first b books)
 found_at (x ∷ books) (suc i) b apart h =
     let other : (x.opening.id == b.opening.id) ≡ true → ⊥ = λ e. (
-        let same : x.opening.id ≡ b.opening.id = grind (arith, nat_tests, eqb_tells x.opening.id b.opening.id, e) in
-        let places : 0 ≡ suc i = apart 0 (suc i) x b refl h same in
-        absurd (omega (arith, places))) in
+    let same : x.opening.id ≡ b.opening.id = grind (arith, nat_tests, eqb_tells x.opening.id b.opening.id, e) in
+    let places : 0 ≡ suc i = apart 0 (suc i) x b refl h same in
+    absurd (omega (arith, places))) in
     found_later x books b (x.opening.id == b.opening.id) refl other (found_at books i b (λ j k a c p q same. let e : suc j ≡ suc k = apart (suc j) (suc k) a c p q same in omega (arith, e)) h)

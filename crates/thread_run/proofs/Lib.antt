@@ -1,5 +1,5 @@
 pub mod Books
-pub mod Stops
+pub mod Taking
 pub mod Upto
 pub mod Loops
-pub mod Counts
+pub mod Telling

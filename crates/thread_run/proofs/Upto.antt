@@ -22,7 +22,7 @@ use Rattle.thread_run.specs.declared.stops.StopAt.{StopAt}
 use Rattle.thread_run.specs.Checks.{AreAtEnd, AreFresh, AreReplayed, AreTold, IsAdvanced, IsReplayedOne, StandsAt, TakesStop, stop_of}
 use Rattle.thread_run.specs.Gathered.{IsGathered}
 use Rattle.thread_run.proofs.Books.{found_at}
-use Rattle.thread_run.proofs.Stops.{AreStops, noted_of, takes_of}
+use Rattle.thread_run.proofs.Taking.{AreStops, noted_of, takes_of}
 
 -- how far a book was replayed, after these lines
 pub record IsReplayed (b : BookView) (r : Replay) (ls : List Line) : Type 0 where
@@ -178,6 +178,10 @@ all_equal (b ∷ books) (r ∷ rs) len same =
 pub ended_at : (books : List BookView) (receipts : List (List Receipt)) (ls : List Line) (rs : List Replay) (hs : List ℕ) (fs : List Flight) (ss : List StopAt) → IsUpto books receipts ls rs hs fs ss → length rs ≡ length books → AreReplayed books rs → AreAtEnd books rs
 ended_at books receipts ls rs hs fs ss u rl replayed = all_equal books rs rl (λ i b r at r_at. (u.replays i b r at r_at).device ∙ ap (replay b.opening) (sym (journal_is books receipts ls rs hs fs ss u replayed i b r at r_at)))
 
+nothing_yet : (d : Device) → d ≡ replay d []
+unfolding replay
+nothing_yet d = refl
+
 pub upto_none : (books : List BookView) (receipts : List (List Receipt)) (rs : List Replay) (hs : List ℕ) → AreFresh books rs → ((w n : ℕ) → slice_get hs w ≡ Some n → n ≡ 0) → IsUpto books receipts [] rs hs [] []
 unfolding events_on held_by
 upto_none books receipts rs hs fresh zeros = record {
@@ -194,7 +198,3 @@ upto_none books receipts rs hs fresh zeros = record {
   restored = refl;
   stops = tt;
 }
-  where
-    nothing_yet : (d : Device) → d ≡ replay d []
-    unfolding replay
-    nothing_yet d = refl

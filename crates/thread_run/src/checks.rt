@@ -9,7 +9,6 @@ use rdma_types::Items;
 use station::{OrderEntry, Receipt};
 use std::alloc::{AllocError, Global};
 
-
 /// So many zeros.
 pub fn zeros(alloc: Global, n: usize) -> Result<Vec<usize>, AllocError>
     ensures { IfOk result (λ v. (v.items ≡ replicate n 0) × (length v.items ≡ n)) }

@@ -2,11 +2,11 @@
 
 ghost use Rattle.std.specs.Prelude.{◌≡◌, ◌≤◌, ◌∷◌, [], codes, length, map, slice_index, IfOk};
 ghost use Rattle.rdma_types.specs.Memory.{word_of as spelled_word};
+ghost use Rattle.protocol.specs.DeviceStep.{device_step};
 ghost use Rattle.law_world_orders.specs.Openings.{in_b};
 ghost use Rattle.thread_run.specs.Gathered.{completions_in, drained_by, loads_word, polled, word_by, word_in, word_or};
 
 use crate::replays::Replay;
-use crate::run::RunFault;
 use protocol::Event;
 use rdma_types::{Answer, Items, Name, ObjName};
 use station::Receipt;
@@ -98,14 +98,21 @@ fn word_or_other(answer: &Answer, other: u64) -> u64
     }
 }
 
+/// The word on a device, and another one where its load is refused there.
+fn word_at(alloc: Global, mut replay: Replay, other: u64) -> Result<u64, AllocError>
+    ensures { IfOk result (λ n. n ≡ word_by (device_step replay.device loads_word).outcome.answer other) }
+{
+    let outcome = replay.device.step(alloc, &load_of_word())?;
+    Ok(word_or_other(&outcome.answer, other))
+}
+
 /// The word on the first of these devices where its load is not refused, and 0 where it is refused on all.
 pub fn word(alloc: Global, mut replays: Vec<Replay>) -> Result<u64, AllocError>
     ensures { IfOk result (λ n. n ≡ word_in (map (λ r. r.device) replays.items)) }
 {
     let mut word = 0;
-    while let Some(mut replay) = replays.pop() {
-        let outcome = replay.device.step(alloc, &load_of_word())?;
-        word = word_or_other(&outcome.answer, word);
+    while let Some(replay) = replays.pop() {
+        word = word_at(alloc, replay, word)?;
     }
     Ok(word)
 }

@@ -4,11 +4,11 @@
 
 mod checks;
 mod counts;
-mod gather;
+mod gathering;
 mod replays;
 mod run;
 mod sent;
 mod stops;
 
-pub use gather::gather;
+pub use gathering::gather;
 pub use run::{Run, RunFault};

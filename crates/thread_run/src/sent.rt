@@ -27,7 +27,7 @@ impl Model for Flown {
 }
 
 /// A datagram from an address.
-fn flown(from: Address, sent: Sent) -> Flown
+fn flight(from: Address, sent: Sent) -> Flown
     ensures { result ≡ flight_of from sent }
 {
     Flown { from, sent }
@@ -40,7 +40,7 @@ pub fn flights_of(alloc: Global, from: Address, sent: &[Sent]) -> Result<Vec<Flo
     let copies = copy_sent(alloc, sent)?;
     let mut flights = Vec::with_capacity(alloc, sent.len())?;
     for copy in copies {
-        flights.push(flown(from, copy))?;
+        flights.push(flight(from, copy))?;
     }
     Ok(flights)
 }
