@@ -1,0 +1,6 @@
+pub mod Parts
+pub mod Ends
+pub mod Outside
+pub mod Steps
+pub mod OneTurn
+pub mod WholeScript

@@ -1,0 +1,6 @@
+use Rattle.std.proofs.Common.{◌≡◌, drop}
+use Rattle.law_node.specs.Serve.{dated}
+use Rattle.node_engine.proofs.activity.date.Given as goal
+
+abbrev pub invariant-loop-number : goal.invariant-loop-number
+invariant-loop-number l = dated l.now (drop l.number-index l.active) l.moments.entries ≡ dated l.now l.active l.initial.moments.entries

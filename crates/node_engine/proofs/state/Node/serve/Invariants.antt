@@ -1,0 +1,7 @@
+use Rattle.std.proofs.Common.{◌-◌}
+use Rattle.law_node.specs.Parts.{Comes}
+use Rattle.law_node.specs.Serve.{turns}
+use Rattle.node_engine.proofs.state.Node.serve.Given as goal
+
+abbrev pub invariant-loop : goal.invariant-loop
+invariant-loop g l = Comes (turns l.turns l.initial.self) (turns (l.turns - l.counter) l.self) (g.P.Ports.contents l.initial.ports) (g.P.Ports.contents l.ports)

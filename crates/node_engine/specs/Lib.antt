@@ -1,0 +1,4 @@
+pub mod Answered
+pub mod Names
+pub mod Faults
+pub mod LineFaults
