@@ -1,12 +1,12 @@
 -- Words that are read as ids, one after the other.
 use Rattle.std.proofs.Common.{arith, ◌≡◌, ◌≤◌, ◌<◌, ℕ, ◌+◌, ◌==◌, ◌&&◌, ◌||◌, not, suc, zero, Bool, true, false, List, [], ◌∷◌, ◌++◌, length, drop, Option, Some, None, refl, sym, ap, ◌∙◌, ◌⊎◌, inl, inr, append_assoc, append-nil, add-one, slice_get}
-use Rattle.std.specs.Prelude.{nat_le, if◌then◌else◌}
+use Rattle.std.specs.Prelude.{nat_le, if◌then◌else◌, slice_index_or}
+use Rattle.std.specs.List.{remove}
 use Rattle.std.proofs.lemmas.Bool.Decides.{nat_tests}
 use Rattle.std.proofs.lemmas.List.{length-append}
 use Rattle.clap.specs.Words.{Text}
 use Rattle.script_lang.specs.Texts.{◌>>=◌, number_in}
 use Rattle.law_headline.specs.Commands as rules
-use Rattle.command_line.specs.Commands.{evacuation_of}
 use Rattle.command_line.specs.Ids.{few_ids}
 
 -- ids behind others
@@ -107,6 +107,11 @@ ids_length (w ∷ ws) ks is = by (ids_length ws) (number_in 1 255 w) refl
     by later None n = absurd (cc (ids_no_first w ws n, is))
     by later (Some k) n = rest_by later k (rules.ids_of ws) refl (sym (ids_first w ws k n) ∙ is)
 
+-- the device is the first of the ids
+abbrev evacuation_of : List ℕ → rules.Command
+evacuation_of [] = rules.Evacuate 0 []
+evacuation_of (from ∷ targets) = rules.Evacuate from targets
+
 -- apart
 abbrev pub apart : List ℕ → Bool
 apart ks = not (rules.repeats ks) && nat_le 2 (length ks)
@@ -156,8 +161,16 @@ ids_are ws ks is = elim (few_cases ws (Some ks) is) [
   | inr h ↦ absurd (cc (h.1))
 ]
 
-pub apart_ids : (ws : List Text) (ks : List ℕ) → few_ids ws ≡ Some ks → apart ks ≡ true → rules.evacuate_of ws ≡ Some (evacuation_of ks)
+apart_ids : (ws : List Text) (ks : List ℕ) → few_ids ws ≡ Some ks → apart ks ≡ true → rules.evacuate_of ws ≡ Some (evacuation_of ks)
 apart_ids ws ks is a = let h = ids_are ws ks is in ap (λ o. o >>= rules.evacuate_by) h.1 ∙ is_apart ks h.0 a
 
 pub not_apart_ids : (ws : List Text) (ks : List ℕ) → few_ids ws ≡ Some ks → apart ks ≡ false → rules.evacuate_of ws ≡ None
 not_apart_ids ws ks is a = let h = ids_are ws ks is in ap (λ o. o >>= rules.evacuate_by) h.1 ∙ is_not_apart ks a
+
+split_first : (ks rest : List ℕ) (from : ℕ) → apart ks ≡ true → from ≡ slice_index_or ks 0 from → rest ≡ remove ks 0 → rules.Evacuate from rest ≡ evacuation_of ks
+split_first [] rest from a first others = absurd (cc (a))
+split_first (k ∷ ks) rest from a first others = ap (λ j. rules.Evacuate j rest) first ∙ ap (rules.Evacuate k) others
+
+-- the first of them is taken out
+pub taken_apart : (ws : List Text) (ks rest : List ℕ) (from : ℕ) → few_ids ws ≡ Some ks → apart ks ≡ true → from ≡ slice_index_or ks 0 from → rest ≡ remove ks 0 → Some (rules.Evacuate from rest) ≡ rules.evacuate_of ws
+taken_apart ws ks rest from is a first others = ap (λ c. Some c) (split_first ks rest from a first others) ∙ sym (apart_ids ws ks is a)

@@ -22,8 +22,11 @@ pub enum Command {
     Bulk { seed: u64, mix: Mix },
     /// What a dump in the depot says is written.
     ShowDump { name: Name },
-    /// The lines of the whole input are answered, and then a device is emptied: the first of the ids, to the others.
-    Evacuate { ids: ArrayVec<u8, 16> },
+    /// The lines of the whole input are answered, and then a device is emptied.
+    Evacuate {
+        from: u8,
+        targets: ArrayVec<u8, 16>,
+    },
 }
 
 /// The command of words that have their places one by one.

@@ -66,9 +66,10 @@ pub(crate) fn evacuate_of(words: &[String]) -> Option<Command>
     ensures value { known_if result ≡ rules.evacuate_of (map string_bytes words.now) }
     ensures within { IfSome result IsInRange }
 {
-    let ids = ids_of(words)?;
+    let mut ids = ids_of(words)?;
     if !are_apart(ids.as_slice()) {
         return None;
     }
-    Some(Command::Evacuate { ids })
+    let from = ids.remove(0);
+    Some(Command::Evacuate { from, targets: ids })
 }

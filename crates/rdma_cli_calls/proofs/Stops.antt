@@ -71,6 +71,7 @@ module _ (seed : ℕ) (mix : Mix) (r : Run) where
   bulk_stopped stop.OutOfMemory a s = s
   bulk_stopped stop.TooLong a s = a
   bulk_stopped (stop.Missing name) a s = a
+  bulk_stopped stop.NotEmptied a s = a
 
   -- the summary is written in part
   pub bulk_cut_off : bad_line (plan seed mix) ≡ None → IsFollowed (plan seed mix) → PutsFront r.held r.held_after (bulk_text seed mix) → IsSummedUpInPart r seed mix
@@ -90,6 +91,7 @@ module _ (said : ImageText) (name : Name) (r : Run) where
   look_stopped stop.OutOfMemory l s = s
   look_stopped stop.TooLong l s = l
   look_stopped (stop.Missing other) l s = (s, l.0, l.1)
+  look_stopped stop.NotEmptied l s = l
 
   module _ (bytes : List ℕ) (found : Has r.stored name (Some bytes)) where
     -- they are no dump
@@ -113,6 +115,7 @@ memory_stops said r None n s = absurd (n refl)
 memory_stops said r (Some rules.Play) n s = nothing_written (λ text. (text ≡ []) ⊎ AreAnswersRead r text) r (inl refl) s
 memory_stops said r (Some (rules.Bulk seed mix)) n s = s
 memory_stops said r (Some (rules.ShowDump name)) n s = s
+memory_stops said r (Some (rules.Evacuate from targets)) n s = nothing_written (λ text. (text ≡ []) ⊎ AreAnswersRead r text) r (inl refl) s
 
 -- .. and the input is as it was
 pub input_kept : (r : Run) (k : Option rules.Command) → r.left_after ≡ r.left → KeepsInput r k
@@ -120,6 +123,7 @@ input_kept r None e = e
 input_kept r (Some rules.Play) e = tt
 input_kept r (Some (rules.Bulk seed mix)) e = e
 input_kept r (Some (rules.ShowDump name)) e = e
+input_kept r (Some (rules.Evacuate from targets)) e = tt
 
 -- so the run stops as it is to
 pub not_asked : (said : ImageText) (r : Run) (k : Option rules.Command) (x : Stop) → IsNotAsked k x → IsSilent r → StopsBy said r k x
@@ -132,6 +136,7 @@ not_asked said r k stop.DepotFault n s = absurd n
 not_asked said r k stop.OutOfMemory n s = memory_stops said r k n s
 not_asked said r k stop.TooLong n s = absurd n
 not_asked said r k (stop.Missing name) n s = absurd n
+not_asked said r k stop.NotEmptied n s = absurd n
 
 -- ---- results
 
@@ -153,6 +158,7 @@ only_memory k c stop.DepotFault n e = absurd n
 only_memory k c stop.OutOfMemory n e = refl
 only_memory k c stop.TooLong n e = absurd n
 only_memory k c (stop.Missing name) n e = absurd n
+only_memory k c stop.NotEmptied n e = absurd n
 
 -- a command, or another one
 abbrev of_some : rules.Command → Option rules.Command → rules.Command
