@@ -1,5 +1,5 @@
 -- Why a run of the program stops before it is done, and what is known there before its last line is written.
-use Rattle.std.specs.Prelude.{ℕ, ◌≡◌, ◌≢◌, ◌≤◌, ◌⊎◌, ◌+◌, List, [], ◌++◌, length, map, Option, Some, None, String}
+use Rattle.std.specs.Prelude.{ℕ, ◌≡◌, ◌≢◌, ◌≤◌, ◌⊎◌, ◌+◌, List, [], ◌++◌, length, map, Option, Some, None, String, Bool, true, false}
 use Rattle.std.specs.String.{string_bytes}
 use Rattle.std.specs.declared.alloc.Global.{Global}
 use Rattle.rdma_types.specs.declared.names.Name.{Name}
@@ -91,6 +91,11 @@ PlayStops r stop.WriteFault = WritesFront (AreAnswersRead r) r
 PlayStops r stop.OutOfMemory = WritesFront (λ text. (text ≡ []) ⊎ AreAnswersRead r text) r
 PlayStops r stop.TooLong = IsSilent r × TakesCount r.left r.left_after (input_limit + 1)
 PlayStops r other = ⊥
+
+-- the device is empty: no fault is told
+abbrev pub is_empty : Option Fault → Bool
+is_empty None = true
+is_empty (Some fault) = false
 
 -- the machine follows the steps of each evacuation that a text may end with
 abbrev pub MovesAreFollowed : ℕ → List ℕ → List ℕ → Type 0
