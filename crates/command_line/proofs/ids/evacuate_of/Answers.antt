@@ -13,4 +13,4 @@ pub returns-clause-value : goal.returns-clause-value
 returns-clause-value c =
     let is : c.are_apart.result ≡ true = search (rules, c.if-not-are_apart.false) in
     let told : apart c.in_ok-ids.ids.items ≡ true = subst (λ xs. apart xs ≡ true) c.as_slice.ensures.value (sym c.are_apart.ensures ∙ is) in
-    taken_apart (map string_bytes c.args.words.now) c.in_ok-ids.ids.items c.remove.new.self.items c.remove.result (sym c.in_ok-ids.ensures) told c.remove.ensures.value c.remove.ensures.items
+    taken_apart (map string_bytes c.args.words.now) c.in_ok-ids.ids.items c.remove-from.new.self.items c.remove-from.result (sym c.in_ok-ids.ensures) told c.remove-from.ensures.value c.remove-from.ensures.items
