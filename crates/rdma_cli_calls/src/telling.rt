@@ -1,6 +1,6 @@
 //! What becomes of the contexts of a device, as text.
 
-ghost use Rattle.std.specs.Prelude.{◌≡◌, ◌×◌, ◌++◌, flat_map, None, Some, OnOk, IfOk};
+ghost use Rattle.std.specs.Prelude.{◌≡◌, ◌++◌, flat_map, None, Some, OnOk, IfOk};
 ghost use Rattle.protocol.specs.State as state;
 ghost use Rattle.evac_rules.specs.Evacuation.{NoSuch, Stays, evacuation};
 ghost use Rattle.law_headline.specs.Texts.{emptied_line, evacuation_text, moved_line, stay_why_text};
