@@ -4,7 +4,11 @@
 _jichurpa_words() {
     local dump LC_ALL=C
     if [ "$COMP_CWORD" = 1 ]; then
-        printf '%s\n' play bulk show-dump --help -h --version
+        printf '%s\n' play bulk show-dump evacuate --help -h --version
+        return
+    fi
+    if [ "${COMP_WORDS[1]}" = evacuate ] && [ "$COMP_CWORD" -le 17 ]; then
+        seq 1 255
         return
     fi
     case "${COMP_WORDS[1]} $COMP_CWORD" in

@@ -8,7 +8,7 @@ use Rattle.std.proofs.lemmas.Slice.Eq.{bytes_eq-Decides}
 use Rattle.rdma_types.specs.Spelled.{is_letter, is_name, is_name_byte}
 use Rattle.script_lang.specs.Texts.{digits_after, greatest_u64, is_decimal, is_digit, name_of, number_in}
 use Rattle.law_headline.specs.Commands as rules
-use Rattle.law_headline.specs.Commands.{command_of}
+use Rattle.law_headline.specs.Commands.{placed_of}
 use Rattle.clap.specs.Words.{Text, subcommand_of, takes}
 use Rattle.command_line.specs.Splitting.{spelled_in, splitter_app}
 use Rattle.command_line.proofs.Plain.{IsPlain, plain}
@@ -68,23 +68,23 @@ name_is_plain word e = name_text_is_plain word (by_test (is_name word) word e)
 
 pub record Splits (words : List Text) : Type 0 where
   pub taken : takes splitter_app words ≡ true
-  pub says : spelled_in (subcommand_of splitter_app words) ≡ command_of words
+  pub says : spelled_in (subcommand_of splitter_app words) ≡ placed_of words
 
 -- ---- which command
 
 same_bytes : (a b : Text) → bytes_eq a b ≡ true → a ≡ b
 same_bytes a b e = (bytes_eq-Decides a b).0 e
 
-command_is_play : (words : List Text) → command_of (codes "play" ∷ words) ≡ rules.alone rules.Play words
-unfolding command_of
+command_is_play : (words : List Text) → placed_of (codes "play" ∷ words) ≡ rules.alone rules.Play words
+unfolding placed_of
 command_is_play words = refl
 
-command_is_bulk : (words : List Text) → command_of (codes "bulk" ∷ words) ≡ rules.bulk_of words
-unfolding command_of
+command_is_bulk : (words : List Text) → placed_of (codes "bulk" ∷ words) ≡ rules.bulk_of words
+unfolding placed_of
 command_is_bulk words = refl
 
-command_is_show_dump : (words : List Text) → command_of (codes "show-dump" ∷ words) ≡ rules.show_dump_of words
-unfolding command_of
+command_is_show_dump : (words : List Text) → placed_of (codes "show-dump" ∷ words) ≡ rules.show_dump_of words
+unfolding placed_of
 command_is_show_dump words = refl
 
 -- ---- each
@@ -139,7 +139,7 @@ by_table word words false true s ep eb es e = subst (λ w. Splits (w ∷ words))
 by_table word words false false true ep eb es e = subst (λ w. Splits (w ∷ words)) (sym (same_bytes word (codes "show-dump") es)) (show_dump_splits words e)
 by_table word words false false false ep eb es e = absurd (cc e)
 
-pub splits : (words : List Text) → is_some (command_of words) ≡ true → Splits words
-unfolding command_of table
+pub splits : (words : List Text) → is_some (placed_of words) ≡ true → Splits words
+unfolding placed_of table
 splits [] e = absurd (cc e)
 splits (word ∷ words) e = by_table word words (bytes_eq word (codes "play")) (bytes_eq word (codes "bulk")) (bytes_eq word (codes "show-dump")) refl refl refl e

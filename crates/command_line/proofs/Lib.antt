@@ -4,3 +4,4 @@ pub mod Leaves
 pub mod Splits
 pub mod Taken
 pub mod Lawful
+pub mod IdLists

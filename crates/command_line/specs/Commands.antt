@@ -1,6 +1,6 @@
 -- A command as the rules know it.
 use Rattle.std.specs.Prelude.{Option, Some, None}
-use Rattle.law_headline.specs.Commands.{Play, Bulk, ShowDump}
+use Rattle.law_headline.specs.Commands.{Play, Bulk, ShowDump, Evacuate}
 use Rattle.law_headline.specs.Commands as rules
 use Rattle.law_headline.specs.Mixes.{IsMix}
 use Rattle.command_line.specs.declared.command.Command.{Command}
@@ -10,6 +10,7 @@ abbrev pub known : Command → rules.Command
 known command.Play = Play
 known (command.Bulk seed mix) = Bulk seed mix
 known (command.ShowDump name) = ShowDump name
+known (command.Evacuate from targets) = Evacuate from targets.items
 
 -- .. if there is one
 abbrev pub known_if : Option Command → Option rules.Command

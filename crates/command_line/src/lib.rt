@@ -5,6 +5,7 @@
 #![tactic(auto)]
 
 mod command;
+mod ids;
 mod rule;
 mod splitting;
 

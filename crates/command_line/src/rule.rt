@@ -5,7 +5,7 @@ ghost use Rattle.std.specs.List.{list_all};
 ghost use Rattle.std.specs.String.{string_bytes};
 ghost use Rattle.script_lang.specs.Texts.{is_decimal, is_digit, number_in};
 ghost use Rattle.law_headline.specs.Commands as rules;
-ghost use Rattle.law_headline.specs.Commands.{command_of};
+ghost use Rattle.law_headline.specs.Commands.{placed_of};
 ghost use Rattle.law_headline.specs.Mixes.{IsMix};
 ghost use Rattle.command_line.specs.Commands.{IsInRange, known_if};
 
@@ -42,7 +42,7 @@ fn number(word: &str, low: u64, high: u64) -> Option<u64>
 }
 
 /// A number that fits 32 bits.
-fn small(word: &str, low: u32, high: u32) -> Option<u32>
+pub(crate) fn small(word: &str, low: u32, high: u32) -> Option<u32>
     ensures value { result ≡ number_in low high word.now }
     ensures within { IfSome result (λ n. (low ≤ n) × (n ≤ high)) }
 {
@@ -83,7 +83,7 @@ pub(crate) fn show_dump_of(name: &str) -> Option<Command>
 }
 
 /// Whether a word is that one.
-fn spells(word: &[u8], text: &[u8]) -> bool
+pub(crate) fn spells(word: &[u8], text: &[u8]) -> bool
     ensures { result ≡ bytes_eq word.now text.now }
 {
     word == text
@@ -112,9 +112,9 @@ fn takes_show_dump(words: &[String]) -> bool
 }
 
 /// Whether the words, without the program's name, are of a command.
-#[tactic(auto, unfolding(law_headline::specs::Commands::command_of))]
+#[tactic(auto, unfolding(law_headline::specs::Commands::placed_of))]
 pub(crate) fn is_lawful(words: &[String]) -> bool
-    ensures { result ≡ is_some (command_of (map string_bytes words.now)) }
+    ensures { result ≡ is_some (placed_of (map string_bytes words.now)) }
 {
     let [word, rest @ ..] = words else {
         return false;

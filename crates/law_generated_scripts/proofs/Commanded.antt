@@ -1,11 +1,11 @@
 -- A command that asks for a generated script names a mix in its ranges.
-use Rattle.std.proofs.Common.{◌≡◌, ℕ, ◌≤◌, ◌&&◌, Bool, true, false, nat_le, if◌then◌else◌, List, [], ◌∷◌, Option, Some, None, refl, subst, arith, codes}
+use Rattle.std.proofs.Common.{◌≡◌, ℕ, ◌≤◌, ◌&&◌, Bool, true, false, not, length, nat_le, if◌then◌else◌, List, [], ◌∷◌, Option, Some, None, refl, subst, arith, codes}
 use Rattle.std.specs.Prelude.{bytes_eq, option_and_then}
 use Rattle.std.proofs.lemmas.Bool.Decides.{nat_tests}
 use Rattle.rdma_types.specs.declared.names.Name.{Name}
 use Rattle.script_lang.specs.Texts.{digits_after, greatest_u64, is_decimal, name_of, number_in}
 use Rattle.workload_gen.specs.declared.plan.Mix.{Mix}
-use Rattle.law_headline.specs.Commands.{Bulk, Play, ShowDump, alone, bulk_of, command_of, mix_of, show_dump_of}
+use Rattle.law_headline.specs.Commands.{Bulk, Evacuate, Play, ShowDump, alone, bulk_of, command_of, evacuate_by, evacuate_of, ids_of, mix_of, placed_of, repeats, show_dump_of}
 use Rattle.law_headline.specs.Mixes.{IsMix}
 
 in_range : (low high n m : ℕ) → (if nat_le low n && nat_le n high then Some n else None) ≡ Some m → (low ≤ m) × (m ≤ high)
@@ -76,9 +76,26 @@ chosen false true shows words seed mix h = bulk_in_range words seed mix h
 chosen false false true words seed mix h = show_is_not words seed mix h
 chosen false false false words seed mix h = cc h
 
+placed_in_range : (word : List ℕ) (words : List (List ℕ)) (seed : ℕ) (mix : Mix) → placed_of (word ∷ words) ≡ Some (Bulk seed mix) → IsMix mix
+unfolding placed_of
+placed_in_range word words seed mix h =
+    chosen (bytes_eq word (codes "play")) (bytes_eq word (codes "bulk")) (bytes_eq word (codes "show-dump")) words seed mix h
+
+tested_is_not : (b : Bool) (from : ℕ) (targets : List ℕ) (seed : ℕ) (mix : Mix) → (if b then Some (Evacuate from targets) else None) ≡ Some (Bulk seed mix) → IsMix mix
+tested_is_not true from targets seed mix h = cc h
+tested_is_not false from targets seed mix h = cc h
+
+ids_are_not : (ids : Option (List ℕ)) (seed : ℕ) (mix : Mix) → option_and_then evacuate_by ids ≡ Some (Bulk seed mix) → IsMix mix
+ids_are_not None seed mix h = cc h
+ids_are_not (Some []) seed mix h = cc h
+ids_are_not (Some (from ∷ targets)) seed mix h = tested_is_not (not (repeats (from ∷ targets)) && (nat_le 1 (length targets) && nat_le (length targets) 15)) from targets seed mix h
+
+evacuates_or_not : (evacuates : Bool) (word : List ℕ) (words : List (List ℕ)) (seed : ℕ) (mix : Mix) → (if evacuates then evacuate_of words else placed_of (word ∷ words)) ≡ Some (Bulk seed mix) → IsMix mix
+evacuates_or_not true word words seed mix h = ids_are_not (ids_of words) seed mix h
+evacuates_or_not false word words seed mix h = placed_in_range word words seed mix h
+
 -- the mix of a command
 pub command_in_range : (words : List (List ℕ)) (seed : ℕ) (mix : Mix) → command_of words ≡ Some (Bulk seed mix) → IsMix mix
 unfolding command_of
 command_in_range [] seed mix h = cc h
-command_in_range (word ∷ words) seed mix h =
-    chosen (bytes_eq word (codes "play")) (bytes_eq word (codes "bulk")) (bytes_eq word (codes "show-dump")) words seed mix h
+command_in_range (word ∷ words) seed mix h = evacuates_or_not (bytes_eq word (codes "evacuate")) word words seed mix h

@@ -6,16 +6,19 @@ use Rattle.protocol.specs.declared.images.ContextImage.{ContextImage}
 use Rattle.protocol.specs.Dumps.{Good, Bad, read_dump}
 use Rattle.protocol.specs.State.{empty_world}
 use Rattle.ideal_model.specs.Legal.{IsLegal}
-use Rattle.ideal_model.specs.Machine.{empty}
+use Rattle.ideal_model.specs.Machine.{Machine, empty}
+use Rattle.law_simulation.specs.Stands.{Stands}
+use Rattle.evac_rules.specs.Evacuation.{Fault, evacuation}
 use Rattle.mig_ports.specs.Depots.{Holding, Has}
 use Rattle.mig_ports.specs.Streams.{Puts, TakesAll, TakesCount}
 use Rattle.workload_gen.specs.declared.plan.Mix.{Mix}
 use Rattle.workload_gen.specs.Plan.{plan}
 use Rattle.workload_gen.specs.Summary.{summary}
-use Rattle.law_headline.specs.Commands.{Command, Play, Bulk, ShowDump, command_of}
+use Rattle.law_headline.specs.Commands.{Command, Play, Bulk, ShowDump, Evacuate, command_of}
 use Rattle.law_headline.specs.Follows.{FollowsAll}
+use Rattle.law_headline.specs.Left.{world_of}
 use Rattle.law_headline.specs.Script.{BadLine, answers_text, bad_line, happenings, heard}
-use Rattle.law_headline.specs.Texts.{bad_dump_line, bad_line_line, depot_line, long_line, memory_line, missing_line, usage_line}
+use Rattle.law_headline.specs.Texts.{bad_dump_line, bad_line_line, depot_line, evacuation_text, long_line, memory_line, missing_line, usage_line}
 
 -- ---- what is claimed of a script
 
@@ -49,9 +52,16 @@ Writes r text = Puts r.held r.held_after text
 abbrev pub ReadsAll : Run → List ℕ → Type 0
 ReadsAll r text = TakesAll r.left r.left_after text
 
--- the input is read only for `play`
+-- the input is read for `play` and `evacuate`
+abbrev pub ReadsInput : Option Command → Type 0
+ReadsInput (Some Play) = Unit {0}
+ReadsInput (Some (Evacuate from targets)) = Unit {0}
+ReadsInput other = ⊥
+
+-- .. and for no other
 abbrev pub KeepsInput : Run → Option Command → Type 0
 KeepsInput r (Some Play) = Unit {0}
+KeepsInput r (Some (Evacuate from targets)) = Unit {0}
 KeepsInput r other = r.left_after ≡ r.left
 
 -- what the command does not use is as it was, and no command changes the depot
@@ -99,12 +109,25 @@ pub record IsShown (said : ImageText) (r : Run) (name : Name) : Type 0 where
   pub reads : read_dump bytes ≡ Good image place rest
   pub written : Writes r (said image)
 
+-- `evacuate`, also where the device is not emptied: the whole input was read, none of its lines is bad, and what was written is the
+-- answers to them, the contexts that moved, and how it ended; the machine follows the lines, and then each step of the evacuation
+pub record IsEvacuated (r : Run) (from : ℕ) (targets : List ℕ) (fault : Option Fault) : Type 0 where
+  pub text : List ℕ
+  pub read : ReadsAll r text
+  pub short : length text ≤ input_limit
+  pub good : bad_line text ≡ None
+  pub ended : (evacuation (world_of text) from targets).fault ≡ fault
+  pub written : Writes r (answers_text text ++ evacuation_text (evacuation (world_of text) from targets))
+  pub followed : IsFollowed text
+  pub moves : (m : Machine) → Stands (world_of text) m → FollowsAll (world_of text) m (evacuation (world_of text) from targets).steps
+
 -- the command is done
 abbrev pub IsDoneBy : ImageText → Run → Option Command → Type 0
 IsDoneBy said r None = ⊥
 IsDoneBy said r (Some Play) = IsAnswered r
 IsDoneBy said r (Some (Bulk seed mix)) = IsSummedUp r seed mix
 IsDoneBy said r (Some (ShowDump name)) = IsShown said r name
+IsDoneBy said r (Some (Evacuate from targets)) = IsEvacuated r from targets None
 
 -- .. the run's command
 abbrev pub IsDone : ImageText → Run → Type 0
@@ -119,7 +142,7 @@ pub record IsOfNoCommand (r : Run) : Type 0 where
 
 -- ---- status 3
 
--- `play`: the whole input was read, and what was written is the answers to the lines before its first bad one, which the
+-- `play` and `evacuate`: the whole input was read, and what was written is the answers to the lines before its first bad one, which the
 -- machine follows, and the last line with the number, the column and the reason of that
 pub record IsStoppedAtBadLine (r : Run) : Type 0 where
   pub text : List ℕ
@@ -152,6 +175,7 @@ IsStoppedBy r None = ⊥
 IsStoppedBy r (Some Play) = IsStoppedAtBadLine r
 IsStoppedBy r (Some (Bulk seed mix)) = IsStoppedInBulk r seed mix
 IsStoppedBy r (Some (ShowDump name)) = IsStoppedAtBadDump r name
+IsStoppedBy r (Some (Evacuate from targets)) = IsStoppedAtBadLine r
 
 -- .. which the run's command was given
 abbrev pub IsStopped : Run → Type 0
@@ -159,9 +183,9 @@ IsStopped r = IsStoppedBy r (command r)
 
 -- ---- statuses 4, 7, 9 and 12
 
--- a read failed: the command is `play`, no more was taken than the limit, and nothing was written
+-- a read failed: the command reads the input, no more was taken than the limit, and nothing was written
 pub record IsUnread (r : Run) : Type 0 where
-  pub plays : command r ≡ Some Play
+  pub reads : ReadsInput (command r)
   pub count : ℕ
   pub short : count ≤ input_limit
   pub read : TakesCount r.left r.left_after count
@@ -173,9 +197,9 @@ pub record IsWithoutDepot (r : Run) : Type 0 where
   pub shows : command r ≡ Some (ShowDump name)
   pub written : Writes r depot_line
 
--- the input has more bytes than the limit: the command is `play`
+-- the input has more bytes than the limit: the command reads it
 pub record IsTooLong (r : Run) : Type 0 where
-  pub plays : command r ≡ Some Play
+  pub reads : ReadsInput (command r)
   pub read : TakesCount r.left r.left_after (input_limit + 1)
   pub written : Writes r long_line
 
@@ -185,6 +209,16 @@ pub record IsMissing (r : Run) : Type 0 where
   pub shows : command r ≡ Some (ShowDump name)
   pub nothing : Has r.stored name None
   pub written : Writes r (missing_line name)
+
+-- ---- status 14
+
+-- the device is not emptied: it or a target is not there, or a context stays
+pub record IsNotEmptied (r : Run) : Type 0 where
+  pub from : ℕ
+  pub targets : List ℕ
+  pub evacuates : command r ≡ Some (Evacuate from targets)
+  pub fault : Fault
+  pub is : IsEvacuated r from targets (Some fault)
 
 -- ---- status 8, and a prefix of what the command writes
 
@@ -212,6 +246,7 @@ IsToWriteBy said r None text = text ≡ []
 IsToWriteBy said r (Some Play) text = (text ≡ []) ⊎ AreAnswersRead r text
 IsToWriteBy said r (Some (Bulk seed mix)) text = (text ≡ []) ⊎ (text ≡ bulk_text seed mix)
 IsToWriteBy said r (Some (ShowDump name)) text = (text ≡ []) ⊎ IsDumpRead said r name text
+IsToWriteBy said r (Some (Evacuate from targets)) text = (text ≡ []) ⊎ AreAnswersRead r text
 
 -- .. for the run's command
 abbrev pub IsToWrite : ImageText → Run → List ℕ → Type 0
@@ -226,7 +261,7 @@ pub record IsShortOfMemory (said : ImageText) (r : Run) : Type 0 where
 
 -- a run that was not cut off, under one of the statuses that write: it is done, or it stopped and its last line was written
 abbrev pub IsWritten : ImageText → Run → Type 0
-IsWritten said r = IsDone said r ⊎ IsOfNoCommand r ⊎ IsStopped r ⊎ IsWithoutDepot r ⊎ IsShortOfMemory said r ⊎ IsTooLong r ⊎ IsMissing r
+IsWritten said r = IsDone said r ⊎ IsOfNoCommand r ⊎ IsStopped r ⊎ IsWithoutDepot r ⊎ IsShortOfMemory said r ⊎ IsTooLong r ⊎ IsMissing r ⊎ IsNotEmptied r
 
 -- status 5: a write failed. What was written is a prefix of what a run under another status writes: had the rest been written
 -- too, it would be such a run
@@ -240,4 +275,4 @@ pub record IsCutOff (said : ImageText) (r : Run) : Type 0 where
 
 -- the statuses of a run
 abbrev pub IsStatus : ℕ → Type 0
-IsStatus n = (n ≡ 0) ⊎ (n ≡ 2) ⊎ (n ≡ 3) ⊎ (n ≡ 4) ⊎ (n ≡ 5) ⊎ (n ≡ 7) ⊎ (n ≡ 8) ⊎ (n ≡ 9) ⊎ (n ≡ 12)
+IsStatus n = (n ≡ 0) ⊎ (n ≡ 2) ⊎ (n ≡ 3) ⊎ (n ≡ 4) ⊎ (n ≡ 5) ⊎ (n ≡ 7) ⊎ (n ≡ 8) ⊎ (n ≡ 9) ⊎ (n ≡ 12) ⊎ (n ≡ 14)

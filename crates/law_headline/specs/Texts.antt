@@ -1,9 +1,13 @@
 -- The last line of a run that is not done, and the words of reasons in it (this project's choice).
-use Rattle.std.specs.Prelude.{ℕ, List, [], ◌∷◌, codes}
+use Rattle.std.specs.Prelude.{ℕ, List, [], ◌∷◌, ◌++◌, codes, flat_map, Option, Some, None}
 use Rattle.std.specs.Fmt.{decimal}
 use Rattle.rdma_types.specs.declared.names.Name.{Name}
 use Rattle.protocol.specs.declared.dumps.DumpWhy.{DumpWhy}
 use Rattle.protocol.specs.declared.dumps.DumpWhy.TheVariants as dump_why
+use Rattle.evac_rules.specs.declared.moves.Shifted.{Shifted}
+use Rattle.evac_rules.specs.declared.moves.StayWhy.{StayWhy}
+use Rattle.evac_rules.specs.declared.moves.StayWhy.TheVariants as stay_why
+use Rattle.evac_rules.specs.Evacuation.{Evacuation, Fault, NoSuch, Stays}
 use Rattle.script_lang.specs.declared.lines.LineWhy.{LineWhy}
 use Rattle.script_lang.specs.declared.lines.LineWhy.TheVariants as line_why
 use Rattle.script_lang.specs.Printed.{line}
@@ -60,3 +64,25 @@ long_line = line (codes "input") (codes "too" ∷ codes "long" ∷ [])
 -- the depot holds nothing under a name
 abbrev pub missing_line : Name → List ℕ
 missing_line name = line (codes "missing") (name ∷ [])
+
+-- ---- emptying a device
+
+-- `moved` name id
+abbrev pub moved_line : Shifted → List ℕ
+moved_line x = line (codes "moved") (x.context ∷ decimal x.target ∷ [])
+
+-- why a context stays
+abbrev pub stay_why_text : StayWhy → List ℕ
+stay_why_text stay_why.PeerMoving = codes "peermoving"
+stay_why_text stay_why.TooMany = codes "toomany"
+stay_why_text stay_why.NoTarget = codes "notarget"
+
+-- the last line: `empty`, `refused NoSuch`, or `stays` name reason
+abbrev pub emptied_line : Option Fault → List ℕ
+emptied_line None = line (codes "empty") []
+emptied_line (Some NoSuch) = line (codes "refused") (codes "NoSuch" ∷ [])
+emptied_line (Some (Stays n y)) = line (codes "stays") (n ∷ stay_why_text y ∷ [])
+
+-- a line for each context that moved, and the last line
+abbrev pub evacuation_text : Evacuation → List ℕ
+evacuation_text s = flat_map moved_line s.moved ++ emptied_line s.fault

@@ -6,13 +6,14 @@ jichurpa COMMAND
   play                                    answers the lines of a script from standard input
   bulk SEED CONNECTIONS MESSAGES MOVES    plays a generated script, and sums it up in one line
   show-dump NAME                          tells what the dump in the file depot/NAME holds
+  evacuate FROM TARGET..                  answers the lines of a script, and then empties a device
   COMMAND --help                          tells the words, the limits and the statuses of a command
   --help, -h                              writes this text
   --version                               writes the version
 
 The status is 0 where all is done, 2 for other words, 3 for a bad line or dump, 4, 5 and 7 where
 the input, the output and the depot fail, 8 where memory runs out, 9 for an input of more than
-1048576 bytes, and 12 for a name of which the depot holds no dump.
+1048576 bytes, 12 for a name of which the depot holds no dump, and 14 where a device is not emptied.
 ";
 
 const PLAY: &str = "\
@@ -70,6 +71,27 @@ z, digits and underscores, and begins with a letter.
 Example: jichurpa show-dump b
 ";
 
+const EVACUATE: &str = "\
+jichurpa evacuate FROM TARGET..
+
+Answers the lines of a script from standard input, as play does, and then empties the device FROM:
+each context that lives on it moves to the first TARGET that takes it, one after the other. A line
+is written for each context that moved, and a last line.
+
+  FROM      1 to 255
+  TARGET    1 to 255; there are 1 to 15 of them, and all ids differ
+
+  0   the device is empty; the last line is `empty`
+  3   a line is bad: those before it are answered, and the last line names it
+  4   the input cannot be read
+  5   the output cannot be written
+  8   memory runs out
+  9   the input is too long: nothing is answered
+  14  the device or a target is not there, or a context stays: the last line tells which and why
+
+Example: jichurpa evacuate 2 3 4 < evacuate.script
+";
+
 const VERSION: &str = "jichurpa 0.1.0\n";
 
 /// Whether the word asks for help.
@@ -83,6 +105,7 @@ fn help_of(command: &String) -> Option<&'static str> {
         b"play" => Some(PLAY),
         b"bulk" => Some(BULK),
         b"show-dump" => Some(SHOW_DUMP),
+        b"evacuate" => Some(EVACUATE),
         _ => None,
     }
 }

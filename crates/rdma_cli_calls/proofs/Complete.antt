@@ -9,7 +9,7 @@ use Rattle.mig_ports.specs.Depots.{Has, Holding}
 use Rattle.mig_ports.specs.Streams.{TakesAll, TakesCount}
 use Rattle.workload_gen.specs.declared.plan.Mix.{Mix}
 use Rattle.law_headline.specs.Commands as rules
-use Rattle.law_headline.specs.Headline.{Run, ImageText, IsDone, IsDoneBy, IsMissing, IsShown, IsStopped, IsStoppedAtBadDump, IsStoppedAtBadLine, IsStoppedBy, Writes, command, input_limit}
+use Rattle.law_headline.specs.Headline.{Run, ImageText, IsDone, IsDoneBy, IsMissing, IsShown, IsStopped, IsStoppedAtBadDump, IsStoppedAtBadLine, IsStoppedBy, ReadsInput, Writes, command, input_limit}
 use Rattle.law_headline.specs.Script.{BadLine, bad_line}
 use Rattle.rdma_cli_calls.specs.declared.stop.Stop.{Stop}
 use Rattle.rdma_cli_calls.specs.declared.stop.Stop.TheVariants as stop
@@ -20,17 +20,20 @@ use Rattle.rdma_cli_calls.specs.Stopping.{EndsFor}
 no_command_is_one : (c : rules.Command) → None ≡ Some c → ⊥
 no_command_is_one c h = cc
 
-show_plays_nothing : (name : Name) → Some (rules.ShowDump name) ≡ Some rules.Play → ⊥
-show_plays_nothing name h = cc
-
 show_shows_one : (a b : Name) → Some (rules.ShowDump a) ≡ Some (rules.ShowDump b) → a ≡ b
 show_shows_one a b h = cc
 
 play_shows_nothing : (name : Name) → Some rules.Play ≡ Some (rules.ShowDump name) → ⊥
 play_shows_nothing name h = cc
 
-bulk_plays_nothing : (seed : ℕ) (mix : Mix) → Some (rules.Bulk seed mix) ≡ Some rules.Play → ⊥
-bulk_plays_nothing seed mix h = cc
+play_empties_nothing : (from : ℕ) (targets : List ℕ) → Some rules.Play ≡ Some (rules.Evacuate from targets) → ⊥
+play_empties_nothing from targets h = cc
+
+bulk_empties_nothing : (seed : ℕ) (mix : Mix) (from : ℕ) (targets : List ℕ) → Some (rules.Bulk seed mix) ≡ Some (rules.Evacuate from targets) → ⊥
+bulk_empties_nothing seed mix from targets h = cc
+
+show_empties_nothing : (name : Name) (from : ℕ) (targets : List ℕ) → Some (rules.ShowDump name) ≡ Some (rules.Evacuate from targets) → ⊥
+show_empties_nothing name from targets h = cc
 
 bulk_shows_nothing : (seed : ℕ) (mix : Mix) (name : Name) → Some (rules.Bulk seed mix) ≡ Some (rules.ShowDump name) → ⊥
 bulk_shows_nothing seed mix name h = cc
@@ -81,6 +84,7 @@ module _ (said : ImageText) (r : Run) where
   play_is_done text e left short good stop.OutOfMemory s read write = refl
   play_is_done text e left short good stop.TooLong s read write = absurd (short_is_not_long text left short s.read)
   play_is_done text e left short good (stop.Missing name) s read write = absurd (play_shows_nothing s.name (sym e ∙ s.shows))
+  play_is_done text e left short good stop.NotEmptied s read write = absurd (play_empties_nothing s.from s.targets (sym e ∙ s.evacuates))
 
   -- ---- `bulk`
 
@@ -89,12 +93,13 @@ module _ (said : ImageText) (r : Run) where
   bulk_is_done seed mix e good stop.Usage s write = absurd (no_command_is_one (rules.Bulk seed mix) (sym s.no_command ∙ e))
   bulk_is_done seed mix e good (stop.BadLine line column why) s write = absurd (good s)
   bulk_is_done seed mix e good (stop.BadDump place why) s write = absurd (good s)
-  bulk_is_done seed mix e good stop.ReadFault s write = absurd (bulk_plays_nothing seed mix (sym e ∙ s.plays))
+  bulk_is_done seed mix e good stop.ReadFault s write = absurd (subst ReadsInput e s.reads)
   bulk_is_done seed mix e good stop.WriteFault s write = absurd (write refl)
   bulk_is_done seed mix e good stop.DepotFault s write = absurd (bulk_shows_nothing seed mix s.name (sym e ∙ s.shows))
   bulk_is_done seed mix e good stop.OutOfMemory s write = refl
-  bulk_is_done seed mix e good stop.TooLong s write = absurd (bulk_plays_nothing seed mix (sym e ∙ s.plays))
+  bulk_is_done seed mix e good stop.TooLong s write = absurd (subst ReadsInput e s.reads)
   bulk_is_done seed mix e good (stop.Missing name) s write = absurd (bulk_shows_nothing seed mix s.name (sym e ∙ s.shows))
+  bulk_is_done seed mix e good stop.NotEmptied s write = absurd (bulk_empties_nothing seed mix s.from s.targets (sym e ∙ s.evacuates))
 
   -- ---- `show-dump`
 
@@ -110,12 +115,13 @@ module _ (said : ImageText) (r : Run) where
     show_dump_is_done e stop.Usage s depot write = absurd (no_command_is_one (rules.ShowDump name) (sym s.no_command ∙ e))
     show_dump_is_done e (stop.BadLine line column why) s depot write = absurd (held_is_no_bad_dump (subst (IsStoppedBy r) e s))
     show_dump_is_done e (stop.BadDump at why) s depot write = absurd (held_is_no_bad_dump (subst (IsStoppedBy r) e s))
-    show_dump_is_done e stop.ReadFault s depot write = absurd (show_plays_nothing name (sym e ∙ s.plays))
+    show_dump_is_done e stop.ReadFault s depot write = absurd (subst ReadsInput e s.reads)
     show_dump_is_done e stop.WriteFault s depot write = absurd (write refl)
     show_dump_is_done e stop.DepotFault s depot write = absurd (depot refl)
     show_dump_is_done e stop.OutOfMemory s depot write = refl
-    show_dump_is_done e stop.TooLong s depot write = absurd (show_plays_nothing name (sym e ∙ s.plays))
+    show_dump_is_done e stop.TooLong s depot write = absurd (subst ReadsInput e s.reads)
     show_dump_is_done e (stop.Missing other) s depot write = absurd (held_is_not_missing e s)
+    show_dump_is_done e stop.NotEmptied s depot write = absurd (show_empties_nothing name s.from s.targets (sym e ∙ s.evacuates))
 
     -- .. and then its text is what was written
     pub what_it_says_is_written : command r ≡ Some (rules.ShowDump name) → IsDone said r → Writes r (said image)

@@ -5,13 +5,15 @@ use Rattle.mig_ports.proofs.Chains.{Puts-none, Puts-then}
 use Rattle.rdma_types.specs.declared.names.Name.{Name}
 use Rattle.workload_gen.specs.declared.plan.Mix.{Mix}
 use Rattle.law_headline.specs.Commands as rules
-use Rattle.law_headline.specs.Headline.{Run, AreAnswersRead, ImageText, IsCutOff, IsDone, IsDoneBy, IsDumpRead, IsMissing, IsOfNoCommand, IsShortOfMemory, IsStatus, IsStopped, IsStoppedBy, IsToWriteBy, IsTooLong, IsUnread, IsWithoutDepot, IsWritten, KeepsInput, KeepsUnused, bulk_text, command}
+use Rattle.law_headline.specs.Headline.{Run, AreAnswersRead, ImageText, IsCutOff, IsDone, IsDoneBy, IsDumpRead, IsEvacuated, IsMissing, IsNotEmptied, IsOfNoCommand, IsShortOfMemory, IsStatus, IsStopped, IsStoppedBy, IsToWriteBy, IsTooLong, IsUnread, IsWithoutDepot, IsWritten, KeepsInput, KeepsUnused, ReadsInput, bulk_text, command}
+use Rattle.law_headline.specs.Left.{world_of}
 use Rattle.law_headline.specs.Script.{BadLine, answers_text, bad_line}
-use Rattle.law_headline.specs.Texts.{bad_dump_line, bad_line_line, depot_line, long_line, memory_line, missing_line, usage_line}
+use Rattle.evac_rules.specs.Evacuation.{Fault, evacuation}
+use Rattle.law_headline.specs.Texts.{bad_dump_line, bad_line_line, depot_line, evacuation_text, long_line, memory_line, missing_line, usage_line}
 use Rattle.script_runner.specs.Playing.{PutsFront}
 use Rattle.rdma_cli_calls.specs.declared.stop.Stop.{Stop}
 use Rattle.rdma_cli_calls.specs.declared.stop.Stop.TheVariants as stop
-use Rattle.rdma_cli_calls.specs.Stopping.{EndsFor, IsSilent, IsSummedUpInPart, StopsBy, StopsFor, WritesFront}
+use Rattle.rdma_cli_calls.specs.Stopping.{EndsFor, IsEvacuationCut, IsSilent, IsToldInPart, MovesAreFollowed, IsSummedUpInPart, StopsBy, StopsFor, WritesFront}
 use Rattle.rdma_cli_calls.specs.Writing.{last_line, status}
 
 -- ---- a last line alone, and one behind a front
@@ -36,6 +38,7 @@ nothing_by said r None = refl
 nothing_by said r (Some rules.Play) = inl refl
 nothing_by said r (Some (rules.Bulk seed mix)) = inl refl
 nothing_by said r (Some (rules.ShowDump name)) = inl refl
+nothing_by said r (Some (rules.Evacuate from targets)) = inl refl
 
 -- ---- what a command was to write where it stops
 
@@ -63,6 +66,10 @@ to_write_later said r after (Some (rules.Bulk seed mix)) text h = h
 to_write_later said r after (Some (rules.ShowDump name)) text h = elim h [
   | inl e ↦ inl e
   | inr a ↦ inr (record { bytes = a.bytes; found = a.found; image = a.image; place = a.place; rest = a.rest; reads = a.reads; is = a.is })
+]
+to_write_later said r after (Some (rules.Evacuate from targets)) text h = elim h [
+  | inl e ↦ inl e
+  | inr a ↦ inr (record { text = a.text; read = a.read; short = a.short; are = a.are; followed = a.followed })
 ]
 
 -- memory was wanting
@@ -98,6 +105,7 @@ module _ (said : ImageText) (r : Run) (after : Option (List ℕ)) where
   words_end e stop.OutOfMemory s p = absurd s
   words_end e stop.TooLong s p = absurd s
   words_end e (stop.Missing name) s p = absurd s
+  words_end e stop.NotEmptied s p = absurd s
 
   -- a front is written, where the command is known
   front_here : (c : Option rules.Command) → command r ≡ c → IsFront said r c → IsFront said r (command r)
@@ -179,12 +187,13 @@ module _ (said : ImageText) (r : Run) (after : Option (List ℕ)) where
     followed = s.followed;
   })
   play_end e (stop.BadDump place why) s p = absurd s
-  play_end e stop.ReadFault s p = record { plays = e; count = s.1.count; short = s.1.short; read = s.1.read; silent = nothing_put r.held_after after p ∙ s.0 }
+  play_end e stop.ReadFault s p = record { reads = subst ReadsInput (sym e) tt; count = s.1.count; short = s.1.short; read = s.1.read; silent = nothing_put r.held_after after p ∙ s.0 }
   play_end e stop.WriteFault s p = answers_cut e s (nothing_put r.held_after after p)
   play_end e stop.DepotFault s p = absurd s
   play_end e stop.OutOfMemory s p = short said r after (front_here (Some rules.Play) e s) p
-  play_end e stop.TooLong s p = record { plays = e; read = s.1; written = behind_nothing r after long_line s.0 p }
+  play_end e stop.TooLong s p = record { reads = subst ReadsInput (sym e) tt; read = s.1; written = behind_nothing r after long_line s.0 p }
   play_end e (stop.Missing name) s p = absurd s
+  play_end e stop.NotEmptied s p = absurd s
 
   -- `bulk`
   bulk_end : (seed : ℕ) (mix : Mix) → command r ≡ Some (rules.Bulk seed mix) → (x : Stop) → StopsBy said r (Some (rules.Bulk seed mix)) x → Puts r.held_after after (last_line x) → EndsFor said (with_held_after r after) x
@@ -201,6 +210,7 @@ module _ (said : ImageText) (r : Run) (after : Option (List ℕ)) where
   bulk_end seed mix e stop.OutOfMemory s p = short said r after (silent_front said r (command r) s) p
   bulk_end seed mix e stop.TooLong s p = absurd s
   bulk_end seed mix e (stop.Missing name) s p = absurd s
+  bulk_end seed mix e stop.NotEmptied s p = absurd s
 
   -- `show-dump`
   show_end : (own : Name) → command r ≡ Some (rules.ShowDump own) → (x : Stop) → StopsBy said r (Some (rules.ShowDump own)) x → Puts r.held_after after (last_line x) → EndsFor said (with_held_after r after) x
@@ -220,12 +230,120 @@ module _ (said : ImageText) (r : Run) (after : Option (List ℕ)) where
   show_end own e stop.OutOfMemory s p = short said r after (silent_front said r (command r) s) p
   show_end own e stop.TooLong s p = absurd s
   show_end own e (stop.Missing name) s p = record { name = own; shows = e; nothing = s.2; written = subst (λ n. Puts r.held after (missing_line n)) s.1 (behind_nothing r after (missing_line name) s.0 p) }
+  show_end own e stop.NotEmptied s p = absurd s
+
+  -- `evacuate`: all of it, where the rest is put behind what was written
+  module _ (from : ℕ) (targets : List ℕ) (e : command r ≡ Some (rules.Evacuate from targets)) where
+    abbrev Tells : List ℕ → List ℕ → Type 0
+    Tells text rest = (fault : Option Fault) → (evacuation (world_of text) from targets).fault ≡ fault → IsEvacuated (with_held_after r (with_more after rest)) from targets fault
+
+    -- emptied or not, that is a run
+    ended_cut : (text rest : List ℕ) → Tells text rest → IsCutOff said (with_held_after r after)
+    ended_cut text rest tells = by (evacuation (world_of text) from targets).fault refl
+      where
+        by : (f : Option Fault) → (evacuation (world_of text) from targets).fault ≡ f → IsCutOff said (with_held_after r after)
+        by None is = record {
+          rest = rest;
+          whole = with_more after rest;
+          missing = puts_more after rest;
+          is = inl (subst (IsDoneBy said (with_held_after r (with_more after rest))) (sym e) (tells None is));
+        }
+        by (Some f) is = record {
+          rest = rest;
+          whole = with_more after rest;
+          missing = puts_more after rest;
+          is = inr (inr (inr (inr (inr (inr (inr (record { from = from; targets = targets; evacuates = e; fault = f; is = tells (Some f) is })))))));
+        }
+
+    -- the answers were written in part
+    evacuation_answers_cut : ((text : List ℕ) → MovesAreFollowed from targets text) → WritesFront (AreAnswersRead r) r → after ≡ r.held_after → IsCutOff said (with_held_after r after)
+    evacuation_answers_cut moves s same = by_line (bad_line s.holds.text) refl
+      where
+        by_line : (b : Option BadLine) → bad_line s.holds.text ≡ b → IsCutOff said (with_held_after r after)
+        by_line None good = ended_cut s.holds.text (s.rest ++ evacuation_text (evacuation (world_of s.holds.text) from targets)) (λ fault is. record {
+          text = s.holds.text;
+          read = s.holds.read;
+          short = s.holds.short;
+          good = good;
+          ended = is;
+          written = put_whole r.held r.held_after after s.front (s.rest ++ evacuation_text (evacuation (world_of s.holds.text) from targets)) (answers_text s.holds.text ++ evacuation_text (evacuation (world_of s.holds.text) from targets)) s.written same
+              (sym (append_assoc s.front s.rest (evacuation_text (evacuation (world_of s.holds.text) from targets))) ∙ ap (λ xs. xs ++ evacuation_text (evacuation (world_of s.holds.text) from targets)) s.holds.are);
+          followed = s.holds.followed;
+          moves = moves s.holds.text;
+        })
+        by_line (Some bad) first = record {
+          rest = s.rest ++ bad_line_line bad;
+          whole = with_more after (s.rest ++ bad_line_line bad);
+          missing = puts_more after (s.rest ++ bad_line_line bad);
+          is = inr (inr (inl (subst (IsStoppedBy (with_held_after r (with_more after (s.rest ++ bad_line_line bad)))) (sym e) (record {
+            text = s.holds.text;
+            read = s.holds.read;
+            short = s.holds.short;
+            bad = bad;
+            first = first;
+            written = put_whole r.held r.held_after after s.front (s.rest ++ bad_line_line bad) (answers_text s.holds.text ++ bad_line_line bad) s.written same (sym (append_assoc s.front s.rest (bad_line_line bad)) ∙ ap (λ xs. xs ++ bad_line_line bad) s.holds.are);
+            followed = s.holds.followed;
+          }))));
+        }
+
+    -- what becomes of the contexts was
+    tale_cut : ((text : List ℕ) → MovesAreFollowed from targets text) → IsToldInPart r from targets → after ≡ r.held_after → IsCutOff said (with_held_after r after)
+    tale_cut moves s same = ended_cut s.text s.rest (λ fault is. record {
+      text = s.text;
+      read = s.read;
+      short = s.short;
+      good = s.good;
+      ended = is;
+      written = put_whole r.held r.held_after after (answers_text s.text ++ s.front) s.rest (answers_text s.text ++ evacuation_text (evacuation (world_of s.text) from targets)) s.written same
+          (append_assoc (answers_text s.text) s.front s.rest ∙ ap (λ xs. answers_text s.text ++ xs) (sym s.splits));
+      followed = s.followed;
+      moves = moves s.text;
+    })
+
+    evacuation_cut : IsEvacuationCut r from targets → after ≡ r.held_after → IsCutOff said (with_held_after r after)
+    evacuation_cut s same = elim s.front [ inl a ↦ evacuation_answers_cut s.moves a same | inr t ↦ tale_cut s.moves t same ]
+
+    evacuate_end : (x : Stop) → StopsBy said r (Some (rules.Evacuate from targets)) x → Puts r.held_after after (last_line x) → EndsFor said (with_held_after r after) x
+    evacuate_end stop.Usage s p = absurd s
+    evacuate_end (stop.BadLine line column why) s p = subst (IsStoppedBy (with_held_after r after)) (sym e) (record {
+      text = s.text;
+      read = s.read;
+      short = s.short;
+      bad = record { number = line; offence = record { column = column; why = why } };
+      first = s.first;
+      written = Puts-then r.held r.held_after after (answers_text s.text) (bad_line_line (record { number = line; offence = record { column = column; why = why } })) s.written p;
+      followed = s.followed;
+    })
+    evacuate_end (stop.BadDump place why) s p = absurd s
+    evacuate_end stop.ReadFault s p = record { reads = subst ReadsInput (sym e) tt; count = s.1.count; short = s.1.short; read = s.1.read; silent = nothing_put r.held_after after p ∙ s.0 }
+    evacuate_end stop.WriteFault s p = evacuation_cut s (nothing_put r.held_after after p)
+    evacuate_end stop.DepotFault s p = absurd s
+    evacuate_end stop.OutOfMemory s p = short said r after (front_here (Some (rules.Evacuate from targets)) e s) p
+    evacuate_end stop.TooLong s p = record { reads = subst ReadsInput (sym e) tt; read = s.1; written = behind_nothing r after long_line s.0 p }
+    evacuate_end (stop.Missing name) s p = absurd s
+    evacuate_end stop.NotEmptied s p = record {
+      from = from;
+      targets = targets;
+      evacuates = e;
+      fault = s.fault;
+      is = record {
+        text = s.is.text;
+        read = s.is.read;
+        short = s.is.short;
+        good = s.is.good;
+        ended = s.is.ended;
+        written = subst (λ h. Puts r.held h (answers_text s.is.text ++ evacuation_text (evacuation (world_of s.is.text) from targets))) (sym (nothing_put r.held_after after p)) s.is.written;
+        followed = s.is.followed;
+        moves = s.is.moves;
+      };
+    }
 
   end_by : (c : Option rules.Command) → command r ≡ c → (x : Stop) → StopsBy said r c x → Puts r.held_after after (last_line x) → EndsFor said (with_held_after r after) x
   end_by None e x s p = words_end e x s p
   end_by (Some rules.Play) e x s p = play_end e x s p
   end_by (Some (rules.Bulk seed mix)) e x s p = bulk_end seed mix e x s p
   end_by (Some (rules.ShowDump own)) e x s p = show_end own e x s p
+  end_by (Some (rules.Evacuate from targets)) e x s p = evacuate_end from targets e x s p
 
   -- the command of the run
   pub stopped : (x : Stop) → StopsFor said r x → Puts r.held_after after (last_line x) → EndsFor said (with_held_after r after) x
@@ -243,7 +361,8 @@ written_by said r stop.WriteFault n m h = absurd (m refl)
 written_by said r stop.DepotFault n m h = inr (inr (inr (inl h)))
 written_by said r stop.OutOfMemory n m h = inr (inr (inr (inr (inl h))))
 written_by said r stop.TooLong n m h = inr (inr (inr (inr (inr (inl h)))))
-written_by said r (stop.Missing name) n m h = inr (inr (inr (inr (inr (inr h)))))
+written_by said r (stop.Missing name) n m h = inr (inr (inr (inr (inr (inr (inl h))))))
+written_by said r stop.NotEmptied n m h = inr (inr (inr (inr (inr (inr (inr h))))))
 
 -- a front of it
 pub stopped_cut_off : (said : ImageText) (r : Run) (after : Option (List ℕ)) (x : Stop) → x ≢ stop.ReadFault → x ≢ stop.WriteFault → StopsFor said r x → PutsFront r.held_after after (last_line x) → IsCutOff said (with_held_after r after)
@@ -267,6 +386,7 @@ module _ (said : ImageText) (r : Run) where
   at_2 stop.OutOfMemory e h = absurd (omega (arith, e))
   at_2 stop.TooLong e h = absurd (omega (arith, e))
   at_2 (stop.Missing name) e h = absurd (omega (arith, e))
+  at_2 stop.NotEmptied e h = absurd (omega (arith, e))
 
   pub at_3 : (x : Stop) → status x ≡ 3 → EndsFor said r x → IsStopped r
   at_3 stop.Usage e h = absurd (omega (arith, e))
@@ -278,6 +398,7 @@ module _ (said : ImageText) (r : Run) where
   at_3 stop.OutOfMemory e h = absurd (omega (arith, e))
   at_3 stop.TooLong e h = absurd (omega (arith, e))
   at_3 (stop.Missing name) e h = absurd (omega (arith, e))
+  at_3 stop.NotEmptied e h = absurd (omega (arith, e))
 
   pub at_4 : (x : Stop) → status x ≡ 4 → EndsFor said r x → IsUnread r
   at_4 stop.Usage e h = absurd (omega (arith, e))
@@ -289,6 +410,7 @@ module _ (said : ImageText) (r : Run) where
   at_4 stop.OutOfMemory e h = absurd (omega (arith, e))
   at_4 stop.TooLong e h = absurd (omega (arith, e))
   at_4 (stop.Missing name) e h = absurd (omega (arith, e))
+  at_4 stop.NotEmptied e h = absurd (omega (arith, e))
 
   pub at_5 : (x : Stop) → status x ≡ 5 → EndsFor said r x → IsCutOff said r
   at_5 stop.Usage e h = absurd (omega (arith, e))
@@ -300,6 +422,7 @@ module _ (said : ImageText) (r : Run) where
   at_5 stop.OutOfMemory e h = absurd (omega (arith, e))
   at_5 stop.TooLong e h = absurd (omega (arith, e))
   at_5 (stop.Missing name) e h = absurd (omega (arith, e))
+  at_5 stop.NotEmptied e h = absurd (omega (arith, e))
 
   pub at_7 : (x : Stop) → status x ≡ 7 → EndsFor said r x → IsWithoutDepot r
   at_7 stop.Usage e h = absurd (omega (arith, e))
@@ -311,6 +434,7 @@ module _ (said : ImageText) (r : Run) where
   at_7 stop.OutOfMemory e h = absurd (omega (arith, e))
   at_7 stop.TooLong e h = absurd (omega (arith, e))
   at_7 (stop.Missing name) e h = absurd (omega (arith, e))
+  at_7 stop.NotEmptied e h = absurd (omega (arith, e))
 
   pub at_8 : (x : Stop) → status x ≡ 8 → EndsFor said r x → IsShortOfMemory said r
   at_8 stop.Usage e h = absurd (omega (arith, e))
@@ -322,6 +446,7 @@ module _ (said : ImageText) (r : Run) where
   at_8 stop.OutOfMemory e h = h
   at_8 stop.TooLong e h = absurd (omega (arith, e))
   at_8 (stop.Missing name) e h = absurd (omega (arith, e))
+  at_8 stop.NotEmptied e h = absurd (omega (arith, e))
 
   pub at_9 : (x : Stop) → status x ≡ 9 → EndsFor said r x → IsTooLong r
   at_9 stop.Usage e h = absurd (omega (arith, e))
@@ -333,6 +458,7 @@ module _ (said : ImageText) (r : Run) where
   at_9 stop.OutOfMemory e h = absurd (omega (arith, e))
   at_9 stop.TooLong e h = h
   at_9 (stop.Missing name) e h = absurd (omega (arith, e))
+  at_9 stop.NotEmptied e h = absurd (omega (arith, e))
 
   pub at_12 : (x : Stop) → status x ≡ 12 → EndsFor said r x → IsMissing r
   at_12 stop.Usage e h = absurd (omega (arith, e))
@@ -344,6 +470,19 @@ module _ (said : ImageText) (r : Run) where
   at_12 stop.OutOfMemory e h = absurd (omega (arith, e))
   at_12 stop.TooLong e h = absurd (omega (arith, e))
   at_12 (stop.Missing name) e h = h
+  at_12 stop.NotEmptied e h = absurd (omega (arith, e))
+
+  pub at_14 : (x : Stop) → status x ≡ 14 → EndsFor said r x → IsNotEmptied r
+  at_14 stop.Usage e h = absurd (omega (arith, e))
+  at_14 (stop.BadLine line column why) e h = absurd (omega (arith, e))
+  at_14 (stop.BadDump place why) e h = absurd (omega (arith, e))
+  at_14 stop.ReadFault e h = absurd (omega (arith, e))
+  at_14 stop.WriteFault e h = absurd (omega (arith, e))
+  at_14 stop.DepotFault e h = absurd (omega (arith, e))
+  at_14 stop.OutOfMemory e h = absurd (omega (arith, e))
+  at_14 stop.TooLong e h = absurd (omega (arith, e))
+  at_14 (stop.Missing name) e h = absurd (omega (arith, e))
+  at_14 stop.NotEmptied e h = h
 
 -- the stop of status 4
 pub stop_4 : (x : Stop) → status x ≡ 4 → x ≡ stop.ReadFault
@@ -356,6 +495,7 @@ stop_4 stop.DepotFault e = absurd (omega (arith, e))
 stop_4 stop.OutOfMemory e = absurd (omega (arith, e))
 stop_4 stop.TooLong e = absurd (omega (arith, e))
 stop_4 (stop.Missing name) e = absurd (omega (arith, e))
+stop_4 stop.NotEmptied e = absurd (omega (arith, e))
 
 -- the stop of status 5
 pub stop_5 : (x : Stop) → status x ≡ 5 → x ≡ stop.WriteFault
@@ -368,6 +508,7 @@ stop_5 stop.DepotFault e = absurd (omega (arith, e))
 stop_5 stop.OutOfMemory e = absurd (omega (arith, e))
 stop_5 stop.TooLong e = absurd (omega (arith, e))
 stop_5 (stop.Missing name) e = absurd (omega (arith, e))
+stop_5 stop.NotEmptied e = absurd (omega (arith, e))
 
 -- the stop of status 7
 pub stop_7 : (x : Stop) → status x ≡ 7 → x ≡ stop.DepotFault
@@ -380,6 +521,7 @@ stop_7 stop.DepotFault e = refl
 stop_7 stop.OutOfMemory e = absurd (omega (arith, e))
 stop_7 stop.TooLong e = absurd (omega (arith, e))
 stop_7 (stop.Missing name) e = absurd (omega (arith, e))
+stop_7 stop.NotEmptied e = absurd (omega (arith, e))
 
 -- every stop has a status of the program
 pub has_status : (x : Stop) → IsStatus (status x)
@@ -391,7 +533,8 @@ has_status stop.WriteFault = inr (inr (inr (inr (inl refl))))
 has_status stop.DepotFault = inr (inr (inr (inr (inr (inl refl)))))
 has_status stop.OutOfMemory = inr (inr (inr (inr (inr (inr (inl refl))))))
 has_status stop.TooLong = inr (inr (inr (inr (inr (inr (inr (inl refl)))))))
-has_status (stop.Missing name) = inr (inr (inr (inr (inr (inr (inr (inr (refl))))))))
+has_status (stop.Missing name) = inr (inr (inr (inr (inr (inr (inr (inr (inl refl))))))))
+has_status stop.NotEmptied = inr (inr (inr (inr (inr (inr (inr (inr (inr refl))))))))
 
 -- words of no command stop with status 2
 pub words_stop : (said : ImageText) (r : Run) (x : Stop) → command r ≡ None → StopsFor said r x → status x ≡ 2
@@ -407,6 +550,7 @@ words_stop said r x e s = by_words x (subst (λ c. StopsBy said r c x) e s)
     by_words stop.OutOfMemory s = absurd s
     by_words stop.TooLong s = absurd s
     by_words (stop.Missing name) s = absurd s
+    by_words stop.NotEmptied s = absurd s
 
 -- .. and are not done
 pub words_not_done : (said : ImageText) (r : Run) → command r ≡ None → IsDone said r → ⊥
@@ -418,6 +562,7 @@ keeps_input r after None k = k
 keeps_input r after (Some rules.Play) k = k
 keeps_input r after (Some (rules.Bulk seed mix)) k = k
 keeps_input r after (Some (rules.ShowDump name)) k = k
+keeps_input r after (Some (rules.Evacuate from targets)) k = k
 
 pub keeps_unused : (r : Run) (after : Option (List ℕ)) → KeepsUnused r → KeepsUnused (with_held_after r after)
 keeps_unused r after k = record { input = keeps_input r after (command r) k.input; depot = k.depot }

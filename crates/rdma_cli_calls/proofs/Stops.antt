@@ -1,5 +1,5 @@
 -- Why a command stops, and what is known there.
-use Rattle.std.proofs.Common.{◌≡◌, ◌≢◌, ◌≤◌, ◌⊎◌, ◌+◌, ℕ, List, [], ◌++◌, length, drop, Option, Some, None, Result, Err, refl, ap, subst, sym, ◌∙◌, inl, inr, append-nil, arith, length-drop}
+use Rattle.std.proofs.Common.{◌≡◌, ◌≢◌, ◌≤◌, ◌⊎◌, ◌+◌, ℕ, List, [], ◌++◌, length, drop, Option, Some, None, Result, Err, refl, true, false, ap, subst, sym, ◌∙◌, inl, inr, append-nil, arith, length-drop}
 use Rattle.std.specs.Prelude.{IfErr, IsSome}
 use Rattle.protocol.specs.declared.dumps.DumpWhy.{DumpWhy}
 use Rattle.protocol.specs.declared.images.ContextImage.{ContextImage}
@@ -9,21 +9,25 @@ use Rattle.mig_ports.specs.Depots.{Has, Holding}
 use Rattle.mig_ports.specs.Streams.{Puts, TakesAll, TakesCount}
 use Rattle.mig_ports.specs.declared.reading.ReadAllFault.{ReadAllFault}
 use Rattle.mig_ports.specs.declared.reading.ReadAllFault.TheVariants as read
-use Rattle.mig_ports.proofs.Chains.{Puts-none}
+use Rattle.mig_ports.proofs.Chains.{Puts-none, Puts-then}
 use Rattle.dump_reader.specs.declared.fault.DumpFault.{DumpFault}
 use Rattle.dump_reader.specs.declared.fault.DumpFault.TheVariants as dump
 use Rattle.dump_reader.specs.Steps.{IsFault}
 use Rattle.workload_gen.specs.declared.plan.Mix.{Mix}
 use Rattle.workload_gen.specs.Plan.{plan}
 use Rattle.law_headline.specs.Commands as rules
-use Rattle.law_headline.specs.Headline.{Run, AreAnswersRead, ImageText, IsAnswered, IsDumpRead, IsFollowed, IsShown, IsSummedUp, KeepsInput, bulk_text, input_limit}
+use Rattle.law_headline.specs.Headline.{Run, AreAnswersRead, ImageText, IsAnswered, IsDumpRead, IsEvacuated, IsFollowed, IsShown, IsSummedUp, KeepsInput, bulk_text, input_limit}
+use Rattle.law_headline.specs.Left.{world_of}
 use Rattle.law_headline.specs.Script.{answers_text, bad_line}
+use Rattle.law_headline.specs.Texts.{evacuation_text}
+use Rattle.evac_rules.specs.Evacuation.{Fault, evacuation}
+use Rattle.law_evacuation.specs.Evacuated.{EvacuationsAreFollowed}
 use Rattle.script_runner.specs.Playing.{IfBadLine, IsStoppedAt, PutsFront}
 use Rattle.script_runner.specs.declared.fault.PlayFault.{PlayFault}
 use Rattle.script_runner.specs.declared.fault.PlayFault.TheVariants as play
 use Rattle.rdma_cli_calls.specs.declared.stop.Stop.{Stop}
 use Rattle.rdma_cli_calls.specs.declared.stop.Stop.TheVariants as stop
-use Rattle.rdma_cli_calls.specs.Stopping.{AnswersStop, BulkStops, IsNotAsked, IsReadInPart, IsSilent, IsSummedUpInPart, LookStops, PlayStops, ShowStops, StopsBy, WritesFront, stop_of_dump, stop_of_play, stop_of_read}
+use Rattle.rdma_cli_calls.specs.Stopping.{AnswersStop, BulkStops, EvacuateStops, IsNotAsked, IsReadInPart, IsSilent, IsSummedUpInPart, LookStops, MovesAreFollowed, PlayStops, ShowStops, StopsBy, WritesFront, is_empty, stop_of_dump, stop_of_play, stop_of_read}
 
 -- nothing is a front of nothing
 pub nothing_written : (P : List ℕ → Type 0) (r : Run) → P [] → IsSilent r → WritesFront P r
@@ -51,6 +55,81 @@ module _ (r : Run) (text : List ℕ) (t : TakesAll r.left r.left_after text) (sh
   pub played : bad_line text ≡ None → Puts r.held r.held_after (answers_text text) → IsAnswered r
   played g p = record { text = text; read = t; short = short; good = g; written = p; followed = followed }
 
+-- ---- evacuate
+
+module _ (from : ℕ) (targets : List ℕ) (r : Run) where
+  -- the input is not read
+  pub evacuate_unread : (f : ReadAllFault) → PlayStops r (stop_of_read f) → EvacuateStops from targets r (stop_of_read f)
+  evacuate_unread read.ReadFault s = s
+  evacuate_unread read.TooLong s = s
+  evacuate_unread read.OutOfMemory s = s
+
+  module _ (law : EvacuationsAreFollowed) (text : List ℕ) (t : TakesAll r.left r.left_after text) (short : length text ≤ input_limit) (followed : IsFollowed text) where
+    moves_are : (text' : List ℕ) → MovesAreFollowed from targets text'
+    moves_are text' m stands = law (world_of text') m from targets stands
+
+    -- it is not played to its end
+    pub evacuate_stopped : (f : PlayFault) → IfBadLine (IsStoppedAt r.held r.held_after text) f → PutsFront r.held r.held_after (answers_text text) → EvacuateStops from targets r (stop_of_play f)
+    evacuate_stopped (play.BadLine line column why) b p = play_stopped r text t short followed (play.BadLine line column why) b p
+    evacuate_stopped play.WriteFault b p = record { front = inl (answers_in_part r text t short followed p); moves = moves_are }
+    evacuate_stopped play.OutOfMemory b p = play_stopped r text t short followed play.OutOfMemory b p
+
+    -- it is, and memory is wanted then
+    pub nothing_told : Puts r.held r.held_after (answers_text text) → EvacuateStops from targets r stop.OutOfMemory
+    nothing_told p = record {
+      front = answers_text text;
+      rest = [];
+      holds = inr (record { text = text; read = t; short = short; are = append-nil (answers_text text); followed = followed });
+      written = p;
+    }
+
+    module _ (good : bad_line text ≡ None) (h : Option (List ℕ)) (answered : Puts r.held h (answers_text text)) (tale : List ℕ) (is : tale ≡ evacuation_text (evacuation (world_of text) from targets)) where
+      -- what becomes of the contexts is written in part
+      pub told_in_part : PutsFront h r.held_after tale → EvacuateStops from targets r stop.WriteFault
+      told_in_part p = record {
+        front = inr (record {
+          text = text;
+          read = t;
+          short = short;
+          good = good;
+          followed = followed;
+          front = p.front;
+          rest = p.rest;
+          splits = sym is ∙ p.splits;
+          written = Puts-then r.held h r.held_after (answers_text text) p.front answered p.put;
+        });
+        moves = moves_are;
+      }
+
+      module _ (p : Puts h r.held_after tale) where
+        told_whole : (f : Option Fault) → (evacuation (world_of text) from targets).fault ≡ f → IsEvacuated r from targets f
+        told_whole f e = record {
+          text = text;
+          read = t;
+          short = short;
+          good = good;
+          ended = e;
+          written = subst (λ xs. Puts r.held r.held_after (answers_text text ++ xs)) is (Puts-then r.held h r.held_after (answers_text text) tale answered p);
+          followed = followed;
+          moves = moves_are text;
+        }
+
+        -- the device is empty
+        pub evacuated : is_empty (evacuation (world_of text) from targets).fault ≡ true → IsEvacuated r from targets None
+        evacuated e = by (evacuation (world_of text) from targets).fault refl e
+          where
+            by : (f : Option Fault) → (evacuation (world_of text) from targets).fault ≡ f → is_empty f ≡ true → IsEvacuated r from targets None
+            by None same d = told_whole None same
+            by (Some f) same d = cc
+
+        -- .. or not
+        pub held_back : is_empty (evacuation (world_of text) from targets).fault ≡ false → EvacuateStops from targets r stop.NotEmptied
+        held_back e = by (evacuation (world_of text) from targets).fault refl e
+          where
+            by : (f : Option Fault) → (evacuation (world_of text) from targets).fault ≡ f → is_empty f ≡ false → EvacuateStops from targets r stop.NotEmptied
+            by None same d = cc
+            by (Some f) same d = record { fault = f; is = told_whole (Some f) same }
+
 -- ---- bulk
 
 -- the answers to a script are not known
@@ -71,6 +150,7 @@ module _ (seed : ℕ) (mix : Mix) (r : Run) where
   bulk_stopped stop.OutOfMemory a s = s
   bulk_stopped stop.TooLong a s = a
   bulk_stopped (stop.Missing name) a s = a
+  bulk_stopped stop.NotEmptied a s = a
 
   -- the summary is written in part
   pub bulk_cut_off : bad_line (plan seed mix) ≡ None → IsFollowed (plan seed mix) → PutsFront r.held r.held_after (bulk_text seed mix) → IsSummedUpInPart r seed mix
@@ -90,6 +170,7 @@ module _ (said : ImageText) (name : Name) (r : Run) where
   look_stopped stop.OutOfMemory l s = s
   look_stopped stop.TooLong l s = l
   look_stopped (stop.Missing other) l s = (s, l.0, l.1)
+  look_stopped stop.NotEmptied l s = l
 
   module _ (bytes : List ℕ) (found : Has r.stored name (Some bytes)) where
     -- they are no dump
@@ -113,6 +194,7 @@ memory_stops said r None n s = absurd (n refl)
 memory_stops said r (Some rules.Play) n s = nothing_written (λ text. (text ≡ []) ⊎ AreAnswersRead r text) r (inl refl) s
 memory_stops said r (Some (rules.Bulk seed mix)) n s = s
 memory_stops said r (Some (rules.ShowDump name)) n s = s
+memory_stops said r (Some (rules.Evacuate from targets)) n s = nothing_written (λ text. (text ≡ []) ⊎ AreAnswersRead r text) r (inl refl) s
 
 -- .. and the input is as it was
 pub input_kept : (r : Run) (k : Option rules.Command) → r.left_after ≡ r.left → KeepsInput r k
@@ -120,6 +202,7 @@ input_kept r None e = e
 input_kept r (Some rules.Play) e = tt
 input_kept r (Some (rules.Bulk seed mix)) e = e
 input_kept r (Some (rules.ShowDump name)) e = e
+input_kept r (Some (rules.Evacuate from targets)) e = tt
 
 -- so the run stops as it is to
 pub not_asked : (said : ImageText) (r : Run) (k : Option rules.Command) (x : Stop) → IsNotAsked k x → IsSilent r → StopsBy said r k x
@@ -132,6 +215,7 @@ not_asked said r k stop.DepotFault n s = absurd n
 not_asked said r k stop.OutOfMemory n s = memory_stops said r k n s
 not_asked said r k stop.TooLong n s = absurd n
 not_asked said r k (stop.Missing name) n s = absurd n
+not_asked said r k stop.NotEmptied n s = absurd n
 
 -- ---- results
 
@@ -153,6 +237,7 @@ only_memory k c stop.DepotFault n e = absurd n
 only_memory k c stop.OutOfMemory n e = refl
 only_memory k c stop.TooLong n e = absurd n
 only_memory k c (stop.Missing name) n e = absurd n
+only_memory k c stop.NotEmptied n e = absurd n
 
 -- a command, or another one
 abbrev of_some : rules.Command → Option rules.Command → rules.Command

@@ -1,5 +1,5 @@
 -- Why a run of the program stops before it is done, and what is known there before its last line is written.
-use Rattle.std.specs.Prelude.{ℕ, ◌≡◌, ◌≢◌, ◌≤◌, ◌⊎◌, ◌+◌, List, [], ◌++◌, length, map, Option, Some, None, String}
+use Rattle.std.specs.Prelude.{ℕ, ◌≡◌, ◌≢◌, ◌≤◌, ◌⊎◌, ◌+◌, List, [], ◌++◌, length, map, Option, Some, None, String, Bool, true, false}
 use Rattle.std.specs.String.{string_bytes}
 use Rattle.std.specs.declared.alloc.Global.{Global}
 use Rattle.rdma_types.specs.declared.names.Name.{Name}
@@ -14,8 +14,14 @@ use Rattle.dump_reader.specs.declared.fault.DumpFault.TheVariants as dump
 use Rattle.workload_gen.specs.declared.plan.Mix.{Mix}
 use Rattle.workload_gen.specs.Plan.{plan}
 use Rattle.law_headline.specs.Commands as rules
-use Rattle.law_headline.specs.Headline.{Run, AreAnswersRead, ImageText, IsCutOff, IsDumpRead, IsFollowed, IsMissing, IsOfNoCommand, IsShortOfMemory, IsStopped, IsTooLong, IsUnread, IsWithoutDepot, Writes, bulk_text, command, input_limit}
+use Rattle.law_headline.specs.Headline.{Run, AreAnswersRead, ImageText, IsCutOff, IsDumpRead, IsEvacuated, IsFollowed, IsMissing, IsNotEmptied, IsOfNoCommand, IsShortOfMemory, IsStopped, IsTooLong, IsUnread, IsWithoutDepot, Writes, bulk_text, command, input_limit}
+use Rattle.law_headline.specs.Follows.{FollowsAll}
+use Rattle.law_headline.specs.Left.{world_of}
 use Rattle.law_headline.specs.Script.{BadLine, answers_text, bad_line}
+use Rattle.law_headline.specs.Texts.{evacuation_text}
+use Rattle.ideal_model.specs.Machine.{Machine}
+use Rattle.law_simulation.specs.Stands.{Stands}
+use Rattle.evac_rules.specs.Evacuation.{Fault, evacuation}
 use Rattle.script_runner.specs.declared.fault.PlayFault.{PlayFault}
 use Rattle.script_runner.specs.declared.fault.PlayFault.TheVariants as play
 use Rattle.rdma_cli_calls.specs.declared.stop.Stop.{Stop}
@@ -86,6 +92,43 @@ PlayStops r stop.OutOfMemory = WritesFront (λ text. (text ≡ []) ⊎ AreAnswer
 PlayStops r stop.TooLong = IsSilent r × TakesCount r.left r.left_after (input_limit + 1)
 PlayStops r other = ⊥
 
+-- the device is empty: no fault is told
+abbrev pub is_empty : Option Fault → Bool
+is_empty None = true
+is_empty (Some fault) = false
+
+-- the machine follows the steps of each evacuation that a text may end with
+abbrev pub MovesAreFollowed : ℕ → List ℕ → List ℕ → Type 0
+MovesAreFollowed from targets text = (m : Machine) → Stands (world_of text) m → FollowsAll (world_of text) m (evacuation (world_of text) from targets).steps
+
+-- the answers were written, and a prefix of what becomes of the contexts
+pub record IsToldInPart (r : Run) (from : ℕ) (targets : List ℕ) : Type 0 where
+  pub text : List ℕ
+  pub read : TakesAll r.left r.left_after text
+  pub short : length text ≤ input_limit
+  pub good : bad_line text ≡ None
+  pub followed : IsFollowed text
+  pub front : List ℕ
+  pub rest : List ℕ
+  pub splits : evacuation_text (evacuation (world_of text) from targets) ≡ front ++ rest
+  pub written : Writes r (answers_text text ++ front)
+
+-- .. or a prefix of the answers
+pub record IsEvacuationCut (r : Run) (from : ℕ) (targets : List ℕ) : Type 0 where
+  pub front : WritesFront (AreAnswersRead r) r ⊎ IsToldInPart r from targets
+  pub moves : (text : List ℕ) → MovesAreFollowed from targets text
+
+-- the device was not emptied
+pub record IsHeldBack (r : Run) (from : ℕ) (targets : List ℕ) : Type 0 where
+  pub fault : Fault
+  pub is : IsEvacuated r from targets (Some fault)
+
+-- `evacuate` stops
+abbrev pub EvacuateStops : ℕ → List ℕ → Run → Stop → Type 0
+EvacuateStops from targets r stop.WriteFault = IsEvacuationCut r from targets
+EvacuateStops from targets r stop.NotEmptied = IsHeldBack r from targets
+EvacuateStops from targets r other = PlayStops r other
+
 -- the answers to a script are not known: a line of it is bad, or it was out of memory
 abbrev pub AnswersStop : List ℕ → Stop → Type 0
 AnswersStop script (stop.BadLine line column why) = bad_line script ≡ Some (record { number = line; offence = record { column = column; why = why } })
@@ -144,6 +187,7 @@ StopsBy said r None x = WordsStop r x
 StopsBy said r (Some rules.Play) x = PlayStops r x
 StopsBy said r (Some (rules.Bulk seed mix)) x = BulkStops seed mix r x
 StopsBy said r (Some (rules.ShowDump name)) x = ShowStops said name r x
+StopsBy said r (Some (rules.Evacuate from targets)) x = EvacuateStops from targets r x
 
 -- the command of a run stops
 abbrev pub StopsFor : ImageText → Run → Stop → Type 0
@@ -160,3 +204,4 @@ EndsFor said r stop.DepotFault = IsWithoutDepot r
 EndsFor said r stop.OutOfMemory = IsShortOfMemory said r
 EndsFor said r stop.TooLong = IsTooLong r
 EndsFor said r (stop.Missing name) = IsMissing r
+EndsFor said r stop.NotEmptied = IsNotEmptied r

@@ -15,6 +15,7 @@ last_line stop.DepotFault = text.depot_line
 last_line stop.OutOfMemory = text.memory_line
 last_line stop.TooLong = text.long_line
 last_line (stop.Missing name) = text.missing_line name
+last_line stop.NotEmptied = []
 
 -- it has one
 pub record HasLastLine (x : Stop) : Type 0 where
@@ -32,3 +33,4 @@ status stop.DepotFault = 7
 status stop.OutOfMemory = 8
 status stop.TooLong = 9
 status (stop.Missing name) = 12
+status stop.NotEmptied = 14

@@ -4,18 +4,20 @@ ghost use Rattle.std.specs.Prelude.{◌≡◌, ◌≤◌, ◌<◌, ◌+◌, ◌�
 ghost use Rattle.mig_ports.specs.Depots.{Has};
 ghost use Rattle.mig_ports.specs.Streams.{FaultsCounted, TakesCount};
 ghost use Rattle.dump_writer.specs.Text.{text_of};
-ghost use Rattle.law_headline.specs.Headline.{IsAnswered, IsFollowed, IsShown, IsSummedUp, Run, input_limit};
+ghost use Rattle.law_headline.specs.Headline.{IsAnswered, IsEvacuated, IsFollowed, IsShown, IsSummedUp, Run, input_limit};
 ghost use Rattle.law_headline.specs.Script.{answers_text, bad_line};
-ghost use Rattle.rdma_cli_calls.specs.Stopping.{AnswersStop, BulkStops, LookStops, PlayStops, ShowStops};
+ghost use Rattle.rdma_cli_calls.specs.Stopping.{AnswersStop, BulkStops, EvacuateStops, LookStops, PlayStops, ShowStops};
 
 use crate::stop::Stop;
+use crate::telling::tale_of;
 use crate::text_sink::TextSink;
 use crate::writing::write_text;
 use dump_reader::decode_dump;
 use dump_writer::dump_text;
+use law_evacuation::evacuations_are_followed;
 use mig_ports::{Depot, DepotFault, Sink, Source, read_all};
 use rdma_types::Name;
-use script_runner::{PlayFault, play};
+use script_runner::{PlayFault, play, play_world};
 use settle_core::Rounds;
 use std::alloc::Global;
 use workload_gen::{Mix, plan_of, summary_of};
@@ -39,6 +41,33 @@ pub(crate) fn play_input<S: Source, K: Sink>(
 {
     let text = read_all(alloc, input, LIMIT)?;
     play(alloc, text.as_slice(), &Rounds, output)?;
+    Ok(())
+}
+
+/// Reads the input to its end, answers its lines, empties a device of the world that they leave, and tells how it ended.
+pub(crate) fn evacuate_input<S: Source, K: Sink>(
+    alloc: Global,
+    from: u8,
+    targets: &[u8],
+    input: &mut S,
+    output: &mut K,
+) -> Result<(), Stop>
+    ensures done { (r : Run) → OnOk result (IsEvacuated (record r { left = S.left input.old; left_after = S.left input.new; held = K.held output.old; held_after = K.held output.new }) from targets.now None) }
+    ensures stops { (r : Run) → IfErr result (EvacuateStops from targets.now (record r { left = S.left input.old; left_after = S.left input.new; held = K.held output.old; held_after = K.held output.new })) }
+    ensures long { IsSome (S.left input.old) → TakesCount (S.left input.old) (S.left input.new) (input_limit + 1) → result ≡ Err Stop.TooLong }
+    ensures unread { result ≡ Err Stop.ReadFault → FaultsCounted (S.faults input.old) (S.faults input.new) }
+    ensures never_fails { S.never_fails input.old → result ≡ Err Stop.ReadFault → ⊥ }
+    ensures unwritten { result ≡ Err Stop.WriteFault → FaultsCounted (K.faults output.old) (K.faults output.new) }
+    ensures faults_monotone { K.faults output.old ≤ K.faults output.new }
+{
+    evacuations_are_followed();
+    let text = read_all(alloc, input, LIMIT)?;
+    let mut world = play_world(alloc, text.as_slice(), &Rounds, output)?;
+    let tale = tale_of(alloc, &mut world, from, targets)?;
+    write_text(tale.text.as_slice(), output)?;
+    if !tale.is_empty {
+        return Err(Stop::NotEmptied);
+    }
     Ok(())
 }
 

@@ -6,6 +6,7 @@
 mod commands;
 mod serial;
 mod stop;
+mod telling;
 mod text_sink;
 mod writing;
 

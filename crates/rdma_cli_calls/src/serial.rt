@@ -12,12 +12,12 @@ ghost use Rattle.law_headline.specs.Commands as rules;
 ghost use Rattle.law_headline.specs.Commands.{command_of};
 ghost use Rattle.workload_gen.specs.declared.plan.Mix.{Mix};
 ghost use Rattle.law_headline.specs.Script.{bad_line};
-ghost use Rattle.law_headline.specs.Headline.{IsCutOff, IsDone, IsMissing, IsOfNoCommand, IsShortOfMemory, IsStatus, IsStopped, IsTooLong, IsUnread, IsWithoutDepot, KeepsUnused, input_limit};
+ghost use Rattle.law_headline.specs.Headline.{IsCutOff, IsDone, IsMissing, IsNotEmptied, IsOfNoCommand, IsShortOfMemory, IsStatus, IsStopped, IsTooLong, IsUnread, IsWithoutDepot, KeepsUnused, ReadsInput, input_limit};
 ghost use Rattle.std.specs.declared.alloc.Global.{Global};
 ghost use Rattle.command_line.specs.Commands.{IsInRange, known};
 ghost use Rattle.rdma_cli_calls.specs.Stopping.{IsNotAsked, StopsFor, run_of};
 
-use crate::commands::{play_input, show_dump, sum_up};
+use crate::commands::{evacuate_input, play_input, show_dump, sum_up};
 use crate::stop::Stop;
 use command_line::Command;
 use law_generated_scripts::no_generated_line_is_bad;
@@ -49,7 +49,7 @@ fn carry_out<S: Source, K: Sink, D: Depot>(
     ensures done { (words : List (String Global)) → command_of (map string_bytes words) ≡ Some (known command.now) → OnOk result (IsDone text_of (run_of words (S.left input.old) (S.left input.new) (K.held output.old) (K.held output.new) (D.held depot.old) (D.held depot.new))) }
     ensures stops { (words : List (String Global)) → command_of (map string_bytes words) ≡ Some (known command.now) → IfErr result (StopsFor text_of (run_of words (S.left input.old) (S.left input.new) (K.held output.old) (K.held output.new) (D.held depot.old) (D.held depot.new))) }
     ensures unused { (words : List (String Global)) → command_of (map string_bytes words) ≡ Some (known command.now) → KeepsUnused (run_of words (S.left input.old) (S.left input.new) (K.held output.old) (K.held output.new) (D.held depot.old) (D.held depot.new)) }
-    ensures long { known command.now ≡ rules.Play → IsSome (S.left input.old) → TakesCount (S.left input.old) (S.left input.new) (input_limit + 1) → result ≡ Err Stop.TooLong }
+    ensures long { ReadsInput (Some (known command.now)) → IsSome (S.left input.old) → TakesCount (S.left input.old) (S.left input.new) (input_limit + 1) → result ≡ Err Stop.TooLong }
     ensures missing { (name : Name) → known command.now ≡ rules.ShowDump name → IsSome (D.held depot.old) → Has (D.held depot.old) name None → (result ≡ Err (Stop.Missing name)) ⊎ (result ≡ Err Stop.DepotFault) }
     ensures unread { result ≡ Err Stop.ReadFault → FaultsCounted (S.faults input.old) (S.faults input.new) }
     ensures never_fails { S.never_fails input.old → result ≡ Err Stop.ReadFault → ⊥ }
@@ -62,6 +62,9 @@ fn carry_out<S: Source, K: Sink, D: Depot>(
         Command::Play => play_input(alloc, input, output),
         Command::Bulk { seed, mix } => sum_up(alloc, *seed, mix, output),
         Command::ShowDump { name } => show_dump(alloc, *name, output, depot),
+        Command::Evacuate { from, targets } => {
+            evacuate_input(alloc, *from, targets.as_slice(), input, output)
+        }
     }
 }
 
@@ -76,7 +79,7 @@ fn perform<S: Source, K: Sink, D: Depot>(
     ensures done { OnOk result (IsDone text_of (run_of words.now (S.left input.old) (S.left input.new) (K.held output.old) (K.held output.new) (D.held depot.old) (D.held depot.new))) }
     ensures stops { IfErr result (StopsFor text_of (run_of words.now (S.left input.old) (S.left input.new) (K.held output.old) (K.held output.new) (D.held depot.old) (D.held depot.new))) }
     ensures unused { KeepsUnused (run_of words.now (S.left input.old) (S.left input.new) (K.held output.old) (K.held output.new) (D.held depot.old) (D.held depot.new)) }
-    ensures long { command_of (map string_bytes words.now) ≡ Some rules.Play → IsSome (S.left input.old) → TakesCount (S.left input.old) (S.left input.new) (input_limit + 1) → result ≡ Err Stop.TooLong }
+    ensures long { ReadsInput (command_of (map string_bytes words.now)) → IsSome (S.left input.old) → TakesCount (S.left input.old) (S.left input.new) (input_limit + 1) → result ≡ Err Stop.TooLong }
     ensures missing { (name : Name) → command_of (map string_bytes words.now) ≡ Some (rules.ShowDump name) → IsSome (D.held depot.old) → Has (D.held depot.old) name None → (result ≡ Err (Stop.Missing name)) ⊎ (result ≡ Err Stop.DepotFault) ⊎ (result ≡ Err Stop.OutOfMemory) }
     ensures unread { result ≡ Err Stop.ReadFault → FaultsCounted (S.faults input.old) (S.faults input.new) }
     ensures never_fails { S.never_fails input.old → result ≡ Err Stop.ReadFault → ⊥ }
@@ -96,6 +99,8 @@ fn perform<S: Source, K: Sink, D: Depot>(
 /// - `play` reads the whole input, at most 1,048,576 bytes, and answers its lines one after the other, each in one write.
 /// - `bulk` plays the generated script of a seed, and writes one line that sums up its answers.
 /// - `show-dump` looks a dump up in the depot, and writes what it says.
+/// - `evacuate` does what `play` does, and then empties a device of the world that the lines left; it writes a line for each
+///   context that moved, and a last line on how it ended.
 ///
 /// A run that is not done writes a last line, but none after a fault of the input or the output. Status 8, out of memory,
 /// may come at any time, and a fault of the output while the last line is written is status 5.
@@ -138,11 +143,15 @@ pub fn run_serial<S: Source, K: Sink, D: Depot>(
 
     // Status 9 comes exactly where one byte more than the limit was taken.
     ensures long { result ≡ 9 → IsTooLong (run_of words.now (S.left input.old) (S.left input.new) (K.held output.old) (K.held output.new) (D.held depot.old) (D.held depot.new)) }
-    ensures long_only { command_of (map string_bytes words.now) ≡ Some rules.Play → IsSome (S.left input.old) → TakesCount (S.left input.old) (S.left input.new) (input_limit + 1) → (result ≡ 9) ⊎ (result ≡ 5) }
+    ensures long_only { ReadsInput (command_of (map string_bytes words.now)) → IsSome (S.left input.old) → TakesCount (S.left input.old) (S.left input.new) (input_limit + 1) → (result ≡ 9) ⊎ (result ≡ 5) }
 
     // Status 12 comes exactly where the depot holds nothing under the name, unless it fails or memory runs out.
     ensures missing { result ≡ 12 → IsMissing (run_of words.now (S.left input.old) (S.left input.new) (K.held output.old) (K.held output.new) (D.held depot.old) (D.held depot.new)) }
     ensures missing_only { (name : Name) → command_of (map string_bytes words.now) ≡ Some (rules.ShowDump name) → IsSome (D.held depot.old) → Has (D.held depot.old) name None → (result ≡ 12) ⊎ (result ≡ 7) ⊎ (result ≡ 8) ⊎ (result ≡ 5) }
+
+    // Status 14: the device that is to be emptied is not, since it or a target is not there, or a context stays; the answers to the
+    // script are written, the contexts that moved, and why; and the packetless machine follows it.
+    ensures not_emptied { result ≡ 14 → IsNotEmptied (run_of words.now (S.left input.old) (S.left input.new) (K.held output.old) (K.held output.new) (D.held depot.old) (D.held depot.new)) }
 
     // Where nothing fails, a script of good lines is answered whole, a generated one is summed up, and what the dump held under
     // the name says is written, unless memory runs out.

@@ -47,6 +47,8 @@ pub(crate) enum Stop {
     Missing {
         name: Name,
     },
+    /// A device is not emptied, which is written already.
+    NotEmptied,
 }
 
 impl From<ReadAllFault> for Stop {
@@ -148,6 +150,7 @@ impl Stop {
             Stop::OutOfMemory => 8,
             Stop::TooLong => 9,
             Stop::Missing { .. } => 12,
+            Stop::NotEmptied => 14,
         }
     }
 
@@ -163,7 +166,7 @@ impl Stop {
             Stop::Usage => write_line(b"usage", &[], output),
             Stop::BadLine { line, column, why } => write_bad_line(*line, *column, *why, output),
             Stop::BadDump { place, why } => write_bad_dump(*place, *why, output),
-            Stop::ReadFault | Stop::WriteFault => Ok(()),
+            Stop::ReadFault | Stop::WriteFault | Stop::NotEmptied => Ok(()),
             Stop::DepotFault => write_line(b"depot", &[b"fault"], output),
             Stop::OutOfMemory => write_line(b"out", &[b"of", b"memory"], output),
             Stop::TooLong => write_line(b"input", &[b"too", b"long"], output),

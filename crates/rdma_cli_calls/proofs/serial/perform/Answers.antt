@@ -1,9 +1,9 @@
-use Rattle.std.proofs.Common.{Err, Some, ap, inl, inr, map, refl, sym, ◌∙◌}
+use Rattle.std.proofs.Common.{Err, Some, ap, inl, inr, map, refl, subst, sym, ◌∙◌}
 use Rattle.std.specs.String.{string_bytes}
 use Rattle.dump_writer.specs.Text.{text_of}
 use Rattle.law_headline.specs.Commands as rules
 use Rattle.law_headline.specs.Commands.{command_of}
-use Rattle.law_headline.specs.Headline.{input_limit}
+use Rattle.law_headline.specs.Headline.{ReadsInput, input_limit}
 use Rattle.command_line.specs.Commands.{known}
 use Rattle.rdma_cli_calls.specs.declared.stop.Stop.TheVariants as stop
 use Rattle.rdma_cli_calls.specs.Stopping.{IsNotAsked, run_of}
@@ -24,7 +24,7 @@ returns-in-Ok-clause-unused g c =
 
 pub returns-in-Ok-clause-long : goal.returns-in-Ok-clause-long
 returns-in-Ok-clause-long g c e =
-    c.carry_out.ensures.long (same_command (known c.in-Ok.command) rules.Play (c.in-Ok.ensures.spelled ∙ e))
+    c.carry_out.ensures.long (subst ReadsInput (sym c.in-Ok.ensures.spelled) e)
 
 pub returns-in-Ok-clause-missing : goal.returns-in-Ok-clause-missing
 returns-in-Ok-clause-missing g c name e some none =

@@ -4,7 +4,7 @@ use Rattle.dump_writer.specs.Text.{text_of}
 use Rattle.law_headline.specs.Headline.{IsStatus}
 use Rattle.rdma_cli_calls.specs.Stopping.{run_of}
 use Rattle.rdma_cli_calls.specs.declared.stop.Stop.TheVariants as stop
-use Rattle.rdma_cli_calls.proofs.Ending.{at_2, at_3, at_4, at_5, at_7, at_8, at_9, at_12, has_status, keeps_unused, with_held_after, same_status, stop_4, stop_5, stop_7, stopped, stopped_cut_off, words_stop}
+use Rattle.rdma_cli_calls.proofs.Ending.{at_2, at_3, at_4, at_5, at_7, at_8, at_9, at_12, at_14, has_status, keeps_unused, with_held_after, same_status, stop_4, stop_5, stop_7, stopped, stopped_cut_off, words_stop}
 use Rattle.rdma_cli_calls.specs.Writing.{status}
 use Rattle.rdma_cli_calls.proofs.Complete.{bulk_is_done, play_is_done, show_dump_is_done, what_it_says_is_written}
 use Rattle.rdma_cli_calls.proofs.serial.run_serial.Goals as goal
@@ -74,6 +74,10 @@ returns-in-Ok-write_last_line-clause-missing_only g c name e some none =
         | inr m ↦ inr (inr (inl (c.status.ensures ∙ same_status c.in-Err.stop stop.OutOfMemory (Err c.in-Err.stop) refl m)))
       ]
     ]
+
+pub returns-in-Ok-write_last_line-clause-not_emptied : goal.returns-in-Ok-write_last_line-clause-not_emptied
+returns-in-Ok-write_last_line-clause-not_emptied g c e =
+    at_14 text_of (with_held_after (run_of c.args.words.now (g.S.Source.left c.args.input.now) (g.S.Source.left c.perform.new.input) (g.K.Sink.held c.args.output.now) (g.K.Sink.held c.perform.new.output) (g.D.Depot.held c.args.depot.now) (g.D.Depot.held c.perform.new.depot)) (g.K.Sink.held c.write_last_line.new.output)) c.in-Err.stop (sym c.status.ensures ∙ e) (stopped text_of (run_of c.args.words.now (g.S.Source.left c.args.input.now) (g.S.Source.left c.perform.new.input) (g.K.Sink.held c.args.output.now) (g.K.Sink.held c.perform.new.output) (g.D.Depot.held c.args.depot.now) (g.D.Depot.held c.perform.new.depot)) (g.K.Sink.held c.write_last_line.new.output) c.in-Err.stop c.in-Err.ensures.stops c.in-Ok-write_last_line.ensures.whole)
 
 pub returns-in-Err-write_last_line-clause-unused : goal.returns-in-Err-write_last_line-clause-unused
 returns-in-Err-write_last_line-clause-unused g c =
