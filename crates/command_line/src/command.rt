@@ -23,10 +23,7 @@ pub enum Command {
     /// What a dump in the depot says is written.
     ShowDump { name: Name },
     /// The lines of the whole input are answered, and then a device is emptied.
-    Evacuate {
-        from: u8,
-        targets: ArrayVec<u8, 16>,
-    },
+    Evacuate { from: u8, targets: ArrayVec<u8, 16> },
 }
 
 /// The command of words that have their places one by one.

@@ -121,11 +121,13 @@ pub(crate) fn tale_of(
     match evacuate(alloc, world, &Rounds, from, targets) {
         Ok(moved) => tale_of_empty(alloc, moved.as_slice()),
         Err(EvacFault::NoSuch) => tale_of_none(alloc),
-        Err(EvacFault::Stays {
-            moved,
-            context,
-            why,
-        }) => tale_of_one(alloc, moved.as_slice(), context, why),
+        Err(
+            EvacFault::Stays {
+                moved,
+                context,
+                why,
+            },
+        ) => tale_of_one(alloc, moved.as_slice(), context, why),
         Err(EvacFault::OutOfMemory) => Err(AllocError),
     }
 }
