@@ -12,6 +12,8 @@ enum Spelled {
     Bulk(u64, Mix),
     Help,
     Another,
+    /// The device, and how many targets.
+    Evacuate(u8, usize),
 }
 
 fn told(command: &Option<Command>) -> Spelled {
@@ -21,6 +23,7 @@ fn told(command: &Option<Command>) -> Spelled {
         Some(Command::Bulk { seed, mix }) => Spelled::Bulk(*seed, *mix),
         Some(Command::ShowDump { name }) if name.as_bytes() == b"help".as_slice() => Spelled::Help,
         Some(Command::ShowDump { .. }) => Spelled::Another,
+        Some(Command::Evacuate { from, targets }) => Spelled::Evacuate(*from, targets.len()),
     }
 }
 
@@ -53,6 +56,8 @@ fn words_spell_commands(rt: HostRuntime) -> Result<(), AllocError> {
         ("play more", Spelled::Nothing),
         ("bulk 7 2 300 4", Spelled::Bulk(7, MIX)),
         ("show-dump help", Spelled::Help),
+        ("evacuate 2 3 1", Spelled::Evacuate(2, 2)),
+        ("evacuate 2 2", Spelled::Nothing),
     ];
     for (line, wanted) in lines {
         assert!(rt; command_of(rt.alloc(), line)? == wanted, "{line}");

@@ -7,7 +7,7 @@ ghost use Rattle.script_lang.specs.declared.lines.LineWhy.TheVariants.{Word};
 ghost use Rattle.example_scripts.specs.ASwapAndAWait as in_a_swap_and_a_wait;
 ghost use Rattle.example_scripts.specs.GeneratedLines as in_generated_lines;
 ghost use Rattle.law_headline.specs.Evaluate.{heard_in, said_in, written_for};
-ghost use Rattle.law_headline.specs.Commands.{Play, Bulk, ShowDump, command_of};
+ghost use Rattle.law_headline.specs.Commands.{Bulk, Evacuate, Play, ShowDump, command_of};
 ghost use Rattle.law_headline.specs.Texts.{bad_line_line};
 
 /// An empty script has no bad line, and nothing is written for it.
@@ -42,6 +42,8 @@ pub fn words_of_commands()
     ensures none { command_of [] ≡ None }
     ensures too_many { command_of (codes "bulk" ∷ codes "7" ∷ codes "9" ∷ codes "100" ∷ codes "0" ∷ []) ≡ None }
     ensures more { command_of (codes "play" ∷ codes "x" ∷ []) ≡ None }
+    ensures evacuate { command_of (codes "evacuate" ∷ codes "2" ∷ codes "3" ∷ codes "1" ∷ []) ≡ Some (Evacuate 2 (3 ∷ 1 ∷ [])) }
+    ensures onto_itself { command_of (codes "evacuate" ∷ codes "2" ∷ codes "2" ∷ []) ≡ None }
 {}
 
 /// A compare and swap, and a send that waits for its timer.

@@ -1,28 +1,36 @@
 use Rattle.std.specs.Prelude.{refl}
 use Rattle.script_lang.specs.Texts.{name_of, number_in}
-use Rattle.law_headline.specs.Commands.{command_of}
+use Rattle.law_headline.specs.Commands.{command_of, placed_of}
 use Rattle.example_scripts.proofs.small.words_of_commands.Goals as goal
 
 pub returns-clause-play : goal.returns-clause-play
-unfolding command_of number_in name_of
+unfolding command_of placed_of number_in name_of
 returns-clause-play c = refl
 
 pub returns-clause-bulk : goal.returns-clause-bulk
-unfolding command_of number_in name_of
+unfolding command_of placed_of number_in name_of
 returns-clause-bulk c = refl
 
 pub returns-clause-show_dump : goal.returns-clause-show_dump
-unfolding command_of number_in name_of
+unfolding command_of placed_of number_in name_of
 returns-clause-show_dump c = refl
 
 pub returns-clause-none : goal.returns-clause-none
-unfolding command_of number_in name_of
+unfolding command_of placed_of number_in name_of
 returns-clause-none c = refl
 
 pub returns-clause-too_many : goal.returns-clause-too_many
-unfolding command_of number_in name_of
+unfolding command_of placed_of number_in name_of
 returns-clause-too_many c = refl
 
 pub returns-clause-more : goal.returns-clause-more
-unfolding command_of number_in name_of
+unfolding command_of placed_of number_in name_of
 returns-clause-more c = refl
+
+pub returns-clause-evacuate : goal.returns-clause-evacuate
+unfolding command_of placed_of number_in name_of
+returns-clause-evacuate c = refl
+
+pub returns-clause-onto_itself : goal.returns-clause-onto_itself
+unfolding command_of placed_of number_in name_of
+returns-clause-onto_itself c = refl
