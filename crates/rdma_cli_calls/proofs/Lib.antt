@@ -2,3 +2,4 @@ pub mod Complete
 pub mod Ending
 pub mod Lines
 pub mod Stops
+pub mod Tales

@@ -32,7 +32,7 @@ returns-in_err-write_text-clause-stops g c r =
 
 pub returns-then-not-tale-clause-stops : goal.returns-then-not-tale-clause-stops
 returns-then-not-tale-clause-stops g c r =
-    held_back c.args.from c.args.targets.now (record r { left = g.S.Source.left c.args.input.now; left_after = g.S.Source.left c.read_all.new.source; held = g.K.Sink.held c.args.output.now; held_after = g.K.Sink.held c.write_text.new.output }) c.evacuations_are_followed.ensures c.in_ok-text.text.items c.in_ok-text.ensures.all c.in_ok-text.ensures.short (subst IsFollowed c.as_slice.ensures.value c.in_ok-world.ensures.followed) (subst (λ xs. bad_line xs ≡ None) c.as_slice.ensures.value c.in_ok-world.ensures.good) (g.K.Sink.held c.play_world.new.output) (subst (λ xs. Puts (g.K.Sink.held c.args.output.now) (g.K.Sink.held c.play_world.new.output) (answers_text xs)) c.as_slice.ensures.value c.in_ok-world.ensures.whole) c.in_ok-tale.tale.text.items (c.in_ok-tale.ensures (world_of c.in_ok-text.text.items) (subst (λ xs. c.in_ok-world.world ≡ with_kept_datagrams (world_of xs)) c.as_slice.ensures.value c.in_ok-world.ensures.left.left)).0 (subst (Puts (g.K.Sink.held c.play_world.new.output) (g.K.Sink.held c.write_text.new.output)) c.as_slice-2.ensures.value c.in_ok-write_text.ensures.whole) (sym (c.in_ok-tale.ensures (world_of c.in_ok-text.text.items) (subst (λ xs. c.in_ok-world.world ≡ with_kept_datagrams (world_of xs)) c.as_slice.ensures.value c.in_ok-world.ensures.left.left)).1 ∙ search (rules, c.then-not-tale.true))
+    held_back c.args.from c.args.targets.now (record r { left = g.S.Source.left c.args.input.now; left_after = g.S.Source.left c.read_all.new.source; held = g.K.Sink.held c.args.output.now; held_after = g.K.Sink.held c.write_text.new.output }) c.evacuations_are_followed.ensures c.in_ok-text.text.items c.in_ok-text.ensures.all c.in_ok-text.ensures.short (subst IsFollowed c.as_slice.ensures.value c.in_ok-world.ensures.followed) (subst (λ xs. bad_line xs ≡ None) c.as_slice.ensures.value c.in_ok-world.ensures.good) (g.K.Sink.held c.play_world.new.output) (subst (λ xs. Puts (g.K.Sink.held c.args.output.now) (g.K.Sink.held c.play_world.new.output) (answers_text xs)) c.as_slice.ensures.value c.in_ok-world.ensures.whole) c.in_ok-tale.tale.text.items (c.in_ok-tale.ensures (world_of c.in_ok-text.text.items) (subst (λ xs. c.in_ok-world.world ≡ with_kept_datagrams (world_of xs)) c.as_slice.ensures.value c.in_ok-world.ensures.left.left)).0 (subst (Puts (g.K.Sink.held c.play_world.new.output) (g.K.Sink.held c.write_text.new.output)) c.as_slice-2.ensures.value c.in_ok-write_text.ensures.whole) (sym (c.in_ok-tale.ensures (world_of c.in_ok-text.text.items) (subst (λ xs. c.in_ok-world.world ≡ with_kept_datagrams (world_of xs)) c.as_slice.ensures.value c.in_ok-world.ensures.left.left)).1 ∙ search (rules, c.if-not-tale.true))
 
 pub returns-then-not-tale-clause-long : goal.returns-then-not-tale-clause-long
 returns-then-not-tale-clause-long g c some takes = absurd (cc (c.in_ok-text.ensures.long_only some takes))

@@ -1,6 +1,7 @@
 use Rattle.std.proofs.Common.{[], Some, ap, refl, subst, sym, ◌∙◌}
 use Rattle.std.proofs.lemmas.Result.{IfErr-weaker, on_ok_weaker}
 use Rattle.dump_writer.specs.Text.{text_of}
+use Rattle.law_headline.specs.Commands.{Evacuate}
 use Rattle.law_headline.specs.Headline.{IsDoneBy, KeepsInput, ReadsInput}
 use Rattle.command_line.specs.Commands.{known}
 use Rattle.rdma_cli_calls.specs.declared.stop.Stop.TheVariants as stop
@@ -78,11 +79,11 @@ returns-in-ShowDump-clause-never_fails g c s e =
 
 pub returns-in-Evacuate-clause-done : goal.returns-in-Evacuate-clause-done
 returns-in-Evacuate-clause-done g c words e =
-    on_ok_weaker c.evacuate_input.result (λ d. subst (IsDoneBy text_of (run_of words (g.S.Source.left c.args.input.now) (g.S.Source.left c.evacuate_input.new.input) (g.K.Sink.held c.args.output.now) (g.K.Sink.held c.evacuate_input.new.output) (g.D.Depot.held c.args.depot.now) (g.D.Depot.held c.args.depot.now))) (sym (e ∙ ap (λ x. Some (known x)) c.in-Evacuate.is)) d) (c.evacuate_input.ensures.done (run_of words (g.S.Source.left c.args.input.now) (g.S.Source.left c.evacuate_input.new.input) (g.K.Sink.held c.args.output.now) (g.K.Sink.held c.evacuate_input.new.output) (g.D.Depot.held c.args.depot.now) (g.D.Depot.held c.args.depot.now)))
+    on_ok_weaker c.evacuate_input.result (λ d. subst (IsDoneBy text_of (run_of words (g.S.Source.left c.args.input.now) (g.S.Source.left c.evacuate_input.new.input) (g.K.Sink.held c.args.output.now) (g.K.Sink.held c.evacuate_input.new.output) (g.D.Depot.held c.args.depot.now) (g.D.Depot.held c.args.depot.now))) (sym ((e ∙ ap (λ x. Some (known x)) c.in-Evacuate.is) ∙ ap (λ ts. Some (Evacuate c.in-Evacuate.from ts)) (sym c.as_slice.ensures.value))) d) (c.evacuate_input.ensures.done (run_of words (g.S.Source.left c.args.input.now) (g.S.Source.left c.evacuate_input.new.input) (g.K.Sink.held c.args.output.now) (g.K.Sink.held c.evacuate_input.new.output) (g.D.Depot.held c.args.depot.now) (g.D.Depot.held c.args.depot.now)))
 
 pub returns-in-Evacuate-clause-stops : goal.returns-in-Evacuate-clause-stops
 returns-in-Evacuate-clause-stops g c words e =
-    IfErr-weaker c.evacuate_input.result (EvacuateStops c.in-Evacuate.from c.in-Evacuate.targets.items (run_of words (g.S.Source.left c.args.input.now) (g.S.Source.left c.evacuate_input.new.input) (g.K.Sink.held c.args.output.now) (g.K.Sink.held c.evacuate_input.new.output) (g.D.Depot.held c.args.depot.now) (g.D.Depot.held c.args.depot.now))) (StopsFor text_of (run_of words (g.S.Source.left c.args.input.now) (g.S.Source.left c.evacuate_input.new.input) (g.K.Sink.held c.args.output.now) (g.K.Sink.held c.evacuate_input.new.output) (g.D.Depot.held c.args.depot.now) (g.D.Depot.held c.args.depot.now))) (λ x s. subst (λ k. StopsBy text_of (run_of words (g.S.Source.left c.args.input.now) (g.S.Source.left c.evacuate_input.new.input) (g.K.Sink.held c.args.output.now) (g.K.Sink.held c.evacuate_input.new.output) (g.D.Depot.held c.args.depot.now) (g.D.Depot.held c.args.depot.now)) k x) (sym (e ∙ ap (λ x. Some (known x)) c.in-Evacuate.is)) s) (c.evacuate_input.ensures.stops (run_of words (g.S.Source.left c.args.input.now) (g.S.Source.left c.evacuate_input.new.input) (g.K.Sink.held c.args.output.now) (g.K.Sink.held c.evacuate_input.new.output) (g.D.Depot.held c.args.depot.now) (g.D.Depot.held c.args.depot.now)))
+    IfErr-weaker c.evacuate_input.result (EvacuateStops c.in-Evacuate.from c.as_slice.result.now (run_of words (g.S.Source.left c.args.input.now) (g.S.Source.left c.evacuate_input.new.input) (g.K.Sink.held c.args.output.now) (g.K.Sink.held c.evacuate_input.new.output) (g.D.Depot.held c.args.depot.now) (g.D.Depot.held c.args.depot.now))) (StopsFor text_of (run_of words (g.S.Source.left c.args.input.now) (g.S.Source.left c.evacuate_input.new.input) (g.K.Sink.held c.args.output.now) (g.K.Sink.held c.evacuate_input.new.output) (g.D.Depot.held c.args.depot.now) (g.D.Depot.held c.args.depot.now))) (λ x s. subst (λ k. StopsBy text_of (run_of words (g.S.Source.left c.args.input.now) (g.S.Source.left c.evacuate_input.new.input) (g.K.Sink.held c.args.output.now) (g.K.Sink.held c.evacuate_input.new.output) (g.D.Depot.held c.args.depot.now) (g.D.Depot.held c.args.depot.now)) k x) (sym ((e ∙ ap (λ x. Some (known x)) c.in-Evacuate.is) ∙ ap (λ ts. Some (Evacuate c.in-Evacuate.from ts)) (sym c.as_slice.ensures.value))) s) (c.evacuate_input.ensures.stops (run_of words (g.S.Source.left c.args.input.now) (g.S.Source.left c.evacuate_input.new.input) (g.K.Sink.held c.args.output.now) (g.K.Sink.held c.evacuate_input.new.output) (g.D.Depot.held c.args.depot.now) (g.D.Depot.held c.args.depot.now)))
 
 pub returns-in-Evacuate-clause-unused : goal.returns-in-Evacuate-clause-unused
 returns-in-Evacuate-clause-unused g c words e =
@@ -90,11 +91,11 @@ returns-in-Evacuate-clause-unused g c words e =
 
 pub returns-in-Evacuate-clause-failed : goal.returns-in-Evacuate-clause-failed
 returns-in-Evacuate-clause-failed g c e =
-    absurd (err_holds c.evacuate_input.result (EvacuateStops c.in-Evacuate.from c.in-Evacuate.targets.items (run_of [] (g.S.Source.left c.args.input.now) (g.S.Source.left c.evacuate_input.new.input) (g.K.Sink.held c.args.output.now) (g.K.Sink.held c.evacuate_input.new.output) (g.D.Depot.held c.args.depot.now) (g.D.Depot.held c.args.depot.now))) stop.DepotFault (c.evacuate_input.ensures.stops (run_of [] (g.S.Source.left c.args.input.now) (g.S.Source.left c.evacuate_input.new.input) (g.K.Sink.held c.args.output.now) (g.K.Sink.held c.evacuate_input.new.output) (g.D.Depot.held c.args.depot.now) (g.D.Depot.held c.args.depot.now))) e)
+    absurd (err_holds c.evacuate_input.result (EvacuateStops c.in-Evacuate.from c.as_slice.result.now (run_of [] (g.S.Source.left c.args.input.now) (g.S.Source.left c.evacuate_input.new.input) (g.K.Sink.held c.args.output.now) (g.K.Sink.held c.evacuate_input.new.output) (g.D.Depot.held c.args.depot.now) (g.D.Depot.held c.args.depot.now))) stop.DepotFault (c.evacuate_input.ensures.stops (run_of [] (g.S.Source.left c.args.input.now) (g.S.Source.left c.evacuate_input.new.input) (g.K.Sink.held c.args.output.now) (g.K.Sink.held c.evacuate_input.new.output) (g.D.Depot.held c.args.depot.now) (g.D.Depot.held c.args.depot.now))) e)
 
 pub returns-in-Evacuate-clause-depot_never_fails : goal.returns-in-Evacuate-clause-depot_never_fails
 returns-in-Evacuate-clause-depot_never_fails g c s e =
-    err_holds c.evacuate_input.result (EvacuateStops c.in-Evacuate.from c.in-Evacuate.targets.items (run_of [] (g.S.Source.left c.args.input.now) (g.S.Source.left c.evacuate_input.new.input) (g.K.Sink.held c.args.output.now) (g.K.Sink.held c.evacuate_input.new.output) (g.D.Depot.held c.args.depot.now) (g.D.Depot.held c.args.depot.now))) stop.DepotFault (c.evacuate_input.ensures.stops (run_of [] (g.S.Source.left c.args.input.now) (g.S.Source.left c.evacuate_input.new.input) (g.K.Sink.held c.args.output.now) (g.K.Sink.held c.evacuate_input.new.output) (g.D.Depot.held c.args.depot.now) (g.D.Depot.held c.args.depot.now))) e
+    err_holds c.evacuate_input.result (EvacuateStops c.in-Evacuate.from c.as_slice.result.now (run_of [] (g.S.Source.left c.args.input.now) (g.S.Source.left c.evacuate_input.new.input) (g.K.Sink.held c.args.output.now) (g.K.Sink.held c.evacuate_input.new.output) (g.D.Depot.held c.args.depot.now) (g.D.Depot.held c.args.depot.now))) stop.DepotFault (c.evacuate_input.ensures.stops (run_of [] (g.S.Source.left c.args.input.now) (g.S.Source.left c.evacuate_input.new.input) (g.K.Sink.held c.args.output.now) (g.K.Sink.held c.evacuate_input.new.output) (g.D.Depot.held c.args.depot.now) (g.D.Depot.held c.args.depot.now))) e
 
 pub returns-in-Bulk-clause-long : goal.returns-in-Bulk-clause-long
 returns-in-Bulk-clause-long g c e some takes =
