@@ -4,7 +4,7 @@ use Rattle.rdma_cli_calls.proofs.Tales.{tale_begins, tale_ends, tale_goes_on}
 use Rattle.rdma_cli_calls.proofs.telling.moved_text.Goals as goal
 
 pub loop-shifted-init : goal.loop-shifted-init
-loop-shifted-init c = tale_begins c.args.moved.now c.new.result.items c.new.ensures.items
+loop-shifted-init c = tale_begins c.args.moved.now c.new-text.result.items c.new-text.ensures.items
 
 pub loop-shifted-preserved : goal.loop-shifted-preserved
 loop-shifted-preserved c =
