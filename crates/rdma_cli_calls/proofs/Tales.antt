@@ -2,7 +2,10 @@
 use Rattle.std.proofs.Common.{◌≡◌, ◌≤◌, ◌+◌, ℕ, suc, List, [], ◌∷◌, ◌++◌, length, drop, Option, Some, ap, sym, ◌∙◌, slice_get, add-one, append_assoc, append-nil}
 use Rattle.std.specs.Prelude.{flat_map}
 use Rattle.evac_rules.specs.declared.moves.Shifted.{Shifted}
-use Rattle.law_headline.specs.Texts.{moved_line}
+use Rattle.protocol.specs.State.{World}
+use Rattle.evac_rules.specs.Evacuation.{Evacuation, Fault}
+use Rattle.evac_plan.specs.Steps.{Ends}
+use Rattle.law_headline.specs.Texts.{emptied_line, evacuation_text, moved_line}
 use Rattle.evac_plan.proofs.Tries.{drop_all, drop_at}
 
 -- these bytes, and the lines of the contexts from the i-th on, are all lines
@@ -25,3 +28,7 @@ tale_goes_on xs i done more x t at is =
 -- all are
 pub tale_ends : (xs : List Shifted) (i : ℕ) (done : List ℕ) → IsTale xs i done → length xs ≤ i → done ≡ flat_map moved_line xs
 tale_ends xs i done t past = sym (t ∙ (ap (λ ys. done ++ flat_map moved_line ys) (drop_all xs i past) ∙ append-nil done))
+
+-- what is written is the text of the evacuation
+pub tale_is : (s : Evacuation) (moved : List Shifted) (fault : Option Fault) (new : World) (text : List ℕ) → Ends s moved fault new → text ≡ flat_map moved_line moved ++ emptied_line fault → text ≡ evacuation_text s
+tale_is s moved fault new text e is = is ∙ (ap (λ ms. flat_map moved_line ms ++ emptied_line fault) e.moved ∙ ap (λ f. flat_map moved_line s.moved ++ emptied_line f) (sym e.fault))
