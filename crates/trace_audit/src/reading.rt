@@ -104,7 +104,7 @@ fn whole_line(alloc: Global, words: &mut Words<'_>) -> Result<TraceLine, LineFau
 ///
 /// The first word that is wrong and why, of these in order (this project's choice): `Long`, over 8,400 bytes; `Ascii`, a
 /// byte outside 32 to 126; then word by word `Missing`, `Word` where it names no line, verb or step, `Name`, `Number`,
-/// `Hex`, `Rights` or `BadOption`; last `Extra`. `OutOfMemory`, which only a `store` can meet.
+/// `Hex`, `Rights` or `BadOption`; last `Extra`. Or `OutOfMemory`.
 #[tactic(auto, unfolding(crate::specs::Lines::traced_reading))]
 pub fn read_trace_line(alloc: Global, line: &[u8]) -> Result<TraceLine, LineFault>
     ensures { Says result (traced_reading line.now) }
