@@ -1,11 +1,11 @@
-use Rattle.std.proofs.Common.{arith, ◌≡◌, ℕ, zero, suc, false, List, [], refl, ap}
+use Rattle.std.proofs.Common.{ℕ, false, List, [], refl}
 use Rattle.std.specs.Prelude.{Some}
 use Rattle.protocol.specs.State.{Flight}
 use Rattle.law_world_orders.specs.Evaluate.{opened}
 use Rattle.law_world_orders.specs.Openings.{openings}
 use Rattle.law_world_orders.specs.Order.{IsLine, IsWorldOrder, AreRestored}
 use Rattle.law_world_orders.specs.Sides.{IsOneSidedLine, IsInTimeLine}
-use Rattle.example_orders.specs.Alone.{addition_1, addition_2, address, image, lines, old_1, old_2}
+use Rattle.example_orders.specs.Alone.{addition_1, addition_2, address, lines, old_1, old_2}
 use Rattle.example_orders.proofs.Orders.{EachAfter, each_of}
 
 flight : ℕ → ℕ → List ℕ → Flight

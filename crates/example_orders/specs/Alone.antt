@@ -1,6 +1,6 @@
 -- Two workers add once each, and then b moves once: the lines of the caller's own run, written out from its description.
 -- The bytes of the four datagrams are those of a program made by other people from the same description.
-use Rattle.std.specs.Prelude.{ℕ, ◌+◌, List, [], ◌∷◌, ◌++◌, map, replicate, Some, None, codes, true, false}
+use Rattle.std.specs.Prelude.{ℕ, ◌+◌, List, [], ◌∷◌, ◌++◌, replicate, Some, None, codes, true, false}
 use Rattle.rdma_types.specs.declared.answers.Answer.{Answer}
 use Rattle.rdma_types.specs.declared.answers.Answer.TheVariants as answer
 use Rattle.rdma_types.specs.declared.answers.Sent.{Sent}
@@ -19,7 +19,6 @@ use Rattle.protocol.specs.declared.images.ContextImage.{ContextImage}
 use Rattle.protocol.specs.declared.images.EndImage.{EndImage}
 use Rattle.protocol.specs.declared.images.Outcome.{Outcome}
 use Rattle.protocol.specs.declared.images.Progress.TheVariants as progress
-use Rattle.law_world_orders.specs.declared.Receipt.{Receipt}
 use Rattle.law_world_orders.specs.declared.OrderEntry.{OrderEntry}
 use Rattle.law_world_orders.specs.Lines.{Line}
 

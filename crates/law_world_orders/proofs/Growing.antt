@@ -1,5 +1,5 @@
 -- What one more line does to what is said of lines.
-use Rattle.std.proofs.Common.{arith, ◌≡◌, ◌≢◌, inl, inr, ℕ, zero, suc, ◌+◌, ◌<◌, ◌==◌, Bool, true, false, if◌then◌else◌, List, [], ◌∷◌, ◌++◌, length, take, slice_get, Some, refl, ap, sym, subst, ◌∙◌}
+use Rattle.std.proofs.Common.{arith, ◌≡◌, ◌≢◌, inl, inr, ℕ, ◌==◌, Bool, true, false, if◌then◌else◌, List, [], ◌∷◌, ◌++◌, take, refl, ap, sym, subst, ◌∙◌}
 use Rattle.std.proofs.lemmas.Bool.Decides.{nat_tests, eqb_tells}
 use Rattle.std.proofs.lemmas.List.{append-nil, take-append-le}
 use Rattle.std.proofs.Math.Seq.{take-append_seam}
@@ -9,7 +9,7 @@ use Rattle.protocol.specs.State.{Device, Flight}
 use Rattle.protocol.specs.Fabric.{sending}
 use Rattle.protocol.specs.Replay.{replay}
 use Rattle.protocol.specs.DeviceStep.{device_step}
-use Rattle.law_world_orders.specs.Lines.{Line, events_on, held_by, opening_of, device_after, flown, flown_after}
+use Rattle.law_world_orders.specs.Lines.{Line, events_on, held_by, opening_of, flown, flown_after}
 use Rattle.law_world_orders.specs.Order.{AreRestored, Each, Takes, with_stopped}
 use Rattle.law_world_orders.proofs.Lists.{get_push}
 

@@ -1,6 +1,5 @@
 -- How far the check of a run has come: the lines so far, and what the check keeps of them.
 use Rattle.std.proofs.Common.{arith, ◌≡◌, ◌≢◌, inl, inr, ℕ, zero, suc, ◌+◌, ◌<◌, List, [], ◌∷◌, ◌++◌, length, take, map, slice_get, Some, refl, ap, sym, subst, ◌∙◌}
-use Rattle.std.specs.Prelude.{true}
 use Rattle.std.proofs.lemmas.List.{take_all, length-append}
 use Rattle.std.proofs.lemmas.Option.{slice_get_within}
 use Rattle.rdma_types.specs.declared.requests.Address.{Address}
@@ -13,13 +12,13 @@ use Rattle.protocol.specs.Replay.{replay}
 use Rattle.law_world_orders.specs.declared.OrderEntry.{OrderEntry}
 use Rattle.law_world_orders.specs.declared.Receipt.{Receipt}
 use Rattle.law_world_orders.specs.Lines.{Line, device_after, entry_of, events_on, flown, held_by, opening_of}
-use Rattle.law_world_orders.specs.Order.{AreRestored, Each, HasArrived, IsLine, Takes, with_stopped}
+use Rattle.law_world_orders.specs.Order.{AreRestored, Each, HasArrived, IsLine, with_stopped}
 use Rattle.law_world_orders.proofs.Lists.{get_push, set_get, some_is, take_push}
 use Rattle.law_world_orders.proofs.Growing.{each_push, events_on-here, events_on-other, flown-none, flown-push, held_by-here, held_by-other, replay-push, restored-push}
 use Rattle.station.specs.Books.{AreApart, BookView, device_of, openings_of}
 use Rattle.thread_run.specs.declared.replays.Replay.{Replay}
 use Rattle.thread_run.specs.declared.stops.StopAt.{StopAt}
-use Rattle.thread_run.specs.Checks.{AreAtEnd, AreFresh, AreReplayed, AreTold, IsAdvanced, IsReplayedOne, StandsAt, TakesStop, stop_of}
+use Rattle.thread_run.specs.Checks.{AreAtEnd, AreFresh, AreReplayed, AreTold, IsAdvanced, IsReplayedOne}
 use Rattle.thread_run.specs.Gathered.{IsGathered}
 use Rattle.thread_run.proofs.Books.{found_at}
 use Rattle.thread_run.proofs.Taking.{AreStops, noted_of, takes_of}

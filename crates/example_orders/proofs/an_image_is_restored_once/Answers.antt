@@ -1,4 +1,4 @@
-use Rattle.std.proofs.Common.{arith, ◌≡◌, ℕ, ◌+◌, List, [], ◌∷◌, ◌++◌, length, ap, sym, ◌∙◌}
+use Rattle.std.proofs.Common.{arith, ◌≡◌, ◌+◌, List, [], ◌∷◌, ◌++◌, length, ap}
 use Rattle.std.proofs.lemmas.List.{length-append}
 use Rattle.protocol.specs.declared.images.ContextImage.{ContextImage}
 use Rattle.law_world_orders.specs.Order.{IsTaken}

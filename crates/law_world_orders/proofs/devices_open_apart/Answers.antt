@@ -1,5 +1,5 @@
 -- The opening devices are those that are written out, both ways.
-use Rattle.std.proofs.Common.{arith, ◌≡◌, ◌≤◌, ℕ, zero, suc, refl, sym, ◌∙◌}
+use Rattle.std.proofs.Common.{arith, ◌≡◌, zero, suc, refl, sym, ◌∙◌}
 use Rattle.law_world_orders.specs.Evaluate.{opened, opened_apart}
 use Rattle.law_world_orders.specs.Opened.{written_openings}
 use Rattle.law_world_orders.specs.Openings.{openings, openings_apart}

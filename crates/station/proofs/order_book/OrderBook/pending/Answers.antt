@@ -1,8 +1,7 @@
 -- A pending datagram is kept.
 use Rattle.std.proofs.Common.{arith, rules, ◌≡◌, ℕ, zero, suc, ◌+◌, ◌-◌, ◌<◌, ◌≤◌, Bool, true, false, List, [], ◌∷◌, length, ap, sym, ◌∙◌, refl}
-use Rattle.std.specs.Prelude.{Option, Some, None, slice_get, nat_le, nat_lt, ◌&&◌, not, if◌then◌else◌}
+use Rattle.std.specs.Prelude.{Some, None, slice_get, nat_le, nat_lt, ◌&&◌, not, if◌then◌else◌}
 use Rattle.std.proofs.lemmas.Bool.Decides.{nat_tests}
-use Rattle.std.proofs.lemmas.Grind.{common_steps}
 use Rattle.rdma_types.specs.Limits.{most_flights}
 use Rattle.protocol.specs.Fabric.{first_of, is_kept, kept_flight, pending, pending_from}
 use Rattle.protocol.specs.State.{Flight}
