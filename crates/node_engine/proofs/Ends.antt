@@ -70,8 +70,8 @@ no_number d o h =
     let view : EndView = view_of (context_at d o.context) (end_at (context_at d o.context) o.name) in
     let none : (has_context d o.context && has_end (context_at d o.context) o.name) ≡ false = not_chosen (has_context d o.context && has_end (context_at d o.context) o.name) view h in
     elim (one_false (has_context d o.context) (has_end (context_at d o.context) o.name) none) [
-      inl e ↦ sym (ap (λ (c : Context). (end_at c o.name).number) (absent (λ (c : Context). c.name) no_context o.context d.contexts e) ∙ no_end_in o)
-    | inr e ↦ sym (ap (λ (x : End). x.number) (absent (λ (x : End). x.name) no_end o.name (context_at d o.context).ends e))
+      | inl e ↦ sym (ap (λ (c : Context). (end_at c o.name).number) (absent (λ (c : Context). c.name) no_context o.context d.contexts e) ∙ no_end_in o)
+      | inr e ↦ sym (ap (λ (x : End). x.number) (absent (λ (x : End). x.name) no_end o.name (context_at d o.context).ends e))
     ]
 
 -- ---- the end to which a packet goes

@@ -77,7 +77,6 @@ step_stops v ev o sent f t t' eo es h =
     λ (more : (Node × Outcome) → Plan). subst (λ (ss : List Sent). StopsAt (stop_of f) (sending ss (more (node_after v ev, node_outcome v ev))) t t') (es ∙ ap (λ (x : Outcome). x.sent) eo) (h (λ u. more (node_after v ev, node_outcome v ev)))
 
 module _ (v : Node) (ev : Event) (next : Node → Outcome → (Node → Plan) → Plan) where
-
   -- an event is stepped, and then what follows it
   pub step_comes : (m : Node) (o : Outcome) (t t' : Contents) → IsMadeWhole (stepping_pair v ev) (m, o) t t' → Comes (λ more. stepping v ev (λ n x. next n x more)) (next m o) t t'
   step_comes m o t t' a = record { calls = a.calls; leads = λ more. a.leads (λ p. next p.0 p.1 more); tells = a.tells }

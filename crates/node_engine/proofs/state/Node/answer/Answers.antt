@@ -10,7 +10,7 @@ use Rattle.node_engine.proofs.OneTurn.{text_written}
 use Rattle.node_engine.proofs.state.Node.answer.Goals as goal
 
 pub returns-in_err-text : goal.returns-in_err-text
-returns-in_err-text g c = 
+returns-in_err-text g c =
     fails_as (answering c.args.answer c.args.self.now) _ fault.OutOfMemory _ _ c.from_residual.result c.from_residual.ensures.1
     (ran_out_at_once (answering c.args.answer c.args.self.now) _)
 

@@ -11,7 +11,7 @@ use Rattle.node_engine.proofs.OneTurn.{after_expiry}
 use Rattle.node_engine.proofs.state.Node.expire_now.Goals as goal
 
 pub returns-in_err-outcome : goal.returns-in_err-outcome
-returns-in_err-outcome g c = 
+returns-in_err-outcome g c =
     fails_as (expiring_one c.args.end.now c.args.self.now) _ c.in_err-outcome.field-0.0 _ _ c.from_residual.result c.from_residual.ensures.1
     (step_fails c.args.self.now (event.Expire c.args.end.now) (after_expiry c.args.end.now) c.in_err-outcome.field-0.0 _ _ c.in_err-outcome.ensures.stepped)
 

@@ -10,7 +10,7 @@ use Rattle.law_node.specs.Lines.{clearing}
 use Rattle.node_engine.proofs.state.Node.remove.Goals as goal
 
 pub returns-in_err-found : goal.returns-in_err-found
-returns-in_err-found g c = 
+returns-in_err-found g c =
     fails_as (clearing c.args.file answer.Done c.args.self.now) _ c.in_err-found.field-0.0 _ _ c.from_residual.result c.from_residual.ensures.1
     (fails_first (plan.Removes c.args.file) (after_remove c.args.file c.args.self.now) c.in_err-found.field-0.0 _ _ c.in_err-found.ensures)
 

@@ -9,7 +9,7 @@ use Rattle.law_node.specs.Lines.{restoring, restoring_bytes}
 use Rattle.node_engine.proofs.state.Node.restore.Goals as goal
 
 pub returns-in_err-found : goal.returns-in_err-found
-returns-in_err-found g c = 
+returns-in_err-found g c =
     fails_as (restoring c.args.self.now c.args.file) _ c.in_err-found.field-0.0 _ _ c.from_residual.result c.from_residual.ensures.1
     (fails_first (plan.Looks c.args.file) (after_look c.args.self.now c.args.file) c.in_err-found.field-0.0 _ _ c.in_err-found.ensures)
 

@@ -16,7 +16,7 @@ pub loop-preserved : goal.loop-preserved
 loop-preserved g c = comes_on (turns c.args.turns c.begin_serving.new.self) (turns (c.args.turns - c.loop.counter) c.loop.self) (turns (c.args.turns - (c.loop.counter + 1)) c.turn.new.self) _ _ _ c.loop.invariant (turns_next c.args.turns c.loop.counter c.loop.self c.turn.new.self _ _ (omega (arith, c.loop-test.true)) c.in_ok-turn.ensures)
 
 pub returns-in_err-turn : goal.returns-in_err-turn
-returns-in_err-turn g c = 
+returns-in_err-turn g c =
     fails_as (turns c.args.turns (serving c.args.self.now)) _ c.in_err-turn.field-0.0 _ _ c.from_residual.result c.from_residual.ensures.1
     (fails_if (turns c.args.turns c.begin_serving.new.self) (turns c.args.turns (serving c.args.self.now)) c.in_err-turn.field-0.0 _ _ (ap (λ (k : Node). turns c.args.turns k) c.begin_serving.ensures) (fails_on (turns c.args.turns c.begin_serving.new.self) (turns (c.args.turns - c.loop.counter) c.loop.self) c.in_err-turn.field-0.0 _ _ _ c.loop.invariant (turns_fails c.args.turns c.loop.counter c.loop.self c.in_err-turn.field-0.0 _ _ (omega (arith, c.loop-test.true)) c.in_err-turn.ensures)))
 

@@ -11,7 +11,7 @@ use Rattle.node_engine.proofs.OneTurn.{after_step}
 use Rattle.node_engine.proofs.state.Node.step_and_answer.Goals as goal
 
 pub returns-in_err-outcome : goal.returns-in_err-outcome
-returns-in_err-outcome g c = 
+returns-in_err-outcome g c =
     fails_as (stepped c.args.self.now c.args.event.now) _ c.in_err-outcome.field-0.0 _ _ c.from_residual.result c.from_residual.ensures.1
     (step_fails c.args.self.now c.args.event.now after_step c.in_err-outcome.field-0.0 _ _ c.in_err-outcome.ensures.stepped)
 

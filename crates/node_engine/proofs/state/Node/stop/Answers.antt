@@ -12,7 +12,7 @@ use Rattle.node_engine.proofs.OneTurn.{after_stop}
 use Rattle.node_engine.proofs.state.Node.stop.Goals as goal
 
 pub returns-in_err-outcome : goal.returns-in_err-outcome
-returns-in_err-outcome g c = 
+returns-in_err-outcome g c =
     fails_as (stopping c.args.self.now c.args.name c.args.file) _ c.in_err-outcome.field-0.0 _ _ c.from_residual.result c.from_residual.ensures.1
     (step_fails c.args.self.now (event.Stop c.args.name true) (after_stop c.args.file) c.in_err-outcome.field-0.0 _ _ c.in_err-outcome.ensures.stepped)
 
