@@ -1,5 +1,5 @@
 -- What a run leaves of the counts of faults.
-use Rattle.std.proofs.Common.{◌≡◌, ◌∙◌, ℕ, List, [], ◌∷◌, Option, None, Some, Result, Ok, Err, refl, sym, ap, subst}
+use Rattle.std.proofs.Common.{◌≡◌, ◌∙◌, List, [], ◌∷◌, None, Some, Result, Ok, Err, ap, subst}
 use Rattle.law_node.specs.Plan as plan
 use Rattle.law_node.specs.Plan.{Call, Plan}
 use Rattle.law_node.specs.Stops.{HasEnded, Rises, StopsAt}

@@ -1,5 +1,5 @@
 -- Numbers and lists of ends.
-use Rattle.std.proofs.Common.{◌≡◌, ◌∙◌, ◌<◌, ◌+◌, ℕ, zero, suc, List, [], ◌∷◌, ◌++◌, ◌⊎◌, inl, inr, Bool, true, false, ◌&&◌, ◌||◌, Option, None, Some, Result, Ok, Err, option_map, drop, drop_of_length-le, subst, ◌≤◌, get_or, length, map, flat_map, nat_eq, refl, sym, ap, add-one, drop-cons, if◌then◌else◌}
+use Rattle.std.proofs.Common.{◌≡◌, ◌∙◌, ◌<◌, ◌+◌, ℕ, suc, List, [], ◌∷◌, ◌++◌, ◌⊎◌, inl, inr, Bool, true, false, ◌&&◌, ◌||◌, Option, None, Some, Result, Ok, Err, option_map, drop, drop_of_length-le, subst, ◌≤◌, get_or, length, map, flat_map, nat_eq, refl, sym, ap, add-one, drop-cons, if◌then◌else◌}
 use Rattle.context_core.specs.declared.lives.LinkView.{LinkView}
 use Rattle.context_core.specs.declared.lives.LiveEnd.{LiveEnd}
 use Rattle.context_core.specs.Links.{link_view, live_end}
@@ -17,7 +17,7 @@ use Rattle.rdma_types.specs.declared.names.ObjName.{ObjName}
 use Rattle.rdma_types.specs.Lists.{has_name, named}
 use Rattle.std.specs.Prelude.{bytes_eq}
 use Rattle.std.specs.Result.{IfOk, OnOk}
-use Rattle.node_engine.specs.Names.{listed, name_if, names_of}
+use Rattle.node_engine.specs.Names.{name_if, names_of}
 
 -- ---- the number of an end
 

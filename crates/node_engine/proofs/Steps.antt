@@ -1,7 +1,7 @@
 -- Steps of a node and their datagrams, turns, and lines, as parts of a plan.
-use Rattle.std.proofs.Common.{◌≡◌, ◌∙◌, ◌+◌, ◌-◌, ◌<◌, ◌≤◌, ℕ, zero, suc, List, [], ◌∷◌, Bool, true, false, Option, None, Some, Result, Ok, Err, length, drop, get_or, refl, sym, ap, subst, add-one, drop-cons, drop_of_length-le, arith}
+use Rattle.std.proofs.Common.{◌≡◌, ◌∙◌, ◌+◌, ◌-◌, ◌<◌, ◌≤◌, ℕ, suc, List, [], ◌∷◌, Option, None, Some, Result, Ok, Err, length, drop, get_or, sym, ap, subst, add-one, drop-cons, drop_of_length-le, arith}
 use Rattle.law_node.specs.Node.{Node, node_after, node_outcome, sending, stepping}
-use Rattle.law_node.specs.Parts.{Comes, IsMadeWhole, joined}
+use Rattle.law_node.specs.Parts.{Comes, IsMadeWhole}
 use Rattle.law_node.specs.Plan as plan
 use Rattle.law_node.specs.Plan.{Plan}
 use Rattle.law_node.specs.Script.{lines_do, reading_does}

@@ -1,7 +1,6 @@
-use Rattle.std.proofs.Common.{◌≡◌, ◌∙◌, ◌+◌, ◌≤◌, ℕ, List, length, refl, sym, ap, subst, arith}
+use Rattle.std.proofs.Common.{◌≡◌, ◌+◌, ℕ, List, length, sym, ap, subst, arith}
 use Rattle.law_node.specs.Node.{Node, new_node}
 use Rattle.law_node.specs.Parts.{Comes}
-use Rattle.law_node.specs.Plan.{Plan}
 use Rattle.law_node.specs.Script.{lines_do, node_plan}
 use Rattle.law_node.specs.Told.{Contents}
 use Rattle.law_node.proofs.Joining.{comes_nowhere, comes_on}

@@ -1,4 +1,4 @@
-use Rattle.std.proofs.Common.{◌≡◌, ◌∙◌, ◌+◌, ◌-◌, ◌≤◌, List, [], ◌∷◌, ℕ, Some, None, length, drop, take, refl, sym, ap, subst, arith}
+use Rattle.std.proofs.Common.{◌+◌, drop, arith}
 use Rattle.law_node.specs.Node.{sending}
 use Rattle.law_node.proofs.Joining.{comes_nowhere, comes_on}
 use Rattle.node_engine.proofs.Parts.{fails_as, fails_on}

@@ -1,10 +1,6 @@
-use Rattle.std.proofs.Common.{◌≡◌, ◌∙◌, ◌+◌, ◌-◌, ◌<◌, ◌≤◌, List, [], ◌∷◌, ℕ, Option, Some, None, length, drop, take, refl, sym, ap, subst, arith}
-use Rattle.law_node.specs.Node.{Node}
-use Rattle.law_node.specs.Plan as plan
-use Rattle.law_node.specs.Plan.{Plan}
-use Rattle.law_node.proofs.Joining.{comes_nowhere, comes_on}
+use Rattle.std.proofs.Common.{Some}
+use Rattle.law_node.proofs.Joining.{comes_on}
 use Rattle.protocol.specs.declared.events.Event.TheVariants as event
-use Rattle.protocol.specs.declared.images.Outcome.{Outcome}
 use Rattle.node_engine.specs.declared.faults.NodeFault.TheVariants as fault
 use Rattle.law_node.specs.Serve.{arrived, arriving}
 use Rattle.mig_ports.specs.Links.{Addressed}

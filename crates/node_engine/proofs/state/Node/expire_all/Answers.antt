@@ -1,7 +1,4 @@
-use Rattle.std.proofs.Common.{◌≡◌, ◌∙◌, ◌+◌, ◌-◌, ◌<◌, ◌≤◌, List, [], ◌∷◌, ℕ, Option, Some, None, length, drop, take, refl, sym, ap, subst, arith}
-use Rattle.law_node.specs.Node.{Node}
-use Rattle.law_node.specs.Plan as plan
-use Rattle.law_node.specs.Plan.{Plan}
+use Rattle.std.proofs.Common.{◌+◌, drop, arith}
 use Rattle.law_node.proofs.Joining.{comes_nowhere, comes_on}
 use Rattle.law_node.specs.Serve.{expiring}
 use Rattle.node_engine.specs.Names.{names_of}

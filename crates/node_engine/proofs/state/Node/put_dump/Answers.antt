@@ -1,7 +1,4 @@
-use Rattle.std.proofs.Common.{◌≡◌, ◌∙◌, ◌+◌, ◌-◌, ◌<◌, ◌≤◌, List, [], ◌∷◌, ℕ, Option, Some, None, length, drop, take, refl, sym, ap, subst, arith}
-use Rattle.law_node.specs.Node.{Node}
-use Rattle.law_node.specs.Plan as plan
-use Rattle.law_node.specs.Plan.{Plan}
+use Rattle.std.proofs.Common.{◌∙◌, Some}
 use Rattle.node_engine.specs.declared.faults.NodeFault.TheVariants as fault
 use Rattle.law_node.specs.Lines.{answering, storing}
 use Rattle.node_engine.proofs.Parts.{does_on, fails_as, ran_out_at_once}

@@ -1,8 +1,6 @@
-use Rattle.std.proofs.Common.{◌≡◌, ◌∙◌, ◌+◌, ◌-◌, ◌<◌, ◌≤◌, List, [], ◌∷◌, ℕ, Option, Some, None, length, drop, take, refl, sym, ap, subst, arith}
-use Rattle.law_node.specs.Node.{Node}
+use Rattle.std.proofs.Common.{Some, None, refl, ap}
 use Rattle.law_node.specs.Plan as plan
 use Rattle.law_node.specs.Plan.{Plan}
-use Rattle.node_engine.specs.declared.faults.NodeFault.TheVariants as fault
 use Rattle.node_engine.proofs.Parts.{does_as, fails_as, fails_first, then}
 use Rattle.node_engine.proofs.OneTurn.{after_look, not_there}
 use Rattle.law_node.specs.Lines.{restoring, restoring_bytes}

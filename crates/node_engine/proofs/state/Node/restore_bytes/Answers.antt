@@ -1,10 +1,5 @@
-use Rattle.std.proofs.Common.{◌≡◌, ◌∙◌, ◌+◌, ◌-◌, ◌<◌, ◌≤◌, List, [], ◌∷◌, ℕ, Option, Some, None, length, drop, take, refl, sym, ap, subst, arith}
-use Rattle.law_node.specs.Node.{Node}
-use Rattle.law_node.specs.Plan as plan
-use Rattle.law_node.specs.Plan.{Plan}
+use Rattle.std.proofs.Common.{[], Some, length, sym, ap}
 use Rattle.protocol.specs.declared.events.Event.TheVariants as event
-use Rattle.protocol.specs.declared.images.Outcome.{Outcome}
-use Rattle.node_engine.specs.declared.faults.NodeFault.TheVariants as fault
 use Rattle.protocol.specs.declared.images.ContextImage.{ContextImage}
 use Rattle.protocol.specs.Dumps.{Good, Reading}
 use Rattle.law_node.specs.Lines.{restoring_bytes, restoring_image}

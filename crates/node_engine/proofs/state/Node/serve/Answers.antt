@@ -1,11 +1,8 @@
-use Rattle.std.proofs.Common.{◌≡◌, ◌∙◌, ◌+◌, ◌-◌, ◌<◌, ◌≤◌, List, [], ◌∷◌, ℕ, Option, Some, None, length, drop, take, refl, sym, ap, subst, arith}
+use Rattle.std.proofs.Common.{◌+◌, ◌-◌, ap, arith}
 use Rattle.law_node.specs.Node.{Node}
-use Rattle.law_node.specs.Plan as plan
-use Rattle.law_node.specs.Plan.{Plan}
-use Rattle.law_node.proofs.Joining.{comes_nowhere, comes_on}
-use Rattle.law_node.specs.Parts.{Comes, IsMadeWhole}
+use Rattle.law_node.proofs.Joining.{comes_on}
 use Rattle.law_node.specs.Serve.{serving, turns}
-use Rattle.node_engine.proofs.Parts.{comes_as, fails_as, fails_if, fails_on, made_as}
+use Rattle.node_engine.proofs.Parts.{fails_as, fails_if, fails_on, made_as}
 use Rattle.node_engine.proofs.Steps.{all_turned, turns_begin, turns_fails, turns_next}
 use Rattle.node_engine.proofs.state.Node.serve.Goals as goal
 

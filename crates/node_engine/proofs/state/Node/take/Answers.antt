@@ -1,8 +1,6 @@
-use Rattle.std.proofs.Common.{◌≡◌, ◌∙◌, ◌+◌, ◌-◌, ◌<◌, ◌≤◌, List, [], ◌∷◌, ℕ, Option, Some, None, length, drop, take, refl, sym, ap, subst, arith}
-use Rattle.law_node.specs.Node.{Node}
+use Rattle.std.proofs.Common.{◌≤◌, [], Option, Some, length, take, refl, subst, arith}
 use Rattle.law_node.specs.Plan as plan
 use Rattle.law_node.specs.Plan.{Plan}
-use Rattle.node_engine.specs.declared.faults.NodeFault.TheVariants as fault
 use Rattle.law_node.specs.Serve.{arriving, taking}
 use Rattle.mig_ports.specs.Links.{Addressed, FitsIn}
 use Rattle.node_engine.proofs.Parts.{does_on, fails_as, fails_first}
