@@ -1,5 +1,5 @@
 -- Numbers and lists of ends.
-use Rattle.std.proofs.Common.{◌≡◌, ◌∙◌, ◌<◌, ◌+◌, ℕ, zero, suc, List, [], ◌∷◌, ◌++◌, ◌⊎◌, inl, inr, Bool, true, false, ◌&&◌, ◌||◌, Option, None, Some, Result, Ok, Err, option_map, drop, drop_of_length-le, subst, ◌≤◌, get_or, length, map, flat_map, nat_eq, refl, sym, ap, add-one, drop-cons, if◌then◌else◌}
+use Rattle.std.proofs.Common.{◌≡◌, ◌∙◌, ◌<◌, ◌+◌, ℕ, suc, List, [], ◌∷◌, ◌++◌, ◌⊎◌, inl, inr, Bool, true, false, ◌&&◌, ◌||◌, Option, None, Some, Result, Ok, Err, option_map, drop, drop_of_length-le, subst, ◌≤◌, get_or, length, map, flat_map, nat_eq, refl, sym, ap, add-one, drop-cons, if◌then◌else◌}
 use Rattle.context_core.specs.declared.lives.LinkView.{LinkView}
 use Rattle.context_core.specs.declared.lives.LiveEnd.{LiveEnd}
 use Rattle.context_core.specs.Links.{link_view, live_end}
@@ -17,7 +17,7 @@ use Rattle.rdma_types.specs.declared.names.ObjName.{ObjName}
 use Rattle.rdma_types.specs.Lists.{has_name, named}
 use Rattle.std.specs.Prelude.{bytes_eq}
 use Rattle.std.specs.Result.{IfOk, OnOk}
-use Rattle.node_engine.specs.Names.{listed, name_if, names_of}
+use Rattle.node_engine.specs.Names.{name_if, names_of}
 
 -- ---- the number of an end
 
@@ -70,8 +70,8 @@ no_number d o h =
     let view : EndView = view_of (context_at d o.context) (end_at (context_at d o.context) o.name) in
     let none : (has_context d o.context && has_end (context_at d o.context) o.name) ≡ false = not_chosen (has_context d o.context && has_end (context_at d o.context) o.name) view h in
     elim (one_false (has_context d o.context) (has_end (context_at d o.context) o.name) none) [
-      inl e ↦ sym (ap (λ (c : Context). (end_at c o.name).number) (absent (λ (c : Context). c.name) no_context o.context d.contexts e) ∙ no_end_in o)
-    | inr e ↦ sym (ap (λ (x : End). x.number) (absent (λ (x : End). x.name) no_end o.name (context_at d o.context).ends e))
+      | inl e ↦ sym (ap (λ (c : Context). (end_at c o.name).number) (absent (λ (c : Context). c.name) no_context o.context d.contexts e) ∙ no_end_in o)
+      | inr e ↦ sym (ap (λ (x : End). x.number) (absent (λ (x : End). x.name) no_end o.name (context_at d o.context).ends e))
     ]
 
 -- ---- the end to which a packet goes

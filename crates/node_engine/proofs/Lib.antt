@@ -4,3 +4,4 @@ pub mod Outside
 pub mod Steps
 pub mod OneTurn
 pub mod WholeScript
+pub mod Counts

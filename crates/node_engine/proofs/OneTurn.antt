@@ -1,21 +1,21 @@
 -- The parts of a turn one after another, and what lines do.
-use Rattle.std.proofs.Common.{◌≡◌, ◌∙◌, ◌+◌, ◌-◌, ℕ, List, [], ◌∷◌, ◌++◌, Bool, true, false, Option, None, Some, Result, Ok, Err, take, refl, sym, ap, subst}
-use Rattle.law_node.specs.Lines.{answering, clearing, counting, handed_on, removed, restoring, restoring_bytes, restoring_image, served_text, serves, stepped, storing, verb_event, version}
-use Rattle.law_node.specs.Node.{Node, connected, node_after, node_outcome, number_at, stepping}
+use Rattle.std.proofs.Common.{◌≡◌, ◌∙◌, ℕ, List, [], ◌∷◌, true, false, Option, None, Some, Result, Ok, Err, take, refl, sym, ap, subst}
+use Rattle.law_node.specs.Lines.{answering, clearing, removed, restoring_bytes, restoring_image, served_text, serves, storing, version}
+use Rattle.law_node.specs.Node.{Node, connected, number_at, stepping}
 use Rattle.law_node.specs.Parts.{Comes, IsMadeWhole, joined}
 use Rattle.law_node.specs.Plan as plan
 use Rattle.law_node.specs.Plan.{Plan}
-use Rattle.law_node.specs.Serve.{arrived, arriving, asked, expiring, expiring_if, expiring_one, is_active, is_due, marking, receivers, serving, taking, timing, transmitting, transmitting_one, turn, turns, waiting_out}
+use Rattle.law_node.specs.Serve.{arrived, arriving, asked, expiring, is_active, marking, receivers, serving, taking, timing, transmitting, turn, turns, waiting_out}
 use Rattle.law_node.specs.Stops.{HasEnded, StopsAt}
 use Rattle.law_node.specs.Told.{Contents}
-use Rattle.law_node.proofs.Joining.{comes_inside, comes_nowhere, comes_on, parts_join, stops_here, stops_on}
+use Rattle.law_node.proofs.Joining.{comes_on, parts_join, stops_here, stops_on}
 use Rattle.mig_ports.specs.declared.link.Got.{Got}
 use Rattle.mig_ports.specs.declared.link.Got.TheVariants as got_is
 use Rattle.mig_ports.specs.Links.{Addressed, got_of}
 use Rattle.mig_ports.specs.Memory.{counted}
 use Rattle.protocol.specs.declared.events.Event.TheVariants as event
 use Rattle.protocol.specs.declared.images.Outcome.{Outcome}
-use Rattle.protocol.specs.Dumps.{Bad, Good, Reading, dump_bytes, read_dump}
+use Rattle.protocol.specs.Dumps.{Reading, dump_bytes, read_dump}
 use Rattle.protocol.specs.declared.images.ContextImage.{ContextImage}
 use Rattle.rdma_types.specs.declared.answers.Answer.{Answer}
 use Rattle.rdma_types.specs.declared.answers.Answer.TheVariants as answer
@@ -23,7 +23,6 @@ use Rattle.rdma_types.specs.declared.answers.NotWhy.TheVariants as not_why
 use Rattle.rdma_types.specs.declared.names.Name.{Name}
 use Rattle.rdma_types.specs.declared.names.ObjName.{ObjName}
 use Rattle.rdma_types.specs.declared.requests.Address.{Address}
-use Rattle.script_lang.specs.Printed.{printed}
 use Rattle.dump_reader.specs.declared.fault.DumpFault.{DumpFault}
 use Rattle.dump_reader.specs.declared.fault.DumpFault.TheVariants as dump_fault
 use Rattle.dump_reader.specs.Steps.{IsFault}
@@ -33,8 +32,8 @@ use Rattle.node_engine.specs.declared.faults.NodeFault.{NodeFault}
 use Rattle.node_engine.specs.declared.faults.NodeFault.TheVariants as fault
 use Rattle.node_engine.proofs.Parts.{Fails, does_on, fails_first, fails_on, ran_out_at_once, second, then}
 use Rattle.context_core.specs.declared.lives.LinkView.{LinkView}
-use Rattle.node_engine.specs.Names.{answer_is_done, name_if, stepping_pair, waits_for_timer}
-use Rattle.node_engine.proofs.Steps.{gives, step_comes, step_then}
+use Rattle.node_engine.specs.Names.{answer_is_done, name_if, waits_for_timer}
+use Rattle.node_engine.proofs.Steps.{gives}
 
 -- ---- arrivals
 

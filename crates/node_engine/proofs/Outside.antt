@@ -1,13 +1,13 @@
 -- Calls of the outside, and what its objects tell of them.
-use Rattle.std.proofs.Common.{◌≡◌, ◌∙◌, ◌≤◌, ◌<◌, ◌≢◌, ℕ, List, [], ◌∷◌, ◌++◌, Option, None, Some, length, take, drop, length-drop, refl, sym, ap, arith}
+use Rattle.std.proofs.Common.{◌≡◌, ◌∙◌, ◌≤◌, ◌<◌, ℕ, List, Option, None, Some, length, take, drop, length-drop, refl, sym, ap, arith}
 use Rattle.std.proofs.lemmas.List.{take-append-drop}
-use Rattle.law_node.specs.Parts.{Comes, IsMadeWhole}
+use Rattle.law_node.specs.Parts.{IsMadeWhole}
 use Rattle.law_node.specs.Plan as plan
 use Rattle.law_node.specs.Plan.{Plan}
-use Rattle.law_node.specs.Stops.{CutsAnswer, DepotFailed, IsOfDepot, IsOfLink, KeepsHeld, LinkFailed, MemoryRanOut, OutputFailed, StopsAt}
+use Rattle.law_node.specs.Stops.{DepotFailed, IsOfDepot, IsOfLink, KeepsHeld, LinkFailed, MemoryRanOut, OutputFailed, StopsAt}
 use Rattle.law_node.specs.Told.{Contents}
 use Rattle.law_node.proofs.Joining.{comes_by, stops_here}
-use Rattle.mig_ports.specs.Depots.{Has, Holding, KeepsOthers, Sets}
+use Rattle.mig_ports.specs.Depots.{Has, Holding, Sets}
 use Rattle.mig_ports.specs.Links.{Addressed, SendsOne, TakesFirst, TellsMoment}
 use Rattle.mig_ports.specs.Streams.{FaultsCounted, Puts as PutsText}
 use Rattle.rdma_types.specs.declared.names.Name.{Name}
@@ -20,7 +20,6 @@ telling w s c h k f d o = record { waiting = w; sent = s; to_come = c; held = h;
 -- ---- the link
 
 module _ (w w' s s' : Option (List Addressed)) (c : Option (List ℕ)) (h : Option Holding) (k : Option (List ℕ)) (f f' d o : ℕ) where
-
   -- nothing changed but what waits
   only_waiting : s' ≡ s → f' ≡ f → telling w' s' c h k f' d o ≡ telling w' s c h k f d o
   only_waiting es ef = ap (λ x. telling w' x c h k f' d o) es ∙ ap (λ x. telling w' s c h k x d o) ef
@@ -59,7 +58,6 @@ module _ (w w' s s' : Option (List Addressed)) (c : Option (List ℕ)) (h : Opti
 -- ---- the depot
 
 module _ (w s : Option (List Addressed)) (c : Option (List ℕ)) (h h' : Option Holding) (k : Option (List ℕ)) (f d d' o : ℕ) where
-
   only_held : d' ≡ d → telling w s c h' k f d' o ≡ telling w s c h' k f d o
   only_held e = ap (λ x. telling w s c h' k f x o) e
 
@@ -103,7 +101,6 @@ module _ (w s : Option (List Addressed)) (c : Option (List ℕ)) (h h' : Option 
 -- ---- the output
 
 module _ (w s : Option (List Addressed)) (c : Option (List ℕ)) (h : Option Holding) (k k' : Option (List ℕ)) (f d o o' : ℕ) where
-
   pub output_wrote : (text : List ℕ) → PutsText k k' text → o' ≡ o → IsMadeWhole {A = Unit {0}} (λ more. plan.Writes text (more tt)) tt (telling w s c h k f d o) (telling w s c h k' f d o')
   output_wrote text puts eo =
       comes_by {A = Unit {0}} (λ more. plan.Writes text (more tt)) (λ more. more tt) (plan.Wrote text) (telling w s c h k f d o) (telling w s c h k' f d o')
@@ -112,14 +109,17 @@ module _ (w s : Option (List Addressed)) (c : Option (List ℕ)) (h : Option Hol
 
   pub output_cut : (text : List ℕ) (n : ℕ) → n < length text → PutsText k k' (take n text) → o ≤ o' → FaultsCounted o o' → (more : Unit {0} → Plan) → StopsAt OutputFailed (plan.Writes text (more tt)) (telling w s c h k f d o) (telling w s c h k' f d o')
   output_cut text n less puts le counted = λ more.
-      stops_here OutputFailed (plan.Writes text (more tt)) (telling w s c h k f d o) (telling w s c h k' f d o')
-      (record {
-        front = take n text;
-        rest = drop n text;
-        splits = sym (take-append-drop n text);
-        lacks = λ none. absurd (omega (arith, ap length none, length-drop n text));
-        written = puts;
-      }, (le, counted), refl)
+      stops_here OutputFailed (plan.Writes text (more tt)) (telling w s c h k f d o) (telling w s c h k' f d o') (
+        record {
+          front = take n text;
+          rest = drop n text;
+          splits = sym (take-append-drop n text);
+          lacks = λ none. absurd (omega (arith, ap length none, length-drop n text));
+          written = puts;
+        },
+        (le, counted),
+        refl,
+      )
 
 -- the clock was asked
 pub clock_told : (w s : Option (List Addressed)) (c c' : Option (List ℕ)) (h : Option Holding) (k : Option (List ℕ)) (f d o moment : ℕ) → TellsMoment c c' moment → IsMadeWhole plan.Asks moment (telling w s c h k f d o) (telling w s c' h k f d o)

@@ -1,5 +1,5 @@
 -- Parts of a plan one after another, and what stops them.
-use Rattle.std.proofs.Common.{◌≡◌, ◌≤◌, ℕ, List, [], ◌∷◌, Option, None, Some, Result, Ok, Err, refl, sym, ap, subst, ◌∙◌}
+use Rattle.std.proofs.Common.{◌≡◌, Option, None, Some, Result, Ok, Err, refl, sym, subst}
 use Rattle.std.specs.Result.{IsErrAnd}
 use Rattle.law_node.specs.Parts.{Comes, IsMadeWhole, joined}
 use Rattle.law_node.specs.Plan as plan

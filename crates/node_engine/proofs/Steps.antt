@@ -1,7 +1,7 @@
 -- Steps of a node and their datagrams, turns, and lines, as parts of a plan.
-use Rattle.std.proofs.Common.{◌≡◌, ◌∙◌, ◌+◌, ◌-◌, ◌<◌, ◌≤◌, ℕ, zero, suc, List, [], ◌∷◌, Bool, true, false, Option, None, Some, Result, Ok, Err, length, drop, get_or, refl, sym, ap, subst, add-one, drop-cons, drop_of_length-le, arith}
+use Rattle.std.proofs.Common.{◌≡◌, ◌∙◌, ◌+◌, ◌-◌, ◌<◌, ◌≤◌, ℕ, suc, List, [], ◌∷◌, Option, None, Some, Result, Ok, Err, length, drop, get_or, sym, ap, subst, add-one, drop-cons, drop_of_length-le, arith}
 use Rattle.law_node.specs.Node.{Node, node_after, node_outcome, sending, stepping}
-use Rattle.law_node.specs.Parts.{Comes, IsMadeWhole, joined}
+use Rattle.law_node.specs.Parts.{Comes, IsMadeWhole}
 use Rattle.law_node.specs.Plan as plan
 use Rattle.law_node.specs.Plan.{Plan}
 use Rattle.law_node.specs.Script.{lines_do, reading_does}
@@ -77,7 +77,6 @@ step_stops v ev o sent f t t' eo es h =
     λ (more : (Node × Outcome) → Plan). subst (λ (ss : List Sent). StopsAt (stop_of f) (sending ss (more (node_after v ev, node_outcome v ev))) t t') (es ∙ ap (λ (x : Outcome). x.sent) eo) (h (λ u. more (node_after v ev, node_outcome v ev)))
 
 module _ (v : Node) (ev : Event) (next : Node → Outcome → (Node → Plan) → Plan) where
-
   -- an event is stepped, and then what follows it
   pub step_comes : (m : Node) (o : Outcome) (t t' : Contents) → IsMadeWhole (stepping_pair v ev) (m, o) t t' → Comes (λ more. stepping v ev (λ n x. next n x more)) (next m o) t t'
   step_comes m o t t' a = record { calls = a.calls; leads = λ more. a.leads (λ p. next p.0 p.1 more); tells = a.tells }

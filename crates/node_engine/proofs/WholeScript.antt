@@ -1,5 +1,5 @@
 -- A whole script: its lines one after another.
-use Rattle.std.proofs.Common.{◌≡◌, ◌∙◌, ◌+◌, ◌==◌, ◌≤◌, ℕ, List, [], ◌∷◌, Bool, true, false, Result, Ok, Err, length, refl, sym, ap, subst, arith, if◌then◌else◌}
+use Rattle.std.proofs.Common.{◌≡◌, ◌+◌, ◌==◌, ◌≤◌, ℕ, List, [], ◌∷◌, Bool, true, false, Result, Ok, Err, length, refl, sym, subst, arith, if◌then◌else◌}
 use Rattle.std.proofs.lemmas.List.Splits.{length-slice_split}
 use Rattle.std.proofs.lemmas.List.Sums.{count_by-le-length}
 use Rattle.std.specs.List.{slice_split}
@@ -34,7 +34,6 @@ answers_as p e t t' (Err y) h a = subst (λ z. StopsAt (stop_of z) p t t') (sym 
 -- ---- the start
 
 module _ (id : ℕ) (own : Address) (text : List ℕ) (t t' : Contents) where
-
   -- the link was started
   pub started : IsMadeWhole {A = Unit {0}} (λ more. plan.Starts own (more tt)) tt t t' → Comes {A = Unit {0}} (λ more. node_plan id own text) (λ more. lines_do 1 (lines_of text) (new_node id own)) t t'
   unfolding node_plan

@@ -24,7 +24,10 @@ pub enum NodeFault {
     },
     /// The bytes under a name in the depot are no dump: at that place, for that reason.
     #[error("the bytes under a name are no dump")]
-    BadDump { place: usize, why: DumpWhy },
+    BadDump {
+        place: usize,
+        why: DumpWhy,
+    },
     #[error("the output could not be written")]
     WriteFault,
     #[error("the link failed")]

@@ -190,12 +190,7 @@ impl Node {
     }
 
     /// Takes a dump that was restored out of the depot, and writes that it is done.
-    fn remove<P: Ports>(
-        &self,
-        alloc: Global,
-        ports: &mut P,
-        file: Name,
-    ) -> Result<(), NodeFault>
+    fn remove<P: Ports>(&self, alloc: Global, ports: &mut P, file: Name) -> Result<(), NodeFault>
         ensures { Does (rules.clearing file Answer.Done self.now) (λ done. self.now) (P.contents ports.old) result (P.contents ports.new) }
     {
         let found = ports.remove(alloc, file)?;

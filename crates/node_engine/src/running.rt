@@ -4,6 +4,7 @@ ghost use Rattle.std.specs.Prelude.{◌≡◌, ◌≤◌};
 ghost use Rattle.law_node.specs.Script.{node_plan, reading_does};
 ghost use Rattle.script_lang.specs.Lines.{node_reading_of};
 ghost use Rattle.node_engine.specs.Answered.{Answers, Does};
+ghost use Rattle.node_engine.specs.Counting.{Counted};
 ghost use Rattle.node_engine.specs.LineFaults.{fault_at_line};
 
 use crate::NodeFault;
@@ -83,10 +84,14 @@ pub fn run_node<L: Link, K: Sink, D: Depot, C: Ticks>(
     ports: &mut NodePorts<L, K, D, C>,
 ) -> Result<(), NodeFault>
     requires { 1 ≤ id }
-    ensures { Answers (node_plan id own input.now)
+    ensures run { Answers (node_plan id own input.now)
         (record { waiting = L.waiting ports.old.link; sent = L.sent ports.old.link; to_come = C.to_come ports.old.ticks; held = D.held ports.old.depot; written = K.held ports.old.output; faults = record { link = L.faults ports.old.link; depot = D.faults ports.old.depot; output = K.faults ports.old.output } })
         result
         (record { waiting = L.waiting ports.new.link; sent = L.sent ports.new.link; to_come = C.to_come ports.new.ticks; held = D.held ports.new.depot; written = K.held ports.new.output; faults = record { link = L.faults ports.new.link; depot = D.faults ports.new.depot; output = K.faults ports.new.output } }) }
+    ensures faults { Counted
+        (record { link = L.faults ports.old.link; depot = D.faults ports.old.depot; output = K.faults ports.old.output })
+        result
+        (record { link = L.faults ports.new.link; depot = D.faults ports.new.depot; output = K.faults ports.new.output }) }
 {
     run(alloc, id, own, input, ports)
 }

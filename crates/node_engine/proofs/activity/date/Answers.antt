@@ -1,6 +1,4 @@
-use Rattle.std.proofs.Common.{◌≡◌, ◌∙◌, ℕ, length, drop, get_or, refl, sym, ap, arith}
-use Rattle.std.proofs.lemmas.Grind.{common_steps}
-use Rattle.law_node.specs.Serve.{dated}
+use Rattle.std.proofs.Common.{◌∙◌, refl, arith}
 use Rattle.node_engine.proofs.Ends.{all_dated, dated_on}
 use Rattle.node_engine.proofs.activity.date.Goals as goal
 

@@ -1,7 +1,6 @@
-use Rattle.std.proofs.Common.{◌≡◌, ◌∙◌, ◌+◌, ◌≤◌, ℕ, List, length, refl, sym, ap, subst, arith}
+use Rattle.std.proofs.Common.{◌≡◌, ◌+◌, ℕ, List, length, sym, ap, subst, arith}
 use Rattle.law_node.specs.Node.{Node, new_node}
 use Rattle.law_node.specs.Parts.{Comes}
-use Rattle.law_node.specs.Plan.{Plan}
 use Rattle.law_node.specs.Script.{lines_do, node_plan}
 use Rattle.law_node.specs.Told.{Contents}
 use Rattle.law_node.proofs.Joining.{comes_nowhere, comes_on}
@@ -31,22 +30,22 @@ pub loop-line-init : goal.loop-line-init
 loop-line-init g c = record { come = comes_nowhere {A = Unit {0}} (λ more. lines_do 1 c.new-lines.result c.in_ok-node.node) _; count = omega arith }
 
 pub loop-line-preserved : goal.loop-line-preserved
-loop-line-preserved g c = 
+loop-line-preserved g c =
     record {
       come = comes_on {A = Unit {0}} (λ more. lines_do 1 c.new-lines.result c.in_ok-node.node) (λ more. lines_do (c.loop-line.number + 1) c.loop-line.lines c.loop-line.node) (λ more. lines_do (c.loop-line.number + 1 + 1) c.next_line.new.self c.read_line.new.self) _ _ _
-      c.loop-line.invariant.come
-      (line_done (c.loop-line.number + 1) c.loop-line.lines c.next_line.new.self c.in-Some.line.now c.loop-line.node c.read_line.new.self _ _ c.in-Some.ensures.line c.in_ok-read_line.ensures);
+          c.loop-line.invariant.come
+          (line_done (c.loop-line.number + 1) c.loop-line.lines c.next_line.new.self c.in-Some.line.now c.loop-line.node c.read_line.new.self _ _ c.in-Some.ensures.line c.in_ok-read_line.ensures);
       count = omega (arith, c.loop-line.invariant.count, ap length c.in-Some.ensures.line);
     }
 
 pub returns-in_err-read_line : goal.returns-in_err-read_line
-returns-in_err-read_line g c = 
+returns-in_err-read_line g c =
     answers_as (node_plan c.args.id c.args.own c.args.input.now) c.in_err-read_line.field-0.0 _ _ c.from_residual-in_err-read_line.result c.from_residual-in_err-read_line.ensures.1
     (stops_so_far (node_plan c.args.id c.args.own c.args.input.now) (λ more. lines_do (c.loop-line.number + 1) c.loop-line.lines c.loop-line.node) c.in_err-read_line.field-0.0 _ _ _
     (comes_on {A = Unit {0}} (λ more. node_plan c.args.id c.args.own c.args.input.now) (λ more. lines_do 1 c.new-lines.result c.in_ok-node.node) (λ more. lines_do (c.loop-line.number + 1) c.loop-line.lines c.loop-line.node) _ _ _ (begun c.args.id c.args.own c.args.input.now c.new-lines.result c.in_ok-node.node _ _ c.new-lines.ensures c.in_ok-node.ensures (started c.args.id c.args.own c.args.input.now _ _ c.in_ok-start.ensures)) c.loop-line.invariant.come)
     (line_not_done (c.loop-line.number + 1) c.loop-line.lines c.next_line.new.self c.in-Some.line.now c.loop-line.node c.in_err-read_line.field-0.0 _ _ c.in-Some.ensures.line c.in_err-read_line.ensures))
 
 pub returns : goal.returns
-returns g c = 
+returns g c =
     all_answered (node_plan c.args.id c.args.own c.args.input.now) (c.loop-line.number + 1) c.loop-line.lines c.loop-line.node _ _ c.in_default.ensures.end
     (comes_on {A = Unit {0}} (λ more. node_plan c.args.id c.args.own c.args.input.now) (λ more. lines_do 1 c.new-lines.result c.in_ok-node.node) (λ more. lines_do (c.loop-line.number + 1) c.loop-line.lines c.loop-line.node) _ _ _ (begun c.args.id c.args.own c.args.input.now c.new-lines.result c.in_ok-node.node _ _ c.new-lines.ensures c.in_ok-node.ensures (started c.args.id c.args.own c.args.input.now _ _ c.in_ok-start.ensures)) c.loop-line.invariant.come)

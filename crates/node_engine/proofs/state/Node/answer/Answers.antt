@@ -1,7 +1,4 @@
-use Rattle.std.proofs.Common.{◌≡◌, ◌∙◌, ◌+◌, ◌-◌, ◌<◌, ◌≤◌, List, [], ◌∷◌, ℕ, Option, Some, None, length, drop, take, refl, sym, ap, subst, arith}
-use Rattle.law_node.specs.Node.{Node}
-use Rattle.law_node.specs.Plan as plan
-use Rattle.law_node.specs.Plan.{Plan}
+use Rattle.std.proofs.Common.{◌∙◌, refl, ap}
 use Rattle.node_engine.specs.declared.faults.NodeFault.TheVariants as fault
 use Rattle.law_node.specs.Lines.{answering, counting}
 use Rattle.script_lang.specs.Printed.{printed}
@@ -10,7 +7,7 @@ use Rattle.node_engine.proofs.OneTurn.{text_written}
 use Rattle.node_engine.proofs.state.Node.answer.Goals as goal
 
 pub returns-in_err-text : goal.returns-in_err-text
-returns-in_err-text g c = 
+returns-in_err-text g c =
     fails_as (answering c.args.answer c.args.self.now) _ fault.OutOfMemory _ _ c.from_residual.result c.from_residual.ensures.1
     (ran_out_at_once (answering c.args.answer c.args.self.now) _)
 

@@ -1,7 +1,4 @@
-use Rattle.std.proofs.Common.{◌≡◌, ◌∙◌, ◌+◌, ◌-◌, ◌<◌, ◌≤◌, List, [], ◌∷◌, ℕ, Option, Some, None, length, drop, take, refl, sym, ap, subst, arith}
-use Rattle.law_node.specs.Node.{Node}
-use Rattle.law_node.specs.Plan as plan
-use Rattle.law_node.specs.Plan.{Plan}
+use Rattle.std.proofs.Common.{sym}
 use Rattle.rdma_types.specs.declared.answers.Answer.TheVariants as answer
 use Rattle.law_node.specs.Lines.{answering, clearing}
 use Rattle.node_engine.proofs.Parts.{does_as}

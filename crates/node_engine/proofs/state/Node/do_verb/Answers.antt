@@ -1,8 +1,7 @@
-use Rattle.std.proofs.Common.{◌≡◌, ◌∙◌, ◌+◌, ◌-◌, ◌<◌, ◌≤◌, List, [], ◌∷◌, ℕ, Option, Some, None, length, drop, take, refl, sym, ap, subst, arith}
+use Rattle.std.proofs.Common.{Some, None, ap}
 use Rattle.law_node.specs.Node.{Node}
-use Rattle.law_node.specs.Plan as plan
 use Rattle.law_node.specs.Plan.{Plan}
-use Rattle.law_node.proofs.Joining.{comes_nowhere, comes_on}
+use Rattle.law_node.proofs.Joining.{comes_nowhere}
 use Rattle.law_node.specs.Lines.{stepped_if, verb_event}
 use Rattle.node_engine.proofs.Parts.{does_as, made_as}
 use Rattle.node_engine.proofs.state.Node.do_verb.Goals as goal

@@ -1,6 +1,4 @@
-use Rattle.std.proofs.Common.{◌≡◌, ◌∙◌, ◌+◌, ◌-◌, ◌<◌, ◌≤◌, List, [], ◌∷◌, ℕ, Option, Some, None, length, drop, take, refl, sym, ap, subst, arith}
 use Rattle.law_node.specs.Node.{Node}
-use Rattle.law_node.specs.Plan as plan
 use Rattle.law_node.specs.Plan.{Plan}
 use Rattle.protocol.specs.declared.events.Event.TheVariants as event
 use Rattle.protocol.specs.declared.images.Outcome.{Outcome}
@@ -10,7 +8,7 @@ use Rattle.node_engine.proofs.Steps.{step_comes, step_fails}
 use Rattle.node_engine.proofs.state.Node.end_wait.Goals as goal
 
 pub returns-in_err-_outcome : goal.returns-in_err-_outcome
-returns-in_err-_outcome g c = 
+returns-in_err-_outcome g c =
     fails_as (λ more. stepping c.args.self.now (event.RnrOver c.args.end.now) (λ n x. more n)) _ c.in_err-_outcome.field-0.0 _ _ c.from_residual.result c.from_residual.ensures.1
     (step_fails c.args.self.now (event.RnrOver c.args.end.now) (λ (n : Node) (x : Outcome) (more : Node → Plan). more n) c.in_err-_outcome.field-0.0 _ _ c.in_err-_outcome.ensures.stepped)
 

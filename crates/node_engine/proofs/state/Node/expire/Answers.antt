@@ -1,8 +1,4 @@
-use Rattle.std.proofs.Common.{◌≡◌, ◌∙◌, ◌+◌, ◌-◌, ◌<◌, ◌≤◌, List, [], ◌∷◌, ℕ, Option, Some, None, length, drop, take, refl, sym, ap, subst, arith}
-use Rattle.law_node.specs.Node.{Node}
-use Rattle.law_node.specs.Plan as plan
-use Rattle.law_node.specs.Plan.{Plan}
-use Rattle.law_node.proofs.Joining.{comes_nowhere, comes_on}
+use Rattle.law_node.proofs.Joining.{comes_nowhere}
 use Rattle.law_node.specs.Serve.{expiring}
 use Rattle.node_engine.proofs.OneTurn.{named_does, unnamed_does}
 use Rattle.node_engine.proofs.state.Node.expire.Goals as goal

@@ -1,9 +1,4 @@
-use Rattle.std.proofs.Common.{◌≡◌, ◌∙◌, ◌+◌, ◌-◌, ◌<◌, ◌≤◌, List, [], ◌∷◌, ℕ, Option, Some, None, length, drop, take, refl, sym, ap, subst, arith}
-use Rattle.law_node.specs.Node.{Node}
-use Rattle.law_node.specs.Plan as plan
-use Rattle.law_node.specs.Plan.{Plan}
 use Rattle.protocol.specs.declared.events.Event.TheVariants as event
-use Rattle.protocol.specs.declared.images.Outcome.{Outcome}
 use Rattle.law_node.specs.Serve.{expiring_one}
 use Rattle.node_engine.proofs.Parts.{fails_as}
 use Rattle.node_engine.proofs.Steps.{step_fails, step_then}
@@ -11,7 +6,7 @@ use Rattle.node_engine.proofs.OneTurn.{after_expiry}
 use Rattle.node_engine.proofs.state.Node.expire_now.Goals as goal
 
 pub returns-in_err-outcome : goal.returns-in_err-outcome
-returns-in_err-outcome g c = 
+returns-in_err-outcome g c =
     fails_as (expiring_one c.args.end.now c.args.self.now) _ c.in_err-outcome.field-0.0 _ _ c.from_residual.result c.from_residual.ensures.1
     (step_fails c.args.self.now (event.Expire c.args.end.now) (after_expiry c.args.end.now) c.in_err-outcome.field-0.0 _ _ c.in_err-outcome.ensures.stepped)
 

@@ -1,8 +1,6 @@
-use Rattle.std.proofs.Common.{◌≡◌, ◌∙◌, ◌+◌, ◌-◌, ◌<◌, ◌≤◌, List, [], ◌∷◌, ℕ, Option, Some, None, length, drop, take, refl, sym, ap, subst, arith}
-use Rattle.law_node.specs.Node.{Node}
+use Rattle.std.proofs.Common.{Some, None, refl}
 use Rattle.law_node.specs.Plan as plan
 use Rattle.law_node.specs.Plan.{Plan}
-use Rattle.node_engine.specs.declared.faults.NodeFault.TheVariants as fault
 use Rattle.node_engine.proofs.Parts.{fails_as, fails_first, then}
 use Rattle.node_engine.proofs.OneTurn.{after_remove, not_there}
 use Rattle.rdma_types.specs.declared.answers.Answer.TheVariants as answer
@@ -10,7 +8,7 @@ use Rattle.law_node.specs.Lines.{clearing}
 use Rattle.node_engine.proofs.state.Node.remove.Goals as goal
 
 pub returns-in_err-found : goal.returns-in_err-found
-returns-in_err-found g c = 
+returns-in_err-found g c =
     fails_as (clearing c.args.file answer.Done c.args.self.now) _ c.in_err-found.field-0.0 _ _ c.from_residual.result c.from_residual.ensures.1
     (fails_first (plan.Removes c.args.file) (after_remove c.args.file c.args.self.now) c.in_err-found.field-0.0 _ _ c.in_err-found.ensures)
 

@@ -1,15 +1,13 @@
-use Rattle.std.proofs.Common.{◌≡◌, ◌∙◌, ◌+◌, ◌-◌, ◌<◌, ◌≤◌, List, [], ◌∷◌, ℕ, Option, Some, None, length, drop, take, refl, sym, ap, subst, arith}
-use Rattle.law_node.specs.Node.{Node}
+use Rattle.std.proofs.Common.{Some, None, refl, ap}
 use Rattle.law_node.specs.Plan as plan
 use Rattle.law_node.specs.Plan.{Plan}
-use Rattle.node_engine.specs.declared.faults.NodeFault.TheVariants as fault
 use Rattle.node_engine.proofs.Parts.{does_as, fails_as, fails_first, then}
 use Rattle.node_engine.proofs.OneTurn.{after_look, not_there}
 use Rattle.law_node.specs.Lines.{restoring, restoring_bytes}
 use Rattle.node_engine.proofs.state.Node.restore.Goals as goal
 
 pub returns-in_err-found : goal.returns-in_err-found
-returns-in_err-found g c = 
+returns-in_err-found g c =
     fails_as (restoring c.args.self.now c.args.file) _ c.in_err-found.field-0.0 _ _ c.from_residual.result c.from_residual.ensures.1
     (fails_first (plan.Looks c.args.file) (after_look c.args.self.now c.args.file) c.in_err-found.field-0.0 _ _ c.in_err-found.ensures)
 

@@ -1,10 +1,5 @@
-use Rattle.std.proofs.Common.{◌≡◌, ◌∙◌, ◌+◌, ◌-◌, ◌<◌, ◌≤◌, List, [], ◌∷◌, ℕ, Option, Some, None, length, drop, take, refl, sym, ap, subst, arith}
-use Rattle.law_node.specs.Node.{Node}
-use Rattle.law_node.specs.Plan as plan
-use Rattle.law_node.specs.Plan.{Plan}
+use Rattle.std.proofs.Common.{[], Some, length, sym, ap}
 use Rattle.protocol.specs.declared.events.Event.TheVariants as event
-use Rattle.protocol.specs.declared.images.Outcome.{Outcome}
-use Rattle.node_engine.specs.declared.faults.NodeFault.TheVariants as fault
 use Rattle.protocol.specs.declared.images.ContextImage.{ContextImage}
 use Rattle.protocol.specs.Dumps.{Good, Reading}
 use Rattle.law_node.specs.Lines.{restoring_bytes, restoring_image}
@@ -15,12 +10,12 @@ use Rattle.node_engine.proofs.OneTurn.{after_restore, dump_fails}
 use Rattle.node_engine.proofs.state.Node.restore_bytes.Goals as goal
 
 pub returns-in_err-image : goal.returns-in_err-image
-returns-in_err-image g c = 
+returns-in_err-image g c =
     fails_as (restoring_bytes c.args.self.now c.args.file (Some c.args.bytes.now)) _ (fault_of_dump c.in_err-image.field-0.0) _ _ c.from_residual.result c.from_residual.ensures.1
     (dump_fails c.args.self.now c.args.file c.args.bytes.now c.in_err-image.field-0.0 _ c.in_err-image.ensures.fault)
 
 pub returns-in_err-outcome : goal.returns-in_err-outcome
-returns-in_err-outcome g c = 
+returns-in_err-outcome g c =
     fails_as (restoring_bytes c.args.self.now c.args.file (Some c.args.bytes.now)) _ c.in_err-outcome.field-0.0 _ _ c.from_residual-in_err-outcome.result c.from_residual-in_err-outcome.ensures.1
     (fails_if (restoring_image c.args.self.now c.args.file (Good c.in_ok-image.image (length c.args.bytes.now) [])) (restoring_bytes c.args.self.now c.args.file (Some c.args.bytes.now)) c.in_err-outcome.field-0.0 _ _ (ap (λ (read : Reading ContextImage). restoring_image c.args.self.now c.args.file read) (sym c.in_ok-image.ensures.image)) (step_fails c.args.self.now (event.Restore c.in_ok-image.image) (after_restore c.args.file) c.in_err-outcome.field-0.0 _ _ c.in_err-outcome.ensures))
 

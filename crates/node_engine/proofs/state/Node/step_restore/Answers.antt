@@ -1,9 +1,4 @@
-use Rattle.std.proofs.Common.{◌≡◌, ◌∙◌, ◌+◌, ◌-◌, ◌<◌, ◌≤◌, List, [], ◌∷◌, ℕ, Option, Some, None, length, drop, take, refl, sym, ap, subst, arith}
-use Rattle.law_node.specs.Node.{Node}
-use Rattle.law_node.specs.Plan as plan
-use Rattle.law_node.specs.Plan.{Plan}
 use Rattle.protocol.specs.declared.events.Event.TheVariants as event
-use Rattle.protocol.specs.declared.images.Outcome.{Outcome}
 use Rattle.node_engine.specs.declared.faults.NodeFault.TheVariants as fault
 use Rattle.node_engine.specs.Names.{stepping_pair}
 use Rattle.node_engine.proofs.Parts.{fails_as, ran_out_at_once}
@@ -11,12 +6,12 @@ use Rattle.node_engine.proofs.Steps.{step_made, step_stops}
 use Rattle.node_engine.proofs.state.Node.step_restore.Goals as goal
 
 pub returns-in_err-outcome : goal.returns-in_err-outcome
-returns-in_err-outcome g c = 
+returns-in_err-outcome g c =
     fails_as (stepping_pair c.args.self.now (event.Restore c.args.image.now)) _ fault.OutOfMemory _ _ c.from_residual.result c.from_residual.ensures.1
     (ran_out_at_once (stepping_pair c.args.self.now (event.Restore c.args.image.now)) _)
 
 pub returns-in_err-send_all : goal.returns-in_err-send_all
-returns-in_err-send_all g c = 
+returns-in_err-send_all g c =
     fails_as (stepping_pair c.args.self.now (event.Restore c.args.image.now)) _ c.in_err-send_all.field-0.0 _ _ c.from_residual-in_err-send_all.result c.from_residual-in_err-send_all.ensures.1
     (step_stops c.args.self.now (event.Restore c.args.image.now) c.in_ok-outcome.outcome c.as_slice.result.now c.in_err-send_all.field-0.0 _ _ c.in_ok-outcome.ensures.outcome c.as_slice.ensures c.in_err-send_all.ensures)
 

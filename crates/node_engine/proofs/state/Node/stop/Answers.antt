@@ -1,9 +1,4 @@
-use Rattle.std.proofs.Common.{◌≡◌, ◌∙◌, ◌+◌, ◌-◌, ◌<◌, ◌≤◌, List, [], ◌∷◌, ℕ, Option, Some, None, length, drop, take, refl, sym, ap, subst, arith}
-use Rattle.law_node.specs.Node.{Node}
-use Rattle.law_node.specs.Plan as plan
-use Rattle.law_node.specs.Plan.{Plan}
 use Rattle.protocol.specs.declared.events.Event.TheVariants as event
-use Rattle.protocol.specs.declared.images.Outcome.{Outcome}
 use Rattle.std.proofs.Common.{true}
 use Rattle.law_node.specs.Lines.{stopping}
 use Rattle.node_engine.proofs.Parts.{fails_as}
@@ -12,7 +7,7 @@ use Rattle.node_engine.proofs.OneTurn.{after_stop}
 use Rattle.node_engine.proofs.state.Node.stop.Goals as goal
 
 pub returns-in_err-outcome : goal.returns-in_err-outcome
-returns-in_err-outcome g c = 
+returns-in_err-outcome g c =
     fails_as (stopping c.args.self.now c.args.name c.args.file) _ c.in_err-outcome.field-0.0 _ _ c.from_residual.result c.from_residual.ensures.1
     (step_fails c.args.self.now (event.Stop c.args.name true) (after_stop c.args.file) c.in_err-outcome.field-0.0 _ _ c.in_err-outcome.ensures.stepped)
 

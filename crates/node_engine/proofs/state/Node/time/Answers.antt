@@ -1,4 +1,4 @@
-use Rattle.std.proofs.Common.{◌≡◌, ◌∙◌, ◌+◌, ◌-◌, ◌<◌, ◌≤◌, List, [], ◌∷◌, ℕ, Option, Some, None, length, drop, take, refl, sym, ap, subst, arith}
+use Rattle.std.proofs.Common.{ℕ, ap}
 use Rattle.law_node.specs.Node.{Node}
 use Rattle.law_node.specs.Plan as plan
 use Rattle.law_node.specs.Plan.{Plan}
@@ -10,7 +10,7 @@ use Rattle.node_engine.proofs.OneTurn.{timing_of}
 use Rattle.node_engine.proofs.state.Node.time.Goals as goal
 
 pub returns-in_err-ask : goal.returns-in_err-ask
-returns-in_err-ask g c = 
+returns-in_err-ask g c =
     fails_as (timing_of (names_of c.args.live.now) c.args.self.now) _ fault.OutOfMemory _ _ c.from_residual.result c.from_residual.ensures.1
     (ran_out (timing_of (names_of c.args.live.now) c.args.self.now) (λ more. expiring c.now-now.result (names_of c.args.live.now) (asked c.args.self.now c.now-now.result) more) _ _ (second plan.Asks (λ (n : ℕ) (more : Node → Plan). expiring n (names_of c.args.live.now) (asked c.args.self.now n) more) c.now-now.result _ _ c.now-now.ensures))
 

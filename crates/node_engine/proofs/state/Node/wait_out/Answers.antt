@@ -1,10 +1,8 @@
-use Rattle.std.proofs.Common.{◌≡◌, ◌∙◌, ◌+◌, ◌-◌, ◌<◌, ◌≤◌, List, [], ◌∷◌, ℕ, Option, Some, None, length, drop, take, refl, sym, ap, subst, arith}
+use Rattle.std.proofs.Common.{sym}
 use Rattle.law_node.specs.Node.{Node}
-use Rattle.law_node.specs.Plan as plan
 use Rattle.law_node.specs.Plan.{Plan}
-use Rattle.law_node.proofs.Joining.{comes_nowhere, comes_on}
+use Rattle.law_node.proofs.Joining.{comes_nowhere}
 use Rattle.protocol.specs.declared.events.Event.TheVariants as event
-use Rattle.protocol.specs.declared.images.Outcome.{Outcome}
 use Rattle.law_node.specs.Node.{stepping}
 use Rattle.law_node.specs.Serve.{waiting_out}
 use Rattle.node_engine.proofs.Parts.{does_as, made_as}

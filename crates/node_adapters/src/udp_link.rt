@@ -1,0 +1,168 @@
+//! Datagrams over UDP.
+
+ghost use Rattle.std.specs.Prelude.{◌≡◌, ◌≤◌, None};
+ghost use Rattle.mig_ports.specs.Streams.{FaultsCounted};
+
+use mig_ports::{Failed, Got, LONGEST_DATAGRAM, Link};
+use rdma_types::Address;
+use std::io;
+use std::io::ErrorKind;
+use std::net::{Ipv4Addr, Net, SocketAddr, UdpSocket};
+use std::time::Duration;
+
+/// Milliseconds that a receive waits at most.
+const LONGEST_WAIT: u64 = 10;
+
+/// Room for the longest datagram and one byte, which a longer one fills.
+const ROOM: usize = LONGEST_DATAGRAM + 1;
+
+/// A UDP socket, whose faults are counted. A datagram to port 0 is counted as sent and goes nowhere; one of over 4,200 bytes
+/// that comes, and one that comes from no IPv4 address, are dropped.
+#[derive(Drop)]
+pub struct UdpLink<'a, R> {
+    net: &'a R,
+    socket: Option<UdpSocket>,
+    buffer: [u8; ROOM],
+    fault_count: u64,
+}
+
+/// The address of a socket.
+fn host_of(address: Address) -> (Ipv4Addr, u16) {
+    (Ipv4Addr::from_bits(address.ip), address.port)
+}
+
+/// Whether a receive gave nothing in its time.
+fn is_nothing(error: &io::Error) -> bool {
+    matches!(
+        error.kind(),
+        ErrorKind::WouldBlock | ErrorKind::TimedOut | ErrorKind::Interrupted
+    )
+}
+
+impl<'a, R: Net> UdpLink<'a, R> {
+    /// A link without a socket: `start` opens it.
+    pub fn new(net: &'a R) -> UdpLink<'a, R> {
+        UdpLink {
+            net,
+            socket: None,
+            buffer: [0; ROOM],
+            fault_count: 0,
+        }
+    }
+
+    /// Opens a socket at the address.
+    fn open(&self, own: Address) -> io::Result<UdpSocket> {
+        let socket = UdpSocket::bind(self.net, host_of(own))?;
+        socket.set_read_timeout(Some(Duration::from_millis(LONGEST_WAIT)))?;
+        Ok(socket)
+    }
+
+    /// Sends a datagram; where there is no socket, it is not connected.
+    fn send(&self, to: Address, bytes: &[u8]) -> io::Result<usize> {
+        match &self.socket {
+            Some(socket) => socket.send_to(bytes, host_of(to)),
+            None => Err(ErrorKind::NotConnected.into()),
+        }
+    }
+
+    /// Counts a fault.
+    fn failed(&mut self) -> Failed
+        ensures counted { FaultsCounted self.old.fault_count self.new.fault_count }
+        ensures monotone { self.old.fault_count ≤ self.new.fault_count }
+    {
+        self.fault_count = self.fault_count.saturating_add(1);
+        Failed
+    }
+}
+
+/// Receives a datagram.
+fn receive(socket: &Option<UdpSocket>, buffer: &mut [u8]) -> io::Result<(usize, SocketAddr)> {
+    match socket {
+        Some(socket) => socket.recv_from(buffer),
+        None => Err(ErrorKind::NotConnected.into()),
+    }
+}
+
+impl<'a, R: Net> Link for UdpLink<'a, R> {
+    ghost waiting = { λ _. None };
+
+    ghost sent = { λ _. None };
+
+    ghost faults = { λ l. l.fault_count };
+
+    ghost never_fails = { λ _. ⊥ };
+
+    ghost room = { λ _. 0 };
+
+    fn start(&mut self, own: Address) -> Result<(), Failed> {
+        match self.open(own) {
+            Ok(socket) => {
+                self.socket = Some(socket);
+                Ok(())
+            }
+            Err(_) => Err(self.failed()),
+        }
+    }
+
+    fn send_to(&mut self, to: Address, bytes: &[u8]) -> Result<(), Failed> {
+        if to.port == 0 {
+            return Ok(());
+        }
+        match self.send(to, bytes) {
+            Ok(_) => Ok(()),
+            Err(_) => Err(self.failed()),
+        }
+    }
+
+    fn take(&mut self, out: &mut [u8]) -> Result<Got, Failed> {
+        match receive(&self.socket, &mut self.buffer) {
+            Ok((length, SocketAddr::V4(from))) if length <= LONGEST_DATAGRAM => {
+                out[..length].copy_from_slice(&self.buffer[..length]);
+                let from = Address {
+                    ip: from.ip().to_bits(),
+                    port: from.port(),
+                };
+                Ok(Got::Datagram { from, length })
+            }
+            Ok(_) => Ok(Got::Nothing),
+            Err(error) if is_nothing(&error) => Ok(Got::Nothing),
+            Err(_) => Err(self.failed()),
+        }
+    }
+}
+
+#[cfg(test)]
+mod tests {
+    use super::*;
+    use std::test::Fail;
+
+    const ONE: Address = Address {
+        ip: 0x7f00_0001,
+        port: 48_021,
+    };
+
+    const TWO: Address = Address {
+        ip: 0x7f00_0001,
+        port: 48_022,
+    };
+
+    #[test]
+    fn datagrams_go_over_loopback(rt: HostRuntime) -> Result<(), Fail> {
+        let mut one = UdpLink::new(&rt);
+        let mut two = UdpLink::new(&rt);
+        one.start(ONE)?;
+        two.start(TWO)?;
+        let mut out = [0; LONGEST_DATAGRAM];
+        assert_eq!(rt; two.take(&mut out)?, Got::Nothing);
+        one.send_to(TWO, b"datagram")?;
+        assert_eq!(rt;
+            two.take(&mut out)?,
+            Got::Datagram {
+                from: ONE,
+                length: 8
+            }
+        );
+        assert_eq!(rt; &out[..8], b"datagram".as_slice());
+        Ok(())
+    }
+}
