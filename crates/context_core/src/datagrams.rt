@@ -9,6 +9,7 @@ ghost use Rattle.roce_headers.specs.Packets.{packet};
 ghost use Rattle.segmenter.specs.Heads.{has_atomic, has_reth, packet_with};
 ghost use Rattle.context_core.specs.Sending.{IsDatagramBuffer};
 
+use crate::sending::MOST_HEADERS;
 use protocol::{Aeth, AtomicEth, ResumeBody, Reth};
 use psn_math::wire_of;
 use rdma_types::{Address, Items, Sent, Shape};
@@ -51,7 +52,7 @@ impl DatagramBuffer {
     {
         let DatagramBuffer { mut sent, bytes } = self;
         let mut bytes = zeros_in(bytes, encoded_len(d));
-        bytes.shrink_to_fit();
+        give_back(&mut bytes);
         encode(d, &mut bytes);
         let bytes = Items::new(bytes);
         if sent.push(Sent { to, number, bytes }).is_err() {
@@ -69,6 +70,15 @@ pub fn zeros_in(mut memory: Vec<u8>, count: usize) -> Vec<u8>
 {
     memory.resize(count, 0).unwrap();
     memory
+}
+
+/// Gives back the memory that is not used, where it is more than headers take.
+fn give_back(bytes: &mut Vec<u8>)
+    ensures { bytes.new.items ≡ bytes.old.items }
+{
+    if bytes.capacity() - bytes.len() > MOST_HEADERS {
+        bytes.shrink_to_fit();
+    }
 }
 
 /// The bytes of a datagram, in memory of their own. Errors: `AllocError` when out of memory.
