@@ -1,6 +1,6 @@
 //! What an end sends by itself.
 
-ghost use Rattle.std.specs.Prelude.{ℕ, ◌≡◌, ◌+◌, ◌<◌, ◌≤◌, ◌^◌, [], IfOk, IfSome, IsSome, OnErr, Some, length, map, slice_get, vec_capacity};
+ghost use Rattle.std.specs.Prelude.{ℕ, ◌≡◌, ◌+◌, ◌-◌, ◌<◌, ◌≤◌, ◌^◌, [], IfOk, IfSome, IsSome, OnErr, Some, length, map, min, slice_get, vec_capacity};
 ghost use Rattle.std.specs.Result.{result_err};
 ghost use Rattle.rdma_types.specs.Causes.{first_cause};
 ghost use Rattle.rdma_types.specs.declared.names.Name.{Name};
@@ -127,6 +127,31 @@ fn posted_at(endpoint: &Endpoint, index: usize) -> &QueuedRequest
     link.requester.posted(index).unwrap()
 }
 
+/// Where the bytes of a packet begin in those of its request, and how many the request has there.
+fn span_in(payload: &Payload, head: &PacketHead) -> (u32, u32)
+    ensures off { result.0 ≡ min head.now.off payload.now.length }
+    ensures count { result.1 ≡ min head.now.length (payload.now.length - result.0) }
+{
+    let off = head.off.min(payload.length);
+    (off, head.length.min(payload.length - off))
+}
+
+/// The bytes of a packet where they lie, where that is in one page.
+fn piece_in<'a>(pool: &'a PagePool, payload: &Payload, head: &PacketHead) -> Option<&'a [u8]>
+    requires held { HoldsPayload pool.now payload.now }
+    ensures { IfSome result (λ bytes. bytes.now ≡ bytes_at head.now.off head.now.length (payload_bytes pool.now payload.now)) }
+{
+    let (off, count) = span_in(payload, head);
+    if count == 0 {
+        return None;
+    }
+    let piece = pool.piece(&payload.list, u64::from(payload.first) + u64::from(off));
+    if piece.len() < count as usize {
+        return None;
+    }
+    Some(&piece[..count as usize])
+}
+
 /// The bytes of a packet, as many as the request has there, in this memory.
 fn payload_in(pool: &PagePool, payload: &Payload, head: &PacketHead, memory: Vec<u8>) -> Vec<u8>
     requires held { HoldsPayload pool.now payload.now }
@@ -134,11 +159,10 @@ fn payload_in(pool: &PagePool, payload: &Payload, head: &PacketHead, memory: Vec
     requires room { length (bytes_at head.now.off head.now.length (payload_bytes pool.now payload.now)) ≤ vec_capacity memory }
     ensures { result.items ≡ bytes_at head.now.off head.now.length (payload_bytes pool.now payload.now) }
 {
-    let (first, length) = (payload.first, payload.length);
-    let off = head.off.min(length);
-    let count = head.length.min(length - off);
+    let (off, count) = span_in(payload, head);
     let mut out = zeros_in(memory, count as usize);
-    pool.read(&payload.list, u64::from(first) + u64::from(off), &mut out);
+    let at = u64::from(payload.first) + u64::from(off);
+    pool.read(&payload.list, at, &mut out);
     out
 }
 
@@ -162,10 +186,15 @@ fn request_sent(
     let Store { payload, room } = store;
     let posted = posted_at(endpoint, index);
     are_in_range(posted.request.shape);
-    let bytes = payload_in(pool, &posted.payload, head, payload);
     let psn = wire_of(number, way.start);
+    let most = way.mtu as usize + MOST_HEADERS;
+    if let Some(bytes) = piece_in(pool, &posted.payload, head) {
+        let d = request(head, &posted.request.shape, way.peer, psn, bytes);
+        return room.fill(most, way.to, Some(number), &d);
+    }
+    let bytes = payload_in(pool, &posted.payload, head, payload);
     let d = request(head, &posted.request.shape, way.peer, psn, &bytes);
-    room.fill(way.mtu as usize + MOST_HEADERS, way.to, Some(number), &d)
+    room.fill(most, way.to, Some(number), &d)
 }
 
 /// What a transmission sends.
