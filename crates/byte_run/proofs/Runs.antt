@@ -1,9 +1,7 @@
 -- Runs of bytes in pages.
-use Rattle.std.proofs.Common.{◌≡◌, ℕ, ◌+◌, ◌-◌, ◌*◌, ◌/◌, ◌%◌, ◌<◌, ◌≤◌, ◌≢◌, min, List, [], ◌∷◌, ◌++◌, length, take, drop, get_or, set, arith, rules, refl, ap, sym, ◌∙◌}
-use Rattle.std.specs.Prelude.{All}
-use Rattle.std.specs.List.{flat_map}
+use Rattle.std.proofs.Common.{◌≡◌, ℕ, ◌+◌, ◌*◌, ◌/◌, ◌%◌, ◌<◌, ◌≤◌, List, [], ◌∷◌, ◌++◌, length, take, drop, get_or, set, arith, refl, ap, sym, ◌∙◌}
 use Rattle.std.specs.declared.boxed.Box.{Box}
-use Rattle.std.proofs.lemmas.List.{places, same_lists, length-take, length-set, length-append, take_at, take_all, take-take, take-append-le, length-take-le, length-drop, drop-drop, get_or_default, get_or-set_same, get_or-set_other, append-nil}
+use Rattle.std.proofs.lemmas.List.{append_assoc, places, same_lists, length-take, length-set, length-append, take_all, take-take, take-append-le, length-take-le, length-drop, drop-drop, get_or_default, get_or-set_same, get_or-set_other, append-nil}
 use Rattle.std.proofs.lemmas.Slice.{take-put_mid}
 use Rattle.std.proofs.Common.{Result, Ok, Err}
 use Rattle.std.specs.Prelude.{OnErr}
@@ -11,9 +9,9 @@ use borrow.Rule.Slice.PartMut.{put_mid, mid_of}
 use Rattle.std.proofs.lemmas.List.Elements.{All-get_or}
 use Rattle.std.proofs.lemmas.List.Concat.{flat_map-append}
 use Rattle.rdma_types.specs.Memory.{cut, put}
-use Rattle.byte_run.specs.Pages.{joined, ArePages, IsRun, Grows}
+use Rattle.byte_run.specs.Pages.{joined, ArePages, IsRun}
 use Rattle.byte_run.proofs.Joined.{AreEven, length-joined, cut-joined, put-joined}
-use Rattle.byte_run.proofs.Cuts.{length-put, length-cut, put-meet, cut-meet}
+use Rattle.byte_run.proofs.Cuts.{length-cut, put-meet, cut-meet}
 
 -- a part of a front
 pub cut-take : (a n m : ℕ) (bytes : List ℕ) → a + n ≤ m → m ≤ length bytes → cut a n (take m bytes) ≡ cut a n bytes
@@ -24,6 +22,33 @@ cut-take a n m bytes h k = same_lists _ _ (simp (length-take, length-drop) (omeg
 pub take-meet : (a n : ℕ) (bytes : List ℕ) → a + n ≤ length bytes → take a bytes ++ cut a n bytes ≡ take (a + n) bytes
 unfolding cut
 take-meet a n bytes h = same_lists _ _ (simp (length-append, length-take, length-drop) (omega arith)) (λ i d l. grind (arith, places))
+
+-- a part as it is lent
+pub mid-cut : (a k n : ℕ) (xs : List ℕ) → k ≡ n → mid_of a k xs ≡ cut a n xs
+unfolding cut
+mid-cut a k n xs e = rw e refl
+
+-- a list with a front of the next one
+pub take_behind : (xs ys : List ℕ) (n : ℕ) → take (length xs + n) (xs ++ ys) ≡ xs ++ take n ys
+take_behind xs ys n = same_lists _ _ (simp (length-append, length-take) (omega arith)) (λ i d l. grind (arith, places))
+
+-- the bytes before a place, where more were put behind them
+pub before_more : (at done : ℕ) (later before more : List ℕ) → at ≤ length before → take (at + done) later ≡ take at before ++ more → take at later ≡ take at before
+before_more at done later before more h e =
+    let size : length (take at before) ≡ at = length-take-le at before h in
+    sym (take-take at (at + done) later (omega arith)) ∙ (ap (take at) e ∙ (take-append-le at (take at before) more (omega arith) ∙ take_all at (take at before) (omega arith)))
+
+-- one more piece behind what was put
+pub piece_more : (at done count k : ℕ) (before mid later bytes : List ℕ) → done + count ≤ length bytes → k ≡ count → take (at + done) mid ≡ take at before ++ take done bytes → take (at + done + length (mid_of done k bytes)) later ≡ take (at + done) mid ++ mid_of done k bytes → take (at + (done + count)) later ≡ take at before ++ take (done + count) bytes
+piece_more at done count k before mid later bytes h k_is is e =
+    let piece : mid_of done k bytes ≡ cut done count bytes = mid-cut done k count bytes k_is in
+    let size : length (mid_of done k bytes) ≡ count = ap length piece ∙ length-cut done count bytes h in
+    let place : at + (done + count) ≡ at + done + length (mid_of done k bytes) = omega arith in
+    ap (λ n. take n later) place
+    ∙ (e
+    ∙ (ap (λ xs. xs ++ mid_of done k bytes) is
+    ∙ (append_assoc (take at before) (take done bytes) (mid_of done k bytes)
+    ∙ ap (λ xs. take at before ++ xs) (ap (λ xs. take done bytes ++ xs) piece ∙ take-meet done count bytes h))))
 
 -- bytes written at the end of a front
 pub take-put : (a : ℕ) (w bytes : List ℕ) → a + length w ≤ length bytes → take (a + length w) (put bytes a w) ≡ take a bytes ++ w
@@ -64,12 +89,14 @@ module _ {A : Type 0} where
       (λ j l n. ap (λ (p : Box (List ℕ) A). p.value) (get_or-set_other pages (at / 4096) j d d n))
       ∙ ap (λ a. put (joined pages) a w) split)
 
-  -- more pages at the end leave what stands in the first ones
-  pub take-grown : (pages later : List (Box (List ℕ) A)) (n : ℕ) → IsRun pages n → Grows pages later → take n (joined later) ≡ take n (joined pages)
-  take-grown pages later n h g =
+  -- a page behind whole pages
+  pub page_added : (pages later : List (Box (List ℕ) A)) (page : Box (List ℕ) A) (at : ℕ) (w : List ℕ) → IsRun pages at → length pages ≤ at / 4096 → later ≡ pages ++ page ∷ [] → take (length w) page.value ≡ w → take (at + length w) (joined later) ≡ take at (joined pages) ++ w
+  page_added pages later page at w h end added begins =
       let whole : length (joined pages) ≡ 4096 * length pages = length-pages pages h.even in
-      let room : n ≤ length (joined pages) = omega (arith, h.room) in
-      rw (g.grown, flat_map-append (λ (p : Box (List ℕ) A). p.value) pages g.more) (take-append-le n (joined pages) (joined g.more) room)
+      let room : at ≤ 4096 * length pages = h.room in
+      let here : at ≡ length (joined pages) = omega arith in
+      let all : joined later ≡ joined pages ++ page.value = ap joined added ∙ (flat_map-append (λ (p : Box (List ℕ) A). p.value) pages (page ∷ []) ∙ ap (λ xs. joined pages ++ xs) (append-nil page.value)) in
+      rw (all, here, take_all (length (joined pages)) (joined pages) (omega arith)) (take_behind (joined pages) page.value (length w) ∙ ap (λ xs. joined pages ++ xs) begins)
 
 -- the front of a part
 pub take-cut : (a n m : ℕ) (bytes : List ℕ) → n ≤ m → take n (cut a m bytes) ≡ cut a n bytes
@@ -114,15 +141,6 @@ module _ {A : Type 0} where
       piece_put pages later at w d h place room e
       (v ∙ (put_mid-put page new w (at % 4096) k new_is k_is ∙ ap (λ p. put p (at % 4096) w) (is ∙ ap (λ (b : Box (List ℕ) A). b.value) (sym found))))
 
-  -- bytes at the end of a run
-  pub appended : (pages more later : List (Box (List ℕ) A)) (n end : ℕ) (w self : List ℕ) → IsRun pages n → Grows pages more → ArePages more → end ≤ 4096 * length more → end ≡ n + length w → joined later ≡ put (joined more) n w → take n (joined pages) ≡ self → take end (joined later) ≡ self ++ w
-  appended pages more later n end w self h g even room e written is =
-      let whole : length (joined more) ≡ 4096 * length more = length-pages more even in
-      ap (λ xs. take end xs) written
-      ∙ (ap (λ m. take m (put (joined more) n w)) e
-      ∙ (take-put n w (joined more) (omega arith)
-      ∙ ap (λ xs. xs ++ w) (take-grown pages more n h g ∙ is)))
-
   -- a piece read from one page
   pub piece_found : (pages : List (Box (List ℕ) A)) (n at count k : ℕ) (page self : List ℕ) (x : Box (List ℕ) A) → IsRun pages n → at < n → at + count ≤ n → at % 4096 + count ≤ 4096 → x ≡ get_or pages (at / 4096) x → page ≡ x.value → k ≡ count → take n (joined pages) ≡ self
       → (mid_of (at % 4096) k page ≡ cut at (length (mid_of (at % 4096) k page)) self) × (length (mid_of (at % 4096) k page) ≡ count)
@@ -133,15 +151,3 @@ module _ {A : Type 0} where
       let mid : mid_of (at % 4096) k page ≡ cut at count self = rw (k_is, is) (sym here) in
       let size : length (mid_of (at % 4096) k page) ≡ count = ap length mid ∙ length-cut at count self (omega arith) in
       (mid ∙ ap (λ m. cut at m self) (sym size), size)
-
--- a part as it is lent
-pub mid-cut : (a k n : ℕ) (xs : List ℕ) → k ≡ n → mid_of a k xs ≡ cut a n xs
-unfolding cut
-mid-cut a k n xs e = rw e refl
-
--- one more piece written, where it is lent
-pub written-more : (before mid later bytes : List ℕ) (at done count k : ℕ) → at + length bytes ≤ length before → done + count ≤ length bytes → k ≡ count → mid ≡ put before at (take done bytes) → later ≡ put mid (at + done) (mid_of done k bytes) → later ≡ put before at (take (done + count) bytes)
-written-more before mid later bytes at done count k h l k_is is e =
-    e ∙ (ap (λ xs. put xs (at + done) (mid_of done k bytes)) is
-    ∙ (ap (put (put before at (take done bytes)) (at + done)) (mid-cut done k count bytes k_is)
-    ∙ put-more before bytes at done count h l))

@@ -1,5 +1,5 @@
 -- Bytes in boxed pages.
-use Rattle.std.specs.Prelude.{ℕ, ◌≡◌, ◌*◌, ◌≤◌, List, ◌++◌, length, All}
+use Rattle.std.specs.Prelude.{ℕ, ◌≡◌, ◌*◌, ◌≤◌, List, length, All}
 use Rattle.std.specs.List.{flat_map}
 use Rattle.std.specs.declared.boxed.Box.{Box}
 
@@ -15,8 +15,3 @@ ArePages = All (λ page. length page.value ≡ 4096)
 pub record IsRun {A : Type 0} (pages : List (Box (List ℕ) A)) (count : ℕ) : Type 0 where
   pub even : ArePages pages
   pub room : count ≤ 4096 * length pages
-
--- more pages stand at the end
-pub record Grows {A : Type 0} (old new : List (Box (List ℕ) A)) : Type 0 where
-  pub more : List (Box (List ℕ) A)
-  pub grown : new ≡ old ++ more

@@ -1,8 +1,8 @@
 //! A run of bytes.
 
-ghost use Rattle.std.specs.Prelude.{◌≡◌, ℕ, ◌+◌, ◌-◌, ◌*◌, ◌%◌, ◌/◌, ◌^◌, ◌<◌, ◌≤◌, ◌++◌, [], length, min, OnOk, OnErr, IfOk};
+ghost use Rattle.std.specs.Prelude.{◌≡◌, ℕ, ◌+◌, ◌-◌, ◌*◌, ◌%◌, ◌/◌, ◌^◌, ◌<◌, ◌≤◌, ◌++◌, [], length, min, take, OnOk, OnErr, IfOk};
 ghost use Rattle.rdma_types.specs.Memory.{cut, put};
-ghost use Rattle.byte_run.specs.Pages.{joined, ArePages, Grows};
+ghost use Rattle.byte_run.specs.Pages.{joined, ArePages, IsRun};
 
 use crate::PAGE;
 use std::alloc::{AllocError, Global};
@@ -78,8 +78,7 @@ impl ByteRun {
         ensures err { OnErr result (self.new ≡ self.old) }
     {
         let end = self.len.checked_add(bytes.len()).ok_or(AllocError)?;
-        add_pages(alloc, &mut self.pages, end.div_ceil(PAGE))?;
-        put_bytes(&mut self.pages, self.len, bytes);
+        add_bytes(alloc, &mut self.pages, self.len, bytes)?;
         self.len = end;
         Ok(())
     }
@@ -95,39 +94,63 @@ impl ByteRun {
     }
 }
 
-/// Puts pages of zeros at the end until there are `count`.
-fn add_pages(
+/// Puts bytes behind the first `at`, piece by piece.
+fn add_bytes(
     alloc: Global,
     pages: &mut Vec<Box<[u8; 4096]>>,
-    count: usize,
+    at: usize,
+    bytes: &[u8],
 ) -> Result<(), AllocError>
-    requires { ArePages pages.old.items }
-    ensures kept { Grows pages.old.items pages.new.items }
-    ensures even { ArePages pages.new.items }
-    ensures enough { OnOk result (count ≤ length pages.new.items) }
-{
-    for _page in pages.len()..count {
-        pages.push(Box::new(alloc, [0; PAGE])?)?;
-    }
-    Ok(())
-}
-
-/// Writes bytes into pages that hold them.
-fn put_bytes(pages: &mut Vec<Box<[u8; 4096]>>, at: usize, bytes: &[u8])
-    requires even { ArePages pages.old.items }
-    requires room { at + length bytes.now ≤ 4096 * length pages.old.items }
+    requires run { IsRun pages.old.items at }
     requires end { at + length bytes.now < 2 ^ 64 }
-    ensures bytes { joined pages.new.items ≡ put (joined pages.old.items) at bytes.now }
-    ensures even { ArePages pages.new.items }
-    ensures count { length pages.new.items ≡ length pages.old.items }
+    ensures run { IsRun pages.new.items at }
+    ensures kept { take at (joined pages.new.items) ≡ take at (joined pages.old.items) }
+    ensures room { OnOk result (IsRun pages.new.items (at + length bytes.now)) }
+    ensures bytes { OnOk result (take (at + length bytes.now) (joined pages.new.items) ≡ take at (joined pages.old.items) ++ bytes.now) }
 {
     let mut done = 0;
     while done < bytes.len() {
         let place = at + done;
         let count = (PAGE - place % PAGE).min(bytes.len() - done);
-        put_piece(pages, place, &bytes[done..done + count]);
+        add_piece(alloc, pages, place, &bytes[done..done + count])?;
         done += count;
     }
+    Ok(())
+}
+
+/// Puts bytes behind the first `at`, where one page holds them: a page that is there, or a new one.
+fn add_piece(
+    alloc: Global,
+    pages: &mut Vec<Box<[u8; 4096]>>,
+    at: usize,
+    bytes: &[u8],
+) -> Result<(), AllocError>
+    requires run { IsRun pages.old.items at }
+    requires page { at % 4096 + length bytes.now ≤ 4096 }
+    ensures err { OnErr result (pages.new.items ≡ pages.old.items) }
+    ensures run { OnOk result (IsRun pages.new.items (at + length bytes.now)) }
+    ensures bytes { OnOk result (take (at + length bytes.now) (joined pages.new.items) ≡ take at (joined pages.old.items) ++ bytes.now) }
+{
+    if at / PAGE < pages.len() {
+        put_piece(pages, at, bytes);
+    } else {
+        pages.push(page_of(alloc, bytes)?)?;
+    }
+    Ok(())
+}
+
+/// A page that begins with these bytes.
+fn page_of(alloc: Global, bytes: &[u8]) -> Result<Box<[u8; 4096]>, AllocError>
+    requires { length bytes.now ≤ 4096 }
+    ensures even { IfOk result (λ page. length page.value ≡ 4096) }
+    ensures bytes { IfOk result (λ page. take (length bytes.now) page.value ≡ bytes.now) }
+{
+    if let Some(whole) = bytes.first_chunk() {
+        return Ok(Box::new(alloc, *whole)?);
+    }
+    let mut page = [0; PAGE];
+    page[..bytes.len()].copy_from_slice(bytes);
+    Ok(Box::new(alloc, page)?)
 }
 
 /// Writes bytes into the one page that holds them.
