@@ -5,6 +5,5 @@ pub mod Stores
 pub mod Made
 pub mod Dropped
 pub mod Places
-pub mod Restored
 pub mod Released
 pub mod Protocol

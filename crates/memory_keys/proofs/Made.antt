@@ -1,18 +1,20 @@
 -- A region made behind the others.
-use Rattle.std.proofs.Common.{◌≡◌, ℕ, ◌*◌, ◌<◌, ◌≤◌, Bool, true, false, List, [], ◌∷◌, ◌++◌, length, take, refl, ap, sym, ◌∙◌, arith, cond}
+use Rattle.std.proofs.Common.{◌≡◌, ℕ, ◌*◌, ◌<◌, ◌≤◌, Bool, true, false, List, [], ◌∷◌, ◌++◌, length, take, replicate, refl, ap, sym, ◌∙◌, arith, cond}
 use Rattle.std.specs.Prelude.{◌↔◌, Option, Some, None, is_some, nat_eq, nat_lt, nat_le, map, bytes_eq, position, Result, Ok, Err, IsErrOf}
 use Rattle.std.specs.Int.{div_ceil}
 use Rattle.std.specs.Result.{IsErrAnd}
 use Rattle.std.specs.List.{IsDistinct, position_or_len}
 use Rattle.std.specs.Map.{values_of}
-use Rattle.std.proofs.lemmas.List.{take-replicate}
+use Rattle.std.proofs.lemmas.List.{places, same_lists, length-append, length-take, length-drop, length-replicate}
 use Rattle.std.proofs.lemmas.List.Elements.{All-push}
 use Rattle.std.proofs.lemmas.Bool.Decides.{nat_tests}
 use Rattle.std.proofs.lemmas.Grind.{common_steps}
 use Rattle.rdma_types.specs.Causes.{first_cause}
 use Rattle.rdma_types.specs.Limits.{most_regions}
 use Rattle.rdma_types.specs.Lists.{has_name}
+use Rattle.rdma_types.specs.Memory.{put}
 use Rattle.rdma_types.specs.Objects.{Region}
+use Rattle.byte_run.proofs.Cuts.{length-put}
 use Rattle.rdma_types.specs.declared.answers.Refusal.TheVariants as refusal
 use Rattle.rdma_types.specs.declared.names.Name.{Name}
 use Rattle.page_pool.specs.Store.{blank}
@@ -101,34 +103,40 @@ apart-more (x ∷ xs) v d a =
     let e : nat_eq x.list v.list ≡ false = grind (arith, nat_tests, a.0) in
     (all-more x.list xs v d.0 e, apart-more xs v d.1 a.1)
 
-pub held-more : (a b : Pool) (hs : List Held) (v : Held) (n : ℕ) → AreHeld a hs → bytes_of a v.list ≡ None → Puts a b v.list (Some (blank (4096 * n))) → n ≡ pages_for v.head.length → AreHeld b (hs ++ v ∷ [])
-held-more a b hs v n h none p e =
-    let is = bytes-after a b v.list (blank (4096 * n)) p in
+pub held-more : (a b : Pool) (hs : List Held) (v : Held) (n : ℕ) (bytes : List ℕ) → AreHeld a hs → bytes_of a v.list ≡ None → Puts a b v.list (Some (put (blank (4096 * n)) 0 bytes)) → n ≡ pages_for v.head.length → length bytes ≤ v.head.length → AreHeld b (hs ++ v ∷ [])
+held-more a b hs v n bytes h none p e inside =
+    let is = bytes-after a b v.list (put (blank (4096 * n)) 0 bytes) p in
+    let zeros : length (blank (4096 * n)) ≡ 4096 * n = length-blank (4096 * n) in
     record {
       lie = All-push (Lies b) hs v (held-new a b v.list _ hs h none p).lie (record {
-        lives = in-after a b v.list (blank (4096 * n)) p;
-        size = ap length is ∙ (length-blank (4096 * n) ∙ ap (λ m. 4096 * m) e);
+        lives = in-after a b v.list (put (blank (4096 * n)) 0 bytes) p;
+        size = ap length is ∙ (length-put (blank (4096 * n)) 0 bytes (omega (arith, holds-pages v.head.length)) ∙ (zeros ∙ ap (λ m. 4096 * m) e));
       });
       apart = apart-more hs v h.apart (apart-new a v.list hs h.lie none);
     }
 
--- one more region of zeros
-region-blank : (a b : Pool) (v : Held) (n : ℕ) → Puts a b v.list (Some (blank (4096 * n))) → n ≡ pages_for v.head.length → region_of b v ≡ blank_region v.head
+-- the bytes of a region in its pages
+begun : (bytes : List ℕ) (k n : ℕ) → length bytes ≤ k → k ≤ n → take k (put (replicate n 0) 0 bytes) ≡ put (replicate k 0) 0 bytes
+unfolding put
+begun bytes k n h l = same_lists _ _ (simp (length-append, length-take, length-drop, length-replicate) (omega arith)) (λ i d m. grind (arith, places))
+
+-- one more region of bytes, with zeros behind them
+region-made : (a b : Pool) (v : Held) (n : ℕ) (bytes : List ℕ) → Puts a b v.list (Some (put (blank (4096 * n)) 0 bytes)) → n ≡ pages_for v.head.length → length bytes ≤ v.head.length → region_of b v ≡ record (blank_region v.head) { bytes = put (blank_region v.head).bytes 0 bytes }
 unfolding blank
-region-blank a b v n p e =
-    let is = bytes-after a b v.list (blank (4096 * n)) p in
+region-made a b v n bytes p e inside =
+    let is = bytes-after a b v.list (put (blank (4096 * n)) 0 bytes) p in
     let room : v.head.length ≤ 4096 * n = omega (arith, holds-pages v.head.length) in
-    ap (λ bs. record { name = v.head.name; domain = v.head.domain; base = v.head.base; length = v.head.length; rights = v.head.rights; keys = v.head.keys; bytes = bs }) (ap (take v.head.length) is ∙ take-replicate v.head.length (4096 * n) 0 room)
+    ap (λ bs. record { name = v.head.name; domain = v.head.domain; base = v.head.base; length = v.head.length; rights = v.head.rights; keys = v.head.keys; bytes = bs }) (ap (take v.head.length) is ∙ begun bytes v.head.length (4096 * n) inside room)
 
 region-behind : (b : Pool) (hs : List Held) (v : Held) → regions_of b (hs ++ v ∷ []) ≡ regions_of b hs ++ region_of b v ∷ []
 region-behind b [] v = refl
 region-behind b (x ∷ xs) v = ap (λ rs. region_of b x ∷ rs) (region-behind b xs v)
 
-pub regions-more : (a b : Pool) (hs : List Held) (v : Held) (n : ℕ) → AreHeld a hs → bytes_of a v.list ≡ None → Puts a b v.list (Some (blank (4096 * n))) → n ≡ pages_for v.head.length → regions_of b (hs ++ v ∷ []) ≡ regions_of a hs ++ blank_region v.head ∷ []
-regions-more a b hs v n h none p e =
+pub regions-more : (a b : Pool) (hs : List Held) (v : Held) (n : ℕ) (bytes : List ℕ) → AreHeld a hs → bytes_of a v.list ≡ None → Puts a b v.list (Some (put (blank (4096 * n)) 0 bytes)) → n ≡ pages_for v.head.length → length bytes ≤ v.head.length → regions_of b (hs ++ v ∷ []) ≡ regions_of a hs ++ record (blank_region v.head) { bytes = put (blank_region v.head).bytes 0 bytes } ∷ []
+regions-more a b hs v n bytes h none p e inside =
     region-behind b hs v
     ∙ (ap (λ rs. rs ++ region_of b v ∷ []) (regions-new a b v.list _ hs h none p)
-    ∙ ap (λ r. regions_of a hs ++ r ∷ []) (region-blank a b v n p e))
+    ∙ ap (λ r. regions_of a hs ++ r ∷ []) (region-made a b v n bytes p e inside))
 
 -- what is seen of one more entry
 pub seen-more : (es : List (ℕ × Held)) (e : ℕ × Held) → values_of (es ++ e ∷ []) ≡ values_of es ++ e.1 ∷ []

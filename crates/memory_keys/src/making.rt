@@ -1,9 +1,10 @@
 //! Regions made and dropped.
 
-ghost use Rattle.std.specs.Prelude.{◌≡◌, ℕ, ◌+◌, ◌++◌, ◌∷◌, [], length, sum_by, All, None, IfSome, OnOk, OnErr, bytes_eq, is_some, position};
+ghost use Rattle.std.specs.Prelude.{◌≡◌, ℕ, ◌+◌, ◌≤◌, ◌++◌, ◌∷◌, [], length, sum_by, All, None, IfSome, OnOk, OnErr, bytes_eq, is_some, position};
 ghost use Rattle.std.specs.Result.{result_err};
 ghost use Rattle.rdma_types.specs.Causes.{first_cause};
 ghost use Rattle.rdma_types.specs.Lists.{has_name, without};
+ghost use Rattle.rdma_types.specs.Memory.{put};
 ghost use Rattle.page_pool.specs.Pool.{Pool, bytes_of, free_pages, pages_for};
 ghost use Rattle.memory_keys.specs.Causes.{register_causes, deregister_causes, region_named, refusal_of};
 ghost use Rattle.memory_keys.specs.Regions.{AreHeld, AreKeyed, IsAdded, IsNamed, IsRemoved, KeepsOthers, held_at, regions_of, blank_region};
@@ -41,21 +42,7 @@ impl Regions {
         ensures err { OnErr result (self.new ≡ self.old) }
         ensures err_pool { OnErr result (pool.new ≡ pool.old) }
     {
-        if self.place_of(head.name).is_some() {
-            return Err(MemFault::NumberTaken);
-        }
-        if self.held.len() >= MOST_REGIONS {
-            return Err(MemFault::TooMany);
-        }
-        let pages = head.length.div_ceil(4096);
-        if pool.free() < pages {
-            return Err(MemFault::NoPage);
-        }
-        self.held.reserve(1)?;
-        let list = pool.take(alloc, pages)?;
-        let key = head.keys.local;
-        self.held.insert(key, Held { head, list }).unwrap();
-        Ok(())
+        self.add(pool, alloc, head, &ByteRun::make(alloc))
     }
 
     /// Makes a region of these bytes behind the others, as many as it is long. Errors: those of `register`; all is then
@@ -80,9 +67,44 @@ impl Regions {
         ensures err { OnErr result (self.new ≡ self.old) }
         ensures err_pool { OnErr result (pool.new ≡ pool.old) }
     {
-        self.register(pool, alloc, head)?;
-        let held = self.held.get_mut(&head.keys.local).unwrap();
-        pool.write_run(&mut held.list, 0, bytes);
+        self.add(pool, alloc, head, bytes)
+    }
+
+    /// Makes a region behind the others, of these bytes and zeros behind them. Errors: those of `register`.
+    fn add(
+        &mut self,
+        pool: &mut PagePool,
+        alloc: Global,
+        head: RegionHead,
+        bytes: &ByteRun,
+    ) -> Result<(), MemFault>
+        requires held { AreHeld pool.old self.old }
+        requires new { held_at head.keys.local self.old ≡ None }
+        requires pair { head.keys.remote ≡ head.keys.local + 1 }
+        requires inside { length bytes.now ≤ head.length }
+        ensures held { AreHeld pool.new self.new }
+        ensures regions { OnOk result (regions_of pool.new self.new ≡ regions_of pool.old self.old ++ record (blank_region head) { bytes = put (blank_region head).bytes 0 bytes.now } ∷ []) }
+        ensures others { KeepsOthers pool.old pool.new self.old }
+        ensures added { OnOk result (IsAdded pool.old self.old self.new head) }
+        ensures free { OnOk result (free_pages pool.new + pages_for head.length ≡ free_pages pool.old) }
+        ensures refused { refusal_of result ≡ first_cause (register_causes (regions_of pool.old self.old) (free_pages pool.old) head) }
+        ensures err { OnErr result (self.new ≡ self.old) }
+        ensures err_pool { OnErr result (pool.new ≡ pool.old) }
+    {
+        if self.place_of(head.name).is_some() {
+            return Err(MemFault::NumberTaken);
+        }
+        if self.held.len() >= MOST_REGIONS {
+            return Err(MemFault::TooMany);
+        }
+        let pages = head.length.div_ceil(4096);
+        if pool.free() < pages {
+            return Err(MemFault::NoPage);
+        }
+        self.held.reserve(1)?;
+        let list = pool.take_with(alloc, pages, 0, bytes)?;
+        let key = head.keys.local;
+        self.held.insert(key, Held { head, list }).unwrap();
         Ok(())
     }
 

@@ -1,14 +1,13 @@
 -- The bytes of a page, after a write.
-use Rattle.std.proofs.Common.{◌≡◌, ℕ, zero, suc, ◌+◌, ◌-◌, ◌*◌, ◌<◌, ◌≤◌, ◌≢◌, List, [], ◌∷◌, ◌++◌, length, take, drop, get_or, arith, refl, ap, sym, ◌∙◌, inl, inr}
+use Rattle.std.proofs.Common.{◌≡◌, ℕ, zero, suc, ◌+◌, ◌-◌, ◌*◌, ◌<◌, ◌≤◌, ◌≢◌, List, [], ◌∷◌, ◌++◌, length, take, drop, get_or, min, arith, refl, ap, sym, ◌∙◌, inl, inr}
 use Rattle.std.specs.Prelude.{◌⊎◌, replicate}
 use Rattle.std.specs.List.{flat_map}
 use Rattle.std.proofs.lemmas.Bool.{cases_lt}
-use Rattle.std.proofs.lemmas.List.{take_all, drop_all, replicate-append-replicate, append-nil}
+use Rattle.std.proofs.lemmas.List.{places, same_lists, get_or-take, get_or-drop, drop_all, drop-drop, take-append-drop, length-append, length-take, length-drop, length-replicate, append-nil}
 use Rattle.rdma_types.specs.Memory.{cut, put}
-use Rattle.byte_run.proofs.Cuts.{length-cut, length-put, cut-put_below, cut-put_above, cut-put_inside}
+use Rattle.byte_run.proofs.Cuts.{length-cut, cut-put_below, cut-put_above, cut-put_inside}
 use Rattle.page_pool.specs.Store.{blank}
 use Rattle.page_pool.specs.Ledger.{page_at}
-use Rattle.page_pool.proofs.Places.{length-blank}
 
 -- a page has 4,096 bytes
 pub length-page : (bytes : List ℕ) (n p : ℕ) → length bytes ≡ 4096 * n → p < n → length (page_at bytes p) ≡ 4096
@@ -48,14 +47,48 @@ page-put_whole_other bytes w n q p e l k ne =
     let at : 4096 * q ≡ 4096 * q + 0 = omega arith in
     ap (λ a. page_at (put bytes a w) p) at ∙ page-put_other bytes w n q 0 p e l (omega arith) ne
 
--- pages of zeros, joined
-pub joined-blank : (f : ℕ → List ℕ) (ns : List ℕ) → ((i : ℕ) → i < length ns → f (get_or ns i 0) ≡ blank 4096) → flat_map f ns ≡ blank (4096 * length ns)
-unfolding blank
-joined-blank f [] h = refl
-joined-blank f (n ∷ ns) h =
-    let rest : flat_map f ns ≡ replicate (4096 * length ns) 0 = joined-blank f ns (λ i l. h (suc i) (omega arith)) in
-    let size : 4096 + 4096 * length ns ≡ 4096 * suc (length ns) = omega arith in
-    ap (λ xs. xs ++ flat_map f ns) (h zero (omega arith))
-    ∙ (ap (λ xs. replicate 4096 0 ++ xs) rest
-    ∙ (replicate-append-replicate 4096 (4096 * length ns) 0
-    ∙ ap (λ k. replicate k 0) size))
+-- the pages of a list, joined
+pub joined-pages : (f : ℕ → List ℕ) (ns all : List ℕ) → length all ≡ 4096 * length ns → ((i : ℕ) → i < length ns → f (get_or ns i 0) ≡ page_at all i) → flat_map f ns ≡ all
+unfolding page_at cut
+joined-pages f [] all size h = sym (drop_all 0 all (omega arith))
+joined-pages f (n ∷ ns) all size h =
+    let rest : flat_map f ns ≡ drop 4096 all = joined-pages f ns (drop 4096 all) (simp length-drop (omega arith)) (λ i l. h (suc i) (omega arith) ∙ ap (take 4096) (ap (λ k. drop k all) (next i) ∙ sym (drop-drop (4096 * i) 4096 all))) in
+    ap (λ xs. xs ++ flat_map f ns) (h zero (omega arith)) ∙ (ap (λ xs. take 4096 all ++ xs) rest ∙ take-append-drop 4096 all)
+  where
+    next : (i : ℕ) → 4096 * suc i ≡ 4096 + 4096 * i
+    next i = omega arith
+
+-- a page of zeros, of bytes and of zeros, in parts that are the same
+pub laid-parts : (x y z bytes : List ℕ) (b f n b' f' m r : ℕ) → x ≡ replicate b 0 → y ≡ cut f m bytes → z ≡ replicate r 0 → b ≡ b' → f ≡ f' → m ≡ n → r ≡ 4096 - b' - n → x ++ (y ++ z) ≡ replicate b' 0 ++ (cut f' n bytes ++ replicate (4096 - b' - n) 0)
+laid-parts x y z bytes b f n b' f' m r p q s e g h k = rw (p, q, s, e, g, h, k) refl
+
+-- what stands at a place of a page: before the run, in it, and behind it
+place_of-page : (bytes : List ℕ) (first at n m j d : ℕ) → j < m → at + m ≤ n → first + length bytes ≤ n → get_or (take m (drop at (take first (replicate n 0) ++ (bytes ++ drop (first + length bytes) (replicate n 0))))) j d ≡ get_or (take first (replicate n 0) ++ (bytes ++ drop (first + length bytes) (replicate n 0))) (at + j) d
+place_of-page bytes first at n m j d k page inside = get_or-take m (drop at (take first (replicate n 0) ++ (bytes ++ drop (first + length bytes) (replicate n 0)))) j d k ∙ get_or-drop at (take first (replicate n 0) ++ (bytes ++ drop (first + length bytes) (replicate n 0))) j d
+
+zero_before : (bytes rest : List ℕ) (first n b j i d : ℕ) → j < b → i < first → first ≤ n → get_or (replicate b 0 ++ rest) j d ≡ get_or (take first (replicate n 0) ++ bytes) i d
+zero_before bytes rest first n b j i d l before inside = grind (arith, places)
+
+byte_held : (bytes rest rest' : List ℕ) (first n b f c j i d : ℕ) → b ≤ j → j < b + c → f + c ≤ length bytes → i + b ≡ first + f + j → first ≤ i → first ≤ n → get_or (replicate b 0 ++ (take c (drop f bytes) ++ rest)) j d ≡ get_or (take first (replicate n 0) ++ (bytes ++ rest')) i d
+byte_held bytes rest rest' first n b f c j i d low l within same from inside = grind (arith, places)
+
+zero_behind : (bytes : List ℕ) (first n b f c r j i d : ℕ) → b + c ≤ j → j < b + c + r → f + c ≤ length bytes → first + length bytes ≤ i → i < n → get_or (replicate b 0 ++ (take c (drop f bytes) ++ replicate r 0)) j d ≡ get_or (take first (replicate n 0) ++ (bytes ++ drop (first + length bytes) (replicate n 0))) i d
+zero_behind bytes first n b f c r j i d low l within past inside = grind (arith, places)
+
+-- a page as it is laid: zeros, what a run has there, and zeros
+pub laid : (bytes : List ℕ) (first at n b f c : ℕ) → b ≡ min (first - at) 4096 → f ≡ min (at - first) (length bytes) → c ≡ min (4096 - b) (length bytes - f) → first + length bytes ≤ n → at + 4096 ≤ n → replicate b 0 ++ (cut f c bytes ++ replicate (4096 - b - c) 0) ≡ cut at 4096 (put (blank n) first bytes)
+unfolding cut put blank
+laid bytes first at n b f c b_is f_is c_is inside page =
+    let within : f + c ≤ length bytes = omega arith in
+    let full : b + c ≤ 4096 = omega arith in
+    let size : length (replicate b 0 ++ (take c (drop f bytes) ++ replicate (4096 - b - c) 0)) ≡ 4096 = simp (length-append, length-take, length-drop, length-replicate) (omega arith) in
+    let size' : length (take 4096 (drop at (take first (replicate n 0) ++ (bytes ++ drop (first + length bytes) (replicate n 0))))) ≡ 4096 = simp (length-append, length-take, length-drop, length-replicate) (omega arith) in
+    same_lists _ _ (omega arith) (λ j d k. at_place j d (omega arith))
+  where
+    at_place : (j d : ℕ) → j < 4096 → get_or (replicate b 0 ++ (take c (drop f bytes) ++ replicate (4096 - b - c) 0)) j d ≡ get_or (take 4096 (drop at (take first (replicate n 0) ++ (bytes ++ drop (first + length bytes) (replicate n 0))))) j d
+    at_place j d k = by_place (cases_lt j b) (cases_lt j (b + c))
+      where
+        by_place : (j < b) ⊎ (b ≤ j) → (j < b + c) ⊎ (b + c ≤ j) → get_or (replicate b 0 ++ (take c (drop f bytes) ++ replicate (4096 - b - c) 0)) j d ≡ get_or (take 4096 (drop at (take first (replicate n 0) ++ (bytes ++ drop (first + length bytes) (replicate n 0))))) j d
+        by_place (inl l) q = zero_before (bytes ++ drop (first + length bytes) (replicate n 0)) (take c (drop f bytes) ++ replicate (4096 - b - c) 0) first n b j (at + j) d l (omega arith) (omega arith) ∙ sym (place_of-page bytes first at n 4096 j d k page inside)
+        by_place (inr low) (inl l) = byte_held bytes (replicate (4096 - b - c) 0) (drop (first + length bytes) (replicate n 0)) first n b f c j (at + j) d low l (omega arith) (omega arith) (omega arith) (omega arith) ∙ sym (place_of-page bytes first at n 4096 j d k page inside)
+        by_place (inr low) (inr past) = zero_behind bytes first n b f c (4096 - b - c) j (at + j) d past (omega arith) (omega arith) (omega arith) (omega arith) ∙ sym (place_of-page bytes first at n 4096 j d k page inside)

@@ -2,13 +2,12 @@
 use Rattle.std.proofs.Common.{◌≡◌, ℕ, ◌+◌, ◌-◌, ◌*◌, ◌<◌, ◌≤◌, ◌≢◌, List, [], ◌∷◌, ◌++◌, length, take, get_or, set, sum, arith, refl, ap, sym, ◌∙◌, inl, inr}
 use Rattle.std.specs.Prelude.{◌⊎◌}
 use Rattle.std.proofs.lemmas.Bool.{cases_lt, cases_eq}
-use Rattle.std.proofs.lemmas.List.{get_or-set_same, get_or-set_other, get_or_past, length-set, get_or_push, get_or_append_left, length_push}
-use Rattle.page_pool.specs.Store.{times, blank, IsSound}
+use Rattle.std.proofs.lemmas.List.{get_or-set_same, get_or-set_other, get_or_past, length-set, get_or_push, get_or_append_left}
+use Rattle.page_pool.specs.Store.{times}
 use Rattle.page_pool.specs.Ledger.{page_at}
 use Rattle.rdma_types.specs.Memory.{put}
 use Rattle.page_pool.proofs.Counts.{one_if, one_if-same, one_if-other, times-more, times-push, times-there, times-take, sum-set}
 use Rattle.page_pool.proofs.Pages.{page-put_whole, page-put_whole_other}
-use Rattle.page_pool.proofs.Places.{length-blank}
 
 -- what is counted is there
 pub inside : (hs : List ℕ) (q : ℕ) → 0 < get_or hs q 0 → q < length hs
@@ -81,23 +80,23 @@ taken-more hs0 hs hs' ns ns' q p l none e e' before =
     omega arith
 
 -- a page that is held is as it was
-pub kept-more : (hs0 hs bytes0 bytes bytes' : List ℕ) (n q p t : ℕ) → length bytes ≡ 4096 * n → q < n → get_or hs q 0 ≡ 0 → bytes' ≡ put bytes (4096 * q) (blank 4096) → get_or hs p 0 ≡ get_or hs0 p 0 + t → 0 < get_or hs0 p 0 → page_at bytes p ≡ page_at bytes0 p → page_at bytes' p ≡ page_at bytes0 p
-kept-more hs0 hs bytes0 bytes bytes' n q p t size l none e counted held before = by_place (cases_eq p q)
+pub kept-more : (hs0 hs bytes0 bytes bytes' w : List ℕ) (n q p t : ℕ) → length bytes ≡ 4096 * n → q < n → get_or hs q 0 ≡ 0 → bytes' ≡ put bytes (4096 * q) w → length w ≡ 4096 → get_or hs p 0 ≡ get_or hs0 p 0 + t → 0 < get_or hs0 p 0 → page_at bytes p ≡ page_at bytes0 p → page_at bytes' p ≡ page_at bytes0 p
+kept-more hs0 hs bytes0 bytes bytes' w n q p t size l none e whole counted held before = by_place (cases_eq p q)
   where
     by_place : (p ≡ q) ⊎ (p ≢ q) → page_at bytes' p ≡ page_at bytes0 p
     by_place (inl i) = absurd (omega (arith, ap (λ x. get_or hs x 0) i))
-    by_place (inr ne) = ap (λ b. page_at b p) e ∙ (page-put_whole_other bytes (blank 4096) n q p size l (length-blank 4096) ne ∙ before)
+    by_place (inr ne) = ap (λ b. page_at b p) e ∙ (page-put_whole_other bytes w n q p size l whole ne ∙ before)
 
--- a page taken is blank
-pub blank-more : (hs bytes bytes' ns ns' : List ℕ) (n q i : ℕ) → length bytes ≡ 4096 * n → q < n → get_or hs q 0 ≡ 0 → bytes' ≡ put bytes (4096 * q) (blank 4096) → ns' ≡ ns ++ q ∷ [] → ((p : ℕ) → times p ns ≤ get_or hs p 0) → ((j : ℕ) → j < length ns → page_at bytes (get_or ns j 0) ≡ blank 4096) → i < length ns + 1 → page_at bytes' (get_or ns' i 0) ≡ blank 4096
-blank-more hs bytes bytes' ns ns' n q i size l none e e' within before k = by_place (cases_lt i (length ns))
+-- a page taken has its bytes
+pub page-more : (hs bytes bytes' w ns ns' all : List ℕ) (n q i : ℕ) → length bytes ≡ 4096 * n → q < n → get_or hs q 0 ≡ 0 → bytes' ≡ put bytes (4096 * q) w → length w ≡ 4096 → w ≡ page_at all (length ns) → ns' ≡ ns ++ q ∷ [] → ((p : ℕ) → times p ns ≤ get_or hs p 0) → ((j : ℕ) → j < length ns → page_at bytes (get_or ns j 0) ≡ page_at all j) → i < length ns + 1 → page_at bytes' (get_or ns' i 0) ≡ page_at all i
+page-more hs bytes bytes' w ns ns' all n q i size l none e whole is e' within before k = by_place (cases_lt i (length ns))
   where
-    by_place : (i < length ns) ⊎ (length ns ≤ i) → page_at bytes' (get_or ns' i 0) ≡ blank 4096
+    by_place : (i < length ns) ⊎ (length ns ≤ i) → page_at bytes' (get_or ns' i 0) ≡ page_at all i
     by_place (inl b) =
         let at : get_or ns' i 0 ≡ get_or ns i 0 = ap (λ xs. get_or xs i 0) e' ∙ get_or_append_left ns (q ∷ []) 0 i b in
         let other : get_or ns i 0 ≢ q = λ same. absurd (omega (arith, times-there ns i b, within (get_or ns i 0), ap (λ x. get_or hs x 0) same)) in
-        ap (λ p. page_at bytes' p) at ∙ (ap (λ x. page_at x (get_or ns i 0)) e ∙ (page-put_whole_other bytes (blank 4096) n q (get_or ns i 0) size l (length-blank 4096) other ∙ before i b))
+        ap (λ p. page_at bytes' p) at ∙ (ap (λ x. page_at x (get_or ns i 0)) e ∙ (page-put_whole_other bytes w n q (get_or ns i 0) size l whole other ∙ before i b))
     by_place (inr b) =
         let last : length ns ≡ i = omega arith in
         let at : get_or ns' i 0 ≡ q = ap (λ xs. get_or xs i 0) e' ∙ get_or_push ns q 0 i last in
-        ap (λ p. page_at bytes' p) at ∙ (ap (λ x. page_at x q) e ∙ page-put_whole bytes (blank 4096) n q size l (length-blank 4096))
+        ap (λ p. page_at bytes' p) at ∙ (ap (λ x. page_at x q) e ∙ (page-put_whole bytes w n q size l whole ∙ (is ∙ ap (page_at all) last)))

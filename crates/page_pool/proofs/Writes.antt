@@ -1,25 +1,24 @@
 -- A list whose page is copied or written.
-use Rattle.std.proofs.Common.{◌≡◌, ℕ, zero, suc, subst, min, ◌+◌, ◌-◌, ◌*◌, ◌/◌, ◌%◌, ◌<◌, ◌≤◌, ◌≢◌, List, [], ◌∷◌, ◌++◌, length, take, drop, get_or, set, map, sum, arith, refl, ap, sym, ◌∙◌, inl, inr, Bool, true, false}
-use Rattle.std.specs.Prelude.{◌⊎◌, Option, Some, None, sum_by, IsSome, is_some, unwrap_or, nat_lt}
+use Rattle.std.proofs.Common.{◌≡◌, ℕ, subst, min, ◌+◌, ◌-◌, ◌*◌, ◌/◌, ◌%◌, ◌<◌, ◌≤◌, ◌≢◌, List, [], ◌++◌, length, take, drop, get_or, set, sum, arith, refl, ap, sym, ◌∙◌, inl, inr}
+use Rattle.std.specs.Prelude.{◌⊎◌, Option, Some, None, sum_by, IsSome, is_some, unwrap_or}
 use Rattle.std.specs.List.{flat_map}
 use Rattle.std.specs.declared.vec.Vec.{Vec}
 use Rattle.std.proofs.lemmas.Bool.{cases_lt, cases_eq}
-use Rattle.std.proofs.lemmas.Bool.Decides.{nat_tests}
 use Rattle.std.proofs.lemmas.List.{get_or_past, length-set, get_or-set_same, get_or-set_other, get_or_read, length-drop, length-take, get_or-take, get_or-drop, take_all}
 use Rattle.std.proofs.lemmas.List.Sums.{get_or-le-sum_by, sum_by-set}
 use Rattle.rdma_types.specs.Memory.{cut, put}
 use Rattle.byte_run.proofs.Cuts.{length-cut, length-put, cut-meet, put-none}
 use Rattle.byte_run.proofs.Runs.{take-cut, put-more}
 use Rattle.byte_run.proofs.Joined.{joined-same, joined-part, put-joined, cut-joined}
-use Rattle.page_pool.proofs.Places.{length-part, length-blank}
+use Rattle.page_pool.proofs.Places.{length-part}
 use Rattle.std.specs.Int.{div_ceil}
-use Rattle.page_pool.specs.Store.{Store, IsSound, times, blank}
-use Rattle.page_pool.specs.Pool.{Pool, Puts, bytes_of, bytes_in, IsIn, pages_of, pages_for, free_pages}
-use Rattle.page_pool.specs.Ledger.{IsLedger, slot, numbers, shown, held_by, in_all, pool_of, page_at}
-use Rattle.page_pool.proofs.Counts.{one_if, one_if-same, one_if-other, times-there, times-set, sum-set}
+use Rattle.page_pool.specs.Store.{Store, IsSound, times}
+use Rattle.page_pool.specs.Pool.{Pool, Puts, bytes_of, bytes_in, IsIn, pages_of, pages_for}
+use Rattle.page_pool.specs.Ledger.{IsLedger, slot, numbers, shown, held_by, pool_of, page_at}
+use Rattle.page_pool.proofs.Counts.{one_if, one_if-same, one_if-other, times-there, times-set}
 use Rattle.page_pool.proofs.Pages.{length-page, page-put_other, page-put_same, page-put_whole, page-put_whole_other}
 use Rattle.page_pool.proofs.Steps.{inside, one_more-at, one_less-at, sum-more, sum-less}
-use Rattle.page_pool.proofs.Ledgers.{holder-there, page-there, even-list, shown-at, shown-is, bytes-is, bytes-are, size-is, ledger-changed, puts-changed, free-is, length-list}
+use Rattle.page_pool.proofs.Ledgers.{holder-there, page-there, even-list, shown-at, bytes-is, bytes-are, size-is, ledger-changed, puts-changed}
 
 -- the rest of a list is a part of it
 pub tail-cut : (n m : ℕ) (p : List ℕ) → length p ≡ m → drop n p ≡ cut n (m - n) p
@@ -412,13 +411,3 @@ pages-hold total = omega arith
 pub pages-for-is : (pages a b n : ℕ) → pages ≡ div_ceil (a + b) 4096 → b ≡ n → pages ≡ pages_for (a + n)
 unfolding pages_for
 pages-for-is pages a b n e f = e ∙ ap (λ m. div_ceil (a + m) 4096) f
-
--- bytes written into new pages
-pub lowered : (a b c : Pool) (k k' pages n first : ℕ) (bytes : List ℕ) → Puts a b k (Some (blank (4096 * pages))) → Puts b c k (Some (put (bytes_in b k) first bytes)) → k' ≡ k → pages ≡ n → Puts a c k' (Some (put (blank (4096 * n)) first bytes))
-lowered a b c k k' pages n first bytes f g e p =
-    let is : put (bytes_in b k) first bytes ≡ put (blank (4096 * n)) first bytes = ap (λ xs. put xs first bytes) (bytes-after a b k (blank (4096 * pages)) f ∙ ap (λ m. blank (4096 * m)) p) in
-    let done : Puts a c k (Some (put (blank (4096 * n)) first bytes)) = subst (λ xs. Puts a c k (Some xs)) is (puts-after a b c k _ _ f g) in
-    subst (λ i. Puts a c i (Some (put (blank (4096 * n)) first bytes))) (sym e) done
-
-pub new-size : (a b : Pool) (k pages : ℕ) → Puts a b k (Some (blank (4096 * pages))) → length (bytes_in b k) ≡ 4096 * pages
-new-size a b k pages h = ap length (bytes-after a b k (blank (4096 * pages)) h) ∙ length-blank (4096 * pages)

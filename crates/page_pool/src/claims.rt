@@ -1,28 +1,57 @@
 //! Many pages taken, held and given back.
 
-ghost use Rattle.std.specs.Prelude.{◌≡◌, ℕ, ◌+◌, ◌<◌, ◌≤◌, [], length, sum, slice_index, vec_capacity};
+ghost use Rattle.std.specs.Prelude.{◌≡◌, ℕ, ◌+◌, ◌-◌, ◌*◌, ◌<◌, ◌≤◌, ◌++◌, [], length, min, sum, replicate, slice_index, vec_capacity};
+ghost use Rattle.rdma_types.specs.Memory.{cut, put};
 ghost use Rattle.page_pool.specs.Store.{IsSound, times, blank};
 ghost use Rattle.page_pool.specs.Ledger.{page_at};
 
+use crate::PAGE;
 use crate::frames::Frames;
+use byte_run::ByteRun;
 
-/// Takes new pages, and lists their numbers.
-pub fn take_pages(frames: &mut Frames, numbers: &mut Vec<u32>, count: u32)
+/// Writes what a page from byte `at` of a list on has: the bytes of a run, which begins at byte `first` of the list, and
+/// zeros elsewhere.
+fn lay_page(bytes: &ByteRun, first: u64, at: u64, page: &mut [u8])
+    requires { length page.old ≡ 4096 }
+    ensures { let before = min (first - at) 4096 in let from = min (at - first) (length bytes.now) in let count = min (4096 - before) (length bytes.now - from) in page.new ≡ replicate before 0 ++ (cut from count bytes.now ++ replicate (4096 - before - count) 0) }
+{
+    let before = first.saturating_sub(at).min(4096);
+    let from = at.saturating_sub(first).min(bytes.len());
+    let count = (4096 - before).min(bytes.len() - from);
+    let (zeros, rest) = page.split_at_mut(before as usize);
+    zeros.fill(0);
+    let (held, rest) = rest.split_at_mut(count as usize);
+    bytes.read(from, held);
+    rest.fill(0);
+}
+
+/// Takes new pages, and lists their numbers. They have the bytes of a run from byte `first` of the first page on, and zeros
+/// elsewhere.
+pub fn take_pages(
+    frames: &mut Frames,
+    numbers: &mut Vec<u32>,
+    count: u32,
+    bytes: &ByteRun,
+    first: u64,
+)
     requires sound { IsSound frames.old }
     requires empty { numbers.old.items ≡ [] }
     requires room { count ≤ vec_capacity numbers.old }
     requires free { sum frames.old.holders + count ≤ length frames.old.holders }
+    requires inside { first + length bytes.now ≤ 4096 * count }
     ensures sound { IsSound frames.new }
     ensures pages { length frames.new.holders ≡ length frames.old.holders }
     ensures counted { (page : ℕ) → slice_index frames.new.holders page ≡ slice_index frames.old.holders page + times page numbers.new.items }
     ensures total { sum frames.new.holders ≡ sum frames.old.holders + count }
     ensures kept { (page : ℕ) → 0 < slice_index frames.old.holders page → page_at frames.new.bytes page ≡ page_at frames.old.bytes page }
-    ensures blank { (i : ℕ) → i < count → page_at frames.new.bytes (slice_index numbers.new.items i) ≡ blank 4096 }
+    ensures bytes { (i : ℕ) → i < count → page_at frames.new.bytes (slice_index numbers.new.items i) ≡ page_at (put (blank (4096 * count)) first bytes.now) i }
     ensures len { length numbers.new.items ≡ count }
 {
-    for _taken in 0..count {
-        let page = frames.fresh();
-        numbers.push(page).unwrap();
+    let mut page = [0; PAGE];
+    for taken in 0..count {
+        lay_page(bytes, first, u64::from(taken) * 4096, &mut page);
+        let number = frames.fresh(&page);
+        numbers.push(number).unwrap();
     }
 }
 

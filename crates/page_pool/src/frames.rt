@@ -2,10 +2,10 @@
 
 ghost use Rattle.std.specs.Prelude.{◌≡◌, ℕ, ◌+◌, ◌-◌, ◌*◌, ◌<◌, ◌≤◌, ◌^◌, length, sum, nat_lt, replicate, slice_index, slice_set, IfOk};
 ghost use Rattle.rdma_types.specs.Memory.{cut, put};
-ghost use Rattle.page_pool.specs.Store.{IsSound, blank};
+ghost use Rattle.page_pool.specs.Store.{IsSound};
 
 use crate::PAGE;
-use crate::parts::{clear_page, copy_page, draw, put_at};
+use crate::parts::{copy_page, draw, put_at};
 use std::alloc::{AllocError, Global};
 use std::marker::Model;
 
@@ -126,19 +126,20 @@ impl Frames {
         }
     }
 
-    /// A page of zeros that nobody held.
-    pub fn fresh(&mut self) -> u32
-        requires { sum self.old.holders < length self.old.holders }
+    /// A page that nobody held, with these bytes.
+    pub fn fresh(&mut self, bytes: &[u8]) -> u32
+        requires room { sum self.old.holders < length self.old.holders }
+        requires whole { length bytes.now ≡ 4096 }
         ensures page { result < length self.old.holders }
         ensures idle { slice_index self.old.holders result ≡ 0 }
         ensures new { self.new ≡ record {
-          bytes = put self.old.bytes (4096 * result) (blank 4096);
+          bytes = put self.old.bytes (4096 * result) bytes.now;
           holders = slice_set self.old.holders result 1;
         } }
         ensures sound { IsSound self.new }
     {
         let page = draw(&mut self.bytes, &mut self.holders, &mut self.stock);
-        clear_page(&mut self.bytes, page as usize * PAGE);
+        put_at(&mut self.bytes, page as usize * PAGE, bytes);
         self.holders[page as usize] = 1;
         self.spare -= 1;
         page

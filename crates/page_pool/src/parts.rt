@@ -15,15 +15,6 @@ pub fn put_at(bytes: &mut Vec<u8>, at: usize, new: &[u8])
     bytes[at..at + new.len()].copy_from_slice(new);
 }
 
-/// Writes a page of zeros from a place on.
-pub fn clear_page(bytes: &mut Vec<u8>, at: usize)
-    requires { at + 4096 ≤ length bytes.old.items }
-    ensures items { bytes.new.items ≡ put bytes.old.items at (blank 4096) }
-    ensures room { vec_capacity bytes.new ≡ vec_capacity bytes.old }
-{
-    put_at(bytes, at, &[0; PAGE]);
-}
-
 /// Copies a page from one place to another.
 pub fn copy_page(bytes: &mut Vec<u8>, from: usize, to: usize)
     requires from { from + 4096 ≤ length bytes.old.items }

@@ -103,12 +103,31 @@ impl PagePool {
         ensures no_page { IsErrOf result PoolFault.NoPage ↔ (free_pages self.old < n) }
         ensures err { OnErr result (self.new ≡ self.old) }
     {
+        self.take_with(alloc, n, 0, &ByteRun::make(alloc))
+    }
+
+    /// A list of `n` new pages with the bytes of a run from `first` on, and zeros elsewhere. Errors: `NoPage` exactly
+    /// where fewer are free, or `OutOfMemory`. The pool is then as it was.
+    pub fn take_with(
+        &mut self,
+        alloc: Global,
+        n: u32,
+        first: u64,
+        bytes: &ByteRun,
+    ) -> Result<PageList, PoolFault>
+        requires { first + length bytes.now ≤ 4096 * n }
+        ensures new { IfOk result (λ list. bytes_of self.old list ≡ None) }
+        ensures puts { IfOk result (λ list. Puts self.old self.new list (Some (put (blank (4096 * n)) first bytes.now))) }
+        ensures free { OnOk result (free_pages self.new + n ≡ free_pages self.old) }
+        ensures no_page { IsErrOf result PoolFault.NoPage ↔ (free_pages self.old < n) }
+        ensures err { OnErr result (self.new ≡ self.old) }
+    {
         if self.frames.spare() < n {
             return Err(PoolFault::NoPage);
         }
         let mut numbers = Vec::with_capacity(alloc, n as usize)?;
         self.lists.reserve(1)?;
-        take_pages(&mut self.frames, &mut numbers, n);
+        take_pages(&mut self.frames, &mut numbers, n, bytes, first);
         let list = self.lists.insert_reserved(numbers);
         Ok(PageList { list })
     }
@@ -276,11 +295,8 @@ impl PagePool {
             return Err(Unlowered { bytes, why });
         }
         let pages = (first + bytes.len()).div_ceil(4096) as u32;
-        match self.take(alloc, pages) {
-            Ok(mut list) => {
-                self.write_run(&mut list, first, &bytes);
-                Ok(list)
-            }
+        match self.take_with(alloc, pages, first, &bytes) {
+            Ok(list) => Ok(list),
             Err(why) => Err(Unlowered { bytes, why }),
         }
     }

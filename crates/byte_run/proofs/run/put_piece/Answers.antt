@@ -1,4 +1,4 @@
-use Rattle.std.proofs.Common.{refl, arith}
+use Rattle.std.proofs.Common.{◌≡◌, ◌+◌, ◌-◌, ℕ, refl, arith}
 use Rattle.byte_run.proofs.Runs.{piece_written}
 use Rattle.byte_run.proofs.run.put_piece.Goals as goal
 

@@ -1,39 +1,13 @@
-use Rattle.std.proofs.Common.{◌≡◌, ℕ, ◌≤◌, ◌*◌, ◌≢◌, ◌∙◌, arith, ap, sym, length, get_or, refl}
-use Rattle.std.specs.Prelude.{None, Some}
-use Rattle.page_pool.specs.Store.{times, blank}
-use Rattle.page_pool.specs.Ledger.{numbers, page_at}
-use Rattle.page_pool.proofs.Pages.{joined-blank}
-use Rattle.page_pool.proofs.Ledgers.{free-is, same-ledger, same-pool, put-in, new-in, not_no_page, done_no_page}
+use Rattle.std.proofs.Common.{◌*◌, ◌∙◌, arith, ap, length, subst}
+use Rattle.std.specs.Prelude.{IfOk, Some}
+use Rattle.rdma_types.specs.Memory.{put}
+use Rattle.byte_run.proofs.Cuts.{put-none}
+use Rattle.page_pool.specs.Pool.{Puts}
+use Rattle.page_pool.specs.Store.{blank}
 use Rattle.page_pool.proofs.pool.PagePool.take.Goals as goal
 
-pub returns-then-spare-n-clause-no_page : goal.returns-then-spare-n-clause-no_page
-returns-then-spare-n-clause-no_page c = (λ _. omega (arith, c.spare.ensures.spare, free-is c.self.inside.frames c.self.inside.lists.slots c.args.self.now c.self.invariant c.self.view_is), λ _. refl)
-
-pub returns-in_err-numbers-clause-no_page : goal.returns-in_err-numbers-clause-no_page
-returns-in_err-numbers-clause-no_page c = not_no_page c.from_residual.result _ c.args.n c.from_residual.ensures.1 (omega (arith, c.spare.ensures.spare, free-is c.self.inside.frames c.self.inside.lists.slots c.args.self.now c.self.invariant c.self.view_is))
-
-pub returns-in_err-reserve-clause-no_page : goal.returns-in_err-reserve-clause-no_page
-returns-in_err-reserve-clause-no_page c = not_no_page c.from_residual-in_err-reserve.result _ c.args.n c.from_residual-in_err-reserve.ensures.1 (omega (arith, c.spare.ensures.spare, free-is c.self.inside.frames c.self.inside.lists.slots c.args.self.now c.self.invariant c.self.view_is))
-
-pub invariant_of-self-2 : goal.invariant_of-self-2
-invariant_of-self-2 c =
-    let e = ap (λ s. s.slots) c.reserve.ensures.rest_kept in
-    let g = same-ledger c.self.inside.frames c.self.inside.lists.slots c.reserve.new.self.slots e c.self.invariant in
-    put-in c.self.inside.frames c.take_pages.new.frames c.reserve.new.self.slots c.insert_reserved-list.new.self.slots c.insert_reserved-list.result c.take_pages.new.numbers c.take_pages.new.numbers.items g c.take_pages.ensures.sound c.insert_reserved-list.ensures.was_vacant refl c.insert_reserved-list.ensures.updates.changed c.insert_reserved-list.ensures.updates.others c.take_pages.ensures.counted (omega (arith, c.take_pages.ensures.total, c.take_pages.ensures.len))
+pub take_with-requires : goal.take_with-requires
+take_with-requires c = omega (arith, ap length c.make.ensures)
 
 pub returns-clause-puts : goal.returns-clause-puts
-returns-clause-puts c =
-    let e = ap (λ s. s.slots) c.reserve.ensures.rest_kept in
-    let g = same-ledger c.self.inside.frames c.self.inside.lists.slots c.reserve.new.self.slots e c.self.invariant in
-    new-in c.self.inside.frames c.take_pages.new.frames c.reserve.new.self.slots c.insert_reserved-list.new.self.slots c.args.self.now c.insert_reserved-list.result c.take_pages.new.numbers (blank (4096 * c.args.n)) g (same-pool c.self.inside.frames c.self.inside.lists.slots c.reserve.new.self.slots c.args.self.now e c.self.view_is) c.take_pages.ensures.pages c.insert_reserved-list.ensures.updates.changed c.insert_reserved-list.ensures.updates.others c.take_pages.ensures.kept
-    (joined-blank (page_at c.take_pages.new.frames.bytes) c.take_pages.new.numbers.items (λ i l. c.take_pages.ensures.blank i (omega (arith, c.take_pages.ensures.len))) ∙ ap (λ n. blank (4096 * n)) c.take_pages.ensures.len)
-
-pub returns-clause-free : goal.returns-clause-free
-returns-clause-free c =
-    let e = ap (λ s. s.slots) c.reserve.ensures.rest_kept in
-    let g = same-ledger c.self.inside.frames c.self.inside.lists.slots c.reserve.new.self.slots e c.self.invariant in
-    let ledger = put-in c.self.inside.frames c.take_pages.new.frames c.reserve.new.self.slots c.insert_reserved-list.new.self.slots c.insert_reserved-list.result c.take_pages.new.numbers c.take_pages.new.numbers.items g c.take_pages.ensures.sound c.insert_reserved-list.ensures.was_vacant refl c.insert_reserved-list.ensures.updates.changed c.insert_reserved-list.ensures.updates.others c.take_pages.ensures.counted (omega (arith, c.take_pages.ensures.total, c.take_pages.ensures.len)) in
-    omega (arith, c.take_pages.ensures.pages, c.take_pages.ensures.total, free-is c.take_pages.new.frames c.insert_reserved-list.new.self.slots _ ledger refl, free-is c.self.inside.frames c.self.inside.lists.slots c.args.self.now c.self.invariant c.self.view_is)
-
-pub returns-clause-no_page : goal.returns-clause-no_page
-returns-clause-no_page c = done_no_page c.insert_reserved-list.result _ c.args.n (omega (arith, c.spare.ensures.spare, free-is c.self.inside.frames c.self.inside.lists.slots c.args.self.now c.self.invariant c.self.view_is))
+returns-clause-puts c = subst (λ xs. IfOk c.take_with-2.result (λ k. Puts c.args.self.now c.take_with-2.new.self k (Some xs))) (ap (put (blank (4096 * c.args.n)) 0) c.make.ensures ∙ put-none (blank (4096 * c.args.n)) 0) c.take_with-2.ensures.puts
