@@ -3,8 +3,6 @@ use Rattle.std.proofs.Common.{◌≡◌, ℕ, ◌+◌, ◌*◌, ◌/◌, ◌%◌
 use Rattle.std.specs.declared.boxed.Box.{Box}
 use Rattle.std.proofs.lemmas.List.{append_assoc, places, same_lists, length-take, length-set, length-append, take_all, take-take, take-append-le, length-take-le, length-drop, drop-drop, get_or_default, get_or-set_same, get_or-set_other, append-nil}
 use Rattle.std.proofs.lemmas.Slice.{take-put_mid}
-use Rattle.std.proofs.Common.{Result, Ok, Err}
-use Rattle.std.specs.Prelude.{OnErr}
 use borrow.Rule.Slice.PartMut.{put_mid, mid_of}
 use Rattle.std.proofs.lemmas.List.Elements.{All-get_or}
 use Rattle.std.proofs.lemmas.List.Concat.{flat_map-append}
@@ -127,11 +125,6 @@ put-more before bytes at done count h l =
     ap (λ a. put (put before at (take done bytes)) (at + a) (cut done count bytes)) (sym size)
     ∙ (put-meet before at (take done bytes) (cut done count bytes) (omega arith)
     ∙ ap (put before at) (take-meet done count bytes l))
-
--- what an Err says where it says the same of all
-pub on_err : {T E P : Type 0} (r : Result T E) → P → OnErr r P
-on_err (Ok _) p = tt
-on_err (Err _) p = p
 
 module _ {A : Type 0} where
   -- a piece written through a box
