@@ -1,18 +1,11 @@
 -- Acknowledges of every kind: a sequence error that tells, one that a Read holds up, empty messages, a refusal.
 use Rattle.std.specs.Prelude.{ℕ, List, ◌++◌, codes}
-use Rattle.example_traces.specs.Opening.{contexts, pairs}
+use Rattle.example_traces.specs.Opening.{connected}
 
 -- its first 59 lines, up to the last line of an answer
 abbrev pub opening : List ℕ
 opening =
-    contexts
-    ++ codes "v region a.m a.p 4096 600 lwra\n"
-    ++ codes "= region 01000002 01000003\n"
-    ++ codes "v region b.n b.p 8192 600 lwra\n"
-    ++ codes "= region 02000002 02000003\n"
-    ++ pairs
-    ++ codes "v connect a.q b.q mtu 256 psn 100 200 retry 7 rnr 7 reads 4\n"
-    ++ codes "= ok\n"
+    connected
     ++ codes "v write a.q 1 01000002 4096 4 8192 02000003\n"
     ++ codes "= ok\n"
     ++ codes "v write a.q 2 01000002 4096 0 8192 02000003\n"

@@ -1,17 +1,10 @@
 -- The owner learns of bytes inside a message, and one acknowledgement tells two requests.
 use Rattle.std.specs.Prelude.{ℕ, List, ◌++◌, codes}
-use Rattle.example_traces.specs.Opening.{contexts, pairs}
+use Rattle.example_traces.specs.Opening.{connected}
 
 abbrev pub trace : List ℕ
 trace =
-    contexts
-    ++ codes "v region a.m a.p 4096 600 lwra\n"
-    ++ codes "= region 01000002 01000003\n"
-    ++ codes "v region b.n b.p 8192 600 lwra\n"
-    ++ codes "= region 02000002 02000003\n"
-    ++ pairs
-    ++ codes "v connect a.q b.q mtu 256 psn 100 200 retry 7 rnr 7 reads 4\n"
-    ++ codes "= ok\n"
+    connected
     ++ codes "v write a.q 1 01000002 4096 600 8192 02000003\n"
     ++ codes "= ok\n"
     ++ codes "i run a.q 256\n"

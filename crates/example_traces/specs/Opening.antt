@@ -24,3 +24,15 @@ pairs =
     ++ codes "= qp 010001\n"
     ++ codes "v qp b.q b.p b.c b.c 8 8\n"
     ++ codes "= qp 020001\n"
+
+-- all of it, with regions of 600 bytes, up to the connection
+abbrev pub connected : List ℕ
+connected =
+    contexts
+    ++ codes "v region a.m a.p 4096 600 lwra\n"
+    ++ codes "= region 01000002 01000003\n"
+    ++ codes "v region b.n b.p 8192 600 lwra\n"
+    ++ codes "= region 02000002 02000003\n"
+    ++ pairs
+    ++ codes "v connect a.q b.q mtu 256 psn 100 200 retry 7 rnr 7 reads 4\n"
+    ++ codes "= ok\n"

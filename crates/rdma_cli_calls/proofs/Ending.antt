@@ -5,7 +5,7 @@ use Rattle.mig_ports.proofs.Chains.{Puts-none, Puts-then}
 use Rattle.rdma_types.specs.declared.names.Name.{Name}
 use Rattle.workload_gen.specs.declared.plan.Mix.{Mix}
 use Rattle.law_headline.specs.Commands as rules
-use Rattle.law_headline.specs.Headline.{Run, AreAnswersRead, ImageText, IsCutOff, IsDone, IsDoneBy, IsDumpRead, IsEvacuated, IsMissing, IsNotEmptied, IsOfNoCommand, IsShortOfMemory, IsStatus, IsStopped, IsStoppedBy, IsToWriteBy, IsTooLong, IsUnread, IsWithoutDepot, IsWritten, KeepsInput, KeepsUnused, ReadsInput, bulk_text, command}
+use Rattle.law_headline.specs.Headline.{Run, AreAnswersRead, ImageText, IsCutOff, IsDone, IsDoneBy, IsDumpRead, IsEvacuated, IsMissing, IsNotEmptied, IsOfNoCommand, IsShortOfMemory, IsStatus, IsStopped, IsStoppedAtBadLine, IsStoppedBy, IsToWriteBy, IsTooLong, IsUnread, IsWithoutDepot, IsWritten, KeepsInput, KeepsUnused, ReadsInput, bulk_text, command}
 use Rattle.law_headline.specs.Left.{world_of}
 use Rattle.law_headline.specs.Script.{BadLine, answers_text, bad_line}
 use Rattle.evac_rules.specs.Evacuation.{Fault, evacuation}
@@ -111,6 +111,24 @@ module _ (said : ImageText) (r : Run) (after : Option (List ℕ)) where
   front_here : (c : Option rules.Command) → command r ≡ c → IsFront said r c → IsFront said r (command r)
   front_here c e f = subst (IsFront said r) (sym e) f
 
+  -- the answers to the lines before a bad one were written in part: with what is left of them, and the last line, it is a run that
+  -- stopped there
+  bad_line_cut : (c : rules.Command) → command r ≡ Some c → ((x : Run) → IsStoppedAtBadLine x → IsStoppedBy x (Some c)) → (s : WritesFront (AreAnswersRead r) r) → after ≡ r.held_after → (bad : BadLine) → bad_line s.holds.text ≡ Some bad → IsCutOff said (with_held_after r after)
+  bad_line_cut c e stops s same bad first = record {
+    rest = s.rest ++ bad_line_line bad;
+    whole = with_more after (s.rest ++ bad_line_line bad);
+    missing = puts_more after (s.rest ++ bad_line_line bad);
+    is = inr (inr (inl (subst (IsStoppedBy (with_held_after r (with_more after (s.rest ++ bad_line_line bad)))) (sym e) (stops (with_held_after r (with_more after (s.rest ++ bad_line_line bad))) (record {
+      text = s.holds.text;
+      read = s.holds.read;
+      short = s.holds.short;
+      bad = bad;
+      first = first;
+      written = put_whole r.held r.held_after after s.front (s.rest ++ bad_line_line bad) (answers_text s.holds.text ++ bad_line_line bad) s.written same (sym (append_assoc s.front s.rest (bad_line_line bad)) ∙ ap (λ xs. xs ++ bad_line_line bad) s.holds.are);
+      followed = s.holds.followed;
+    })))));
+  }
+
   -- the answers were written in part
   answers_cut : command r ≡ Some rules.Play → WritesFront (AreAnswersRead r) r → after ≡ r.held_after → IsCutOff said (with_held_after r after)
   answers_cut e s same = by_line (bad_line s.holds.text) refl
@@ -129,20 +147,7 @@ module _ (said : ImageText) (r : Run) (after : Option (List ℕ)) where
           followed = s.holds.followed;
         }));
       }
-      by_line (Some bad) first = record {
-        rest = s.rest ++ bad_line_line bad;
-        whole = with_more after (s.rest ++ bad_line_line bad);
-        missing = puts_more after (s.rest ++ bad_line_line bad);
-        is = inr (inr (inl (subst (IsStoppedBy (with_held_after r (with_more after (s.rest ++ bad_line_line bad)))) (sym e) (record {
-          text = s.holds.text;
-          read = s.holds.read;
-          short = s.holds.short;
-          bad = bad;
-          first = first;
-          written = put_whole r.held r.held_after after s.front (s.rest ++ bad_line_line bad) (answers_text s.holds.text ++ bad_line_line bad) s.written same (sym (append_assoc s.front s.rest (bad_line_line bad)) ∙ ap (λ xs. xs ++ bad_line_line bad) s.holds.are);
-          followed = s.holds.followed;
-        }))));
-      }
+      by_line (Some bad) first = bad_line_cut rules.Play e (λ x h. h) s same bad first
 
   -- the summary was
   summary_cut : (seed : ℕ) (mix : Mix) → command r ≡ Some (rules.Bulk seed mix) → IsSummedUpInPart r seed mix → after ≡ r.held_after → IsCutOff said (with_held_after r after)
@@ -271,20 +276,7 @@ module _ (said : ImageText) (r : Run) (after : Option (List ℕ)) where
           followed = s.holds.followed;
           moves = moves s.holds.text;
         })
-        by_line (Some bad) first = record {
-          rest = s.rest ++ bad_line_line bad;
-          whole = with_more after (s.rest ++ bad_line_line bad);
-          missing = puts_more after (s.rest ++ bad_line_line bad);
-          is = inr (inr (inl (subst (IsStoppedBy (with_held_after r (with_more after (s.rest ++ bad_line_line bad)))) (sym e) (record {
-            text = s.holds.text;
-            read = s.holds.read;
-            short = s.holds.short;
-            bad = bad;
-            first = first;
-            written = put_whole r.held r.held_after after s.front (s.rest ++ bad_line_line bad) (answers_text s.holds.text ++ bad_line_line bad) s.written same (sym (append_assoc s.front s.rest (bad_line_line bad)) ∙ ap (λ xs. xs ++ bad_line_line bad) s.holds.are);
-            followed = s.holds.followed;
-          }))));
-        }
+        by_line (Some bad) first = bad_line_cut (rules.Evacuate from targets) e (λ x h. h) s same bad first
 
     -- what becomes of the contexts was
     tale_cut : ((text : List ℕ) → MovesAreFollowed from targets text) → IsToldInPart r from targets → after ≡ r.held_after → IsCutOff said (with_held_after r after)
