@@ -1,5 +1,5 @@
 -- What an event of network or time may have changed, from what is told of it.
-use Rattle.std.proofs.Common.{◌≡◌, ap, subst, sym}
+use Rattle.std.proofs.Common.{ap, subst, sym}
 use Rattle.std.specs.Prelude.{Result, Ok, Err}
 use Rattle.protocol.specs.declared.events.Event.{Event}
 use Rattle.protocol.specs.declared.images.Outcome.{Outcome}

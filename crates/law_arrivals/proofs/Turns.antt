@@ -1,5 +1,5 @@
 -- Transmissions, expiries and ends of RNR timers change no memory, and a run of turns only what its arrivals may.
-use Rattle.std.proofs.Common.{arith, ◌≡◌, ◌≢◌, ◌+◌, ℕ, List, [], ◌∷◌, map, true, false, Bool, refl, sym, ap, ◌∙◌, subst}
+use Rattle.std.proofs.Common.{◌≡◌, ◌≢◌, ℕ, List, [], ◌∷◌, map, true, false, Bool, refl, sym, ap, ◌∙◌, subst}
 use Rattle.std.specs.Prelude.{All, AllPairs, Option, Some, None, if◌then◌else◌, not, ◌==◌, ◌&&◌, ◌||◌}
 use Rattle.std.proofs.lemmas.List.Elements.{All-head, All-tail}
 use Rattle.rdma_types.specs.Causes.{Cause, cause, first_cause}
@@ -15,11 +15,11 @@ use Rattle.rdma_types.specs.Objects.{Region}
 use Rattle.protocol.specs.declared.events.Event.{Event}
 use Rattle.protocol.specs.declared.events.Event.TheVariants as event
 use Rattle.protocol.specs.DeviceStep.{Step, answers, at_link, by_refusal, counts, device_step, done_by, expires, expires_by, rnr_over, sends_by, sends_piece, transmits, waits_out, with_context}
-use Rattle.protocol.specs.EndWords.{linked, with_sender, with_unused}
+use Rattle.protocol.specs.EndWords.{with_sender, with_unused}
 use Rattle.protocol.specs.Events.{IsLawfulEvent}
-use Rattle.protocol.specs.Refusals.{causes_of, has_context, has_end, refusal_of}
+use Rattle.protocol.specs.Refusals.{causes_of, has_end, refusal_of}
 use Rattle.protocol.specs.Replay.{replay}
-use Rattle.protocol.specs.Requester.{IsFenced, IsIdle, ReadsAreFull, Sends, SendsResume, Transmission, Waits, WindowIsFull, counted, ended_with, not_counted, transmission, transmitted, waited_out}
+use Rattle.protocol.specs.Requester.{IsFenced, IsIdle, ReadsAreFull, Sends, SendsResume, Transmission, Waits, WindowIsFull, counted, not_counted, transmission, transmitted, waited_out}
 use Rattle.protocol.specs.State.{Context, Device, End, Link, context_at, end_at, no_context}
 use Rattle.law_device_sound.specs.Sound.{GivesNames, IsSoundContext, IsSoundDevice}
 use Rattle.law_device_sound.proofs.Founds.{Within, here-named, live, no-cause, not-false, within-context}

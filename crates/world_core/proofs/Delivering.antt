@@ -1,18 +1,16 @@
 -- What the delivery of a datagram may have changed.
-use Rattle.std.proofs.Common.{◌≡◌, ◌≢◌, ◌⊎◌, ℕ, zero, suc, ◌==◌, List, [], ◌∷◌, map, Bool, true, false, Option, Some, None, refl, sym, ap, ◌∙◌, subst, arith, nat_eq, slice_get, if◌then◌else◌, inl, inr}
+use Rattle.std.proofs.Common.{◌≡◌, ◌≢◌, ◌⊎◌, ℕ, ◌==◌, List, map, Bool, true, false, Option, Some, sym, ap, ◌∙◌, subst, slice_get, if◌then◌else◌, inl, inr}
 use Rattle.std.specs.Prelude.{◌&&◌, IfOk, Result, Ok, Err}
-use Rattle.std.specs.List.{IsDistinct}
 use Rattle.std.specs.declared.alloc.AllocError.{AllocError}
 use Rattle.std.proofs.Math.ListN.{set}
-use Rattle.std.proofs.lemmas.Bool.Decides.{eqb_tells, nat_tests}
+use Rattle.std.proofs.lemmas.Bool.Decides.{eqb_tells}
 use Rattle.rdma_types.specs.declared.answers.Answer.{Answer}
 use Rattle.rdma_types.specs.declared.names.Name.{Name}
-use Rattle.rdma_types.specs.Lists.{at, store}
+use Rattle.rdma_types.specs.Lists.{at}
 use Rattle.protocol.specs.declared.events.WorldEvent.{WorldEvent}
 use Rattle.protocol.specs.declared.events.WorldEvent.TheVariants as event
-use Rattle.protocol.specs.Fabric.{Look, kept_flight, look}
+use Rattle.protocol.specs.Fabric.{Look, kept_flight}
 use Rattle.protocol.specs.State.{Device, Flight, World, device_at, no_device}
-use Rattle.protocol.specs.WorldStep.{device_with, now_of}
 use Rattle.law_arrivals.specs.Touched.{ChangesOnly, is_touched}
 use Rattle.law_arrivals.proofs.Arriving.{changes-more, changes-nothing}
 use Rattle.law_arrivals.proofs.Bytes.{at-store}

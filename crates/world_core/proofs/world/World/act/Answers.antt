@@ -3,7 +3,6 @@ use Rattle.std.proofs.Common.{sym, subst}
 use Rattle.std.specs.Prelude.{IfOk}
 use Rattle.protocol.specs.WorldStep.{world_step}
 use Rattle.world_core.specs.Kept.{Makes}
-use Rattle.protocol.specs.declared.events.WorldEvent.TheVariants as event
 use Rattle.world_core.specs.Delivered.{DeliversWithin}
 use Rattle.world_core.proofs.Delivering.{delivers-other, delivers-otherwise}
 use Rattle.world_core.proofs.world.World.act.Goals as goal
