@@ -17,10 +17,6 @@ span shape mtu = if is_atomic shape.kind then 1 else pieces shape.length mtu
 abbrev pub span_of : Posted → ℕ → ℕ
 span_of p mtu = span p.request.shape mtu
 
--- the offset of piece k
-abbrev pub piece_offset : ℕ → ℕ → ℕ
-piece_offset k mtu = k * mtu
-
 -- the length of piece k: the MTU, or what is left
 abbrev pub piece_length : ℕ → ℕ → ℕ → ℕ
 piece_length length k mtu = min mtu (length - k * mtu)
