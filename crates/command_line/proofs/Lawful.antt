@@ -7,8 +7,8 @@ use Rattle.std.proofs.lemmas.Bool.Decides.{nat_tests}
 use Rattle.std.proofs.lemmas.Slice.Eq.{bytes_eq-Decides}
 use Rattle.rdma_types.specs.Spelled.{is_letter, is_name, is_name_byte}
 use Rattle.script_lang.specs.Texts.{digits_after, greatest_u64, is_decimal, is_digit, name_of, number_in}
-use Rattle.law_headline.specs.Commands as rules
-use Rattle.law_headline.specs.Commands.{placed_of}
+use Rattle.law_program.specs.Commands as rules
+use Rattle.law_program.specs.Commands.{placed_of}
 use Rattle.clap.specs.Words.{Text, subcommand_of, takes}
 use Rattle.command_line.specs.Splitting.{spelled_in, splitter_app}
 use Rattle.command_line.proofs.Plain.{IsPlain, plain}

@@ -1,8 +1,8 @@
 -- A command as the rules know it.
 use Rattle.std.specs.Prelude.{Option, Some, None}
-use Rattle.law_headline.specs.Commands.{Play, Bulk, ShowDump, Evacuate}
-use Rattle.law_headline.specs.Commands as rules
-use Rattle.law_headline.specs.Mixes.{IsMix}
+use Rattle.law_program.specs.Commands.{Play, Bulk, ShowDump, Evacuate}
+use Rattle.law_program.specs.Commands as rules
+use Rattle.law_program.specs.Mixes.{IsMix}
 use Rattle.command_line.specs.declared.command.Command.{Command}
 use Rattle.command_line.specs.declared.command.Command.TheVariants as command
 

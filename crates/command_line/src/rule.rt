@@ -4,9 +4,9 @@ ghost use Rattle.std.specs.Prelude.{◌≡◌, ◌≤◌, ◌<◌, ◌^◌, [], 
 ghost use Rattle.std.specs.List.{list_all};
 ghost use Rattle.std.specs.String.{string_bytes};
 ghost use Rattle.script_lang.specs.Texts.{is_decimal, is_digit, number_in};
-ghost use Rattle.law_headline.specs.Commands as rules;
-ghost use Rattle.law_headline.specs.Commands.{placed_of};
-ghost use Rattle.law_headline.specs.Mixes.{IsMix};
+ghost use Rattle.law_program.specs.Commands as rules;
+ghost use Rattle.law_program.specs.Commands.{placed_of};
+ghost use Rattle.law_program.specs.Mixes.{IsMix};
 ghost use Rattle.command_line.specs.Commands.{IsInRange, known_if};
 
 use crate::command::Command;
@@ -112,7 +112,7 @@ fn takes_show_dump(words: &[String]) -> bool
 }
 
 /// Whether the words, without the program's name, are of a command.
-#[tactic(auto, unfolding(law_headline::specs::Commands::placed_of))]
+#[tactic(auto, unfolding(law_program::specs::Commands::placed_of))]
 pub(crate) fn is_lawful(words: &[String]) -> bool
     ensures { result ≡ is_some (placed_of (map string_bytes words.now)) }
 {

@@ -2,7 +2,7 @@
 
 ghost use Rattle.std.specs.Prelude.{◌≡◌, map, option_map, true, false, is_some, IfOk, IfSome};
 ghost use Rattle.std.specs.String.{string_bytes};
-ghost use Rattle.law_headline.specs.Commands.{placed_of};
+ghost use Rattle.law_program.specs.Commands.{placed_of};
 ghost use Rattle.clap.specs.Words.{app_of, first_of, found_of, rows_of, rule_of, subcommand_rows_of};
 ghost use Rattle.command_line.specs.Commands.{IsInRange, known_if};
 ghost use Rattle.command_line.specs.Splitting.{MakesLeaf, bulk_in, bulk_shape, place_rule, play_shape, show_dump_in, show_dump_shape, spelled_in, splitter_app};

@@ -7,8 +7,8 @@ ghost use Rattle.script_lang.specs.declared.lines.LineWhy.TheVariants.{Word};
 ghost use Rattle.example_scripts.specs.ASwapAndAWait as in_a_swap_and_a_wait;
 ghost use Rattle.example_scripts.specs.GeneratedLines as in_generated_lines;
 ghost use Rattle.law_headline.specs.Evaluate.{heard_in, said_in, written_for};
-ghost use Rattle.law_headline.specs.Commands.{Bulk, Evacuate, Play, ShowDump, command_of};
-ghost use Rattle.law_headline.specs.Texts.{bad_line_line};
+ghost use Rattle.law_program.specs.Commands.{Bulk, Evacuate, Play, ShowDump, command_of};
+ghost use Rattle.law_program.specs.Texts.{bad_line_line};
 
 /// An empty script has no bad line, and nothing is written for it.
 pub fn nothing_is_said()

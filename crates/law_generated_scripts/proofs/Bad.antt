@@ -6,11 +6,11 @@ use Rattle.script_lang.specs.Lines.{reading_of}
 use Rattle.script_lang.specs.Scripts.{lines_of}
 use Rattle.workload_gen.specs.Plan.{plan}
 use Rattle.workload_gen.specs.declared.plan.Mix.{Mix}
-use Rattle.law_headline.specs.Commands.{Bulk}
-use Rattle.law_headline.specs.Headline.{IsStopped, IsStoppedBy, IsStoppedInBulk, Run, command}
+use Rattle.law_program.specs.Commands.{Bulk}
+use Rattle.law_program.specs.Headline.{IsStopped, IsStoppedBy, IsStoppedInBulk, Run, command}
 use Rattle.law_headline.specs.Script.{BadLine, Script, bad_line, begins_with, script_from}
 use Rattle.law_generated_scripts.proofs.Cutting.{AreGood, IsGood}
-use Rattle.law_headline.specs.Mixes.{IsMix}
+use Rattle.law_program.specs.Mixes.{IsMix}
 use Rattle.law_generated_scripts.proofs.Commanded.{command_in_range}
 use Rattle.law_generated_scripts.proofs.Spelled.{AreReadBack}
 use Rattle.law_generated_scripts.proofs.Whole.{lines_good}

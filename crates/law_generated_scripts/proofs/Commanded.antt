@@ -5,8 +5,8 @@ use Rattle.std.proofs.lemmas.Bool.Decides.{nat_tests}
 use Rattle.rdma_types.specs.declared.names.Name.{Name}
 use Rattle.script_lang.specs.Texts.{digits_after, greatest_u64, is_decimal, name_of, number_in}
 use Rattle.workload_gen.specs.declared.plan.Mix.{Mix}
-use Rattle.law_headline.specs.Commands.{Bulk, Evacuate, Play, ShowDump, alone, bulk_of, command_of, evacuate_by, evacuate_of, ids_of, mix_of, placed_of, repeats, show_dump_of}
-use Rattle.law_headline.specs.Mixes.{IsMix}
+use Rattle.law_program.specs.Commands.{Bulk, Evacuate, Play, ShowDump, alone, bulk_of, command_of, evacuate_by, evacuate_of, ids_of, mix_of, placed_of, repeats, show_dump_of}
+use Rattle.law_program.specs.Mixes.{IsMix}
 
 in_range : (low high n m : ℕ) → (if nat_le low n && nat_le n high then Some n else None) ≡ Some m → (low ≤ m) × (m ≤ high)
 in_range low high n m h = grind (arith, nat_tests)

@@ -3,7 +3,7 @@ use Rattle.std.proofs.Common.{ℕ, zero, suc, ◌+◌, ◌≤◌, ◌<◌, ◌^�
 use Rattle.workload_gen.specs.Plan.{message_lines, message_of, messages_lines, moves_at, polling_lines, posting_lines, recv_line, send_line, sending_lines, word_at}
 use Rattle.workload_gen.specs.declared.message.Message.{Message}
 use Rattle.workload_gen.specs.declared.plan.Mix.{Mix}
-use Rattle.law_headline.specs.Mixes.{IsMix}
+use Rattle.law_program.specs.Mixes.{IsMix}
 use Rattle.law_generated_scripts.proofs.Cutting.{AreGoodLines, both_good, none_good}
 use Rattle.law_generated_scripts.proofs.Adds.{add_good}
 use Rattle.law_generated_scripts.proofs.Moves.{moves_good}

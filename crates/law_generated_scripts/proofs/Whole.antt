@@ -3,7 +3,7 @@ use Rattle.std.proofs.Common.{ℕ}
 use Rattle.script_lang.specs.Scripts.{lines_of}
 use Rattle.workload_gen.specs.Plan.{closing_lines, messages_lines, moves_at, opening_lines, plan}
 use Rattle.workload_gen.specs.declared.plan.Mix.{Mix}
-use Rattle.law_headline.specs.Mixes.{IsMix}
+use Rattle.law_program.specs.Mixes.{IsMix}
 use Rattle.law_generated_scripts.proofs.Cutting.{AreGood, AreGoodLines, all_good, both_good}
 use Rattle.law_generated_scripts.proofs.Fixed.{closing_good}
 use Rattle.law_generated_scripts.proofs.Messages.{messages_good}

@@ -1,9 +1,9 @@
 //! What holds of the lines of each generated script.
 
 ghost use Rattle.std.specs.Prelude.{◌≡◌, ℕ, Some, None};
-ghost use Rattle.law_headline.specs.Commands.{Bulk};
-ghost use Rattle.law_headline.specs.Headline.{IsStopped, IsStoppedInBulk, Run, command};
-ghost use Rattle.law_headline.specs.Mixes.{IsMix};
+ghost use Rattle.law_program.specs.Commands.{Bulk};
+ghost use Rattle.law_program.specs.Headline.{IsStopped, IsStoppedInBulk, Run, command};
+ghost use Rattle.law_program.specs.Mixes.{IsMix};
 ghost use Rattle.law_headline.specs.Script.{bad_line};
 ghost use Rattle.workload_gen.specs.Plan.{plan};
 ghost use Rattle.workload_gen.specs.declared.plan.Mix.{Mix};

@@ -1,20 +1,20 @@
 -- How the packetless machine follows the lines of a script.
-use Rattle.std.specs.Prelude.{◌≡◌, List, [], ◌∷◌, ◌++◌, All}
+use Rattle.std.specs.Prelude.{ℕ, ◌≡◌, List, [], ◌∷◌, ◌++◌, All}
 use Rattle.protocol.specs.declared.events.WorldEvent.{WorldEvent}
 use Rattle.protocol.specs.Script.{Happening, Event, Dump, Settles, happens}
 use Rattle.protocol.specs.Settle.{settled}
-use Rattle.protocol.specs.State.{World}
+use Rattle.protocol.specs.State.{World, empty_world}
 use Rattle.protocol.specs.WorldStep.{world_step, world_after}
 use Rattle.ideal_model.specs.declared.steps.IdealStep.{IdealStep}
-use Rattle.ideal_model.specs.Legal.{IsRun, after, seen}
-use Rattle.ideal_model.specs.Machine.{Machine}
+use Rattle.ideal_model.specs.Legal.{IsLegal, IsRun, after, seen}
+use Rattle.ideal_model.specs.Machine.{Machine, empty}
 use Rattle.law_simulation.specs.Carries.{Allows}
 use Rattle.law_simulation.specs.Law.{AllowsAll, inner_of, joined_steps}
 use Rattle.law_simulation.specs.Named.{event_steps, run_steps}
 use Rattle.law_simulation.specs.Stands.{Stands}
 use Rattle.law_settling.specs.Events.{settling_events}
 use Rattle.law_settling.specs.Settling.{IsSettling}
-use Rattle.law_headline.specs.Script.{heard_of}
+use Rattle.law_headline.specs.Script.{happenings, heard, heard_of}
 
 -- the steps are those that a settling may cause: part by part those of its deliveries, transmissions, expiries and ends of
 -- RNR timers, which lead to the settled world
@@ -56,3 +56,9 @@ FollowsAll w m (h ∷ hs) = FollowsLine w m h × FollowsAll (happens w h).world 
 unfoldable pub lines_steps : World → Machine → List Happening → List IdealStep
 lines_steps w m [] = []
 lines_steps w m (h ∷ hs) = line_steps w m h ++ lines_steps (happens w h).world (after m (line_steps w m h)) hs
+
+-- the headline: the packetless machine follows the lines of the text before its first bad one, each by exactly the steps that are
+-- named at it, which the line may cause, and what applications made and heard is legal for it
+pub record IsFollowed (text : List ℕ) : Type 0 where
+  pub follows : FollowsAll empty_world empty (happenings text)
+  pub legal : IsLegal (heard text)

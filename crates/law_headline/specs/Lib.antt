@@ -4,7 +4,3 @@ pub mod Follows
 pub mod Left
 pub mod Playing
 pub mod Evaluate
-pub mod Commands
-pub mod Mixes
-pub mod Texts
-pub mod Headline

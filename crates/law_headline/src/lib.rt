@@ -16,8 +16,7 @@ ghost use Rattle.law_simulation.specs.Stands.{Stands};
 ghost use Rattle.script_lang.specs.Lines.{reading_of};
 ghost use Rattle.script_lang.specs.Ranges.{IsLawfulLine};
 ghost use Rattle.law_headline.specs.Does.{IsLineInRange, IsWithin, MayBeAskedOf, happening_of, happenings_of};
-ghost use Rattle.law_headline.specs.Follows.{FollowsAll};
-ghost use Rattle.law_headline.specs.Headline.{IsFollowed};
+ghost use Rattle.law_headline.specs.Follows.{FollowsAll, IsFollowed};
 ghost use Rattle.law_headline.specs.Left.{ReachesAll};
 ghost use Rattle.law_headline.specs.Script.{happenings, heard_from};
 

@@ -8,8 +8,8 @@ use Rattle.rdma_types.specs.declared.names.Name.{Name}
 use Rattle.mig_ports.specs.Depots.{Has, Holding}
 use Rattle.mig_ports.specs.Streams.{TakesAll, TakesCount}
 use Rattle.workload_gen.specs.declared.plan.Mix.{Mix}
-use Rattle.law_headline.specs.Commands as rules
-use Rattle.law_headline.specs.Headline.{Run, ImageText, IsDone, IsDoneBy, IsMissing, IsShown, IsStopped, IsStoppedAtBadDump, IsStoppedAtBadLine, IsStoppedBy, ReadsInput, Writes, command, input_limit}
+use Rattle.law_program.specs.Commands as rules
+use Rattle.law_program.specs.Headline.{Run, ImageText, IsDone, IsDoneBy, IsMissing, IsShown, IsStopped, IsStoppedAtBadDump, IsStoppedAtBadLine, IsStoppedBy, ReadsInput, Writes, command, input_limit}
 use Rattle.law_headline.specs.Script.{BadLine, bad_line}
 use Rattle.rdma_cli_calls.specs.declared.stop.Stop.{Stop}
 use Rattle.rdma_cli_calls.specs.declared.stop.Stop.TheVariants as stop

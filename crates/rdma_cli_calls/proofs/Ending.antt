@@ -4,12 +4,12 @@ use Rattle.mig_ports.specs.Streams.{Puts}
 use Rattle.mig_ports.proofs.Chains.{Puts-none, Puts-then}
 use Rattle.rdma_types.specs.declared.names.Name.{Name}
 use Rattle.workload_gen.specs.declared.plan.Mix.{Mix}
-use Rattle.law_headline.specs.Commands as rules
-use Rattle.law_headline.specs.Headline.{Run, AreAnswersRead, ImageText, IsCutOff, IsDone, IsDoneBy, IsDumpRead, IsEvacuated, IsMissing, IsNotEmptied, IsOfNoCommand, IsShortOfMemory, IsStatus, IsStopped, IsStoppedAtBadLine, IsStoppedBy, IsToWriteBy, IsTooLong, IsUnread, IsWithoutDepot, IsWritten, KeepsInput, KeepsUnused, ReadsInput, bulk_text, command}
+use Rattle.law_program.specs.Commands as rules
+use Rattle.law_program.specs.Headline.{Run, AreAnswersRead, ImageText, IsCutOff, IsDone, IsDoneBy, IsDumpRead, IsEvacuated, IsMissing, IsNotEmptied, IsOfNoCommand, IsShortOfMemory, IsStatus, IsStopped, IsStoppedAtBadLine, IsStoppedBy, IsToWriteBy, IsTooLong, IsUnread, IsWithoutDepot, IsWritten, KeepsInput, KeepsUnused, ReadsInput, bulk_text, command}
 use Rattle.law_headline.specs.Left.{world_of}
 use Rattle.law_headline.specs.Script.{BadLine, answers_text, bad_line}
 use Rattle.evac_rules.specs.Evacuation.{Fault, evacuation}
-use Rattle.law_headline.specs.Texts.{bad_dump_line, bad_line_line, depot_line, evacuation_text, long_line, memory_line, missing_line, usage_line}
+use Rattle.law_program.specs.Texts.{bad_dump_line, bad_line_line, depot_line, evacuation_text, long_line, memory_line, missing_line, usage_line}
 use Rattle.script_runner.specs.Playing.{PutsFront}
 use Rattle.rdma_cli_calls.specs.declared.stop.Stop.{Stop}
 use Rattle.rdma_cli_calls.specs.declared.stop.Stop.TheVariants as stop

@@ -15,11 +15,12 @@ use Rattle.dump_reader.specs.declared.fault.DumpFault.TheVariants as dump
 use Rattle.dump_reader.specs.Steps.{IsFault}
 use Rattle.workload_gen.specs.declared.plan.Mix.{Mix}
 use Rattle.workload_gen.specs.Plan.{plan}
-use Rattle.law_headline.specs.Commands as rules
-use Rattle.law_headline.specs.Headline.{Run, AreAnswersRead, ImageText, IsAnswered, IsDumpRead, IsEvacuated, IsFollowed, IsShown, IsSummedUp, KeepsInput, bulk_text, input_limit}
+use Rattle.law_program.specs.Commands as rules
+use Rattle.law_headline.specs.Follows.{IsFollowed}
+use Rattle.law_program.specs.Headline.{Run, AreAnswersRead, ImageText, IsAnswered, IsDumpRead, IsEvacuated, IsShown, IsSummedUp, KeepsInput, bulk_text, input_limit}
 use Rattle.law_headline.specs.Left.{world_of}
 use Rattle.law_headline.specs.Script.{answers_text, bad_line}
-use Rattle.law_headline.specs.Texts.{evacuation_text}
+use Rattle.law_program.specs.Texts.{evacuation_text}
 use Rattle.evac_rules.specs.Evacuation.{Fault, evacuation}
 use Rattle.law_evacuation.specs.Evacuated.{EvacuationsAreFollowed}
 use Rattle.script_runner.specs.Playing.{IfBadLine, IsStoppedAt, PutsFront}

@@ -5,7 +5,7 @@ use Rattle.evac_rules.specs.declared.moves.Shifted.{Shifted}
 use Rattle.protocol.specs.State.{World}
 use Rattle.evac_rules.specs.Evacuation.{Evacuation, Fault}
 use Rattle.evac_plan.specs.Steps.{Ends}
-use Rattle.law_headline.specs.Texts.{emptied_line, evacuation_text, moved_line}
+use Rattle.law_program.specs.Texts.{emptied_line, evacuation_text, moved_line}
 use Rattle.evac_plan.proofs.Tries.{drop_all, drop_at}
 
 -- these bytes, and the lines of the contexts from the i-th on, are all lines

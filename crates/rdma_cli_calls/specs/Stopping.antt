@@ -13,12 +13,13 @@ use Rattle.dump_reader.specs.declared.fault.DumpFault.{DumpFault}
 use Rattle.dump_reader.specs.declared.fault.DumpFault.TheVariants as dump
 use Rattle.workload_gen.specs.declared.plan.Mix.{Mix}
 use Rattle.workload_gen.specs.Plan.{plan}
-use Rattle.law_headline.specs.Commands as rules
-use Rattle.law_headline.specs.Headline.{Run, AreAnswersRead, ImageText, IsCutOff, IsDumpRead, IsEvacuated, IsFollowed, IsMissing, IsNotEmptied, IsOfNoCommand, IsShortOfMemory, IsStopped, IsTooLong, IsUnread, IsWithoutDepot, Writes, bulk_text, command, input_limit}
+use Rattle.law_program.specs.Commands as rules
+use Rattle.law_headline.specs.Follows.{IsFollowed}
+use Rattle.law_program.specs.Headline.{Run, AreAnswersRead, ImageText, IsCutOff, IsDumpRead, IsEvacuated, IsMissing, IsNotEmptied, IsOfNoCommand, IsShortOfMemory, IsStopped, IsTooLong, IsUnread, IsWithoutDepot, Writes, bulk_text, command, input_limit}
 use Rattle.law_headline.specs.Follows.{FollowsAll}
 use Rattle.law_headline.specs.Left.{world_of}
 use Rattle.law_headline.specs.Script.{BadLine, answers_text, bad_line}
-use Rattle.law_headline.specs.Texts.{evacuation_text}
+use Rattle.law_program.specs.Texts.{evacuation_text}
 use Rattle.ideal_model.specs.Machine.{Machine}
 use Rattle.law_simulation.specs.Stands.{Stands}
 use Rattle.evac_rules.specs.Evacuation.{Fault, evacuation}

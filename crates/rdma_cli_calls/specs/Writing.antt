@@ -1,6 +1,6 @@
 -- What the last line of a run is.
 use Rattle.std.specs.Prelude.{ℕ, ◌≢◌, List, []}
-use Rattle.law_headline.specs.Texts as text
+use Rattle.law_program.specs.Texts as text
 use Rattle.rdma_cli_calls.specs.declared.stop.Stop.{Stop}
 use Rattle.rdma_cli_calls.specs.declared.stop.Stop.TheVariants as stop
 

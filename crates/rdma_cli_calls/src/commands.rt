@@ -4,7 +4,8 @@ ghost use Rattle.std.specs.Prelude.{◌≡◌, ◌≤◌, ◌<◌, ◌+◌, ◌�
 ghost use Rattle.mig_ports.specs.Depots.{Has};
 ghost use Rattle.mig_ports.specs.Streams.{FaultsCounted, TakesCount};
 ghost use Rattle.dump_writer.specs.Text.{text_of};
-ghost use Rattle.law_headline.specs.Headline.{IsAnswered, IsEvacuated, IsFollowed, IsShown, IsSummedUp, Run, input_limit};
+ghost use Rattle.law_headline.specs.Follows.{IsFollowed};
+ghost use Rattle.law_program.specs.Headline.{IsAnswered, IsEvacuated, IsShown, IsSummedUp, Run, input_limit};
 ghost use Rattle.law_headline.specs.Script.{answers_text, bad_line};
 ghost use Rattle.rdma_cli_calls.specs.Stopping.{AnswersStop, BulkStops, EvacuateStops, LookStops, PlayStops, ShowStops};
 

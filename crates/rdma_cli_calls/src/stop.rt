@@ -2,7 +2,7 @@
 
 ghost use Rattle.std.specs.Prelude.{◌≡◌, ◌≤◌, OnOk, OnErr};
 ghost use Rattle.mig_ports.specs.Streams.{FaultsCounted, Puts};
-ghost use Rattle.law_headline.specs.Texts.{dump_why_text, line_why_text};
+ghost use Rattle.law_program.specs.Texts.{dump_why_text, line_why_text};
 ghost use Rattle.script_runner.specs.Playing.{PutsFront};
 ghost use Rattle.rdma_cli_calls.specs.Stopping.{stop_of_dump, stop_of_play, stop_of_read};
 ghost use Rattle.rdma_cli_calls.specs.Writing as writing;

@@ -3,7 +3,7 @@
 ghost use Rattle.std.specs.Prelude.{◌≡◌, ◌++◌, flat_map, None, Some, OnOk, IfOk};
 ghost use Rattle.protocol.specs.State as state;
 ghost use Rattle.evac_rules.specs.Evacuation.{NoSuch, Stays, evacuation};
-ghost use Rattle.law_headline.specs.Texts.{emptied_line, evacuation_text, moved_line, stay_why_text};
+ghost use Rattle.law_program.specs.Texts.{emptied_line, evacuation_text, moved_line, stay_why_text};
 ghost use Rattle.law_kept_datagrams.specs.Alike.{with_kept_datagrams};
 ghost use Rattle.rdma_cli_calls.specs.Stopping.{is_empty};
 

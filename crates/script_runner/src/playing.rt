@@ -3,7 +3,7 @@
 ghost use Rattle.std.specs.Prelude.{◌≡◌, ◌∷◌, ℕ, ◌+◌, ◌<◌, ◌≤◌, ◌^◌, List, length, Option, None, Some, Err, OnOk, OnErr, IfOk, IfErr};
 ghost use Rattle.mig_ports.specs.Streams.{FaultsCounted, Puts};
 ghost use Rattle.law_headline.specs.Does.{MayBeAskedOf, happening_of};
-ghost use Rattle.law_headline.specs.Headline.{IsFollowed};
+ghost use Rattle.law_headline.specs.Follows.{IsFollowed};
 ghost use Rattle.law_headline.specs.Left.{IsWorldAfter};
 ghost use Rattle.law_headline.specs.Playing.{line_text};
 ghost use Rattle.law_headline.specs.Script.{answers_text, bad_line};

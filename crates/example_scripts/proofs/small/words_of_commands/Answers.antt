@@ -1,6 +1,6 @@
 use Rattle.std.specs.Prelude.{refl}
 use Rattle.script_lang.specs.Texts.{name_of, number_in}
-use Rattle.law_headline.specs.Commands.{command_of, placed_of}
+use Rattle.law_program.specs.Commands.{command_of, placed_of}
 use Rattle.example_scripts.proofs.small.words_of_commands.Goals as goal
 
 pub returns-clause-play : goal.returns-clause-play

@@ -3,7 +3,7 @@ use Rattle.mig_ports.specs.Streams.{Puts}
 use Rattle.law_kept_datagrams.specs.Alike.{with_kept_datagrams}
 use Rattle.law_headline.specs.Left.{world_of}
 use Rattle.law_headline.specs.Script.{answers_text, bad_line}
-use Rattle.law_headline.specs.Headline.{IsFollowed}
+use Rattle.law_headline.specs.Follows.{IsFollowed}
 use Rattle.script_runner.specs.Playing.{PutsFront}
 use Rattle.script_runner.proofs.Fronts.{if_err_is}
 use Rattle.rdma_cli_calls.specs.Stopping.{EvacuateStops, stop_of_read}

@@ -1,8 +1,8 @@
 use Rattle.std.proofs.Common.{[], Some, ap, refl, subst, sym, ◌∙◌}
 use Rattle.std.proofs.lemmas.Result.{IfErr-weaker, on_ok_weaker}
 use Rattle.dump_writer.specs.Text.{text_of}
-use Rattle.law_headline.specs.Commands.{Evacuate}
-use Rattle.law_headline.specs.Headline.{IsDoneBy, KeepsInput, ReadsInput}
+use Rattle.law_program.specs.Commands.{Evacuate}
+use Rattle.law_program.specs.Headline.{IsDoneBy, KeepsInput, ReadsInput}
 use Rattle.command_line.specs.Commands.{known}
 use Rattle.rdma_cli_calls.specs.declared.stop.Stop.TheVariants as stop
 use Rattle.rdma_cli_calls.specs.Stopping.{BulkStops, EvacuateStops, PlayStops, ShowStops, StopsBy, StopsFor, run_of}

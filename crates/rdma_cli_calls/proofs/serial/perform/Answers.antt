@@ -1,9 +1,9 @@
 use Rattle.std.proofs.Common.{Err, Some, ap, inl, inr, map, refl, subst, sym, ◌∙◌}
 use Rattle.std.specs.String.{string_bytes}
 use Rattle.dump_writer.specs.Text.{text_of}
-use Rattle.law_headline.specs.Commands as rules
-use Rattle.law_headline.specs.Commands.{command_of}
-use Rattle.law_headline.specs.Headline.{ReadsInput, input_limit}
+use Rattle.law_program.specs.Commands as rules
+use Rattle.law_program.specs.Commands.{command_of}
+use Rattle.law_program.specs.Headline.{ReadsInput, input_limit}
 use Rattle.command_line.specs.Commands.{known}
 use Rattle.rdma_cli_calls.specs.declared.stop.Stop.TheVariants as stop
 use Rattle.rdma_cli_calls.specs.Stopping.{IsNotAsked, run_of}

@@ -1,7 +1,7 @@
 use Rattle.std.proofs.Common.{sym, ap, subst, ◌∙◌, inl, inr, refl, Err}
 use Rattle.mig_ports.proofs.Chains.{FaultsCounted-after, FaultsCounted-before}
 use Rattle.dump_writer.specs.Text.{text_of}
-use Rattle.law_headline.specs.Headline.{IsStatus}
+use Rattle.law_program.specs.Headline.{IsStatus}
 use Rattle.rdma_cli_calls.specs.Stopping.{run_of}
 use Rattle.rdma_cli_calls.specs.declared.stop.Stop.TheVariants as stop
 use Rattle.rdma_cli_calls.proofs.Ending.{at_2, at_3, at_4, at_5, at_7, at_8, at_9, at_12, at_14, has_status, keeps_unused, with_held_after, same_status, stop_4, stop_5, stop_7, stopped, stopped_cut_off, words_stop}

@@ -5,7 +5,6 @@ use Rattle.protocol.specs.declared.dumps.DumpWhy.{DumpWhy}
 use Rattle.protocol.specs.declared.images.ContextImage.{ContextImage}
 use Rattle.protocol.specs.Dumps.{Good, Bad, read_dump}
 use Rattle.protocol.specs.State.{empty_world}
-use Rattle.ideal_model.specs.Legal.{IsLegal}
 use Rattle.ideal_model.specs.Machine.{Machine, empty}
 use Rattle.law_simulation.specs.Stands.{Stands}
 use Rattle.evac_rules.specs.Evacuation.{Fault, evacuation}
@@ -14,19 +13,11 @@ use Rattle.mig_ports.specs.Streams.{Puts, TakesAll, TakesCount}
 use Rattle.workload_gen.specs.declared.plan.Mix.{Mix}
 use Rattle.workload_gen.specs.Plan.{plan}
 use Rattle.workload_gen.specs.Summary.{summary}
-use Rattle.law_headline.specs.Commands.{Command, Play, Bulk, ShowDump, Evacuate, command_of}
-use Rattle.law_headline.specs.Follows.{FollowsAll}
+use Rattle.law_program.specs.Commands.{Command, Play, Bulk, ShowDump, Evacuate, command_of}
+use Rattle.law_headline.specs.Follows.{FollowsAll, IsFollowed}
 use Rattle.law_headline.specs.Left.{world_of}
 use Rattle.law_headline.specs.Script.{BadLine, answers_text, bad_line, happenings, heard}
-use Rattle.law_headline.specs.Texts.{bad_dump_line, bad_line_line, depot_line, evacuation_text, long_line, memory_line, missing_line, usage_line}
-
--- ---- what is claimed of a script
-
--- the headline: the packetless machine follows the lines of the text before its first bad one, each by exactly the steps that are
--- named at it, which the line may cause, and what applications made and heard is legal for it
-pub record IsFollowed (text : List ℕ) : Type 0 where
-  pub follows : FollowsAll empty_world empty (happenings text)
-  pub legal : IsLegal (heard text)
+use Rattle.law_program.specs.Texts.{bad_dump_line, bad_line_line, depot_line, evacuation_text, long_line, memory_line, missing_line, usage_line}
 
 -- ---- a run
 

@@ -1,0 +1,4 @@
+pub mod Commands
+pub mod Mixes
+pub mod Texts
+pub mod Headline
