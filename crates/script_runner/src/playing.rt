@@ -1,6 +1,6 @@
 //! The answers to the lines of a script.
 
-ghost use Rattle.std.specs.Prelude.{◌≡◌, ◌∷◌, ℕ, ◌+◌, ◌<◌, ◌≤◌, ◌^◌, List, length, Option, None, Some, Err, OnOk, OnErr, IfOk, IfErr};
+ghost use Rattle.std.specs.Prelude.{◌≡◌, ◌∷◌, ℕ, ◌+◌, ◌<◌, ◌≤◌, ◌^◌, ◌⊎◌, List, length, Option, None, Some, Err, OnOk, OnErr, IfOk, IfErr};
 ghost use Rattle.mig_ports.specs.Streams.{FaultsCounted, Puts};
 ghost use Rattle.law_headline.specs.Does.{MayBeAskedOf, happening_of};
 ghost use Rattle.law_headline.specs.Follows.{IsFollowed};
@@ -23,6 +23,7 @@ use world_core::{Settler, World};
 fn write_text<K: Sink>(text: &[u8], output: &mut K) -> Result<(), WriteFault>
     ensures whole { OnOk result (Puts (K.held output.old) (K.held output.new) text.now) }
     ensures part { OnErr result (PutsFront (K.held output.old) (K.held output.new) text.now) }
+    ensures faults_unchanged { OnOk result (K.faults output.new ≡ K.faults output.old) }
     ensures faults_counted { OnErr result (FaultsCounted (K.faults output.old) (K.faults output.new)) }
     ensures faults_monotone { K.faults output.old ≤ K.faults output.new }
 {
@@ -43,6 +44,7 @@ fn answer<T: Settler, K: Sink>(
     ensures whole { OnOk result (Puts (K.held output.old) (K.held output.new) (line_text world.old (happening_of line))) }
     ensures part { OnErr result (PutsFront (K.held output.old) (K.held output.new) (line_text world.old (happening_of line))) }
     ensures faults { IfErr result IsOneLineFault }
+    ensures faults_unchanged { (result ≡ Err PlayFault.WriteFault) ⊎ (K.faults output.new ≡ K.faults output.old) }
     ensures faults_counted { result ≡ Err PlayFault.WriteFault → FaultsCounted (K.faults output.old) (K.faults output.new) }
     ensures faults_monotone { K.faults output.old ≤ K.faults output.new }
 {
@@ -75,6 +77,7 @@ fn play_line<T: Settler, K: Sink>(
     ensures part { (held : Option (List ℕ)) (script : List ℕ) (n : ℕ) (rest : List (List ℕ)) → n + 1 ≡ number
         → IsPlayedTo held (K.held output.old) script world.old n (line.now ∷ rest)
         → OnErr result (PutsFront held (K.held output.new) (answers_text script)) }
+    ensures faults_unchanged { (result ≡ Err PlayFault.WriteFault) ⊎ (K.faults output.new ≡ K.faults output.old) }
     ensures faults_counted { result ≡ Err PlayFault.WriteFault → FaultsCounted (K.faults output.old) (K.faults output.new) }
     ensures faults_monotone { K.faults output.old ≤ K.faults output.new }
 {
@@ -110,6 +113,9 @@ pub fn play_world<T: Settler, K: Sink>(
     ensures bad { IfErr result (IfBadLine (IsStoppedAt (K.held output.old) (K.held output.new) input.now)) }
     ensures part { OnErr result (PutsFront (K.held output.old) (K.held output.new) (answers_text input.now)) }
     ensures followed { IsFollowed input.now }
+
+    // The count of faults rises exactly at `WriteFault`.
+    ensures faults_unchanged { (result ≡ Err PlayFault.WriteFault) ⊎ (K.faults output.new ≡ K.faults output.old) }
     ensures faults_counted { result ≡ Err PlayFault.WriteFault → FaultsCounted (K.faults output.old) (K.faults output.new) }
     ensures faults_monotone { K.faults output.old ≤ K.faults output.new }
 {
@@ -142,6 +148,9 @@ pub fn play<T: Settler, K: Sink>(
     ensures bad { IfErr result (IfBadLine (IsStoppedAt (K.held output.old) (K.held output.new) input.now)) }
     ensures part { OnErr result (PutsFront (K.held output.old) (K.held output.new) (answers_text input.now)) }
     ensures followed { IsFollowed input.now }
+
+    // The count of faults rises exactly at `WriteFault`.
+    ensures faults_unchanged { (result ≡ Err PlayFault.WriteFault) ⊎ (K.faults output.new ≡ K.faults output.old) }
     ensures faults_counted { result ≡ Err PlayFault.WriteFault → FaultsCounted (K.faults output.old) (K.faults output.new) }
     ensures faults_monotone { K.faults output.old ≤ K.faults output.new }
 {

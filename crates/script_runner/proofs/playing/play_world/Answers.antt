@@ -1,6 +1,8 @@
-use Rattle.std.proofs.Common.{arith, subst, sym, refl}
+use Rattle.std.proofs.Common.{arith, Err, inl, inr, subst, sym, refl, ◌∙◌}
 use Rattle.protocol.specs.State.{World, empty_world}
 use Rattle.script_runner.specs.Playing.{IfBadLine, IsPlayedTo, IsStoppedAt}
+use Rattle.script_runner.specs.declared.fault.PlayFault.TheVariants.{WriteFault}
+use Rattle.script_runner.proofs.Faults.{still_err}
 use Rattle.script_runner.proofs.Fronts.{if_err_is, on_err}
 use Rattle.script_runner.proofs.Played.{next_number, start, whole, world_after}
 use Rattle.script_runner.proofs.playing.play_world.Goals as goal
@@ -18,6 +20,12 @@ returns-in_err-play_line-clause-part g c =
     let here = subst (IsPlayedTo (g.K.Sink.held c.args.output.now) (g.K.Sink.held c.loop-line.output) c.args.input.now c.loop-line.world c.loop-line.number) c.in-Some.ensures.line c.loop-line.invariant.played in
     on_err c.from_residual-in_err-play_line.result (c.in_err-play_line.ensures.part (g.K.Sink.held c.args.output.now) c.args.input.now c.loop-line.number c.next_line.new.self refl here)
 
+pub returns-in_err-play_line-clause-faults_unchanged : goal.returns-in_err-play_line-clause-faults_unchanged
+returns-in_err-play_line-clause-faults_unchanged g c = elim c.in_err-play_line.ensures.faults_unchanged [
+  | inl e ↦ inl (still_err c.from_residual-in_err-play_line.result (Err c.in_err-play_line.field-0.0) c.in_err-play_line.field-0.0 WriteFault c.from_residual-in_err-play_line.ensures.1 refl e)
+  | inr h ↦ inr (h ∙ c.loop-line.invariant.faults_unchanged)
+]
+
 pub returns-clause-whole : goal.returns-clause-whole
 returns-clause-whole g c = (whole c.scripts_are_played_line_by_line.ensures.ends (g.K.Sink.held c.args.output.now) (g.K.Sink.held c.loop-line.output) c.args.input.now c.loop-line.world c.loop-line.number c.loop-line.lines c.in_default.ensures.end c.loop-line.invariant.played).1
 
@@ -30,5 +38,5 @@ loop-line-init g c =
     let here : IsPlayedTo held held c.args.input.now empty_world 0 c.new-lines.result = subst (IsPlayedTo held held c.args.input.now empty_world 0) (sym c.new-lines.ensures) (start c.scripts_are_played_line_by_line.ensures.begins held c.args.input.now) in
     record {
       played = subst (λ (w : World). IsPlayedTo held held c.args.input.now w 0 c.new-lines.result) (sym c.in_ok-world.ensures) here;
-      faults_monotone = omega arith;
+      faults_unchanged = refl;
     }
