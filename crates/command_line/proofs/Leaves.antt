@@ -35,6 +35,20 @@ show_dump_rules = numbered 1 (codes "name") ∷ []
 pub show_dump_walk : (n : Text) → IsPlain n → walk show_dump_rules [] nothing_held (n ∷ []) ≡ between (behind [] (codes "name") n) 2
 show_dump_walk n p = goes_on show_dump_rules nothing_held 1 n p
 
+-- ---- `node`
+
+abbrev pub node_rules : List Rule
+node_rules = numbered 1 (codes "id") ∷ numbered 2 (codes "address") ∷ []
+
+abbrev pub id_held : Text → Held
+id_held i = behind [] (codes "id") i
+
+abbrev pub address_held : Text → Text → Held
+address_held i a = behind (row (codes "id") i ∷ []) (codes "address") a
+
+pub node_walk : (i a : Text) → IsPlain i → IsPlain a → walk node_rules [] nothing_held (i ∷ a ∷ []) ≡ between (address_held i a) 3
+node_walk i a pi pa = ap (λ w. walked node_rules [] w a) (goes_on node_rules nothing_held 1 i pi) ∙ goes_on node_rules (id_held i) 2 a pa
+
 -- ---- `bulk`
 
 abbrev pub bulk_rules : List Rule

@@ -5,3 +5,4 @@ pub mod Splits
 pub mod Taken
 pub mod Lawful
 pub mod IdLists
+pub mod Owns

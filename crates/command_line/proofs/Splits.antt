@@ -8,7 +8,7 @@ use Rattle.law_program.specs.Commands as rules
 use Rattle.law_program.specs.Commands.{placed_of}
 use Rattle.command_line.specs.Splitting.{spelled_in, splitter_app}
 use Rattle.command_line.proofs.Plain.{IsPlain}
-use Rattle.command_line.proofs.Leaves.{bulk_rules, bulk_walk, show_dump_rules, show_dump_walk, row}
+use Rattle.command_line.proofs.Leaves.{bulk_rules, bulk_walk, node_rules, node_walk, show_dump_rules, show_dump_walk, row}
 
 -- ---- `play`
 
@@ -19,6 +19,16 @@ play_taken = refl
 pub play_split : spelled_in (subcommand_of splitter_app (codes "play" ∷ [])) ≡ Some rules.Play
 unfolding clap_on_literals
 play_split = refl
+
+-- ---- `audit`
+
+pub audit_taken : takes splitter_app (codes "audit" ∷ []) ≡ true
+unfolding clap_on_literals
+audit_taken = refl
+
+pub audit_split : spelled_in (subcommand_of splitter_app (codes "audit" ∷ [])) ≡ Some rules.Audit
+unfolding clap_on_literals
+audit_split = refl
 
 -- ---- `show-dump`
 
@@ -40,6 +50,24 @@ show_dump_subcommand n p = ap (entered (built splitter_app)) (show_dump_stop n) 
 
 pub show_dump_split : (n : Text) → IsPlain n → spelled_in (subcommand_of splitter_app (codes "show-dump" ∷ n ∷ [])) ≡ rules.show_dump_of (n ∷ [])
 show_dump_split n p = ap spelled_in (show_dump_subcommand n p)
+
+-- ---- `node`
+
+pub node_stop : (i a : Text) → stop_after top.rules names (codes "node" ∷ i ∷ a ∷ []) ≡ Some (codes "node", i ∷ a ∷ [])
+unfolding walked
+node_stop i a = refl
+
+abbrev pub node_rows : Text → Text → List Row
+node_rows i a = row (codes "id") i ∷ row (codes "address") a ∷ []
+
+node_rows_after : (i a : Text) → IsPlain i → IsPlain a → rows_after node_rules [] (i ∷ a ∷ []) ≡ node_rows i a
+node_rows_after i a pi pa = ap (λ (w : Walk). finished node_rules w.held) (node_walk i a pi pa)
+
+pub node_subcommand : (i a : Text) → IsPlain i → IsPlain a → subcommand_of splitter_app (codes "node" ∷ i ∷ a ∷ []) ≡ Some (codes "node", node_rows i a)
+node_subcommand i a pi pa = ap (entered (built splitter_app)) (node_stop i a) ∙ ap (λ rows. Some (codes "node", rows)) (node_rows_after i a pi pa)
+
+pub node_split : (i a : Text) → IsPlain i → IsPlain a → spelled_in (subcommand_of splitter_app (codes "node" ∷ i ∷ a ∷ [])) ≡ rules.node_of (i ∷ a ∷ [])
+node_split i a pi pa = ap spelled_in (node_subcommand i a pi pa)
 
 -- ---- `bulk`
 

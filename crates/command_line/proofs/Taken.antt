@@ -5,10 +5,10 @@ use Rattle.clap.specs.Walk.{Text, Walk, finished, nothing_held, walk_from, walke
 use Rattle.clap.specs.Words.{Shape, built, takes}
 use Rattle.clap.specs.Simple.{built_leaf, entered, inherited}
 use Rattle.clap.specs.Takes.{default_passes, entered_passes, is_valid, level_passes, settle_passes, walk_passes}
-use Rattle.command_line.specs.Splitting.{bulk_shape, show_dump_shape, splitter_app}
+use Rattle.command_line.specs.Splitting.{bulk_shape, node_shape, show_dump_shape, splitter_app}
 use Rattle.command_line.proofs.Plain.{IsPlain, passes_end, passes_on}
-use Rattle.command_line.proofs.Leaves.{bulk_walk, first_held, second_held, show_dump_walk, third_held}
-use Rattle.command_line.proofs.Splits.{bulk_stop, names, show_dump_stop, top}
+use Rattle.command_line.proofs.Leaves.{bulk_walk, first_held, id_held, node_walk, second_held, show_dump_walk, third_held}
+use Rattle.command_line.proofs.Splits.{bulk_stop, names, node_stop, show_dump_stop, top}
 
 -- ---- at the top
 
@@ -19,6 +19,10 @@ top_takes_show_dump n = refl
 top_takes_bulk : (s c m v : Text) → level_passes top names nothing_held (codes "bulk" ∷ s ∷ c ∷ m ∷ v ∷ []) true ≡ true
 unfolding walked walk_passes
 top_takes_bulk s c m v = refl
+
+top_takes_node : (i a : Text) → level_passes top names nothing_held (codes "node" ∷ i ∷ a ∷ []) true ≡ true
+unfolding walked walk_passes
+top_takes_node i a = refl
 
 -- ---- `show-dump`
 
@@ -39,6 +43,22 @@ pub show_dump_taken : (n : Text) → IsPlain n → takes splitter_app (codes "sh
 show_dump_taken n p =
     ap (λ (stop : Option (Text × List Text)). entered_passes (built splitter_app) stop && level_passes top names nothing_held (codes "show-dump" ∷ n ∷ []) (is_some (entered (built splitter_app) stop))) (show_dump_stop n)
     ∙ ap₂ (λ (a b : Bool). a && b) (show_dump_takes n p) (top_takes_show_dump n)
+
+-- ---- `node`
+
+abbrev node_built : Shape
+node_built = built_leaf (inherited top node_shape)
+
+node_passes : (i a : Text) → IsPlain i → IsPlain a → walk_passes node_built [] (walk_from nothing_held) (i ∷ a ∷ []) ≡ true
+node_passes i a pi pa = passes_on node_built nothing_held 1 i (a ∷ []) pi ∙ passes_on node_built (id_held i) 2 a [] pa ∙ passes_end node_built _
+
+node_takes : (i a : Text) → IsPlain i → IsPlain a → level_passes node_built [] nothing_held (i ∷ a ∷ []) false ≡ true
+node_takes i a pi pa = ap₂ (λ (b : Bool) (w : Walk). b && rest_passes node_built w) (node_passes i a pi pa) (node_walk i a pi pa)
+
+pub node_taken : (i a : Text) → IsPlain i → IsPlain a → takes splitter_app (codes "node" ∷ i ∷ a ∷ []) ≡ true
+node_taken i a pi pa =
+    ap (λ (stop : Option (Text × List Text)). entered_passes (built splitter_app) stop && level_passes top names nothing_held (codes "node" ∷ i ∷ a ∷ []) (is_some (entered (built splitter_app) stop))) (node_stop i a)
+    ∙ ap₂ (λ (b c : Bool). b && c) (node_takes i a pi pa) (top_takes_node i a)
 
 -- ---- `bulk`
 

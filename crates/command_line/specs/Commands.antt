@@ -1,6 +1,6 @@
 -- A command as the rules know it.
-use Rattle.std.specs.Prelude.{Option, Some, None}
-use Rattle.law_program.specs.Commands.{Play, Bulk, ShowDump, Evacuate}
+use Rattle.std.specs.Prelude.{◌≤◌, Option, Some, None}
+use Rattle.law_program.specs.Commands.{Play, Bulk, ShowDump, Evacuate, Audit, Node}
 use Rattle.law_program.specs.Commands as rules
 use Rattle.law_program.specs.Mixes.{IsMix}
 use Rattle.command_line.specs.declared.command.Command.{Command}
@@ -11,6 +11,8 @@ known command.Play = Play
 known (command.Bulk seed mix) = Bulk seed mix
 known (command.ShowDump name) = ShowDump name
 known (command.Evacuate from targets) = Evacuate from targets.items
+known command.Audit = Audit
+known (command.Node id own) = Node id own
 
 -- .. if there is one
 abbrev pub known_if : Option Command → Option rules.Command
@@ -20,4 +22,5 @@ known_if (Some c) = Some (known c)
 -- a command asks for no more
 abbrev pub IsInRange : Command → Type 0
 IsInRange (command.Bulk seed mix) = IsMix mix
+IsInRange (command.Node id own) = 1 ≤ id
 IsInRange other = Unit {0}

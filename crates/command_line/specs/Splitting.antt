@@ -21,15 +21,21 @@ bulk_shape = (with_rule (with_rule (with_rule (with_rule (new_app (codes "bulk")
 abbrev pub show_dump_shape : Shape
 show_dump_shape = (with_rule (new_app (codes "show-dump")) (place_rule (codes "name"))).top
 
+abbrev pub audit_shape : Shape
+audit_shape = (new_app (codes "audit")).top
+
+abbrev pub node_shape : Shape
+node_shape = (with_rule (with_rule (new_app (codes "node")) (place_rule (codes "id"))) (place_rule (codes "address"))).top
+
 -- one of the commands has to be named, no word asks for help, and the program's name is none of the words
 abbrev pub bare_app : App
 bare_app = record (new_app (codes "jichurpa")) {
   top = record (new_app (codes "jichurpa")).top { no_binary_name = true; disable_help_flag = true; disable_help_subcommand = true; subcommand_required = true };
 }
 
--- the three commands
+-- the five commands
 abbrev pub splitter_app : App
-splitter_app = with_subcommand (with_subcommand (with_subcommand bare_app play_shape) bulk_shape) show_dump_shape
+splitter_app = with_subcommand (with_subcommand (with_subcommand (with_subcommand (with_subcommand bare_app play_shape) bulk_shape) show_dump_shape) audit_shape) node_shape
 
 -- the command has this shape, and no argument of it is one of every command
 abbrev pub MakesLeaf : Shape → Command → Type 0
@@ -52,12 +58,21 @@ show_dump_in rows = do
   name ← first_of (codes "name") rows
   rules.show_dump_of (name ∷ [])
 
+-- `node`
+abbrev pub node_in : List Row → Option rules.Command
+node_in rows = do
+  id ← first_of (codes "id") rows
+  address ← first_of (codes "address") rows
+  rules.node_of (id ∷ address ∷ [])
+
 -- the command of a subcommand and its values
 abbrev pub spelled_by : Text → List Row → Option rules.Command
 spelled_by name rows =
     if bytes_eq name (codes "play") then Some rules.Play
     else if bytes_eq name (codes "bulk") then bulk_in rows
     else if bytes_eq name (codes "show-dump") then show_dump_in rows
+    else if bytes_eq name (codes "audit") then Some rules.Audit
+    else if bytes_eq name (codes "node") then node_in rows
     else None
 
 -- .. if one was met

@@ -9,7 +9,7 @@ use crate::ids::evacuate_of;
 use crate::rule::{is_lawful, spells};
 use crate::splitting::{command_in, split};
 use arrayvec::ArrayVec;
-use rdma_types::Name;
+use rdma_types::{Address, Name};
 use std::alloc::{AllocError, Global};
 use workload_gen::Mix;
 
@@ -24,6 +24,10 @@ pub enum Command {
     ShowDump { name: Name },
     /// The lines of the whole input are answered, and then a device is emptied.
     Evacuate { from: u8, targets: ArrayVec<u8, 16> },
+    /// The whole input is a trace, which is audited.
+    Audit,
+    /// One device with that id and address, over the link, does the lines of the whole input.
+    Node { id: u8, own: Address },
 }
 
 /// The command of words that have their places one by one.

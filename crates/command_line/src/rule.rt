@@ -1,16 +1,18 @@
 //! The rule of words: which are of a command, and what they say.
 
 ghost use Rattle.std.specs.Prelude.{◌≡◌, ◌≤◌, ◌<◌, ◌^◌, [], ◌∷◌, bytes_eq, is_some, map, IfSome};
-ghost use Rattle.std.specs.List.{list_all};
+ghost use Rattle.std.specs.List.{list_all, list_any};
 ghost use Rattle.std.specs.String.{string_bytes};
 ghost use Rattle.script_lang.specs.Texts.{is_decimal, is_digit, number_in};
+ghost use Rattle.script_lang.specs.Words.{is_space};
 ghost use Rattle.law_program.specs.Commands as rules;
 ghost use Rattle.law_program.specs.Commands.{placed_of};
 ghost use Rattle.law_program.specs.Mixes.{IsMix};
 ghost use Rattle.command_line.specs.Commands.{IsInRange, known_if};
 
 use crate::command::Command;
-use rdma_types::Name;
+use rdma_types::{Address, Name};
+use script_lang::Words;
 use workload_gen::Mix;
 
 fn all_digits(word: &[u8]) -> bool
@@ -82,6 +84,34 @@ pub(crate) fn show_dump_of(name: &str) -> Option<Command>
     Some(Command::ShowDump { name })
 }
 
+/// Whether a space is among bytes.
+fn has_space(bytes: &[u8]) -> bool
+    ensures { result ≡ list_any is_space bytes.now }
+{
+    bytes.iter().any(|b| *b == b' ')
+}
+
+/// The address of a word without spaces.
+fn own_of(word: &str) -> Option<Address>
+    ensures { result ≡ rules.own_of word.now }
+{
+    let text = word.as_bytes();
+    if has_space(text) {
+        return None;
+    }
+    Words::new(text).address().ok()
+}
+
+/// `node` with an id and an address.
+pub(crate) fn node_of(id: &str, own: &str) -> Option<Command>
+    ensures value { known_if result ≡ rules.node_of (id.now ∷ own.now ∷ []) }
+    ensures within { IfSome result IsInRange }
+{
+    let id = small(id, 1, 255)?;
+    let own = own_of(own)?;
+    Some(Command::Node { id: id as u8, own })
+}
+
 /// Whether a word is that one.
 pub(crate) fn spells(word: &[u8], text: &[u8]) -> bool
     ensures { result ≡ bytes_eq word.now text.now }
@@ -111,6 +141,23 @@ fn takes_show_dump(words: &[String]) -> bool
     }
 }
 
+/// Whether `audit` takes the words.
+fn takes_audit(words: &[String]) -> bool
+    ensures { result ≡ is_some (rules.alone rules.Audit (map string_bytes words.now)) }
+{
+    words.is_empty()
+}
+
+/// Whether `node` takes the words.
+fn takes_node(words: &[String]) -> bool
+    ensures { result ≡ is_some (rules.node_of (map string_bytes words.now)) }
+{
+    match words {
+        [id, own] => node_of(id, own).is_some(),
+        _ => false,
+    }
+}
+
 /// Whether the words, without the program's name, are of a command.
 #[tactic(auto, unfolding(law_program::specs::Commands::placed_of))]
 pub(crate) fn is_lawful(words: &[String]) -> bool
@@ -123,6 +170,8 @@ pub(crate) fn is_lawful(words: &[String]) -> bool
         word if spells(word, b"play") => rest.is_empty(),
         word if spells(word, b"bulk") => takes_bulk(rest),
         word if spells(word, b"show-dump") => takes_show_dump(rest),
+        word if spells(word, b"audit") => takes_audit(rest),
+        word if spells(word, b"node") => takes_node(rest),
         _ => false,
     }
 }

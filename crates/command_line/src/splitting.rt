@@ -5,10 +5,10 @@ ghost use Rattle.std.specs.String.{string_bytes};
 ghost use Rattle.law_program.specs.Commands.{placed_of};
 ghost use Rattle.clap.specs.Words.{app_of, first_of, found_of, rows_of, rule_of, subcommand_rows_of};
 ghost use Rattle.command_line.specs.Commands.{IsInRange, known_if};
-ghost use Rattle.command_line.specs.Splitting.{MakesLeaf, bulk_in, bulk_shape, place_rule, play_shape, show_dump_in, show_dump_shape, spelled_in, splitter_app};
+ghost use Rattle.command_line.specs.Splitting.{MakesLeaf, audit_shape, bulk_in, bulk_shape, node_in, node_shape, place_rule, play_shape, show_dump_in, show_dump_shape, spelled_in, splitter_app};
 
 use crate::command::Command;
-use crate::rule::{bulk_of, show_dump_of};
+use crate::rule::{bulk_of, node_of, show_dump_of};
 use clap::error::ErrorKind;
 use clap::{Arg, ArgMatches};
 use std::alloc::{AllocError, Global};
@@ -46,7 +46,23 @@ fn show_dump_form<'a>(alloc: Global) -> Result<clap::Command<'a>, AllocError>
     clap::Command::new(alloc, "show-dump").arg(place(alloc, "name"))
 }
 
-/// The three commands, and nothing beside them: no word asks for help or for the version.
+/// `audit`.
+fn audit_form<'a>(alloc: Global) -> clap::Command<'a>
+    ensures { MakesLeaf audit_shape result }
+{
+    clap::Command::new(alloc, "audit")
+}
+
+/// `node` with a place for each of its words.
+fn node_form<'a>(alloc: Global) -> Result<clap::Command<'a>, AllocError>
+    ensures { IfOk result (MakesLeaf node_shape) }
+{
+    clap::Command::new(alloc, "node")
+        .arg(place(alloc, "id"))?
+        .arg(place(alloc, "address"))
+}
+
+/// The five commands, and nothing beside them: no word asks for help or for the version.
 fn forms<'a>(alloc: Global) -> Result<clap::Command<'a>, AllocError>
     ensures { IfOk result (λ c. app_of c ≡ splitter_app) }
 {
@@ -57,7 +73,9 @@ fn forms<'a>(alloc: Global) -> Result<clap::Command<'a>, AllocError>
         .subcommand_required(true)
         .subcommand(play_form(alloc))?
         .subcommand(bulk_form(alloc)?)?
-        .subcommand(show_dump_form(alloc)?)
+        .subcommand(show_dump_form(alloc)?)?
+        .subcommand(audit_form(alloc))?
+        .subcommand(node_form(alloc)?)
 }
 
 /// Splits words that are of a command. They are refused only when out of memory.
@@ -102,6 +120,14 @@ fn show_dump_in_matches(values: &ArgMatches<'_>) -> Option<Command>
     show_dump_of(word_at(values, "name")?)
 }
 
+/// `node`, as its words were split.
+fn node_in_matches(values: &ArgMatches<'_>) -> Option<Command>
+    ensures value { known_if result ≡ node_in (rows_of (found_of values.now)) }
+    ensures within { IfSome result IsInRange }
+{
+    node_of(word_at(values, "id")?, word_at(values, "address")?)
+}
+
 /// The command of words as they were split.
 pub(crate) fn command_in(matches: &ArgMatches<'_>) -> Option<Command>
     ensures value { known_if result ≡ spelled_in (subcommand_rows_of matches.now) }
@@ -112,6 +138,8 @@ pub(crate) fn command_in(matches: &ArgMatches<'_>) -> Option<Command>
         "play" => Some(Command::Play),
         "bulk" => bulk_in_matches(values),
         "show-dump" => show_dump_in_matches(values),
+        "audit" => Some(Command::Audit),
+        "node" => node_in_matches(values),
         _ => None,
     }
 }

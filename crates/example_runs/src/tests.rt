@@ -2,9 +2,10 @@
 //! in turn.
 
 use indexmap::IndexMap;
-use mig_ports::{MemDepot, MemSink, MemSource};
+use mig_ports::{MemDepot, MemLink, MemSink, MemSource, MemTicks};
+use node_engine::NodePorts;
 use rdma_cli_calls::run_serial;
-use rdma_types::{Items, Name};
+use rdma_types::{Address, Items, Name};
 use std::alloc::{AllocError, Global};
 use std::process::Abort;
 
@@ -115,8 +116,80 @@ quiet 0
 wc 010001 1 write 0 600
 ";
 
-/// A command, its input, the dump that is held under the name `e`, and the read, the write and the call of the depot that
-/// fail; 0 is none.
+/// One write of four bytes, recorded.
+const TRACE: &[u8] = b"v context a made
+= ok
+v context b made
+= ok
+v domain a.p
+= ok
+v domain b.p
+= ok
+v region a.m a.p 4096 64 lwra
+= region 01000002 01000003
+v region b.n b.p 8192 64 lwra
+= region 02000002 02000003
+v cq a.c 16
+= ok
+v cq b.c 16
+= ok
+v qp a.q a.p a.c a.c 8 8
+= qp 010001
+v qp b.q b.p b.c b.c 8 8
+= qp 020001
+v connect a.q b.q mtu 256 psn 100 200 retry 7 rnr 7 reads 4
+= ok
+v store a.m 4096 deadbeef
+= ok
+v write a.q 1 01000002 4096 4 8192 02000003
+= ok
+i run a.q 4
+i tell a.q
+v poll a.c 4
+= wc 010001 1 write 0 4
+v poll a.c 4
+= none
+v load b.n 8192 4
+= bytes deadbeef
+end
+";
+
+/// A device of a node hears a write, and acknowledges it.
+const SERVING: &[u8] = b"context b
+domain b.p
+region b.n b.p 8192 64 lwra
+cq b.c 16
+qp b.q b.p b.c b.c 8 8
+link b.q 010001 10.0.0.1 mtu 256 psn 200 100 retry 7 rnr 7 reads 4
+serve 3
+load b.n 8192 4
+stop b f
+";
+
+const SERVED: &[u8] = b"ok
+ok
+region 02000002 02000003
+ok
+qp 020001
+ok
+served 1
+bytes deadbeef
+stopped
+";
+
+/// Where the write comes from, and the write.
+const PEER: Address = Address {
+    ip: 0x0a00_0001,
+    port: 4791,
+};
+
+const WRITE: [u8; 36] = [
+    10, 0, 255, 255, 0, 2, 0, 1, 128, 0, 0, 100, 0, 0, 0, 0, 0, 0, 32, 0, 2, 0, 0, 3, 0, 0, 0, 4,
+    0xde, 0xad, 0xbe, 0xef, 0, 0, 0, 0,
+];
+
+/// A command, its input, the dump that is held under the name `e`, and the calls of the input, the output, the depot and the
+/// link that fail; 0 is none.
 #[derive(Clone, Copy)]
 struct Run<'a> {
     words: &'a str,
@@ -125,6 +198,7 @@ struct Run<'a> {
     read: u64,
     write: u64,
     call: u64,
+    link: u64,
 }
 
 /// A script that is played.
@@ -136,6 +210,7 @@ fn play(script: &[u8], read: u64, write: u64) -> Run<'_> {
         read,
         write,
         call: 0,
+        link: 0,
     }
 }
 
@@ -148,7 +223,22 @@ fn show(dump: &[u8], call: u64) -> Run<'_> {
         read: 0,
         write: 0,
         call,
+        link: 0,
     }
+}
+
+/// A trace that is audited.
+fn audit(trace: &[u8]) -> Run<'_> {
+    let mut run = play(trace, 0, 0);
+    run.words = "audit";
+    run
+}
+
+/// A script of a node.
+fn node(script: &[u8]) -> Run<'_> {
+    let mut run = play(script, 0, 0);
+    run.words = "node 2 10.0.0.2";
+    run
 }
 
 /// The words of a line with one space between them.
@@ -184,24 +274,34 @@ fn depot_of(alloc: Global, dump: &[u8], failing: u64) -> Result<MemDepot, AllocE
     Ok(MemDepot::make(held, vec![in alloc; failing]?))
 }
 
-/// The status of a run, and what it wrote.
-fn wrote(
-    alloc: Global,
-    words: &[String],
-    source: &mut MemSource,
-    depot: &mut MemDepot,
-    write: u64,
-) -> Result<(u8, Vec<u8>), AllocError> {
-    let mut sink = sink_of(alloc, write)?;
-    let status = run_serial(alloc, words, source, &mut sink, depot);
-    Ok((status, sink.into_held()))
+/// A link on which the write waits.
+fn link_of(alloc: Global, failing: u64) -> Result<MemLink, AllocError> {
+    let write = Items::new(Vec::from_slice(alloc, WRITE.as_slice())?);
+    let mut waiting = Vec::new(alloc);
+    waiting.push((PEER, write))?;
+    MemLink::make(alloc, waiting, vec![in alloc; failing]?, 4)
 }
 
+/// The objects of a run.
+fn ports_of(
+    alloc: Global,
+    run: &Run<'_>,
+) -> Result<NodePorts<MemLink, MemSink, MemDepot, MemTicks>, AllocError> {
+    Ok(NodePorts {
+        link: link_of(alloc, run.link)?,
+        output: sink_of(alloc, run.write)?,
+        depot: depot_of(alloc, run.dump, run.call)?,
+        ticks: MemTicks::make(Vec::new(alloc)),
+    })
+}
+
+/// The status of a run, and what it wrote.
 fn ran(alloc: Global, run: &Run<'_>) -> Result<(u8, Vec<u8>), AllocError> {
     let words = words_of(alloc, run.words)?;
     let mut source = source_of(alloc, run.input, run.read)?;
-    let mut depot = depot_of(alloc, run.dump, run.call)?;
-    wrote(alloc, &words, &mut source, &mut depot, run.write)
+    let mut ports = ports_of(alloc, run)?;
+    let status = run_serial(alloc, &words, &mut source, &mut ports);
+    Ok((status, ports.output.into_held()))
 }
 
 /// How many lines there are.
@@ -294,6 +394,54 @@ fn shows_a_dump(rt: HostRuntime) -> Result<(), AllocError> {
     assert_eq!(rt;
         [shown, short, failed],
         [(0, true, 1), (3, true, 1), (7, true, 1)]
+    );
+    Ok(())
+}
+
+/// A recorded run is legal; with another byte at its end it is not, and without its end it is no trace.
+#[test]
+fn audits_a_trace(rt: HostRuntime) -> Result<(), AllocError> {
+    let alloc = rt.alloc();
+    let front = &TRACE[..TRACE.len() - 6];
+    let wrong = joined(alloc, front, b"e\nend\n")?;
+    let unended = &TRACE[..TRACE.len() - 4];
+    let legal = told(alloc, &audit(TRACE), b"legal 16 2\n")?;
+    let illegal = told(alloc, &audit(&wrong), b"illegal 34 answer\n")?;
+    let bad = told(alloc, &audit(unended), b"bad line 35 column 1 missing\n")?;
+    assert_eq!(rt;
+        [legal, illegal, bad],
+        [(0, true, 1), (13, true, 1), (3, true, 1)]
+    );
+    Ok(())
+}
+
+/// A node over a link in memory does its lines; each object that fails gives its status.
+#[test]
+fn serves_a_write(rt: HostRuntime) -> Result<(), AllocError> {
+    let alloc = rt.alloc();
+    let done = told(alloc, &node(SERVING), SERVED)?;
+    let mut unread = node(SERVING);
+    unread.read = 1;
+    let unread = told(alloc, &unread, SERVED)?;
+    let mut unwritten = node(SERVING);
+    unwritten.write = 3;
+    let unwritten = told(alloc, &unwritten, SERVED)?;
+    let mut unlinked = node(SERVING);
+    unlinked.link = 1;
+    let unlinked = told(alloc, &unlinked, b"link fault\n")?;
+    let mut unstored = node(SERVING);
+    unstored.call = 1;
+    let answers = &SERVED[..SERVED.len() - 8];
+    let unstored = told(alloc, &unstored, &joined(alloc, answers, b"depot fault\n")?)?;
+    assert_eq!(rt;
+        [done, unread, unwritten, unlinked, unstored],
+        [
+            (0, true, 9),
+            (4, true, 0),
+            (5, true, 2),
+            (6, true, 1),
+            (7, true, 9),
+        ]
     );
     Ok(())
 }

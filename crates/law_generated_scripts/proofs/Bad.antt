@@ -7,7 +7,8 @@ use Rattle.script_lang.specs.Scripts.{lines_of}
 use Rattle.workload_gen.specs.Plan.{plan}
 use Rattle.workload_gen.specs.declared.plan.Mix.{Mix}
 use Rattle.law_program.specs.Commands.{Bulk}
-use Rattle.law_program.specs.Headline.{IsStopped, IsStoppedBy, IsStoppedInBulk, Run, command}
+use Rattle.law_program.specs.Headline.{IsStopped, IsStoppedBy, IsStoppedInBulk}
+use Rattle.law_program.specs.Runs.{Run, command}
 use Rattle.law_headline.specs.Script.{BadLine, Script, bad_line, begins_with, script_from}
 use Rattle.law_generated_scripts.proofs.Cutting.{AreGood, IsGood}
 use Rattle.law_program.specs.Mixes.{IsMix}

@@ -2,7 +2,8 @@
 
 ghost use Rattle.std.specs.Prelude.{◌≡◌, ℕ, Some, None};
 ghost use Rattle.law_program.specs.Commands.{Bulk};
-ghost use Rattle.law_program.specs.Headline.{IsStopped, IsStoppedInBulk, Run, command};
+ghost use Rattle.law_program.specs.Headline.{IsStopped, IsStoppedInBulk};
+ghost use Rattle.law_program.specs.Runs.{Run, command};
 ghost use Rattle.law_program.specs.Mixes.{IsMix};
 ghost use Rattle.law_headline.specs.Script.{bad_line};
 ghost use Rattle.workload_gen.specs.Plan.{plan};

@@ -2,7 +2,9 @@
 use Rattle.std.specs.Prelude.{ℕ, ◌==◌, ◌&&◌, ◌||◌, not, Bool, false, List, [], ◌∷◌, length, nat_le, Option, Some, None, bytes_eq, codes, if◌then◌else◌}
 use Rattle.std.specs.List.{list_any}
 use Rattle.rdma_types.specs.declared.names.Name.{Name}
-use Rattle.script_lang.specs.Texts.{◌>>=◌, greatest_u64, name_of, number_in}
+use Rattle.rdma_types.specs.declared.requests.Address.{Address}
+use Rattle.script_lang.specs.Words.{is_space}
+use Rattle.script_lang.specs.Texts.{◌>>=◌, address_of, greatest_u64, name_of, number_in}
 use Rattle.workload_gen.specs.declared.plan.Mix.{Mix}
 
 -- what the program is asked to do
@@ -11,6 +13,8 @@ pub data Command : Type 0 where
   Bulk : (seed : ℕ) → (mix : Mix) → Command  -- a generated script is played, and summed up
   ShowDump : (name : Name) → Command  -- what a dump in the depot says is written
   Evacuate : (from : ℕ) → (targets : List ℕ) → Command  -- the lines of the whole input are answered, and then a device is emptied
+  Audit : Command  -- the whole input is a trace, which is audited
+  Node : (id : ℕ) → (own : Address) → Command  -- one device over the link does the lines of the whole input
 
 -- no more words behind
 abbrev pub alone : Command → List (List ℕ) → Option Command
@@ -39,6 +43,18 @@ show_dump_of (word ∷ []) = do
   name ← name_of word
   Some (ShowDump name)
 show_dump_of other = None
+
+-- the address that a word spells; it has no space
+abbrev pub own_of : List ℕ → Option Address
+own_of word = if list_any is_space word then None else address_of word
+
+-- id and address
+abbrev pub node_of : List (List ℕ) → Option Command
+node_of (id ∷ address ∷ []) = do
+  i ← number_in 1 255 id
+  own ← own_of address
+  Some (Node i own)
+node_of other = None
 
 -- ids of devices, from 1 to 255
 abbrev pub ids_of : List (List ℕ) → Option (List ℕ)
@@ -71,6 +87,8 @@ placed_of (word ∷ words) =
     if bytes_eq word (codes "play") then alone Play words
     else if bytes_eq word (codes "bulk") then bulk_of words
     else if bytes_eq word (codes "show-dump") then show_dump_of words
+    else if bytes_eq word (codes "audit") then alone Audit words
+    else if bytes_eq word (codes "node") then node_of words
     else None
 
 -- the command of these words, if they are of one

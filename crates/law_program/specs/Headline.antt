@@ -1,68 +1,32 @@
 -- What a run of the program leaves under each status: what was read, what was written, and what is claimed of it.
-use Rattle.std.specs.Prelude.{ℕ, ◌≡◌, ◌≤◌, ◌⊎◌, ◌+◌, List, [], ◌++◌, length, Option, Some, None}
+use Rattle.std.specs.Prelude.{ℕ, ◌≡◌, ◌≤◌, ◌⊎◌, ◌+◌, List, [], ◌++◌, length, Option, Some, None, Ok, Err}
 use Rattle.rdma_types.specs.declared.names.Name.{Name}
+use Rattle.rdma_types.specs.declared.requests.Address.{Address}
 use Rattle.protocol.specs.declared.dumps.DumpWhy.{DumpWhy}
 use Rattle.protocol.specs.declared.images.ContextImage.{ContextImage}
 use Rattle.protocol.specs.Dumps.{Good, Bad, read_dump}
-use Rattle.protocol.specs.State.{empty_world}
-use Rattle.ideal_model.specs.Machine.{Machine, empty}
+use Rattle.ideal_model.specs.Machine.{Machine}
 use Rattle.law_simulation.specs.Stands.{Stands}
 use Rattle.evac_rules.specs.Evacuation.{Fault, evacuation}
-use Rattle.mig_ports.specs.Depots.{Holding, Has}
-use Rattle.mig_ports.specs.Streams.{Puts, TakesAll, TakesCount}
+use Rattle.mig_ports.specs.Depots.{Has}
+use Rattle.mig_ports.specs.Streams.{TakesCount}
 use Rattle.workload_gen.specs.declared.plan.Mix.{Mix}
 use Rattle.workload_gen.specs.Plan.{plan}
 use Rattle.workload_gen.specs.Summary.{summary}
-use Rattle.law_program.specs.Commands.{Command, Play, Bulk, ShowDump, Evacuate, command_of}
+use Rattle.trace_audit.specs.declared.verdicts.AuditWhy.{AuditWhy}
+use Rattle.trace_audit.specs.declared.verdicts.Verdict.{Verdict}
+use Rattle.trace_audit.specs.declared.verdicts.Verdict.TheVariants as verdict
+use Rattle.trace_audit.specs.Traces.{Traced, trace_of}
+use Rattle.trace_audit.specs.Verdicts.{IsVerdict, verdict_of}
+use Rattle.law_node.specs.Plan.{AllAnswered}
+use Rattle.law_node.specs.Stops.{DepotFailed, HasEnded, LinkFailed, OutputFailed}
+use Rattle.law_program.specs.Commands.{Command, Play, Bulk, ShowDump, Evacuate, Audit, Node}
 use Rattle.law_headline.specs.Follows.{FollowsAll, IsFollowed}
 use Rattle.law_headline.specs.Left.{world_of}
-use Rattle.law_headline.specs.Script.{BadLine, answers_text, bad_line, happenings, heard}
-use Rattle.law_program.specs.Texts.{bad_dump_line, bad_line_line, depot_line, evacuation_text, long_line, memory_line, missing_line, usage_line}
-
--- ---- a run
-
--- what a run of the program is given and leaves, where that is told
-pub record Run : Type 0 where
-  pub words : List (List ℕ)  -- without the program's name
-  pub left : Option (List ℕ)  -- what is to be read, before and after
-  pub left_after : Option (List ℕ)
-  pub held : Option (List ℕ)  -- what was written, before and after
-  pub held_after : Option (List ℕ)
-  pub stored : Option Holding  -- what the depot holds, before and after
-  pub stored_after : Option Holding
-
--- its command, if its words are of one
-abbrev pub command : Run → Option Command
-command r = command_of r.words
-
--- that is what it wrote
-abbrev pub Writes : Run → List ℕ → Type 0
-Writes r text = Puts r.held r.held_after text
-
--- that is all that was to be read, and it read it
-abbrev pub ReadsAll : Run → List ℕ → Type 0
-ReadsAll r text = TakesAll r.left r.left_after text
-
--- the input is read for `play` and `evacuate`
-abbrev pub ReadsInput : Option Command → Type 0
-ReadsInput (Some Play) = Unit {0}
-ReadsInput (Some (Evacuate from targets)) = Unit {0}
-ReadsInput other = ⊥
-
--- .. and for no other
-abbrev pub KeepsInput : Run → Option Command → Type 0
-KeepsInput r (Some Play) = Unit {0}
-KeepsInput r (Some (Evacuate from targets)) = Unit {0}
-KeepsInput r other = r.left_after ≡ r.left
-
--- what the command does not use is as it was, and no command changes the depot
-pub record KeepsUnused (r : Run) : Type 0 where
-  pub input : KeepsInput r (command r)
-  pub depot : r.stored_after ≡ r.stored
-
--- bytes of an input at most
-abbrev pub input_limit : ℕ
-input_limit = 1048576
+use Rattle.law_headline.specs.Script.{BadLine, answers_text, bad_line}
+use Rattle.law_program.specs.Nodes.{ComesTo, EndsAtBadDump, EndsAtBadLine, EndsAtMissing, EndsThere, EndsWithoutMemory}
+use Rattle.law_program.specs.Runs.{ReadsAll, ReadsInput, Run, TakesFew, Writes, WritesLine, command, input_limit}
+use Rattle.law_program.specs.Texts.{bad_dump_line, bad_line_line, depot_line, evacuation_text, link_line, long_line, memory_line, missing_line, usage_line, verdict_line}
 
 -- the text of an image, which is given by the definitions of dumps
 abbrev pub ImageText : Type 0
@@ -93,7 +57,7 @@ pub record IsSummedUp (r : Run) (seed : ℕ) (mix : Mix) : Type 0 where
 -- `show-dump`: the depot holds a dump under the name, and what was written is what it says
 pub record IsShown (said : ImageText) (r : Run) (name : Name) : Type 0 where
   pub bytes : List ℕ
-  pub found : Has r.stored name (Some bytes)
+  pub found : Has r.before.held name (Some bytes)
   pub image : ContextImage
   pub place : ℕ
   pub rest : List ℕ
@@ -112,6 +76,24 @@ pub record IsEvacuated (r : Run) (from : ℕ) (targets : List ℕ) (fault : Opti
   pub followed : IsFollowed text
   pub moves : (m : Machine) → Stands (world_of text) m → FollowsAll (world_of text) m (evacuation (world_of text) from targets).steps
 
+-- what an audit finds of the whole input, which is a trace; and the verdict is right: `Legal` comes exactly where its steps are a
+-- run of the packetless machine with these answers, and `Illegal` at the first line that can be of no run
+pub record IsAudited (r : Run) (found : Verdict) : Type 0 where
+  pub text : List ℕ
+  pub read : ReadsAll r text
+  pub short : length text ≤ input_limit
+  pub steps : List Traced
+  pub says : trace_of text ≡ Ok steps
+  pub finds : verdict_of steps ≡ found
+  pub right : IsVerdict steps
+
+-- `audit`: the trace is a run of the machine, and what was written is the verdict, with the numbers of its verbs and inner steps
+pub record IsLegalTrace (r : Run) : Type 0 where
+  pub verbs : ℕ
+  pub inner : ℕ
+  pub audited : IsAudited r (verdict.Legal verbs inner)
+  pub written : Writes r (verdict_line (verdict.Legal verbs inner))
+
 -- the command is done
 abbrev pub IsDoneBy : ImageText → Run → Option Command → Type 0
 IsDoneBy said r None = ⊥
@@ -119,6 +101,8 @@ IsDoneBy said r (Some Play) = IsAnswered r
 IsDoneBy said r (Some (Bulk seed mix)) = IsSummedUp r seed mix
 IsDoneBy said r (Some (ShowDump name)) = IsShown said r name
 IsDoneBy said r (Some (Evacuate from targets)) = IsEvacuated r from targets None
+IsDoneBy said r (Some Audit) = IsLegalTrace r
+IsDoneBy said r (Some (Node id own)) = ComesTo r id own (HasEnded AllAnswered) r.after
 
 -- .. the run's command
 abbrev pub IsDone : ImageText → Run → Type 0
@@ -148,7 +132,7 @@ pub record IsStoppedAtBadLine (r : Run) : Type 0 where
 -- and the reason
 pub record IsStoppedAtBadDump (r : Run) (name : Name) : Type 0 where
   pub bytes : List ℕ
-  pub found : Has r.stored name (Some bytes)
+  pub found : Has r.before.held name (Some bytes)
   pub place : ℕ
   pub why : DumpWhy
   pub reads : read_dump bytes ≡ Bad place why
@@ -160,6 +144,16 @@ pub record IsStoppedInBulk (r : Run) (seed : ℕ) (mix : Mix) : Type 0 where
   pub first : bad_line (plan seed mix) ≡ Some bad
   pub written : Writes r (bad_line_line bad)
 
+-- `audit`: the whole input was read and is no trace, and what was written is the last line with the number, the column and the
+-- reason of its first bad line
+pub record IsStoppedAtBadTrace (r : Run) : Type 0 where
+  pub text : List ℕ
+  pub read : ReadsAll r text
+  pub short : length text ≤ input_limit
+  pub bad : BadLine
+  pub first : trace_of text ≡ Err (bad.number, bad.offence)
+  pub written : Writes r (bad_line_line bad)
+
 -- a line or the dump is not in its grammar
 abbrev pub IsStoppedBy : Run → Option Command → Type 0
 IsStoppedBy r None = ⊥
@@ -167,49 +161,67 @@ IsStoppedBy r (Some Play) = IsStoppedAtBadLine r
 IsStoppedBy r (Some (Bulk seed mix)) = IsStoppedInBulk r seed mix
 IsStoppedBy r (Some (ShowDump name)) = IsStoppedAtBadDump r name
 IsStoppedBy r (Some (Evacuate from targets)) = IsStoppedAtBadLine r
+IsStoppedBy r (Some Audit) = IsStoppedAtBadTrace r
+IsStoppedBy r (Some (Node id own)) = EndsAtBadLine r id own ⊎ EndsAtBadDump r id own
 
 -- .. which the run's command was given
 abbrev pub IsStopped : Run → Type 0
 IsStopped r = IsStoppedBy r (command r)
 
--- ---- statuses 4, 7, 9 and 12
+-- ---- statuses 4, 6, 7, 9 and 12
 
--- a read failed: the command reads the input, no more was taken than the limit, and nothing was written
+-- a read failed: the command reads the input, no more was taken than the limit, and nothing else was touched
 pub record IsUnread (r : Run) : Type 0 where
   pub reads : ReadsInput (command r)
-  pub count : ℕ
-  pub short : count ≤ input_limit
-  pub read : TakesCount r.left r.left_after count
-  pub silent : r.held_after ≡ r.held
+  pub few : TakesFew r
+  pub kept : r.after ≡ r.before
 
--- the depot failed: the command is `show-dump`
-pub record IsWithoutDepot (r : Run) : Type 0 where
-  pub name : Name
-  pub shows : command r ≡ Some (ShowDump name)
-  pub written : Writes r depot_line
+-- the link failed, which `node` alone uses
+abbrev pub IsWithoutLinkBy : Run → Option Command → Type 0
+IsWithoutLinkBy r (Some (Node id own)) = EndsThere r id own LinkFailed link_line
+IsWithoutLinkBy r other = ⊥
 
--- the input has more bytes than the limit: the command reads it
+-- the depot failed, which `show-dump` and `node` use
+abbrev pub IsWithoutDepotBy : Run → Option Command → Type 0
+IsWithoutDepotBy r (Some (ShowDump name)) = Writes r depot_line
+IsWithoutDepotBy r (Some (Node id own)) = EndsThere r id own DepotFailed depot_line
+IsWithoutDepotBy r other = ⊥
+
+-- the input has more bytes than the limit: the command reads it, and nothing but the last line was written
 pub record IsTooLong (r : Run) : Type 0 where
   pub reads : ReadsInput (command r)
   pub read : TakesCount r.left r.left_after (input_limit + 1)
-  pub written : Writes r long_line
+  pub last : WritesLine long_line r.before r.after
 
 -- the depot holds nothing under the name
-pub record IsMissing (r : Run) : Type 0 where
-  pub name : Name
-  pub shows : command r ≡ Some (ShowDump name)
-  pub nothing : Has r.stored name None
-  pub written : Writes r (missing_line name)
+abbrev pub IsMissingBy : Run → Option Command → Type 0
+IsMissingBy r (Some (ShowDump name)) = Has r.before.held name None × Writes r (missing_line name)
+IsMissingBy r (Some (Node id own)) = EndsAtMissing r id own
+IsMissingBy r other = ⊥
 
--- ---- status 14
+-- ---- statuses 13 and 14
+
+-- the trace is no run of the machine, and what was written is the verdict
+pub record IsIllegalTrace (r : Run) : Type 0 where
+  pub line : ℕ
+  pub why : AuditWhy
+  pub audited : IsAudited r (verdict.Illegal line why)
+  pub written : Writes r (verdict_line (verdict.Illegal line why))
+
+-- .. which `audit` alone says
+abbrev pub IsNotLegalBy : Run → Option Command → Type 0
+IsNotLegalBy r (Some Audit) = IsIllegalTrace r
+IsNotLegalBy r other = ⊥
 
 -- the device is not emptied: it or a target is not there, or a context stays
-pub record IsNotEmptied (r : Run) : Type 0 where
-  pub from : ℕ
-  pub targets : List ℕ
-  pub evacuates : command r ≡ Some (Evacuate from targets)
+pub record IsHeldBack (r : Run) (from : ℕ) (targets : List ℕ) : Type 0 where
   pub fault : Fault
   pub is : IsEvacuated r from targets (Some fault)
+
+-- .. which `evacuate` alone says
+abbrev pub IsNotEmptiedBy : Run → Option Command → Type 0
+IsNotEmptiedBy r (Some (Evacuate from targets)) = IsHeldBack r from targets
+IsNotEmptiedBy r other = ⊥
 
 -- ---- status 8, and a prefix of what the command writes
 
@@ -224,7 +236,7 @@ pub record AreAnswersRead (r : Run) (answers : List ℕ) : Type 0 where
 -- the depot holds a dump under the name, and this is what it says
 pub record IsDumpRead (said : ImageText) (r : Run) (name : Name) (text : List ℕ) : Type 0 where
   pub bytes : List ℕ
-  pub found : Has r.stored name (Some bytes)
+  pub found : Has r.before.held name (Some bytes)
   pub image : ContextImage
   pub place : ℕ
   pub rest : List ℕ
@@ -238,32 +250,30 @@ IsToWriteBy said r (Some Play) text = (text ≡ []) ⊎ AreAnswersRead r text
 IsToWriteBy said r (Some (Bulk seed mix)) text = (text ≡ []) ⊎ (text ≡ bulk_text seed mix)
 IsToWriteBy said r (Some (ShowDump name)) text = (text ≡ []) ⊎ IsDumpRead said r name text
 IsToWriteBy said r (Some (Evacuate from targets)) text = (text ≡ []) ⊎ AreAnswersRead r text
+IsToWriteBy said r (Some Audit) text = text ≡ []
+IsToWriteBy said r (Some (Node id own)) text = ⊥
 
 -- .. for the run's command
 abbrev pub IsToWrite : ImageText → Run → List ℕ → Type 0
 IsToWrite said r text = IsToWriteBy said r (command r) text
 
--- status 8: what was written is a prefix of what the command writes, and the last line
-pub record IsShortOfMemory (said : ImageText) (r : Run) : Type 0 where
+-- no more was taken of the input than the limit, and what was written is a prefix of what the command writes, and the last line
+pub record IsCutShort (said : ImageText) (r : Run) : Type 0 where
+  pub few : TakesFew r
   pub front : List ℕ
   pub rest : List ℕ
   pub to_write : IsToWrite said r (front ++ rest)
   pub written : Writes r (front ++ memory_line)
 
--- a run that was not cut off, under one of the statuses that write: it is done, or it stopped and its last line was written
-abbrev pub IsWritten : ImageText → Run → Type 0
-IsWritten said r = IsDone said r ⊎ IsOfNoCommand r ⊎ IsStopped r ⊎ IsWithoutDepot r ⊎ IsShortOfMemory said r ⊎ IsTooLong r ⊎ IsMissing r ⊎ IsNotEmptied r
+-- status 8: memory ran out
+abbrev pub IsShortOfMemoryBy : ImageText → Run → Option Command → Type 0
+IsShortOfMemoryBy said r None = ⊥
+IsShortOfMemoryBy said r (Some (Node id own)) = EndsWithoutMemory r id own
+IsShortOfMemoryBy said r other = IsCutShort said r
 
--- status 5: a write failed. What was written is a prefix of what a run under another status writes: had the rest been written
--- too, it would be such a run
-pub record IsCutOff (said : ImageText) (r : Run) : Type 0 where
-  pub rest : List ℕ
-  pub whole : Option (List ℕ)
-  pub missing : Puts r.held_after whole rest
-  pub is : IsWritten said (record r { held_after = whole })
+-- ---- an answer of a node that is cut off
 
--- ---- all of them
-
--- the statuses of a run
-abbrev pub IsStatus : ℕ → Type 0
-IsStatus n = (n ≡ 0) ⊎ (n ≡ 2) ⊎ (n ≡ 3) ⊎ (n ≡ 4) ⊎ (n ≡ 5) ⊎ (n ≡ 7) ⊎ (n ≡ 8) ⊎ (n ≡ 9) ⊎ (n ≡ 12) ⊎ (n ≡ 14)
+-- status 5: an answer of a node was not written whole, and what would follow it is not known
+abbrev pub IsAnswerCutBy : Run → Option Command → Type 0
+IsAnswerCutBy r (Some (Node id own)) = ComesTo r id own OutputFailed r.after
+IsAnswerCutBy r other = ⊥

@@ -1,4 +1,7 @@
 pub mod Commands
 pub mod Mixes
 pub mod Texts
+pub mod Runs
+pub mod Nodes
 pub mod Headline
+pub mod Ends

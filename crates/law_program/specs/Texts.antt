@@ -11,6 +11,10 @@ use Rattle.evac_rules.specs.Evacuation.{Evacuation, Fault, NoSuch, Stays}
 use Rattle.script_lang.specs.declared.lines.LineWhy.{LineWhy}
 use Rattle.script_lang.specs.declared.lines.LineWhy.TheVariants as line_why
 use Rattle.script_lang.specs.Printed.{line}
+use Rattle.trace_audit.specs.declared.verdicts.AuditWhy.{AuditWhy}
+use Rattle.trace_audit.specs.declared.verdicts.AuditWhy.TheVariants as audit_why
+use Rattle.trace_audit.specs.declared.verdicts.Verdict.{Verdict}
+use Rattle.trace_audit.specs.declared.verdicts.Verdict.TheVariants as verdict
 use Rattle.law_headline.specs.Script.{BadLine}
 
 -- why a line is in no form
@@ -49,6 +53,10 @@ bad_line_line b = line (codes "bad") (codes "line" ∷ decimal b.number ∷ code
 abbrev pub bad_dump_line : ℕ → DumpWhy → List ℕ
 bad_dump_line place why = line (codes "bad") (codes "dump" ∷ decimal place ∷ dump_why_text why ∷ [])
 
+-- a fault of the link
+abbrev pub link_line : List ℕ
+link_line = line (codes "link") (codes "fault" ∷ [])
+
 -- a fault of the depot
 abbrev pub depot_line : List ℕ
 depot_line = line (codes "depot") (codes "fault" ∷ [])
@@ -86,3 +94,15 @@ emptied_line (Some (Stays n y)) = line (codes "stays") (n ∷ stay_why_text y �
 -- a line for each context that moved, and the last line
 abbrev pub evacuation_text : Evacuation → List ℕ
 evacuation_text s = flat_map moved_line s.moved ++ emptied_line s.fault
+
+-- ---- audits
+
+-- why a trace is no run of the machine
+abbrev pub audit_why_text : AuditWhy → List ℕ
+audit_why_text audit_why.Step = codes "step"
+audit_why_text audit_why.Answer = codes "answer"
+
+-- `legal` verbs inner, or `illegal` line reason
+abbrev pub verdict_line : Verdict → List ℕ
+verdict_line (verdict.Legal verbs inner) = line (codes "legal") (decimal verbs ∷ decimal inner ∷ [])
+verdict_line (verdict.Illegal number why) = line (codes "illegal") (decimal number ∷ audit_why_text why ∷ [])

@@ -7,13 +7,16 @@ jichurpa COMMAND
   bulk SEED CONNECTIONS MESSAGES MOVES    plays a generated script, and sums it up in one line
   show-dump NAME                          tells what the dump in the file depot/NAME holds
   evacuate FROM TARGET..                  answers the lines of a script, and then empties a device
+  audit                                   tells whether a recorded run is one of the packetless machine
+  node ID ADDRESS                         does the lines of a script on one device, over UDP
   COMMAND --help                          tells the words, the limits and the statuses of a command
   --help, -h                              writes this text
   --version                               writes the version
 
-The status is 0 where all is done, 2 for other words, 3 for a bad line or dump, 4, 5 and 7 where
-the input, the output and the depot fail, 8 where memory runs out, 9 for an input of more than
-1048576 bytes, 12 for a name of which the depot holds no dump, and 14 where a device is not emptied.
+The status is 0 where all is done, 2 for other words, 3 for a bad line or dump, 4, 5, 6 and 7 where
+the input, the output, the link and the depot fail, 8 where memory runs out, 9 for an input of more
+than 1048576 bytes, 12 for a name of which the depot holds no dump, 13 for a trace that is no run of
+the packetless machine, and 14 where a device is not emptied.
 ";
 
 const PLAY: &str = "\
@@ -92,6 +95,46 @@ is written for each context that moved, and a last line.
 Example: jichurpa evacuate 2 3 4 < evacuate.script
 ";
 
+const AUDIT: &str = "\
+jichurpa audit
+
+Reads a trace from standard input, the record of a run as text, and tells in one line whether it is
+a run of the packetless machine. The input is read to its end, and has at most 1048576 bytes.
+
+  0   it is: `legal`, and how many verbs and inner steps it has
+  3   it is no trace: the last line names its first bad line
+  4   the input cannot be read
+  5   the output cannot be written
+  8   memory runs out
+  9   the input is too long
+  13  it is not: `illegal`, the number of the first wrong line, and `step` or `answer`
+
+Example: jichurpa audit < run.trace
+";
+
+const NODE: &str = "\
+jichurpa node ID ADDRESS
+
+Does the lines of a script from standard input on one device, whose datagrams come and go over UDP.
+Each line is answered before the next one is read. The input is read to its end first, and has at
+most 1048576 bytes.
+
+  ID        1 to 255
+  ADDRESS   where the device is reached: an IPv4 address, and perhaps a colon and a port; else 4791
+
+  0   every line is answered
+  3   a line is bad, or a file that is restored is no dump: the last line names the place
+  4   the input cannot be read
+  5   the output cannot be written
+  6   the link fails: the last line is `link fault`
+  7   the depot fails: the last line is `depot fault`
+  8   memory runs out
+  9   the input is too long: nothing is answered
+  12  there is no file of a name that is restored
+
+Example: jichurpa node 1 10.0.0.1 < node.script
+";
+
 const VERSION: &str = "jichurpa 0.1.0\n";
 
 /// Whether the word asks for help.
@@ -106,6 +149,8 @@ fn help_of(command: &String) -> Option<&'static str> {
         b"bulk" => Some(BULK),
         b"show-dump" => Some(SHOW_DUMP),
         b"evacuate" => Some(EVACUATE),
+        b"audit" => Some(AUDIT),
+        b"node" => Some(NODE),
         _ => None,
     }
 }

@@ -8,6 +8,8 @@ mod streams;
 use folder_depot::FolderDepot;
 use help::about;
 use mig_ports::{Failed, write_all_of};
+use node_adapters::{ClockTicks, UdpLink};
+use node_engine::NodePorts;
 use rdma_cli_calls::run_serial;
 use std::io::{BufReader, BufWriter};
 use std::process::ExitCode;
@@ -27,20 +29,22 @@ fn words_of(rt: &HostRuntime) -> io::Result<Vec<String>> {
     }
 }
 
-/// Does what the words ask for, and gives the status.
+/// Does what the words ask for, and gives the status. No socket is opened but by a node.
 fn run(rt: &HostRuntime) -> io::Result<u8> {
     let words = words_of(rt)?;
     let mut input = StdSource::new(BufReader::new(rt.alloc(), rt.reader())?);
-    let mut output = StdSink::new(BufWriter::new(rt.alloc(), io::writer(rt))?);
-    let status = match about(&words) {
-        Some(text) if write_all_of(&mut output, text.as_bytes()).is_ok() => 0,
-        Some(_) => 5,
-        None => {
-            let mut depot = FolderDepot::new(rt);
-            run_serial(rt.alloc(), &words, &mut input, &mut output, &mut depot)
-        }
+    let mut ports = NodePorts {
+        link: UdpLink::new(rt),
+        output: StdSink::new(BufWriter::new(rt.alloc(), io::writer(rt))?),
+        depot: FolderDepot::new(rt),
+        ticks: ClockTicks::new(rt),
     };
-    match output.flush() {
+    let status = match about(&words) {
+        Some(text) if write_all_of(&mut ports.output, text.as_bytes()).is_ok() => 0,
+        Some(_) => 5,
+        None => run_serial(rt.alloc(), &words, &mut input, &mut ports),
+    };
+    match ports.output.flush() {
         Ok(()) => Ok(status),
         Err(Failed) => Ok(5),
     }

@@ -1,8 +1,9 @@
 -- Why a run of the program stops before it is done, and what is known there before its last line is written.
-use Rattle.std.specs.Prelude.{ℕ, ◌≡◌, ◌≢◌, ◌≤◌, ◌⊎◌, ◌+◌, List, [], ◌++◌, length, map, Option, Some, None, String, Bool, true, false}
+use Rattle.std.specs.Prelude.{ℕ, ◌≡◌, ◌≢◌, ◌≤◌, ◌⊎◌, ◌+◌, List, [], ◌++◌, length, map, Option, Some, None, Result, Ok, Err, String, Bool, true, false}
 use Rattle.std.specs.String.{string_bytes}
 use Rattle.std.specs.declared.alloc.Global.{Global}
 use Rattle.rdma_types.specs.declared.names.Name.{Name}
+use Rattle.rdma_types.specs.declared.requests.Address.{Address}
 use Rattle.protocol.specs.declared.dumps.DumpWhy.{DumpWhy}
 use Rattle.protocol.specs.Dumps.{Bad, read_dump}
 use Rattle.mig_ports.specs.Depots.{Has, Holding}
@@ -13,13 +14,23 @@ use Rattle.dump_reader.specs.declared.fault.DumpFault.{DumpFault}
 use Rattle.dump_reader.specs.declared.fault.DumpFault.TheVariants as dump
 use Rattle.workload_gen.specs.declared.plan.Mix.{Mix}
 use Rattle.workload_gen.specs.Plan.{plan}
+use Rattle.trace_audit.specs.Traces.{trace_of}
+use Rattle.trace_audit.specs.declared.verdicts.AuditFault.{AuditFault}
+use Rattle.trace_audit.specs.declared.verdicts.AuditFault.TheVariants as audit
+use Rattle.trace_audit.specs.declared.verdicts.Verdict.TheVariants.{Illegal, Legal}
+use Rattle.law_node.specs.Plan as calls
+use Rattle.law_node.specs.Stops.{DepotFailed, HasEnded, LinkFailed, MemoryRanOut, OutputFailed, Rises}
+use Rattle.law_node.specs.Told.{Contents, Counts}
+use Rattle.node_engine.specs.declared.faults.NodeFault.{NodeFault}
+use Rattle.node_engine.specs.declared.faults.NodeFault.TheVariants as node
 use Rattle.law_program.specs.Commands as rules
-use Rattle.law_headline.specs.Follows.{IsFollowed}
-use Rattle.law_program.specs.Headline.{Run, AreAnswersRead, ImageText, IsCutOff, IsDumpRead, IsEvacuated, IsMissing, IsNotEmptied, IsOfNoCommand, IsShortOfMemory, IsStopped, IsTooLong, IsUnread, IsWithoutDepot, Writes, bulk_text, command, input_limit}
-use Rattle.law_headline.specs.Follows.{FollowsAll}
+use Rattle.law_program.specs.Headline.{AreAnswersRead, ImageText, IsAudited, IsDone, IsDumpRead, IsEvacuated, IsHeldBack, bulk_text}
+use Rattle.law_program.specs.Nodes.{ComesTo}
+use Rattle.law_program.specs.Runs.{KeepsUnused, Run, TakesFew, Writes, command, input_limit}
+use Rattle.law_headline.specs.Follows.{FollowsAll, IsFollowed}
 use Rattle.law_headline.specs.Left.{world_of}
 use Rattle.law_headline.specs.Script.{BadLine, answers_text, bad_line}
-use Rattle.law_program.specs.Texts.{evacuation_text}
+use Rattle.law_program.specs.Texts.{evacuation_text, verdict_line}
 use Rattle.ideal_model.specs.Machine.{Machine}
 use Rattle.law_simulation.specs.Stands.{Stands}
 use Rattle.evac_rules.specs.Evacuation.{Fault, evacuation}
@@ -44,23 +55,63 @@ abbrev pub stop_of_dump : DumpFault → Stop
 stop_of_dump (dump.BadDump place why) = stop.BadDump place why
 stop_of_dump dump.OutOfMemory = stop.OutOfMemory
 
+abbrev pub stop_of_audit : AuditFault → Stop
+stop_of_audit (audit.BadLine line column why) = stop.BadLine line column why
+stop_of_audit audit.OutOfMemory = stop.OutOfMemory
+
+abbrev pub stop_of_node : NodeFault → Stop
+stop_of_node (node.BadLine line column why) = stop.BadLine line column why
+stop_of_node (node.BadDump place why) = stop.BadDump place why
+stop_of_node node.WriteFault = stop.WriteFault
+stop_of_node node.LinkFault = stop.LinkFault
+stop_of_node node.DepotFault = stop.DepotFault
+stop_of_node (node.Missing name) = stop.Missing name
+stop_of_node node.OutOfMemory = stop.OutOfMemory
+
+-- ---- counts of faults
+
+-- the counts of link, depot and output
+abbrev pub counts_of : ℕ → ℕ → ℕ → Counts
+counts_of link depot output = record { link = link; depot = depot; output = output }
+
+-- the count of the object whose call failed rose, and no other: that of the input, or one of these
+abbrev pub Counted : {U : Type 0} → Result U Stop → ℕ → ℕ → Counts → Counts → Type 0
+Counted (Ok done) input input' old new = (input' ≡ input) × (new ≡ old)
+Counted (Err stop.ReadFault) input input' old new = Rises input input' × (new ≡ old)
+Counted (Err stop.WriteFault) input input' old new = (input' ≡ input) × Rises old.output new.output × (new ≡ record old { output = new.output })
+Counted (Err stop.LinkFault) input input' old new = (input' ≡ input) × Rises old.link new.link × (new ≡ record old { link = new.link })
+Counted (Err stop.DepotFault) input input' old new = (input' ≡ input) × Rises old.depot new.depot × (new ≡ record old { depot = new.depot })
+Counted (Err other) input input' old new = (input' ≡ input) × (new ≡ old)
+
 -- ---- what is known
 
 -- a run, by what its parts tell
-abbrev pub run_of : List (String Global) → Option (List ℕ) → Option (List ℕ) → Option (List ℕ) → Option (List ℕ) → Option Holding → Option Holding → Run
-run_of words left left_after held held_after stored stored_after = record {
+abbrev pub run_of : List (String Global) → Option (List ℕ) → Option (List ℕ) → ℕ → ℕ → Contents → Contents → Run
+run_of words left left_after input_faults input_faults_after before after = record {
   words = map string_bytes words;
   left = left;
   left_after = left_after;
-  held = held;
-  held_after = held_after;
-  stored = stored;
-  stored_after = stored_after;
+  input_faults = input_faults;
+  input_faults_after = input_faults_after;
+  before = before;
+  after = after;
 }
+
+-- the run with that to be read and that written, before and after
+abbrev pub over : Run → Option (List ℕ) → Option (List ℕ) → Option (List ℕ) → Option (List ℕ) → Run
+over r left left_after written written_after = record r { left = left; left_after = left_after; before = record r.before { written = written }; after = record r.after { written = written_after } }
+
+-- the run with that written, before and after
+abbrev pub over_output : Run → Option (List ℕ) → Option (List ℕ) → Run
+over_output r written written_after = record r { before = record r.before { written = written }; after = record r.after { written = written_after } }
+
+-- the run with that written and held, before and after
+abbrev pub over_depot : Run → Option (List ℕ) → Option (List ℕ) → Option Holding → Option Holding → Run
+over_depot r written written_after held held_after = record r { before = record r.before { written = written; held = held }; after = record r.after { written = written_after; held = held_after } }
 
 -- nothing was written
 abbrev pub IsSilent : Run → Type 0
-IsSilent r = r.held_after ≡ r.held
+IsSilent r = r.after.written ≡ r.before.written
 
 -- a prefix was written of a text for which that holds
 pub record WritesFront (P : List ℕ → Type 0) (r : Run) : Type 0 where
@@ -68,12 +119,6 @@ pub record WritesFront (P : List ℕ → Type 0) (r : Run) : Type 0 where
   pub rest : List ℕ
   pub holds : P (front ++ rest)
   pub written : Writes r front
-
--- no more than the limit was taken of the input
-pub record IsReadInPart (r : Run) : Type 0 where
-  pub count : ℕ
-  pub short : count ≤ input_limit
-  pub read : TakesCount r.left r.left_after count
 
 -- the answers to the lines before a bad one were written
 pub record IsBadScript (r : Run) (bad : BadLine) : Type 0 where
@@ -87,9 +132,9 @@ pub record IsBadScript (r : Run) (bad : BadLine) : Type 0 where
 -- `play` stops
 abbrev pub PlayStops : Run → Stop → Type 0
 PlayStops r (stop.BadLine line column why) = IsBadScript r (record { number = line; offence = record { column = column; why = why } })
-PlayStops r stop.ReadFault = IsSilent r × IsReadInPart r
+PlayStops r stop.ReadFault = IsSilent r × TakesFew r
 PlayStops r stop.WriteFault = WritesFront (AreAnswersRead r) r
-PlayStops r stop.OutOfMemory = WritesFront (λ text. (text ≡ []) ⊎ AreAnswersRead r text) r
+PlayStops r stop.OutOfMemory = TakesFew r × WritesFront (λ text. (text ≡ []) ⊎ AreAnswersRead r text) r
 PlayStops r stop.TooLong = IsSilent r × TakesCount r.left r.left_after (input_limit + 1)
 PlayStops r other = ⊥
 
@@ -119,16 +164,53 @@ pub record IsEvacuationCut (r : Run) (from : ℕ) (targets : List ℕ) : Type 0 
   pub front : WritesFront (AreAnswersRead r) r ⊎ IsToldInPart r from targets
   pub moves : (text : List ℕ) → MovesAreFollowed from targets text
 
--- the device was not emptied
-pub record IsHeldBack (r : Run) (from : ℕ) (targets : List ℕ) : Type 0 where
-  pub fault : Fault
-  pub is : IsEvacuated r from targets (Some fault)
-
 -- `evacuate` stops
 abbrev pub EvacuateStops : ℕ → List ℕ → Run → Stop → Type 0
 EvacuateStops from targets r stop.WriteFault = IsEvacuationCut r from targets
 EvacuateStops from targets r stop.NotEmptied = IsHeldBack r from targets
 EvacuateStops from targets r other = PlayStops r other
+
+-- the whole input was read, and this is its first bad line as a trace
+pub record IsBadTrace (r : Run) (bad : BadLine) : Type 0 where
+  pub text : List ℕ
+  pub read : TakesAll r.left r.left_after text
+  pub short : length text ≤ input_limit
+  pub first : trace_of text ≡ Err (bad.number, bad.offence)
+
+-- a prefix of the verdict on a run of the machine was written
+pub record IsJudgedInPart (r : Run) : Type 0 where
+  pub verbs : ℕ
+  pub inner : ℕ
+  pub audited : IsAudited r (Legal verbs inner)
+  pub front : WritesFront (λ text. text ≡ verdict_line (Legal verbs inner)) r
+
+-- `audit` stops
+abbrev pub AuditStops : Run → Stop → Type 0
+AuditStops r (stop.BadLine line column why) = IsSilent r × IsBadTrace r (record { number = line; offence = record { column = column; why = why } })
+AuditStops r stop.ReadFault = IsSilent r × TakesFew r
+AuditStops r stop.WriteFault = IsJudgedInPart r
+AuditStops r stop.OutOfMemory = IsSilent r × TakesFew r
+AuditStops r stop.TooLong = IsSilent r × TakesCount r.left r.left_after (input_limit + 1)
+AuditStops r (stop.Illegal line why) = IsSilent r × IsAudited r (Illegal line why)
+AuditStops r other = ⊥
+
+-- `node` stops
+abbrev pub NodeStops : ℕ → Address → Run → Stop → Type 0
+NodeStops id own r (stop.BadLine line column why) = ComesTo r id own (HasEnded (calls.BadLine line (record { column = column; why = why }))) r.after
+NodeStops id own r (stop.BadDump place why) = ComesTo r id own (HasEnded (calls.BadDump place why)) r.after
+NodeStops id own r stop.ReadFault = (r.after ≡ r.before) × TakesFew r
+NodeStops id own r stop.WriteFault = ComesTo r id own OutputFailed r.after
+NodeStops id own r stop.LinkFault = ComesTo r id own LinkFailed r.after
+NodeStops id own r stop.DepotFault = ComesTo r id own DepotFailed r.after
+NodeStops id own r stop.OutOfMemory = ComesTo r id own MemoryRanOut r.after ⊎ ((r.after ≡ r.before) × TakesFew r)
+NodeStops id own r stop.TooLong = (r.after ≡ r.before) × TakesCount r.left r.left_after (input_limit + 1)
+NodeStops id own r (stop.Missing name) = ComesTo r id own (HasEnded (calls.Missing name)) r.after
+NodeStops id own r other = ⊥
+
+-- what a run of `node` leaves
+abbrev pub NodeEnds : {U : Type 0} → ℕ → Address → Run → Result U Stop → Type 0
+NodeEnds id own r (Ok done) = ComesTo r id own (HasEnded calls.AllAnswered) r.after
+NodeEnds id own r (Err x) = NodeStops id own r x
 
 -- the answers to a script are not known: a line of it is bad, or it was out of memory
 abbrev pub AnswersStop : List ℕ → Stop → Type 0
@@ -152,7 +234,7 @@ BulkStops seed mix r other = ⊥
 -- the bytes under a name are no dump
 pub record HasBadDump (r : Run) (name : Name) (place : ℕ) (why : DumpWhy) : Type 0 where
   pub bytes : List ℕ
-  pub found : Has r.stored name (Some bytes)
+  pub found : Has r.before.held name (Some bytes)
   pub reads : read_dump bytes ≡ Bad place why
 
 -- the depot gives no bytes
@@ -168,7 +250,7 @@ ShowStops said name r (stop.BadDump place why) = IsSilent r × HasBadDump r name
 ShowStops said name r stop.WriteFault = WritesFront (IsDumpRead said r name) r
 ShowStops said name r stop.DepotFault = IsSilent r
 ShowStops said name r stop.OutOfMemory = IsSilent r
-ShowStops said name r (stop.Missing other) = IsSilent r × (other ≡ name) × Has r.stored name None
+ShowStops said name r (stop.Missing other) = IsSilent r × (other ≡ name) × Has r.before.held name None
 ShowStops said name r other = ⊥
 
 -- no command is known: the words are of none, or it was out of memory
@@ -189,20 +271,20 @@ StopsBy said r (Some rules.Play) x = PlayStops r x
 StopsBy said r (Some (rules.Bulk seed mix)) x = BulkStops seed mix r x
 StopsBy said r (Some (rules.ShowDump name)) x = ShowStops said name r x
 StopsBy said r (Some (rules.Evacuate from targets)) x = EvacuateStops from targets r x
+StopsBy said r (Some rules.Audit) x = AuditStops r x
+StopsBy said r (Some (rules.Node id own)) x = NodeStops id own r x
 
 -- the command of a run stops
 abbrev pub StopsFor : ImageText → Run → Stop → Type 0
 StopsFor said r x = StopsBy said r (command r) x
 
--- what is claimed where the last line was written, too
-abbrev pub EndsFor : ImageText → Run → Stop → Type 0
-EndsFor said r stop.Usage = IsOfNoCommand r
-EndsFor said r (stop.BadLine line column why) = IsStopped r
-EndsFor said r (stop.BadDump place why) = IsStopped r
-EndsFor said r stop.ReadFault = IsUnread r
-EndsFor said r stop.WriteFault = IsCutOff said r
-EndsFor said r stop.DepotFault = IsWithoutDepot r
-EndsFor said r stop.OutOfMemory = IsShortOfMemory said r
-EndsFor said r stop.TooLong = IsTooLong r
-EndsFor said r (stop.Missing name) = IsMissing r
-EndsFor said r stop.NotEmptied = IsNotEmptied r
+-- what is known where a command is done, or stops
+abbrev pub Comes : {U : Type 0} → ImageText → Run → Result U Stop → Type 0
+Comes said r (Ok done) = IsDone said r
+Comes said r (Err x) = StopsFor said r x
+
+-- what a command leaves before the last line
+pub record Performs {U : Type 0} (said : ImageText) (r : Run) (result : Result U Stop) : Type 0 where
+  pub comes : Comes said r result
+  pub counts : Counted result r.input_faults r.input_faults_after r.before.faults r.after.faults
+  pub unused : KeepsUnused r

@@ -1,5 +1,8 @@
 -- What the last line of a run is.
 use Rattle.std.specs.Prelude.{ℕ, ◌≢◌, List, []}
+use Rattle.trace_audit.specs.declared.verdicts.Verdict.TheVariants as verdict
+use Rattle.law_program.specs.Ends as ends
+use Rattle.law_program.specs.Ends.{Status}
 use Rattle.law_program.specs.Texts as text
 use Rattle.rdma_cli_calls.specs.declared.stop.Stop.{Stop}
 use Rattle.rdma_cli_calls.specs.declared.stop.Stop.TheVariants as stop
@@ -11,10 +14,12 @@ last_line (stop.BadLine line column why) = text.bad_line_line (record { number =
 last_line (stop.BadDump place why) = text.bad_dump_line place why
 last_line stop.ReadFault = []
 last_line stop.WriteFault = []
+last_line stop.LinkFault = text.link_line
 last_line stop.DepotFault = text.depot_line
 last_line stop.OutOfMemory = text.memory_line
 last_line stop.TooLong = text.long_line
 last_line (stop.Missing name) = text.missing_line name
+last_line (stop.Illegal line why) = text.verdict_line (verdict.Illegal line why)
 last_line stop.NotEmptied = []
 
 -- it has one
@@ -23,14 +28,16 @@ pub record HasLastLine (x : Stop) : Type 0 where
   pub write : x ≢ stop.WriteFault
 
 -- the status of it
-abbrev pub status : Stop → ℕ
-status stop.Usage = 2
-status (stop.BadLine line column why) = 3
-status (stop.BadDump place why) = 3
-status stop.ReadFault = 4
-status stop.WriteFault = 5
-status stop.DepotFault = 7
-status stop.OutOfMemory = 8
-status stop.TooLong = 9
-status (stop.Missing name) = 12
-status stop.NotEmptied = 14
+abbrev pub status : Stop → Status
+status stop.Usage = ends.WrongWords
+status (stop.BadLine line column why) = ends.BadInput
+status (stop.BadDump place why) = ends.BadInput
+status stop.ReadFault = ends.Unread
+status stop.WriteFault = ends.Unwritten
+status stop.LinkFault = ends.NoLink
+status stop.DepotFault = ends.NoDepot
+status stop.OutOfMemory = ends.NoMemory
+status stop.TooLong = ends.TooLong
+status (stop.Missing name) = ends.NotHeld
+status (stop.Illegal line why) = ends.NotLegal
+status stop.NotEmptied = ends.NotEmptied

@@ -2,9 +2,10 @@
 
 ghost use Rattle.std.specs.Prelude.{◌≡◌, ◌≤◌, OnOk, OnErr};
 ghost use Rattle.mig_ports.specs.Streams.{FaultsCounted, Puts};
-ghost use Rattle.law_program.specs.Texts.{dump_why_text, line_why_text};
+ghost use Rattle.law_program.specs.Ends.{code};
+ghost use Rattle.law_program.specs.Texts.{audit_why_text, dump_why_text, line_why_text};
 ghost use Rattle.script_runner.specs.Playing.{PutsFront};
-ghost use Rattle.rdma_cli_calls.specs.Stopping.{stop_of_dump, stop_of_play, stop_of_read};
+ghost use Rattle.rdma_cli_calls.specs.Stopping.{stop_of_audit, stop_of_dump, stop_of_node, stop_of_play, stop_of_read};
 ghost use Rattle.rdma_cli_calls.specs.Writing as writing;
 ghost use Rattle.rdma_cli_calls.specs.declared.stop.Stop.TheVariants.{OutOfMemory, WriteFault};
 
@@ -12,11 +13,13 @@ use crate::writing::write_line;
 use dump_reader::DumpFault;
 use itoa::Buffer;
 use mig_ports::{ReadAllFault, Sink, WriteFault};
+use node_engine::NodeFault;
 use protocol::DumpWhy;
 use rdma_types::Name;
 use script_lang::LineWhy;
 use script_runner::PlayFault;
 use std::alloc::AllocError;
+use trace_audit::{AuditFault, AuditWhy};
 
 /// Why a run ends before its command is done.
 #[derive(Clone, Copy)]
@@ -38,6 +41,8 @@ pub(crate) enum Stop {
     ReadFault,
     /// The output could not be written.
     WriteFault,
+    /// The link failed.
+    LinkFault,
     /// The depot failed.
     DepotFault,
     OutOfMemory,
@@ -46,6 +51,11 @@ pub(crate) enum Stop {
     /// The depot holds nothing under the name.
     Missing {
         name: Name,
+    },
+    /// A trace is no run of the packetless machine: the line of this number, counted from 1, can be of none.
+    Illegal {
+        line: u64,
+        why: AuditWhy,
     },
     /// A device is not emptied, which is written already.
     NotEmptied,
@@ -82,6 +92,33 @@ impl From<DumpFault> for Stop {
         match fault {
             DumpFault::BadDump { place, why } => Stop::BadDump { place, why },
             DumpFault::OutOfMemory => Stop::OutOfMemory,
+        }
+    }
+}
+
+impl From<AuditFault> for Stop {
+    ghost from_gives = { λ fault stop. stop ≡ stop_of_audit fault };
+
+    fn from(fault: AuditFault) -> Stop {
+        match fault {
+            AuditFault::BadLine { line, column, why } => Stop::BadLine { line, column, why },
+            AuditFault::OutOfMemory => Stop::OutOfMemory,
+        }
+    }
+}
+
+impl From<NodeFault> for Stop {
+    ghost from_gives = { λ fault stop. stop ≡ stop_of_node fault };
+
+    fn from(fault: NodeFault) -> Stop {
+        match fault {
+            NodeFault::BadLine { line, column, why } => Stop::BadLine { line, column, why },
+            NodeFault::BadDump { place, why } => Stop::BadDump { place, why },
+            NodeFault::WriteFault => Stop::WriteFault,
+            NodeFault::LinkFault => Stop::LinkFault,
+            NodeFault::DepotFault => Stop::DepotFault,
+            NodeFault::Missing(name) => Stop::Missing { name },
+            NodeFault::OutOfMemory => Stop::OutOfMemory,
         }
     }
 }
@@ -136,20 +173,32 @@ fn dump_why_word(why: DumpWhy) -> &'static [u8]
     }
 }
 
+/// The word of a reason.
+fn audit_why_word(why: AuditWhy) -> &'static [u8]
+    ensures { result.now ≡ audit_why_text why }
+{
+    match why {
+        AuditWhy::Step => b"step",
+        AuditWhy::Answer => b"answer",
+    }
+}
+
 impl Stop {
     /// The status of a run that ends so.
     pub(crate) fn status(&self) -> u8
-        ensures { result ≡ writing.status self.now }
+        ensures { result ≡ code (writing.status self.now) }
     {
         match self {
             Stop::Usage => 2,
             Stop::BadLine { .. } | Stop::BadDump { .. } => 3,
             Stop::ReadFault => 4,
             Stop::WriteFault => 5,
+            Stop::LinkFault => 6,
             Stop::DepotFault => 7,
             Stop::OutOfMemory => 8,
             Stop::TooLong => 9,
             Stop::Missing { .. } => 12,
+            Stop::Illegal { .. } => 13,
             Stop::NotEmptied => 14,
         }
     }
@@ -159,6 +208,7 @@ impl Stop {
         ensures whole { OnOk result (Puts (K.held output.old) (K.held output.new) (writing.last_line self.now)) }
         ensures part { OnErr result (PutsFront (K.held output.old) (K.held output.new) (writing.last_line self.now)) }
         ensures speaks { OnErr result (writing.HasLastLine self.now) }
+        ensures faults_unchanged { OnOk result (K.faults output.new ≡ K.faults output.old) }
         ensures faults_counted { OnErr result (FaultsCounted (K.faults output.old) (K.faults output.new)) }
         ensures faults_monotone { K.faults output.old ≤ K.faults output.new }
     {
@@ -167,10 +217,12 @@ impl Stop {
             Stop::BadLine { line, column, why } => write_bad_line(*line, *column, *why, output),
             Stop::BadDump { place, why } => write_bad_dump(*place, *why, output),
             Stop::ReadFault | Stop::WriteFault | Stop::NotEmptied => Ok(()),
+            Stop::LinkFault => write_line(b"link", &[b"fault"], output),
             Stop::DepotFault => write_line(b"depot", &[b"fault"], output),
             Stop::OutOfMemory => write_line(b"out", &[b"of", b"memory"], output),
             Stop::TooLong => write_line(b"input", &[b"too", b"long"], output),
             Stop::Missing { name } => write_line(b"missing", &[name.as_bytes()], output),
+            Stop::Illegal { line, why } => write_illegal(*line, *why, output),
         }
     }
 }
@@ -184,6 +236,7 @@ fn write_bad_line<K: Sink>(
 ) -> Result<(), WriteFault>
     ensures whole { OnOk result (Puts (K.held output.old) (K.held output.new) (writing.last_line (Stop.BadLine line column why))) }
     ensures part { OnErr result (PutsFront (K.held output.old) (K.held output.new) (writing.last_line (Stop.BadLine line column why))) }
+    ensures faults_unchanged { OnOk result (K.faults output.new ≡ K.faults output.old) }
     ensures faults_counted { OnErr result (FaultsCounted (K.faults output.old) (K.faults output.new)) }
     ensures faults_monotone { K.faults output.old ≤ K.faults output.new }
 {
@@ -199,10 +252,24 @@ fn write_bad_line<K: Sink>(
 fn write_bad_dump<K: Sink>(place: usize, why: DumpWhy, output: &mut K) -> Result<(), WriteFault>
     ensures whole { OnOk result (Puts (K.held output.old) (K.held output.new) (writing.last_line (Stop.BadDump place why))) }
     ensures part { OnErr result (PutsFront (K.held output.old) (K.held output.new) (writing.last_line (Stop.BadDump place why))) }
+    ensures faults_unchanged { OnOk result (K.faults output.new ≡ K.faults output.old) }
     ensures faults_counted { OnErr result (FaultsCounted (K.faults output.old) (K.faults output.new)) }
     ensures faults_monotone { K.faults output.old ≤ K.faults output.new }
 {
     let mut place_digits = Buffer::new();
     let place = place_digits.format(place as u64).as_bytes();
     write_line(b"bad", &[b"dump", place, dump_why_word(why)], output)
+}
+
+/// Writes the last line of an audit that finds no run of the machine.
+fn write_illegal<K: Sink>(line: u64, why: AuditWhy, output: &mut K) -> Result<(), WriteFault>
+    ensures whole { OnOk result (Puts (K.held output.old) (K.held output.new) (writing.last_line (Stop.Illegal line why))) }
+    ensures part { OnErr result (PutsFront (K.held output.old) (K.held output.new) (writing.last_line (Stop.Illegal line why))) }
+    ensures faults_unchanged { OnOk result (K.faults output.new ≡ K.faults output.old) }
+    ensures faults_counted { OnErr result (FaultsCounted (K.faults output.old) (K.faults output.new)) }
+    ensures faults_monotone { K.faults output.old ≤ K.faults output.new }
+{
+    let mut line_digits = Buffer::new();
+    let line = line_digits.format(line).as_bytes();
+    write_line(b"illegal", &[line, audit_why_word(why)], output)
 }

@@ -11,6 +11,7 @@ use mig_ports::{Sink, WriteFault, write_all_of};
 pub(crate) fn write_text<K: Sink>(text: &[u8], output: &mut K) -> Result<(), WriteFault>
     ensures whole { OnOk result (Puts (K.held output.old) (K.held output.new) text.now) }
     ensures part { OnErr result (PutsFront (K.held output.old) (K.held output.new) text.now) }
+    ensures faults_unchanged { OnOk result (K.faults output.new ≡ K.faults output.old) }
     ensures faults_counted { OnErr result (FaultsCounted (K.faults output.old) (K.faults output.new)) }
     ensures faults_monotone { K.faults output.old ≤ K.faults output.new }
 {
@@ -25,6 +26,7 @@ pub(crate) fn write_line<K: Sink>(
 ) -> Result<(), WriteFault>
     ensures whole { OnOk result (Puts (K.held output.old) (K.held output.new) (line first.now (map (λ w. w.now) words.now))) }
     ensures part { OnErr result (PutsFront (K.held output.old) (K.held output.new) (line first.now (map (λ w. w.now) words.now))) }
+    ensures faults_unchanged { OnOk result (K.faults output.new ≡ K.faults output.old) }
     ensures faults_counted { OnErr result (FaultsCounted (K.faults output.old) (K.faults output.new)) }
     ensures faults_monotone { K.faults output.old ≤ K.faults output.new }
 {

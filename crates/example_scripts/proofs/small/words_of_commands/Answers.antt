@@ -1,5 +1,5 @@
 use Rattle.std.specs.Prelude.{refl}
-use Rattle.script_lang.specs.Texts.{name_of, number_in}
+use Rattle.script_lang.specs.Texts.{address_of, cut_at, host_of, name_of, number_in, part_of}
 use Rattle.law_program.specs.Commands.{command_of, placed_of}
 use Rattle.example_scripts.proofs.small.words_of_commands.Goals as goal
 
@@ -34,3 +34,19 @@ returns-clause-evacuate c = refl
 pub returns-clause-onto_itself : goal.returns-clause-onto_itself
 unfolding command_of placed_of number_in name_of
 returns-clause-onto_itself c = refl
+
+pub returns-clause-audit : goal.returns-clause-audit
+unfolding command_of placed_of number_in name_of address_of host_of part_of cut_at
+returns-clause-audit c = refl
+
+pub returns-clause-node : goal.returns-clause-node
+unfolding command_of placed_of number_in name_of address_of host_of part_of cut_at
+returns-clause-node c = refl
+
+pub returns-clause-no_device : goal.returns-clause-no_device
+unfolding command_of placed_of number_in name_of address_of host_of part_of cut_at
+returns-clause-no_device c = refl
+
+pub returns-clause-no_address : goal.returns-clause-no_address
+unfolding command_of placed_of number_in name_of address_of host_of part_of cut_at
+returns-clause-no_address c = refl
