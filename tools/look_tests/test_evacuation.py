@@ -72,20 +72,19 @@ class Evacuation(LookTest):
 
     @need("program")
     def test_a_target_that_refuses_is_passed_by(self):
-        """The husk of b stands on device 3: so b goes to device 1, and d and f to device 3."""
+        """The husk of b stands on device 3: so b goes to device 1. It came to device 2 last, and leaves it last."""
         script = SCRIPT.read_text() + "settle\nstop b\nrestore b 3\nsettle\nstop b\nrelease b 2\nrestore b 2\nsettle\n"
-        self.assertEqual(self.rows(script, 2, 3, 1)[1:5], [
-            ("stop d", "stopped"), ("restore d 3", "ok"), ("settle", "quiet 0"), ("stop f", "stopped")])
-        rows = self.rows(script, 2, 3, 1)
-        at = rows.index(("stop b", "stopped"))
-        self.assertEqual(rows[at:at + 4], [("stop b", "stopped"), ("restore b 3", "refused NumberTaken"), ("restore b 1", "ok"), ("settle", "quiet 0")])
+        moves = [[(f"stop {name}", "stopped"), (f"restore {name} 3", "ok"), ("settle", "quiet 0")] for name in "df"]
+        last = [("stop b", "stopped"), ("restore b 3", "refused NumberTaken"), ("restore b 1", "ok"), ("settle", "quiet 0")]
+        self.assertEqual(self.rows(script, 2, 3, 1)[1:], [*moves[0], *moves[1], *last])
 
     @need("program")
     def test_a_context_that_stays(self):
-        """A partner is carried: nothing more can be done. Its husk stands on the one target: it comes back where it was."""
+        """A partner is carried, and has a request left: nothing more can be done. Or its husk stands on the one target: then it
+        comes back to where it was."""
         script = SCRIPT.read_text()
         rows = self.rows(script + "stop c\n", 2, 3)
-        self.assertEqual(rows[-2:], [("settle", "quiet 0"), ("stop d", "refused PeerMoving")])
+        self.assertEqual(rows[-2:], [("settle", "quiet 1"), ("stop d", "refused PeerMoving")])
         away = "settle\nstop b\nrestore b 3\nsettle\nstop b\nrelease b 2\nrestore b 2\nsettle\n"
         rows = self.rows(script + away + "stop d\nrestore d 3\nsettle\nstop f\nrestore f 3\nsettle\n", 2, 3)
         self.assertEqual(rows[1:], [
