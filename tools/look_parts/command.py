@@ -5,7 +5,7 @@ import os
 import sys
 
 from .errors import LookError
-from .program import INSTALLED, VARIABLE, Program
+from .program import INSTALLED, VARIABLE, Program, TriedProgram
 
 SCRIPT_HELP = "the script's file, or - for standard input"
 UNFOLD_HELP = "put lines in the place of each settle first, as unfold does; lines are then those of that script"
@@ -39,6 +39,7 @@ DUMP = (
 def parser():
     top = argparse.ArgumentParser(prog="look", description="Looks at what a script of the program does.", epilog=PROGRAM)
     top.add_argument("--program", metavar="PATH", help="the program to run")
+    top.add_argument("--try", dest="tries", action="store_true", help="run the unproved program by `rt try`, which builds it anew for each run")
     top.add_argument(
         "-i", dest="prompt", nargs="?", const="", metavar="SCRIPT",
         help="a prompt that answers line by line, behind the lines of a script if one is named")
@@ -129,8 +130,9 @@ def main(words):
         return 2
     part, call = ("prompt", "prompt") if asked.kind is None else (asked.part, asked.kind)
     try:
+        program = TriedProgram() if asked.tries else Program(asked.program)
         # Only the part that is asked for is read.
-        return getattr(importlib.import_module(f".{part}", __package__), call)(Program(asked.program), asked)
+        return getattr(importlib.import_module(f".{part}", __package__), call)(program, asked)
     except LookError as fault:
         sys.stdout.flush()
         print(f"look: {fault}", file=sys.stderr)
