@@ -10,10 +10,12 @@ from pathlib import Path
 from .answers import pair
 from .captures import packets_of
 from .datagrams import Offence, read_datagram, shown_address
+from .dump_reader import Fault, read_dump
+from .dump_writer import to_json
 from .errors import LookError
 from .explain import refusal
 from .script import SHARED, lines_of, read_bytes
-from .world import Context, World
+from .world import PAGE, Context, World
 
 HERE = 0  # the one device of a node
 STATUSES = {"bad": 3, "link": 6, "depot": 7, "out": 8, "missing": 12}
@@ -114,12 +116,25 @@ def moves_of(answered):
     return moves
 
 
+def weighed(path):
+    """The bytes of a dump and the pages of its regions; None where there is no such file, or no dump in it."""
+    try:
+        data = path.read_bytes()
+    except OSError:
+        return None, None
+    try:
+        image, _ = read_dump(data)
+    except Fault:
+        return len(data), None
+    return len(data), sum(-(-region["length"] // PAGE) for region in to_json(image)["regions"])
+
+
 def move_row(move, depot):
-    path = depot and Path(depot) / move.file
+    size, pages = weighed(Path(depot) / move.file) if depot and move.restore is None else (None, None)
     return {
         "file": move.file, "context": move.context, "stop": move.stop, "restore": move.restore,
         "lines": move.restore - move.stop + 1 if move.stop and move.restore else None,
-        "dump bytes": path.stat().st_size if path and path.is_file() and move.restore is None else None,
+        "dump bytes": size, "pages of regions": pages,
     }
 
 
@@ -160,7 +175,7 @@ def cannot_tell(has_capture):
     told = ["The expiries and RNR timers of `serve`, and what the datagrams that it took did, are told by no answer."]
     if not has_capture:
         told.append("The kinds of datagrams are told by no answer; a capture of the link tells them (--capture).")
-    told.append("When the ends of a restored context run again, and the pages that it takes, are told by no answer of a node.")
+    told.append("When the ends of a restored context run again is told by no answer of a node, nor is what a dump held that lies in the depot no more.")
     return told
 
 

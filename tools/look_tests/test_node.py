@@ -5,6 +5,7 @@ import struct
 from look_parts.captures import packets_of
 
 from .running import LookTest
+from .test_dumps import BUSY, joined
 
 OPENING = """\
 context b
@@ -118,14 +119,16 @@ class Node(LookTest):
         self.assertEqual((told["lines"], told["ending"]), (15, "missing f"))
         self.assertEqual(list(told["counts"].values()), [1, 1, 1])
         self.assertEqual(told["refusals"], {"Stopped": 1, "NumberTaken": 1})
-        self.assertEqual(told["moves"], [{"file": "f", "context": "b", "stop": 8, "restore": 12, "lines": 5, "dump bytes": None}])
+        self.assertEqual(told["moves"], [{"file": "f", "context": "b", "stop": 8, "restore": 12, "lines": 5, "dump bytes": None, "pages of regions": None}])
 
     def test_a_dump_that_lies_in_the_depot(self):
-        """The log ends behind the stop, and the depot has a file of 19 bytes."""
+        """The log ends behind the stop. The depot has a dump with a region of 288 bytes; then 19 bytes that are none."""
         (self.folder / "depot").mkdir()
-        self.file("depot/f", bytes(19))
-        told = self.statistics(MOVING, "".join(MOVED.splitlines(True)[:8]), "--depot", self.folder / "depot")
-        self.assertEqual(told["moves"], [{"file": "f", "context": "b", "stop": 8, "restore": None, "lines": None, "dump bytes": 19}])
+        move = {"file": "f", "context": "b", "stop": 8, "restore": None, "lines": None}
+        for data, pages in ((joined(BUSY), 1), (bytes(19), None)):
+            self.file("depot/f", data)
+            told = self.statistics(MOVING, "".join(MOVED.splitlines(True)[:8]), "--depot", self.folder / "depot")
+            self.assertEqual(told["moves"], [{**move, "dump bytes": len(data), "pages of regions": pages}])
 
     def test_expiries_and_waits(self):
         told = self.statistics(WAITING, WAITED)
