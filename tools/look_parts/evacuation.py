@@ -11,7 +11,7 @@ from .errors import LookError
 from .script import lines_of, read_bytes
 from .world import World
 
-EMPTY, NOT_EMPTIED = 0, 14
+EMPTY, NO_COMMAND, NOT_EMPTIED = 0, 2, 14
 CAUSES = {"peermoving": "refused PeerMoving", "toomany": "refused TooMany"}
 
 
@@ -26,6 +26,8 @@ def evacuate_text(program, script, numbers):
     """The lines that `evacuate` writes behind the answers, or None where the script is not played to its end."""
     words = [str(number) for number in numbers]
     status, written = program.run(["evacuate", *words], script)
+    if status == NO_COMMAND:
+        raise LookError(f"evacuate {' '.join(words)}: ids are 1 to 255, there are 1 to 15 targets, and all ids differ")
     played, answers = program.play(script)
     if played:
         return None

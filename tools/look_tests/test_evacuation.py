@@ -99,4 +99,4 @@ class Evacuation(LookTest):
     @need("program")
     def test_words(self):
         self.assertIn("wants the device to be emptied, and one target or more", self.one_line("side", SCRIPT, "--evacuate", 2))
-        self.assertEqual(self.one_line("side", SCRIPT, "--evacuate", 2, 2), "evacuate 2 2 ended with status 2")
+        self.assertEqual(self.one_line("side", SCRIPT, "--evacuate", 2, 2), "evacuate 2 2: ids are 1 to 255, there are 1 to 15 targets, and all ids differ")
