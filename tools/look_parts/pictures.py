@@ -78,7 +78,7 @@ def check_documents(program, names, write):
 def ladder(program, asked):
     """The subcommand."""
     if asked.check or asked.refresh:
-        if asked.script or asked.svg:
+        if asked.script or asked.svg or asked.evacuate:
             raise LookError("--check and --refresh take documents alone")
         return check_documents(program, asked.check or asked.refresh, bool(asked.refresh))
     if asked.script is None:

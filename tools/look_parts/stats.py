@@ -197,6 +197,8 @@ def stats(program, asked):
         return node_stats(asked)
     if asked.depot or asked.capture:
         raise LookError("--depot and --capture go with --node")
+    if asked.bulk and asked.evacuate:
+        raise LookError("--evacuate goes with a script, and not with --bulk")
     summary = None
     if asked.bulk:
         script, summary = bulk_script(program, asked.bulk)

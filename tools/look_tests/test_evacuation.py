@@ -98,5 +98,6 @@ class Evacuation(LookTest):
 
     @need("program")
     def test_words(self):
+        self.assertEqual(self.one_line("stats", "--bulk", 1, 1, 1, 0, "--evacuate", 2, 3), "--evacuate goes with a script, and not with --bulk")
         self.assertIn("wants the device to be emptied, and one target or more", self.one_line("side", SCRIPT, "--evacuate", 2))
         self.assertEqual(self.one_line("side", SCRIPT, "--evacuate", 2, 2), "evacuate 2 2: ids are 1 to 255, there are 1 to 15 targets, and all ids differ")
