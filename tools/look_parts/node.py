@@ -20,6 +20,11 @@ from .world import PAGE, Context, World
 HERE = 0  # the one device of a node
 STATUSES = {"bad": 3, "link": 6, "depot": 7, "out": 8, "missing": 12}
 
+# What to look at where a line is refused: lines that a node alone has, and what is said otherwise of lines that `play` has too.
+OF_A_NODE = {
+    "BadState": "`{0}` is not linked; a `link` line comes first.",
+    "NoPage": "The device has 8,192 pages of 4,096 bytes, and too few are free: drop regions, or let posted messages finish.",
+}
 SENTENCES = {
     ("link", "BadState"): "`{0}` is linked already.",
     ("link", "NoSuch"): "There is no queue pair `{0}` here.",
@@ -67,12 +72,15 @@ class NodeWorld(World):
     def refusal(self, answered):
         """What to look at where a line was refused; this is the world before the line."""
         verb, rest, cause = answered.line.verb, answered.line.rest, answered.words[1]
-        if verb in SHARED and cause != "Stopped" and self.context(rest[0]):
-            return refusal(self, answered)
-        if cause == "Stopped" and (context := self.context(rest[0])):
+        context = self.context(rest[0])
+        if cause == "Stopped" and context:
             return f"Line {context.stopped} stopped context `{context.name}`; restore its dump first."
-        sentence = SENTENCES.get((verb, cause))
-        return sentence.format(rest[0]) if sentence else f"docs/answers.md says when a line is refused with {cause}."
+        sentence = SENTENCES.get((verb, cause)) or (OF_A_NODE.get(cause) if verb in SHARED else None)
+        if sentence:
+            return sentence.format(rest[0])
+        if verb in SHARED and context:
+            return refusal(self, answered)
+        return f"docs/answers.md says when a line is refused with {cause}."
 
 
 def read_log(script_name, log_name):
@@ -173,7 +181,9 @@ def captured(name):
 
 def cannot_tell(has_capture):
     told = ["The expiries and RNR timers of `serve`, and what the datagrams that it took did, are told by no answer."]
-    if not has_capture:
+    if has_capture:
+        told.append("Which datagrams were lost is told by no capture of one side: one with the same bytes as an earlier one was sent again, or came twice.")
+    else:
         told.append("The kinds of datagrams are told by no answer; a capture of the link tells them (--capture).")
     told.append("When the ends of a restored context run again is told by no answer of a node, nor is what a dump held that lies in the depot no more.")
     return told

@@ -89,6 +89,22 @@ class Node(LookTest):
             10: "The context of the dump `f`, its husk, or a number or key of it is here: `release` its name first."})
         self.assertEqual((told["ending"]["line"], told["ending"]["text"]), (16, "missing f"))
 
+    def test_refusals_of_a_node(self):
+        opening, answers = OPENING.splitlines(True)[:5], OPENED.splitlines(True)[:5]
+        for line, cause, note in [
+            ("go b.q", "BadState", "`b.q` is not linked; a `link` line comes first."),
+            ("go b.z", "NoSuch", "Context `b` has no queue pair `b.z`; it has: b.q."),
+            ("load b.n 8192 5", "BadKey", "Region `b.n` holds 8192 to 8195, and the line names 8192 to 8196."),
+            ("region b.k b.p 0 16777216 -", "NoPage",
+             "The device has 8,192 pages of 4,096 bytes, and too few are free: drop regions, or let posted messages finish."),
+            ("link b.z 010001 10.0.0.1 mtu 256 psn 1 2 retry 7 rnr 7 reads 4", "NoSuch", "There is no queue pair `b.z` here."),
+            ("release b", "NoSuch", "No husk of `b` is here."),
+            ("context b", "NumberTaken", "A context or a husk has the name `b` already."),
+        ]:
+            with self.subTest(line):
+                log = self.log("".join([*opening, line, "\n"]), "".join([*answers, f"refused {cause}\n"]))
+                self.assertEqual(json.loads(self.look("side", *log, "--json"))["lines"][-1]["note"], note)
+
     def test_a_bad_line_of_a_node(self):
         for line, column, why, part in [
             ("fly", 1, "word", "No line begins with `fly`"),
