@@ -46,7 +46,7 @@ def read_by_tshark(path):
     return [dict(zip(names, line.split("\t"))) for line in ended.stdout.splitlines()]
 
 
-MOST = 999  # datagrams of a worked script, at most
+MOST = 2000  # datagrams of a worked script, at most
 
 
 def wires(path):
@@ -108,6 +108,18 @@ class Captures(LookTest):
         extension += row["infiniband.immdt"].replace(":", "") + row["data.data"].replace(":", "")
         # The payload that tshark shows has its padding with it.
         self.assertEqual((f"{begin}{extension}00000000", crc), (digits, 0))
+
+    @need("program")
+    @need("tshark")
+    def test_an_evacuation_is_read(self):
+        """Three writes, of which two arrive and are acknowledged; the lost one again; then each of three contexts resumes."""
+        path = self.folder / "evacuation.pcap"
+        self.look("pcap", EXAMPLES / "evacuate.script", path, "--evacuate", 2, 3)
+        rows = read_by_tshark(path)
+        kinds = [0x0A, 0x0A, 0x0A, 0x11, 0x11, 0x0A, 0x11] + 3 * [0x1E, 0x1F]
+        self.assertEqual([number(row["infiniband.bth.opcode"]) for row in rows], kinds)
+        self.assertEqual([row["jichurpa.message"] for row in rows[7:]], 3 * ["RESUME", "RESUME_ACK"])
+        self.assertEqual({(row["jichurpa.address"], row["jichurpa.moves"]) for row in rows[7:]}, {("10.0.0.3", "1")})
 
     @need("program")
     @need("tshark")
