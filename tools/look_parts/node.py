@@ -87,9 +87,8 @@ def read_log(script_name, log_name):
     """The lines of a node's script with the answers of its log."""
     lines = lines_of(read_bytes(script_name))
     answers = read_bytes(log_name).decode("ascii", "replace").splitlines()
-    for line in lines[:1]:
-        if line.verb == "device":
-            raise LookError(f"{script_name} is a script of `play`: a node has no line `device`")
+    if next((line.verb for line in lines if not line.is_blank), None) == "device":
+        raise LookError(f"{script_name} is a script of `play`: a node has no line `device`")
     played = pair(lines, 0, answers, is_log=True)
     if played.ending:
         played.status = STATUSES.get(played.ending.text.split()[0], 0)

@@ -181,4 +181,4 @@ class Node(LookTest):
     def test_words_that_do_not_go_together(self):
         self.assertEqual(self.one_line("stats", *self.log(MOVING, MOVED), "--unfold"), "--bulk, --unfold and --evacuate do not go with --node")
         self.assertEqual(self.one_line("stats", "x", "--depot", "y"), "--depot and --capture go with --node")
-        self.assertIn("is a script of `play`", self.one_line("side", *self.log("device 1 10.0.0.1\n", "ok\n")))
+        self.assertIn("is a script of `play`", self.one_line("side", *self.log("# One.\ndevice 1 10.0.0.1\n", "ok\n")))
