@@ -1,0 +1,21 @@
+//! Fair orders of the steps of devices are legal for the packetless machine.
+//!
+//! The functions do nothing. Each promises the law that it names.
+#![tactic(auto)]
+
+ghost use Rattle.law_world_orders.specs.Bridge.{FairOrdersAreLegal};
+
+use law_simulation::runs::{events_follow, law_holds, runs_follow};
+use law_world_orders::{copies_stand, devices_open_apart};
+
+/// Each fair order is legal, however long it is: what applications make and hear in it, the packetless machine may make and
+/// answer.
+pub fn fair_orders_are_legal()
+    ensures { FairOrdersAreLegal }
+{
+    law_holds();
+    events_follow();
+    runs_follow();
+    copies_stand();
+    devices_open_apart();
+}
