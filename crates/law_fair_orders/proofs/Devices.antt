@@ -1,5 +1,5 @@
 -- What stays of a device over a step, and what a step where the context is not there answers.
-use Rattle.std.proofs.Common.{◌≡◌, ℕ, List, [], ◌∷◌, ◌++◌, length, Bool, true, false, Option, Some, None, refl, sym, ap, ◌∙◌, if◌then◌else◌}
+use Rattle.std.proofs.Common.{arith, ◌≡◌, ℕ, List, [], ◌∷◌, ◌++◌, length, Bool, true, false, Option, Some, None, refl, sym, ap, ◌∙◌, if◌then◌else◌}
 use Rattle.std.specs.Prelude.{not, ◌&&◌, ◌||◌, ◌==◌, bytes_eq}
 use Rattle.rdma_types.specs.declared.answers.Answer.{Answer}
 use Rattle.rdma_types.specs.declared.answers.Answer.TheVariants as answer
@@ -25,6 +25,7 @@ use Rattle.protocol.specs.State.{Context, Device, End, HuskEntry, Link, context_
 use Rattle.protocol.specs.Wire.{Packet, is_control, packet_of}
 use Rattle.protocol.specs.WorldStep.{context_of_event, numbered}
 use Rattle.law_simulation.specs.Kept.{verb_in, kept_verb, is_unmade, is_unmade_by}
+use Rattle.law_simulation.proofs.relation.Tables.{has_name-push, name_tells}
 
 -- ---- id, address and what is handed out
 
@@ -33,13 +34,23 @@ pub record IsPlain (d : Device) (s : device.Step) : Type 0 where
   pub id : s.device.id ≡ d.id
   pub address : s.device.address ≡ d.address
   pub image : s.outcome.image ≡ None
+  -- each context that is there stays there
+  pub stays : (n : Name) → has_context d n ≡ true → has_context s.device n ≡ true
+
+has_stored : (n : Name) (c : Context) (cs : List Context) → has_name (λ x. x.name) n cs ≡ true → has_name (λ x. x.name) n (store_named (λ x. x.name) c.name c cs) ≡ true
+unfolding has_name store_named
+has_stored n c [] there = absurd (cc)
+has_stored n c (x ∷ cs) there = grind (arith, name_tells x.name c.name, name_tells x.name n, name_tells c.name n, has_stored n c cs)
+
+has_pushed : (n : Name) (c : Context) (cs : List Context) → has_name (λ x. x.name) n cs ≡ true → has_name (λ x. x.name) n (cs ++ c ∷ []) ≡ true
+has_pushed n c cs there = has_name-push (λ x. x.name) n cs c ∙ ap (λ b. b || bytes_eq c.name n) there
 
 same : (d : Device) (a : Answer) (sent : List Sent) → IsPlain d (device.gives d a sent)
-same d a sent = record { id = refl; address = refl; image = refl }
+same d a sent = record { id = refl; address = refl; image = refl; stays = λ n there. there }
 
 changed : (d : Device) (c : Context) (a : Answer) (sent : List Sent) → IsPlain d (device.gives (device.with_context d c) a sent)
 unfolding device.with_context
-changed d c a sent = record { id = refl; address = refl; image = refl }
+changed d c a sent = record { id = refl; address = refl; image = refl; stays = λ n there. has_stored n c d.contexts there }
 
 plain_if : (d : Device) (b : Bool) (s t : device.Step) → IsPlain d s → IsPlain d t → IsPlain d (if b then s else t)
 plain_if d true s t h k = h
@@ -90,25 +101,25 @@ IsNoStop other = Unit {0}
 
 done_plain : (d : Device) (e : Event) → IsNoStop e → IsPlain d (done_by d e)
 unfolding device.makes_context device.makes_domain device.makes_region device.makes_queue device.makes_end device.connects device.drops device.stores device.loads device.posts device.receives device.polls device.transmits device.expires device.rnr_over device.arrives device.restores device.releases device.with_context
-done_plain d (event.MakeContext name) plain = record { id = refl; address = refl; image = refl }
-done_plain d (event.MakeDomain o) plain = record { id = refl; address = refl; image = refl }
-done_plain d (event.MakeRegion o domain base count rights) plain = record { id = refl; address = refl; image = refl }
-done_plain d (event.MakeCq o capacity) plain = record { id = refl; address = refl; image = refl }
-done_plain d (event.MakeQp o domain send_cq recv_cq send_depth recv_depth) plain = record { id = refl; address = refl; image = refl }
-done_plain d (event.Connect o peer partner terms) plain = record { id = refl; address = refl; image = refl }
-done_plain d (event.DropRegion o) plain = record { id = refl; address = refl; image = refl }
-done_plain d (event.Store o at bytes) plain = record { id = refl; address = refl; image = refl }
-done_plain d (event.Load o at count) plain = record { id = refl; address = refl; image = refl }
+done_plain d (event.MakeContext name) plain = record { id = refl; address = refl; image = refl; stays = λ n there. has_pushed n _ d.contexts there }
+done_plain d (event.MakeDomain o) plain = record { id = refl; address = refl; image = refl; stays = λ n there. has_stored n _ d.contexts there }
+done_plain d (event.MakeRegion o domain base count rights) plain = record { id = refl; address = refl; image = refl; stays = λ n there. has_stored n _ d.contexts there }
+done_plain d (event.MakeCq o capacity) plain = record { id = refl; address = refl; image = refl; stays = λ n there. has_stored n _ d.contexts there }
+done_plain d (event.MakeQp o domain send_cq recv_cq send_depth recv_depth) plain = record { id = refl; address = refl; image = refl; stays = λ n there. has_stored n _ d.contexts there }
+done_plain d (event.Connect o peer partner terms) plain = record { id = refl; address = refl; image = refl; stays = λ n there. has_stored n _ d.contexts there }
+done_plain d (event.DropRegion o) plain = record { id = refl; address = refl; image = refl; stays = λ n there. has_stored n _ d.contexts there }
+done_plain d (event.Store o at bytes) plain = record { id = refl; address = refl; image = refl; stays = λ n there. has_stored n _ d.contexts there }
+done_plain d (event.Load o at count) plain = record { id = refl; address = refl; image = refl; stays = λ n there. there }
 done_plain d (event.PostSend o r) plain = posts_at d _ _ _ r
-done_plain d (event.PostRecv o r) plain = record { id = refl; address = refl; image = refl }
-done_plain d (event.Poll o most) plain = record { id = refl; address = refl; image = refl }
+done_plain d (event.PostRecv o r) plain = record { id = refl; address = refl; image = refl; stays = λ n there. has_stored n _ d.contexts there }
+done_plain d (event.Poll o most) plain = record { id = refl; address = refl; image = refl; stays = λ n there. has_stored n _ d.contexts there }
 done_plain d (event.Transmit o) plain = at_link d _ _ (λ l. sends_by d _ _ l (transmission l))
 done_plain d (event.Arrive from bytes) plain = arrives_packet d from (packet_of bytes)
 done_plain d (event.Expire o) plain = at_link d _ _ (λ l. expires_by d _ _ l (not_counted l))
 done_plain d (event.RnrOver o) plain = at_link d _ _ (λ l. waits_out d _ _ l)
 done_plain d (event.Stop name alone) plain = absurd plain
-done_plain d (event.Restore image) plain = record { id = refl; address = refl; image = refl }
-done_plain d (event.Release name) plain = record { id = refl; address = refl; image = refl }
+done_plain d (event.Restore image) plain = record { id = refl; address = refl; image = refl; stays = λ n there. has_pushed n _ d.contexts there }
+done_plain d (event.Release name) plain = record { id = refl; address = refl; image = refl; stays = λ n there. there }
 
 refused_plain : (d : Device) (e : Event) (r : Option Refusal) → IsNoStop e → IsPlain d (device.by_refusal d e r)
 refused_plain d e (Some r) plain = same d _ _

@@ -22,6 +22,10 @@ unfolding first_that has at
 found_at number none k [] h = absurd (cc)
 found_at number none k (x ∷ xs) h = grind (arith, found_at number none k xs)
 
+-- the device with an id is the first with it
+pub found_at_id : (w : World) (k : ℕ) → has_device w k ≡ true → first_that (λ (d : Device). d.id == k) w.devices ≡ Some (device_at w k)
+found_at_id w k made = found_at (λ d. d.id) no_device k w.devices made
+
 -- the contexts of a device have their names once
 names_once : (w : World) (m : Machine) (n : Name) → IsPlaced w m → count_by (λ (c : Context). bytes_eq c.name n) (flat_map (λ d. d.contexts) w.devices) ≤ 1
 unfolding contexts_of
@@ -43,7 +47,7 @@ pub home_is : (w : World) (m : Machine) (k : ℕ) (n : Name) → IsPlaced w m �
 unfolding home
 home_is w m k n placed made there =
     let found : first_that (holds_it n) w.devices ≡ Some (device_at w k) =
-    first_other (λ (d : Device). d.id == k) (holds_it n) (device_at w k) w.devices (found_at (λ d. d.id) no_device k w.devices made) there
+    first_other (λ (d : Device). d.id == k) (holds_it n) (device_at w k) w.devices (found_at_id w k made) there
     (omega (arith, holders_counted (λ (d : Device). d.contexts) (λ c. c.name) n w.devices, names_once w m n placed)) in
     let live : is_live w n ≡ true = first_some (holds_it n) (device_at w k) w.devices found in
     record { home = ap or_none found; live = live; uncarried = live_not_carried w m n placed live }
@@ -54,5 +58,5 @@ same_self a = grind (arith, nat_tests, eqb_tells a.ip a.ip, eqb_tells a.port a.p
 -- the device is the one with its address
 pub device_found : (w : World) (m : Machine) (k : ℕ) → IsPlaced w m → has_device w k ≡ true → device_with w (device_at w k).address ≡ Some (device_at w k)
 device_found w m k placed made =
-    first_other (λ (d : Device). d.id == k) (λ (d : Device). same_address d.address (device_at w k).address) (device_at w k) w.devices (found_at (λ d. d.id) no_device k w.devices made) (same_self (device_at w k).address)
+    first_other (λ (d : Device). d.id == k) (λ (d : Device). same_address d.address (device_at w k).address) (device_at w k) w.devices (found_at_id w k made) (same_self (device_at w k).address)
     (omega (arith, placed.addresses_once (device_at w k).address, count_map (λ (d : Device). d.address) (λ a. same_address a (device_at w k).address) (λ (d : Device). same_address d.address (device_at w k).address) w.devices (λ d. refl)))

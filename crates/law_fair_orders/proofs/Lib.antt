@@ -6,3 +6,10 @@ pub mod Playing
 pub mod Orders
 pub mod Walk
 pub mod Opening
+pub mod Tame
+pub mod TameSteps
+pub mod Posted
+pub mod Bounds
+pub mod Works
+pub mod OpeningWork
+pub mod Working

@@ -34,7 +34,7 @@ use Rattle.law_fair_orders.proofs.Walk.{Reached}
 
 -- ---- ids
 
-apart_id : (id : ℕ) (context region : List ℕ) (base other : ℕ) (terms : Terms) (workers : ℕ) → (device_apart id context region base other terms workers).id ≡ id
+pub apart_id : (id : ℕ) (context region : List ℕ) (base other : ℕ) (terms : Terms) (workers : ℕ) → (device_apart id context region base other terms workers).id ≡ id
 unfolding device_apart
 apart_id id context region base other terms workers = (replay_itself (replay (bare_device id) (base_events context region base)) (ends_of context other terms 1 workers)).0 ∙ (replay_itself (bare_device id) (base_events context region base)).0
 

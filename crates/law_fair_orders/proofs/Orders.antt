@@ -110,11 +110,11 @@ has_after os ls k begun there = has_of (λ j. device_after os ls j) k os (of_ids
 pub at_after : (os : List Device) (ls : List Line) (k : ℕ) → AreBegun os → has (λ x. x.id) k os ≡ true → at (λ x. x.id) no_device k (after_all os ls) ≡ device_after os ls k
 at_after os ls k begun there = at_of (λ j. device_after os ls j) k os (of_ids os ls os begun.own) there
 
-after_here : (os : List Device) (ls : List Line) (l : Line) → device_after os (ls ++ l ∷ []) l.receipt.device ≡ (device_step (device_after os ls l.receipt.device) l.receipt.event).device
+pub after_here : (os : List Device) (ls : List Line) (l : Line) → device_after os (ls ++ l ∷ []) l.receipt.device ≡ (device_step (device_after os ls l.receipt.device) l.receipt.event).device
 unfolding device_after
 after_here os ls l = ap (replay (opening_of os l.receipt.device)) (events_on-here l.receipt.device ls l refl) ∙ replay-push (opening_of os l.receipt.device) (events_on l.receipt.device ls) l.receipt.event
 
-after_other : (os : List Device) (ls : List Line) (l : Line) (k : ℕ) → (k == l.receipt.device) ≡ false → device_after os (ls ++ l ∷ []) k ≡ device_after os ls k
+pub after_other : (os : List Device) (ls : List Line) (l : Line) (k : ℕ) → (k == l.receipt.device) ≡ false → device_after os (ls ++ l ∷ []) k ≡ device_after os ls k
 unfolding device_after
 after_other os ls l k other = ap (replay (opening_of os k)) (events_on-other k ls l (λ e. number_not k l.receipt.device other (sym e)))
 
