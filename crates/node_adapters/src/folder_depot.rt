@@ -188,14 +188,14 @@ mod tests {
     const HERE: &str = "/tmp/jichurpa_depot";
 
     /// A name.
-    fn named(text: &[u8]) -> Name {
-        Name::read(text).unwrap()
+    fn named(text: &[u8]) -> Result<Name, DepotFault> {
+        Name::read(text).ok_or(DepotFault::Missing)
     }
 
     #[test]
     fn a_name_has_the_bytes_that_were_put_last(rt: HostRuntime) -> Result<(), Fail> {
         let mut depot = FolderDepot::at(&rt, HERE);
-        let name = named(b"last");
+        let name = named(b"last")?;
         depot.put(rt.alloc(), name, b"first")?;
         depot.put(rt.alloc(), name, b"second")?;
         assert_eq!(rt;
@@ -219,14 +219,13 @@ mod tests {
         let _ = fs::remove_file(&rt, "/tmp/jichurpa_depot/endless");
         symlink(&rt, "/dev/zero", "/tmp/jichurpa_depot/endless")?;
         let mut depot = FolderDepot::at(&rt, HERE);
-        let mut count = 0;
         for text in [b"folder".as_slice(), b"long", b"endless"] {
-            for _ in 0..2 {
-                assert!(rt; matches!(depot.look(rt.alloc(), named(text)), Err(DepotFault::Failed)));
-                assert!(rt; matches!(depot.take(rt.alloc(), named(text)), Err(DepotFault::Failed)));
-                count += 2;
-                assert_eq!(rt; depot.fault_count, count);
-            }
+            let name = named(text)?;
+            let before = depot.fault_count;
+            assert!(rt; matches!(depot.look(rt.alloc(), name), Err(DepotFault::Failed)));
+            assert!(rt; matches!(depot.take(rt.alloc(), name), Err(DepotFault::Failed)));
+            assert!(rt; matches!(depot.look(rt.alloc(), name), Err(DepotFault::Failed)));
+            assert_eq!(rt; depot.fault_count, before.saturating_add(3));
         }
         Ok(())
     }
@@ -236,15 +235,15 @@ mod tests {
         fs::create_dir_all(&rt, HERE)?;
         fs::create(&rt, "/tmp/jichurpa_depot/longest")?.set_len(LONGEST_DUMP)?;
         let mut depot = FolderDepot::at(&rt, HERE);
-        let bytes = depot.take(rt.alloc(), named(b"longest"))?;
+        let bytes = depot.take(rt.alloc(), named(b"longest")?)?;
         assert_eq!(rt; bytes.len() as u64, LONGEST_DUMP);
         Ok(())
     }
 
     #[test]
-    fn a_folder_that_cannot_be_made_is_a_fault(rt: HostRuntime) {
+    fn a_folder_that_cannot_be_made_is_a_fault(rt: HostRuntime) -> Result<(), Fail> {
         let mut depot = FolderDepot::at(&rt, "/dev/null/depot");
-        let name = named(b"a");
+        let name = named(b"a")?;
         assert!(rt;
             matches!(
                 depot.put(rt.alloc(), name, b"bytes"),
@@ -253,5 +252,6 @@ mod tests {
         );
         assert!(rt; matches!(depot.look(rt.alloc(), name), Err(DepotFault::Failed)));
         assert_eq!(rt; depot.fault_count, 2);
+        Ok(())
     }
 }
