@@ -7,6 +7,10 @@ _jichurpa_words() {
         printf '%s\n' play bulk show-dump evacuate audit node --help -h --version
         return
     fi
+    if [ "$COMP_CWORD" = 2 ] && [[ ${COMP_WORDS[2]} = -* ]]; then
+        printf '%s\n' --help -h
+        return
+    fi
     if [ "${COMP_WORDS[1]}" = evacuate ] && [ "$COMP_CWORD" -le 17 ]; then
         seq 1 255
         return

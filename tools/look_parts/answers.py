@@ -1,9 +1,10 @@
-"""Which answers belong to which line.
+"""Which answers belong to which line, of a script that is played or of one that a node answered.
 
 Each line that is not blank has one answer of one line, with two exceptions. `settle` answers `quiet n` and n lines `left`.
 `poll` answers `none`, or a line `wc` for each completion. Where polls follow each other, the lines `wc` are cut by what
 they say: a poll hands out entries of its own completion queue alone, at most as many as it asks for. The queue is that of
 the queue pair which the line names, for receives or for requests by its kind. So the cut is exact, and takes one pass.
+Only a node has queue pairs that no line made: those of a dump that came from elsewhere. Their entries go to the first poll.
 """
 from dataclasses import dataclass, field
 
@@ -11,6 +12,9 @@ from .errors import LookError
 from .script import Line
 
 RECEIVE_KINDS = ("recv", "recvimm")
+# Last lines that name no line; those behind the first are a node's, as are `missing NAME` and `bad dump P why`.
+LAST_LINES = ("out of memory", "depot fault", "link fault")
+LOG_ENDS = "the log ends here"
 
 
 @dataclass
@@ -55,7 +59,7 @@ def ending_of(text, line):
     words = text.split()
     if words[:2] == ["bad", "line"] and len(words) == 6:
         return Ending(line, text, int(words[4]), words[5])
-    if text == "out of memory":
+    if text in LAST_LINES or words[:1] == ["missing"] or words[:2] == ["bad", "dump"]:
         return Ending(line, text)
     return None
 
@@ -75,16 +79,18 @@ class Pairing:
         self.at += 1
         return self.answers[self.at - 1]
 
-    def queue_of(self, entry):
-        """The completion queue of a line `wc`."""
-        words = entry.split()
+    def may_be_of(self, queue, text):
+        """Whether a line of answers may be an entry of the completion queue."""
+        if not (text or "").startswith("wc "):
+            return False
+        words = text.split()
         queues = self.queues.get(words[1])
-        return queues and queues[words[3] in RECEIVE_KINDS]
+        return queues is None or queues[words[3] in RECEIVE_KINDS] == queue
 
     def polled(self, queue, most):
         found = [self.take()]
         if found[0].startswith("wc "):
-            while len(found) < most and (self.next() or "").startswith("wc ") and self.queue_of(self.next()) == queue:
+            while len(found) < most and self.may_be_of(queue, self.next()):
                 found.append(self.take())
         return found
 
@@ -107,8 +113,8 @@ class Pairing:
         return [answer]
 
 
-def pair(lines, status, answers):
-    """The lines of a script with their answers."""
+def pair(lines, status, answers, is_log=False):
+    """The lines of a script with their answers. Those of a log may end early."""
     pairing, answered = Pairing(answers), []
     for at, line in enumerate(lines):
         text = pairing.next()
@@ -120,12 +126,16 @@ def pair(lines, status, answers):
         if line.is_blank:
             answered.append(Answered(line))
             continue
+        if text is None and is_log:
+            return Played(answered, Ending(line, LOG_ENDS), lines[at:], status)
         if text is None:
             raise LookError(f"line {line.number} has no answer: the program wrote {len(answers)} lines and then ended with status {status}")
         try:
             answered.append(Answered(line, pairing.answers_to(line)))
         except (IndexError, ValueError):
             raise LookError(f"line {line.number}: {text!r} is no answer to {line.text!r}") from None
+    if is_log and pairing.at == len(answers) - 1 and ending_of(answers[-1], None):
+        return Played(answered, ending_of(answers[-1], None), [], status)
     if pairing.at != len(answers):
         raise LookError(f"the program wrote {len(answers)} lines, and {pairing.at} belong to the lines of the script")
     return Played(answered, None, [], status)

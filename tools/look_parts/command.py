@@ -5,10 +5,12 @@ import os
 import sys
 
 from .errors import LookError
-from .program import INSTALLED, VARIABLE, Program
+from .program import INSTALLED, VARIABLE, Program, TriedProgram
 
 SCRIPT_HELP = "the script's file, or - for standard input"
 UNFOLD_HELP = "put lines in the place of each settle first, as unfold does; lines are then those of that script"
+EVACUATE_HELP = "put lines behind the script that do what evacuate FROM TARGET.. does, and show them too; it stands last"
+NODE_HELP = "the script is one of a node, and its answers are in this file; no program is run"
 
 PROGRAM = (
     f"The program is the one of --program, else of the variable {VARIABLE}, else the one built in this repository, "
@@ -24,7 +26,8 @@ PCAP = (
     "sends at second 17. tools/jichurpa.lua lets Wireshark read the messages of moving.")
 STATS = (
     "Counts the datagrams of a script by kind, what they did, expiries and waits, completions and refusals, and tells of "
-    "each move its pages, its dump's bytes, and the datagrams and lines until the ends run again.")
+    "each move its pages, its dump's bytes, and the datagrams and lines until the ends run again. With --node: what the log "
+    "of a node tells of this.")
 UNFOLD = (
     "Writes the script with lines `go`, `deliver`, `rnr` and `expire` in the place of each `settle`, as far as the program "
     "confirms them: the same answers, and the same datagrams byte for byte.")
@@ -36,6 +39,7 @@ DUMP = (
 def parser():
     top = argparse.ArgumentParser(prog="look", description="Looks at what a script of the program does.", epilog=PROGRAM)
     top.add_argument("--program", metavar="PATH", help="the program to run")
+    top.add_argument("--try", dest="tries", action="store_true", help="run the unproved program by `rt try`, which builds it anew for each run")
     top.add_argument(
         "-i", dest="prompt", nargs="?", const="", metavar="SCRIPT",
         help="a prompt that answers line by line, behind the lines of a script if one is named")
@@ -57,6 +61,12 @@ def add_side(kinds):
     words.add_argument("script", help=SCRIPT_HELP)
     words.add_argument("--json", action="store_true", help="the same as JSON")
     words.add_argument("--wide", action="store_true", help="cut no long line and no long answer")
+    words.add_argument("--node", metavar="LOG", help=NODE_HELP)
+    add_evacuate(words)
+
+
+def add_evacuate(words):
+    words.add_argument("--evacuate", nargs="+", type=int, metavar=("FROM", "TARGET"), help=EVACUATE_HELP)
 
 
 def add_ladder(kinds):
@@ -68,12 +78,14 @@ def add_ladder(kinds):
     words.add_argument("--last", metavar="LINE", type=int, help="draw what this line and earlier ones did")
     words.add_argument("--check", metavar="FILE", nargs="+", help="see that the ladders in documents are current")
     words.add_argument("--refresh", metavar="FILE", nargs="+", help="write the ladders in documents anew")
+    add_evacuate(words)
 
 
 def add_pcap(kinds):
     words = subcommand(kinds, "pcap", "pcap", "a capture for Wireshark", PCAP)
     words.add_argument("script", help=SCRIPT_HELP)
     words.add_argument("file", help="the capture's file, or - for standard output")
+    add_evacuate(words)
 
 
 def add_stats(kinds):
@@ -82,14 +94,19 @@ def add_stats(kinds):
     words.add_argument(
         "--bulk", nargs=4, type=int, metavar=("SEED", "CONNECTIONS", "MESSAGES", "MOVES"),
         help="the generated script of docs/generated.md")
+    words.add_argument("--node", metavar="LOG", help=NODE_HELP)
+    words.add_argument("--depot", metavar="FOLDER", help="with --node: the node's depot, for the bytes of dumps that still lie there")
+    words.add_argument("--capture", metavar="FILE", help="with --node: a capture of the node's link in pcap form, for its datagrams by kind")
     words.add_argument("--unfold", action="store_true", help=UNFOLD_HELP)
     words.add_argument("--json", action="store_true", help="the same as JSON")
+    add_evacuate(words)
 
 
 def add_unfold(kinds):
     words = subcommand(kinds, "unfold", "unfold", "lines in the place of each settle", UNFOLD)
     words.add_argument("script", help=SCRIPT_HELP)
     words.add_argument("file", nargs="?", default="-", help="the file to write (else standard output)")
+    add_evacuate(words)
 
 
 def add_dump(kinds):
@@ -113,8 +130,9 @@ def main(words):
         return 2
     part, call = ("prompt", "prompt") if asked.kind is None else (asked.part, asked.kind)
     try:
+        program = TriedProgram() if asked.tries else Program(asked.program)
         # Only the part that is asked for is read.
-        return getattr(importlib.import_module(f".{part}", __package__), call)(Program(asked.program), asked)
+        return getattr(importlib.import_module(f".{part}", __package__), call)(program, asked)
     except LookError as fault:
         sys.stdout.flush()
         print(f"look: {fault}", file=sys.stderr)

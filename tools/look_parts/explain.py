@@ -1,6 +1,7 @@
 """One sentence for a refusal or a bad line, which says what to look at."""
 import difflib
 
+from .answers import LOG_ENDS
 from .script import FORMS, MOST_LINE, OPTIONS, REQUESTS, form_of
 
 LIMITS = {
@@ -229,12 +230,13 @@ KIND_WORDS = {
     "rights": "`-`, or some of the letters `l`, `w`, `r`, `a` in this order",
     "address": "an IPv4 address, with or without a colon and a port from 1 to 65535",
     "mtu": "one of 256, 512, 1024, 2048 and 4096",
+    "number": "a queue pair number of six hexadecimal digits",
 }
 
 
-def place_words(verb, at):
+def place_words(forms, verb, at):
     """What must stand as the n-th word behind the verb: the place's name and what it takes, or None."""
-    form = FORMS.get(verb, [])
+    form = forms.get(verb, [])
     if at >= len(form):
         return None
     name, kind = form[at]
@@ -247,7 +249,7 @@ def place_words(verb, at):
     return f"`{name}`, {KIND_WORDS[kind]}"
 
 
-def bad_line(ending):
+def bad_line(ending, forms):
     """What to look at in a bad line."""
     line, why, column = ending.line, ending.why, ending.column
     if why == "long":
@@ -257,13 +259,13 @@ def bad_line(ending):
     at = next((i for i, word in enumerate(line.words) if word.column == column), len(line.words))
     word = line.words[at].text if at < len(line.words) else ""
     if why == "word":
-        near = difflib.get_close_matches(word, FORMS, 1)
+        near = difflib.get_close_matches(word, forms, 1)
         return f"No line begins with `{word}`" + (f"; did you mean `{near[0]}`?" if near else "; docs/scripts.md has all lines.")
-    form = form_of(line.verb)
+    form = form_of(line.verb, forms)
     if why == "extra":
         options = OPTIONS.get(line.verb)
         return f"`{word}` is one word too many: the form is `{form}`" + (", its options once each in this order." if options else ".")
-    wanted = place_words(line.verb, at - 1) or "an immediate of eight hexadecimal digits behind `imm`"
+    wanted = place_words(forms, line.verb, at - 1) or "an immediate of eight hexadecimal digits behind `imm`"
     if why == "missing":
         return f"Here must stand {wanted}; the form is `{form}`."
     return f"In the place of `{word}` must stand {wanted}; the form is `{form}`."
@@ -274,11 +276,21 @@ def ascii_sentence(byte, column, is_last):
     return f"The byte {byte:02x}{name} in column {column} is none that a line may have; those are 32 to 126."
 
 
-def ending_sentence(ending):
+ENDINGS = {
+    "out of memory": "The program's memory ran out here; nothing after this line was played.",
+    "link fault": "The node's link failed: look at its address and port, and whether another process has them.",
+    "depot fault": "A file of the node's depot could not be read or written: look at the folder `depot` where the node runs.",
+    "missing": "The node's depot holds nothing under this name: no context was stopped into it, or its dump was restored already.",
+    "bad dump": "The file of the node's depot is no dump; `look dump` on it shows its first fault.",
+    LOG_ENDS: "The node still ran when this log was taken, or its output could not be written.",
+}
+
+
+def ending_sentence(ending, forms=FORMS):
     """What to look at where a run was not played to its end."""
-    if not ending.why:
-        return "The program's memory ran out here; nothing after this line was played."
-    return bad_line(ending)
+    if ending.why:
+        return bad_line(ending, forms)
+    return next(sentence for begin, sentence in ENDINGS.items() if ending.text.startswith(begin))
 
 
 # ---- answers that are no refusal and still want a word

@@ -9,8 +9,8 @@ import sys
 from pathlib import Path
 
 from .errors import LookError
+from .evacuation import script_asked
 from .flights import Story
-from .script import read_bytes
 
 ETHERNET = 1
 MOST_FRAME = 65_535
@@ -74,7 +74,7 @@ def write_output(name, data, told):
 
 def pcap(program, asked):
     """The subcommand."""
-    story = Story(program, read_bytes(asked.script))
+    story = Story(program, script_asked(program, asked))
     known = [flight for flight in story.flights.values() if flight.data is not None]
     data = capture(known)
     left = len(story.flights) - len(known)

@@ -8,20 +8,22 @@ A ladder stands in a document between two lines; the path is one from the top of
     ```
     <!-- end of the ladder -->
 
-Behind the path may stand `lines A to B`, so that only what these lines did is drawn.
+Behind the path may stand `, evacuate FROM TARGET..`, so that what the command of these words did is drawn too; and
+`, lines A to B`, so that only what these lines did is drawn.
 """
 import re
 from pathlib import Path
 
 from .drawings import mermaid, write_svg
 from .errors import LookError
+from .evacuation import evacuated_script
 from .flights import Story
 from .ladder import Maker
 from .program import TOP
 from .script import read_bytes
 from .unfold import script_to_show
 
-BEGIN = re.compile(r"<!-- ladder of (?P<path>\S+?)(?:, lines (?P<first>\d+) to (?P<last>\d+))? -->\s*$")
+BEGIN = re.compile(r"<!-- ladder of (?P<path>\S+?)(?:, evacuate (?P<evacuate>[\d ]+))?(?:, lines (?P<first>\d+) to (?P<last>\d+))? -->\s*$")
 END = "<!-- end of the ladder -->"
 OPENING, CLOSING = "```mermaid", "```"
 
@@ -33,6 +35,8 @@ def ladder_of(program, script, first=1, last=None):
 def block_of(program, begin):
     """The lines of the block that a line of a document asks for."""
     script = read_bytes(TOP / begin["path"])
+    if begin["evacuate"]:
+        script = evacuated_script(program, script, [int(word) for word in begin["evacuate"].split()])
     last = int(begin["last"]) if begin["last"] else None
     return [OPENING, *mermaid(ladder_of(program, script, int(begin["first"] or 1), last)), CLOSING]
 
@@ -74,7 +78,7 @@ def check_documents(program, names, write):
 def ladder(program, asked):
     """The subcommand."""
     if asked.check or asked.refresh:
-        if asked.script or asked.svg:
+        if asked.script or asked.svg or asked.evacuate:
             raise LookError("--check and --refresh take documents alone")
         return check_documents(program, asked.check or asked.refresh, bool(asked.refresh))
     if asked.script is None:

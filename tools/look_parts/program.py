@@ -2,12 +2,14 @@
 import os
 import shutil
 import subprocess
+import sys
 from pathlib import Path
 
 from .errors import LookError
 
 TOP = Path(__file__).resolve().parent.parent.parent
-BUILT = TOP / "crates" / "rdma_cli" / "out" / "rdma_cli"
+CRATE = TOP / "crates" / "rdma_cli"
+BUILT = CRATE / "out" / "rdma_cli"
 INSTALLED = "jichurpa"
 VARIABLE = "JICHURPA"
 
@@ -34,7 +36,7 @@ def find_program(named=None):
     if found is None:
         raise LookError(
             f"no program: {BUILT} is not built, and {INSTALLED} is not on the path; "
-            f"name one by --program or the variable {VARIABLE}")
+            f"name one by --program or the variable {VARIABLE}, or take the unproved one by --try")
     return found
 
 
@@ -43,18 +45,20 @@ class Program:
 
     def __init__(self, named=None):
         self.named = named
-        self.path = None
         self.runs = 0
 
-    def run(self, words, given=b"", folder=None):
+    def command(self):
+        """The words that run the program, and the folder in which they have to."""
+        return [find_program(self.named)], None
+
+    def run(self, words, given=b""):
         """The status and the bytes that the program wrote."""
-        self.path = self.path or find_program(self.named)
+        command, folder = self.command()
         self.runs += 1
         try:
-            ended = subprocess.run(
-                [self.path, *words], input=given, stdout=subprocess.PIPE, stderr=subprocess.PIPE, cwd=folder, check=False)
+            ended = subprocess.run([*command, *words], input=given, stdout=subprocess.PIPE, stderr=subprocess.PIPE, cwd=folder, check=False)
         except OSError as fault:
-            raise LookError(f"{self.path} cannot be run: {fault.strerror}") from None
+            raise LookError(f"{command[0]} cannot be run: {fault.strerror}") from None
         return ended.returncode, ended.stdout
 
     def play(self, script):
@@ -63,5 +67,19 @@ class Program:
             raise LookError(f"the script has {len(script):,} bytes, and the program takes {MOST_BYTES:,}")
         status, written = self.run(["play"], script)
         if status not in (PLAYED, BAD_LINE, NO_MEMORY):
-            raise LookError(f"{self.path} play ended with status {status}, which is not one of the statuses 0, 3 and 8 of play")
+            raise LookError(f"{' '.join(self.command()[0])} play ended with status {status}, which is not one of the statuses 0, 3 and 8 of play")
         return status, written.decode("ascii", "replace").splitlines()
+
+
+class TriedProgram(Program):
+    """The program as `rt try` runs it: without a proof, and built anew for each run."""
+
+    def command(self):
+        if shutil.which("rt") is None:
+            raise LookError("--try needs the Rattle kit: `rt` is not on the path")
+        return ["rt", "try", "--"], CRATE
+
+    def run(self, words, given=b""):
+        self.command()
+        print(f"look: run {self.runs + 1} of the program, unproved; each takes a minute or more", file=sys.stderr)
+        return super().run(words, given)

@@ -123,8 +123,23 @@ OPTIONS |= {verb: ["imm", "fence", "quiet"] for verb in ("write", "send")}
 REQUESTS = ("write", "send", "read", "cas", "add")
 
 
-def form_of(verb):
+# The lines of a node: those of an application, and these.
+SHARED = (
+    "domain", "region", "cq", "qp", "drop", "store", "load", "write", "send", "read", "cas", "add", "recv", "poll", "go", "expire", "rnr")
+TERMS = FORMS["connect"][2:]
+NODE_FORMS = {verb: FORMS[verb] for verb in SHARED} | {
+    "context": CONTEXT,
+    "link": [
+        ("O", "object"), ("number", "number"), ("address", "address"), *TERMS[:3], ("own", BELOW_24), ("peer", BELOW_24), *TERMS[5:]],
+    "stop": [("N", "name"), ("file", "name")],
+    "restore": [("file", "name")],
+    "release": CONTEXT,
+    "serve": [("turns", (1, 100_000))],
+}
+
+
+def form_of(verb, forms=FORMS):
     """The form of a line as docs/scripts.md writes it."""
-    places = " ".join(name for name, _ in FORMS[verb])
+    places = " ".join(name for name, _ in forms[verb])
     options = "".join(f" [{'imm i' if option == 'imm' else option}]" for option in OPTIONS.get(verb, []))
     return f"{verb} {places}".rstrip() + options

@@ -2,6 +2,7 @@
 import json
 from collections import Counter
 
+from . import node
 from .errors import LookError
 from .flights import Story
 from .generated import generated_script
@@ -132,6 +133,27 @@ def counts(title, told):
         table(["", "count"], list(told.items()))
 
 
+def print_node(told):
+    """What the log of a node tells."""
+    print(f"lines answered: {told['lines']}")
+    counts("datagrams", told["counts"])
+    if told["captured"]:
+        print("datagrams of the capture:")
+        heads = list(told["captured"][0])
+        table(heads, [[row[head] for head in heads] for row in told["captured"]])
+    counts("expiries and waits", told["timers"])
+    counts("completions", told["completions"])
+    counts("refusals", told["refusals"])
+    if told["moves"]:
+        print("moves (lines are those from `stop` to `restore`):")
+        heads = list(told["moves"][0])
+        table(heads, [[row[head] for head in heads] for row in told["moves"]])
+    for sentence in told["not told"]:
+        print(sentence)
+    if told["ending"]:
+        print(f"The script ended early: {told['ending']}")
+
+
 def print_text(told):
     print(f"lines answered: {told['lines']}")
     columns = ["sent", "sent again", "lost", "deliveries", "delivered again", "never delivered"]
@@ -155,10 +177,28 @@ def print_text(told):
         print(f"The script ended early: {told['ending']}")
 
 
+def node_stats(asked):
+    """The statistics of a node's log."""
+    if asked.bulk or asked.unfold or asked.evacuate:
+        raise LookError("--bulk, --unfold and --evacuate do not go with --node")
+    told = node.statistics(asked)
+    if asked.json:
+        print(json.dumps(told, indent=1))
+    else:
+        print_node(told)
+    return 0
+
+
 def stats(program, asked):
     """The subcommand."""
     if (asked.script is None) == (asked.bulk is None):
         raise LookError("stats wants a script, or --bulk with four numbers")
+    if asked.node:
+        return node_stats(asked)
+    if asked.depot or asked.capture:
+        raise LookError("--depot and --capture go with --node")
+    if asked.bulk and asked.evacuate:
+        raise LookError("--evacuate goes with a script, and not with --bulk")
     summary = None
     if asked.bulk:
         script, summary = bulk_script(program, asked.bulk)

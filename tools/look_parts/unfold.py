@@ -14,9 +14,10 @@ from dataclasses import dataclass, field
 from .answers import play
 from .datagrams import RESUME_OPCODE
 from .errors import LookError
+from .evacuation import script_asked
 from .flights import Story
 from .pcap import write_output
-from .script import lines_of, read_bytes
+from .script import lines_of
 
 MOST_RUNS = 2000
 WAITING = "waiting"
@@ -155,12 +156,12 @@ def unfold_script(program, script):
 
 def script_to_show(program, asked):
     """The script of a subcommand, unfolded where that is asked for."""
-    script = read_bytes(asked.script)
+    script = script_asked(program, asked)
     return unfold_script(program, script) if asked.unfold else script
 
 
 def unfold(program, asked):
     """The subcommand."""
-    new = unfold_script(program, read_bytes(asked.script))
+    new = unfold_script(program, script_asked(program, asked))
     write_output(asked.file, new, f"{len(lines_of(new))} lines")
     return 0

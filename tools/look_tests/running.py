@@ -16,7 +16,10 @@ from look_parts.program import TOP, VARIABLE, find_program
 
 LOOK = TOP / "tools" / "look"
 EXAMPLES = TOP / "examples"
-SCRIPTS = sorted(EXAMPLES.rglob("*.script"))
+# The examples without those of `large`, which send thousands of datagrams.
+SCRIPTS = sorted(path for path in EXAMPLES.rglob("*.script") if path.parent.name != "large")
+# The worked cases of other implementations, where they stand beside the repository.
+CASES = TOP.parent / "shared" / "cases" / "scripts"
 
 # The examples whose datagrams are counted by hand, by their answers.
 COUNTS = {
@@ -48,6 +51,14 @@ def need(name):
         run.__name__, run.__doc__ = test.__name__, test.__doc__
         return run
     return decorate
+
+
+def played_cases():
+    """The scripts of worked cases that `play` plays to their end."""
+    for script in sorted(CASES.glob("*.script")):
+        words, status = (script.with_suffix(end).read_text().split() for end in (".words", ".status"))
+        if words == ["play"] and status == ["0"]:
+            yield script
 
 
 def play(script):

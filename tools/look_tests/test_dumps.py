@@ -6,6 +6,7 @@ import unittest
 
 from look_parts.dump_reader import Fault, read_dump
 from look_parts.dump_writer import dump_bytes, from_json, to_json
+from look_parts.program import TOP
 
 from .running import EXAMPLES, LookTest, found, need
 
@@ -163,6 +164,27 @@ class Dumps(unittest.TestCase):
             with self.subTest(f"{why} at {place}"), self.assertRaises(Fault) as caught:
                 read_dump(bytes.fromhex(digits))
             self.assertEqual((caught.exception.place, caught.exception.why), (place, why))
+
+    def test_all_sample_dumps(self):
+        """The dumps and near-dumps of crates/show_dumps, with what two other implementations say of them; the files of depots."""
+        folder = TOP / "crates" / "show_dumps"
+        samples = [bytes.fromhex(line) for line in (folder / "stdin").read_text().splitlines()]
+        told = (folder / "stdout").read_text().splitlines()
+        self.assertEqual((len(samples), told.count("ok")), (len(told), 36))
+        for place, (data, words) in enumerate(zip(samples, told), 1):
+            with self.subTest(f"line {place}: {words}"):
+                self.assertEqual(self.what_is_said(data), words)
+        for path in (EXAMPLES / "depot").iterdir():
+            self.assertEqual(self.what_is_said(path.read_bytes()), "ok")
+
+    def what_is_said(self, data):
+        """What look says of bytes; a dump has to go through its JSON."""
+        try:
+            image, _ = read_dump(data)
+        except Fault as fault:
+            return f"bad {fault.place} {fault.why}"
+        self.assertEqual(dump_bytes(from_json(json.loads(json.dumps(to_json(image))))), data)
+        return "ok"
 
     def test_each_front_of_a_dump_is_short(self):
         data = joined(BUSY)

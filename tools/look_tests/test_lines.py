@@ -1,6 +1,8 @@
 """Lines and their answers, what is said of refusals and bad lines, the prompt, and the generated script."""
 import json
+import os
 import unittest
+from unittest import mock
 
 from look_parts.answers import pair
 from look_parts.generated import generated_script, words_of
@@ -156,6 +158,20 @@ class Errors(LookTest):
         self.assertIn("names /nowhere/program, which is no program", self.one_line("side", "-", program="/nowhere/program"))
         self.assertEqual(self.one_line("side", "nowhere.script", program=found["program"] or "true"), "nowhere.script: No such file or directory")
         self.assertEqual(self.one_line("stats"), "stats wants a script, or --bulk with four numbers")
+
+    @need("program")
+    def test_the_unproved_program_is_run_by_the_kit(self):
+        """A stand-in for `rt`, which takes the words of the kit's `rt try` in the folder of the program's crate."""
+        told = f'[ "$1 $2 ${{PWD##*/}}" = "try -- rdma_cli" ] || exit 9; shift 2; exec {found["program"]} "$@"'
+        path = self.file("rt", f"#!/bin/sh\n{told}\n")
+        path.chmod(0o755)
+        with mock.patch.dict(os.environ, {"PATH": f"{self.folder}:/usr/bin:/bin"}):
+            wrote = self.look("--try", "side", EXAMPLES / "dump.script", program="/nowhere")
+        self.assertEqual(wrote, self.look("side", EXAMPLES / "dump.script"))
+
+    def test_a_missing_kit_is_told(self):
+        with mock.patch.dict(os.environ, {"PATH": str(self.folder)}):
+            self.assertEqual(self.one_line("--try", "side", EXAMPLES / "dump.script", program="true"), "--try needs the Rattle kit: `rt` is not on the path")
 
     @need("program")
     def test_too_long_a_script_is_not_played(self):

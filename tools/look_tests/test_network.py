@@ -11,7 +11,8 @@ from look_parts.program import TOP, Program
 
 from .running import EXAMPLES, SCRIPTS, LookTest, found, need, play
 
-DOCUMENTS = [TOP / "README.md", TOP / "docs" / "moves.md", TOP / "docs" / "settling.md", *sorted((TOP / "examples" / "tour").glob("[0-9]*.md"))]
+PAGES = ["README.md", "docs/moves.md", "docs/settling.md", "docs/getting-started.md"]
+DOCUMENTS = [*(TOP / name for name in PAGES), *sorted((TOP / "examples" / "tour").glob("[0-9]*.md"))]
 
 OPENING = """\
 sequenceDiagram

@@ -3,7 +3,7 @@ import subprocess
 
 from look_parts.program import TOP
 
-from .running import COUNTS, EXAMPLES, SCRIPTS, LookTest, found, need, play
+from .running import COUNTS, EXAMPLES, SCRIPTS, LookTest, found, need, play, played_cases
 
 READER = TOP / "tools" / "jichurpa.lua"
 
@@ -46,9 +46,14 @@ def read_by_tshark(path):
     return [dict(zip(names, line.split("\t"))) for line in ended.stdout.splitlines()]
 
 
+MOST = 2000  # datagrams of a worked script, at most
+
+
 def wires(path):
     """The bytes of every datagram of a script, as `wire` shows them at its end."""
-    answers = play(path.read_text() + "".join(f"wire {k}\n" for k in range(1, 100)))[-99:]
+    text = path.read_text().rstrip("\n") + "\n"
+    answers = play(text + "".join(f"wire {k}\n" for k in range(1, MOST + 1)))[-MOST:]
+    assert answers[-1] == "gone", f"{path} sends more than {MOST} datagrams"
     return [answer.split()[1] for answer in answers if answer != "gone"]
 
 
@@ -64,10 +69,11 @@ class Captures(LookTest):
 
     @need("program")
     @need("tshark")
-    def test_tshark_reads_every_datagram_of_the_examples(self):
-        """The captures of all examples are put into one file, so that tshark is run once."""
-        shown, frames = {script: wires(script) for script in SCRIPTS}, b""
-        for script in SCRIPTS:
+    def test_tshark_reads_every_datagram_of_the_worked_scripts(self):
+        """The captures of all of them are put into one file, so that tshark is run once."""
+        scripts = [*SCRIPTS, *played_cases()]
+        shown, frames = {script: wires(script) for script in scripts}, b""
+        for script in scripts:
             path = self.folder / "one.pcap"
             self.look("pcap", script, path)
             data = path.read_bytes()
@@ -102,6 +108,18 @@ class Captures(LookTest):
         extension += row["infiniband.immdt"].replace(":", "") + row["data.data"].replace(":", "")
         # The payload that tshark shows has its padding with it.
         self.assertEqual((f"{begin}{extension}00000000", crc), (digits, 0))
+
+    @need("program")
+    @need("tshark")
+    def test_an_evacuation_is_read(self):
+        """Three writes, of which two arrive and are acknowledged; the lost one again; then each of three contexts resumes."""
+        path = self.folder / "evacuation.pcap"
+        self.look("pcap", EXAMPLES / "evacuate.script", path, "--evacuate", 2, 3)
+        rows = read_by_tshark(path)
+        kinds = [0x0A, 0x0A, 0x0A, 0x11, 0x11, 0x0A, 0x11] + 3 * [0x1E, 0x1F]
+        self.assertEqual([number(row["infiniband.bth.opcode"]) for row in rows], kinds)
+        self.assertEqual([row["jichurpa.message"] for row in rows[7:]], 3 * ["RESUME", "RESUME_ACK"])
+        self.assertEqual({(row["jichurpa.address"], row["jichurpa.moves"]) for row in rows[7:]}, {("10.0.0.3", "1")})
 
     @need("program")
     @need("tshark")

@@ -165,4 +165,45 @@ mod tests {
         assert_eq!(rt; &out[..8], b"datagram".as_slice());
         Ok(())
     }
+
+    const THREE: Address = Address {
+        ip: 0x7f00_0001,
+        port: 48_023,
+    };
+
+    #[test]
+    fn a_longer_datagram_is_dropped(rt: HostRuntime) -> Result<(), Fail> {
+        let mut link = UdpLink::new(&rt);
+        link.start(THREE)?;
+        let other = UdpSocket::bind(&rt, (Ipv4Addr::LOCALHOST, 0))?;
+        let mut out = [0; LONGEST_DATAGRAM];
+        other.send_to(&[7; ROOM], host_of(THREE))?;
+        assert_eq!(rt; link.take(&mut out)?, Got::Nothing);
+        other.send_to(&[7; LONGEST_DATAGRAM], host_of(THREE))?;
+        assert!(rt;
+            matches!(
+                link.take(&mut out)?,
+                Got::Datagram {
+                    length: LONGEST_DATAGRAM,
+                    ..
+                }
+            )
+        );
+        assert_eq!(rt; link.fault_count, 0);
+        Ok(())
+    }
+
+    #[test]
+    fn each_fault_is_counted(rt: HostRuntime) -> Result<(), Fail> {
+        let other = UdpSocket::bind(&rt, (Ipv4Addr::LOCALHOST, 0))?;
+        let mut taken = ONE;
+        taken.port = other.local_addr()?.port();
+        let mut link = UdpLink::new(&rt);
+        let mut out = [0; LONGEST_DATAGRAM];
+        assert!(rt; link.start(taken).is_err());
+        assert!(rt; link.take(&mut out).is_err());
+        assert!(rt; link.send_to(ONE, b"datagram").is_err());
+        assert_eq!(rt; link.fault_count, 3);
+        Ok(())
+    }
 }

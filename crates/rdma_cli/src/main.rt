@@ -1,20 +1,16 @@
 //! Jichurpa: a software RDMA device whose reliable connections are moved live to another device.
 #![tactic(auto)]
 
-mod folder_depot;
 mod help;
-mod streams;
 
-use folder_depot::FolderDepot;
 use help::about;
 use mig_ports::{Failed, write_all_of};
-use node_adapters::{ClockTicks, UdpLink};
+use node_adapters::{ClockTicks, FolderDepot, StdSink, StdSource, UdpLink};
 use node_engine::NodePorts;
 use rdma_cli_calls::run_serial;
 use std::io::{BufReader, BufWriter};
 use std::process::ExitCode;
 use std::{env, io};
-use streams::{StdSink, StdSource};
 
 /// The words of the command, without the program's name. Words that are no text are of no command.
 ///

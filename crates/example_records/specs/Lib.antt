@@ -1,0 +1,10 @@
+pub mod Opening
+pub mod OneWrite
+pub mod KnownInside
+pub mod RepeatedRead
+pub mod NotReady
+pub mod Refusals
+pub mod Moved
+pub mod ChangedAndPaused
+pub mod Acknowledges
+pub mod SpacesAndCase

@@ -1,0 +1,15 @@
+pub mod Devices
+pub mod Flights
+pub mod Images
+pub mod Found
+pub mod Playing
+pub mod Orders
+pub mod Walk
+pub mod Opening
+pub mod Tame
+pub mod TameSteps
+pub mod Posted
+pub mod Bounds
+pub mod Works
+pub mod OpeningWork
+pub mod Working

@@ -1,0 +1,32 @@
+//! Fair orders of the steps of devices are legal for the packetless machine, and which orders are fair.
+//!
+//! The functions do nothing. Each promises the law that it names.
+#![tactic(auto)]
+
+ghost use Rattle.law_world_orders.specs.Bridge.{FairOrdersAreLegal, WorkIsFair};
+
+use law_simulation::runs::{events_follow, law_holds, runs_follow};
+use law_world_orders::{copies_stand, devices_open_apart};
+
+/// Each fair order is legal, however long it is: what applications make and hear in it, the packetless machine may make and
+/// answer.
+pub fn fair_orders_are_legal()
+    ensures { FairOrdersAreLegal }
+{
+    law_holds();
+    events_follow();
+    runs_follow();
+    copies_stand();
+    devices_open_apart();
+}
+
+/// An order of additions and polls at one context and of moves of the other is fair, if at most 2^22 additions are accepted.
+pub fn work_is_fair()
+    ensures { WorkIsFair }
+{
+    law_holds();
+    events_follow();
+    runs_follow();
+    copies_stand();
+    devices_open_apart();
+}

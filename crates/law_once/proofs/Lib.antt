@@ -1,0 +1,4 @@
+pub mod Counts
+pub mod Lasts
+pub mod Growing
+pub mod Putting

@@ -1,0 +1,4 @@
+pub mod Bare
+pub mod Worlds
+pub mod Names
+pub mod Scripts

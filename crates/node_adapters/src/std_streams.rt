@@ -1,0 +1,214 @@
+//! The input and output of a process.
+
+ghost use Rattle.std.specs.Prelude.{◌≡◌, ◌≤◌, None, IfOk, length};
+ghost use Rattle.mig_ports.specs.Streams.{FaultsCounted};
+
+use mig_ports::{Failed, Sink, Source};
+use std::io;
+use std::io::{Read, Write};
+
+/// A reader, whose faults are counted. Each error of a read is a fault.
+#[derive(Drop)]
+pub struct StdSource<R> {
+    inner: R,
+    fault_count: u64,
+}
+
+impl<R: Read> StdSource<R> {
+    /// A source of what the reader reads, without a fault so far.
+    pub fn new(inner: R) -> StdSource<R> {
+        StdSource {
+            inner,
+            fault_count: 0,
+        }
+    }
+}
+
+impl<R: Read> Source for StdSource<R> {
+    ghost left = { λ _. None };
+
+    ghost faults = { λ s. s.fault_count };
+
+    ghost never_fails = { λ _. ⊥ };
+
+    fn read(&mut self, out: &mut [u8]) -> Result<usize, Failed> {
+        match self.inner.read(out) {
+            Ok(n) => Ok(n),
+            Err(_) => {
+                self.fault_count = self.fault_count.saturating_add(1);
+                Err(Failed)
+            }
+        }
+    }
+}
+
+/// A writer, whose faults are counted. Each error of a write or a flush is a fault, and a write that takes none of its bytes.
+#[derive(Drop)]
+pub struct StdSink<W> {
+    inner: W,
+    is_prompt: bool,
+    fault_count: u64,
+}
+
+impl<W: Write> StdSink<W> {
+    /// A sink over the writer, without a fault so far. What the writer holds back is written out by `flush`.
+    pub fn new(inner: W) -> StdSink<W> {
+        StdSink {
+            inner,
+            is_prompt: false,
+            fault_count: 0,
+        }
+    }
+
+    /// The same, but each write is flushed at once: so the answers of a node are seen as they come.
+    pub fn prompt(inner: W) -> StdSink<W> {
+        StdSink {
+            inner,
+            is_prompt: true,
+            fault_count: 0,
+        }
+    }
+
+    /// Writes out what is still held back.
+    ///
+    /// # Errors
+    ///
+    /// A fault, which is counted; how much was written is not said.
+    pub fn flush(&mut self) -> Result<(), Failed> {
+        match self.inner.flush() {
+            Ok(()) => Ok(()),
+            Err(_) => Err(self.failed()),
+        }
+    }
+
+    /// Writes bytes, and flushes a prompt writer.
+    fn put(&mut self, bytes: &[u8]) -> io::Result<usize>
+        ensures most { IfOk result (λ n. n ≤ length bytes.now) }
+        ensures faults { self.new.fault_count ≡ self.old.fault_count }
+    {
+        let n = self.inner.write(bytes)?;
+        if self.is_prompt {
+            self.inner.flush()?;
+        }
+        Ok(n)
+    }
+
+    /// Counts a fault.
+    fn failed(&mut self) -> Failed
+        ensures counted { FaultsCounted self.old.fault_count self.new.fault_count }
+        ensures monotone { self.old.fault_count ≤ self.new.fault_count }
+    {
+        self.fault_count = self.fault_count.saturating_add(1);
+        Failed
+    }
+}
+
+impl<W: Write> Sink for StdSink<W> {
+    ghost held = { λ _. None };
+
+    ghost faults = { λ s. s.fault_count };
+
+    ghost room = { λ _. 0 };
+
+    fn write(&mut self, bytes: &[u8]) -> Result<usize, Failed> {
+        match self.put(bytes) {
+            Ok(0) if !bytes.is_empty() => Err(self.failed()),
+            Ok(n) => Ok(n),
+            Err(_) => Err(self.failed()),
+        }
+    }
+}
+
+#[cfg(test)]
+mod tests {
+    use super::*;
+    use mig_ports::{WriteFault, write_all_of};
+    use std::test::Fail;
+
+    /// Takes bytes up to its room, and shows them once they are flushed.
+    #[derive(Drop)]
+    struct Held {
+        room: usize,
+        held: usize,
+        shown: usize,
+    }
+
+    impl Read for Held {
+        fn read(&mut self, _out: &mut [u8]) -> io::Result<usize> {
+            Err(io::ErrorKind::BrokenPipe.into())
+        }
+    }
+
+    impl Write for Held {
+        fn write(&mut self, bytes: &[u8]) -> io::Result<usize> {
+            let n = bytes.len().min(self.room);
+            self.room -= n;
+            self.held = self.held.saturating_add(n);
+            Ok(n)
+        }
+
+        fn flush(&mut self) -> io::Result<()> {
+            if self.room == 1 {
+                return Err(io::ErrorKind::BrokenPipe.into());
+            }
+            self.shown = self.held;
+            Ok(())
+        }
+    }
+
+    const TEN: Held = Held {
+        room: 10,
+        held: 0,
+        shown: 0,
+    };
+
+    #[test]
+    fn bytes_are_read_to_their_end(rt: HostRuntime) -> Result<(), Fail> {
+        let mut source = StdSource::new(b"bytes".as_slice());
+        let mut out = [0; 3];
+        assert_eq!(rt; source.read(&mut out)?, 3);
+        assert_eq!(rt; &out, b"byt");
+        assert_eq!(rt; source.read(&mut out)?, 2);
+        assert_eq!(rt; source.read(&mut out)?, 0);
+        assert_eq!(rt; source.fault_count, 0);
+        Ok(())
+    }
+
+    #[test]
+    fn an_error_of_a_read_is_counted(rt: HostRuntime) {
+        let mut source = StdSource::new(TEN);
+        let mut out = [0; 3];
+        for count in 1..=3 {
+            assert!(rt; source.read(&mut out).is_err());
+            assert_eq!(rt; source.fault_count, count);
+        }
+    }
+
+    #[test]
+    fn what_is_written_is_shown_when_it_is_flushed(rt: HostRuntime) -> Result<(), Fail> {
+        let mut sink = StdSink::new(TEN);
+        write_all_of(&mut sink, b"ok\n")?;
+        assert_eq!(rt; (sink.inner.held, sink.inner.shown), (3, 0));
+        sink.flush()?;
+        assert_eq!(rt; sink.inner.shown, 3);
+        let mut prompt = StdSink::prompt(TEN);
+        write_all_of(&mut prompt, b"ok\n")?;
+        assert_eq!(rt; prompt.inner.shown, 3);
+        assert_eq!(rt; (sink.fault_count, prompt.fault_count), (0, 0));
+        Ok(())
+    }
+
+    #[test]
+    fn faults_of_writes_and_flushes_are_counted(rt: HostRuntime) -> Result<(), Fail> {
+        let mut sink = StdSink::new(TEN);
+        write_all_of(&mut sink, b"123456789")?;
+        assert!(rt; sink.flush().is_err());
+        assert_eq!(rt; sink.fault_count, 1);
+        assert_eq!(rt; write_all_of(&mut sink, b"ab"), Err(WriteFault));
+        assert_eq!(rt; (sink.fault_count, sink.inner.held), (2, 10));
+        let mut prompt = StdSink::prompt(TEN);
+        assert_eq!(rt; write_all_of(&mut prompt, b"123456789"), Err(WriteFault));
+        assert_eq!(rt; prompt.fault_count, 1);
+        Ok(())
+    }
+}
