@@ -16,8 +16,9 @@ const LONGEST_WAIT: u64 = 10;
 /// Room for the longest datagram and one byte, which a longer one fills.
 const ROOM: usize = LONGEST_DATAGRAM + 1;
 
-/// A UDP socket, whose faults are counted. A datagram to port 0 is counted as sent and goes nowhere; one of over 4,200 bytes
-/// that comes, and one that comes from no IPv4 address, are dropped.
+/// A UDP socket, whose faults are counted. A datagram to port 0, and one to an address to which there is no way, are counted as
+/// sent and go nowhere: a partner says where it is, and so may a forger. One of over 4,200 bytes that comes, and one that comes
+/// from no IPv4 address, are dropped.
 #[derive(Drop)]
 pub struct UdpLink<'a, R> {
     net: &'a R,
@@ -36,6 +37,17 @@ fn is_nothing(error: &io::Error) -> bool {
     matches!(
         error.kind(),
         ErrorKind::WouldBlock | ErrorKind::TimedOut | ErrorKind::Interrupted
+    )
+}
+
+/// Whether a datagram was not sent for its address alone.
+fn is_nowhere(error: &io::Error) -> bool {
+    matches!(
+        error.kind(),
+        ErrorKind::NetworkUnreachable
+            | ErrorKind::HostUnreachable
+            | ErrorKind::PermissionDenied
+            | ErrorKind::InvalidInput
     )
 }
 
@@ -110,6 +122,7 @@ impl<'a, R: Net> Link for UdpLink<'a, R> {
         }
         match self.send(to, bytes) {
             Ok(_) => Ok(()),
+            Err(error) if is_nowhere(&error) => Ok(()),
             Err(_) => Err(self.failed()),
         }
     }
