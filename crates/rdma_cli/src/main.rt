@@ -25,13 +25,23 @@ fn words_of(rt: &HostRuntime) -> io::Result<Vec<String>> {
     }
 }
 
+/// Whether the words ask for a node, whose answers are to be seen as they come.
+fn is_node(words: &[String]) -> bool {
+    words.first().is_some_and(|word| word.as_str() == "node")
+}
+
 /// Does what the words ask for, and gives the status. No socket is opened but by a node.
 fn run(rt: &HostRuntime) -> io::Result<u8> {
     let words = words_of(rt)?;
+    let writer = BufWriter::new(rt.alloc(), io::writer(rt))?;
     let mut input = StdSource::new(BufReader::new(rt.alloc(), rt.reader())?);
     let mut ports = NodePorts {
         link: UdpLink::new(rt),
-        output: StdSink::new(BufWriter::new(rt.alloc(), io::writer(rt))?),
+        output: if is_node(&words) {
+            StdSink::prompt(writer)
+        } else {
+            StdSink::new(writer)
+        },
         depot: FolderDepot::new(rt),
         ticks: ClockTicks::new(rt),
     };
