@@ -1,6 +1,5 @@
 -- The opening world stands for a state of the machine, and each fair line leads to a world that does.
 use Rattle.std.specs.Prelude.{ℕ, List, []}
-use Rattle.protocol.specs.State.{Device}
 use Rattle.law_world_orders.specs.Bridge.{IsFair}
 use Rattle.law_world_orders.specs.Lines.{Line}
 use Rattle.law_world_orders.specs.Openings.{opening_verbs, openings}
