@@ -31,9 +31,10 @@ use Rattle.law_simulation.specs.Runs.{RunsFollow}
 use Rattle.law_simulation.specs.Stands.{Stands}
 use Rattle.law_simulation.proofs.relation.Tables.{name-named_there, number-at}
 use Rattle.law_simulation.proofs.runs.Runs.{after_on, runs_on, seen_on}
-use Rattle.law_world_orders.specs.Bridge.{CopiesStand, IsAskedLine, is_at_home, world_events}
+use Rattle.law_world_orders.specs.Bridge.{CopiesStand, IsAskedLine, IsFair, is_at_home, world_events}
 use Rattle.law_world_orders.specs.Hears.{heard}
 use Rattle.law_world_orders.specs.Lines.{Line, device_after, flown, opening_of}
+use Rattle.law_world_orders.specs.Openings.{openings}
 use Rattle.law_world_orders.specs.Order.{AreRestored, Each, IsLine, Takes, with_stopped}
 use Rattle.law_world_orders.specs.Sides.{IsInTime, IsInTimeLine, IsOneSidedLine, carried_after, is_stopped, stops_beside_a_mover, without_restored, world_of}
 use Rattle.law_world_orders.proofs.Growing.{flown-push}
@@ -185,6 +186,15 @@ pub record IsFairLine (os : List Device) (ls : List Line) (l : Line) : Type 0 wh
   pub one_sided : IsOneSidedLine os ls l
   pub in_time : IsInTimeLine os ls l
   pub asked : IsAskedLine os ls l
+
+-- the lines of a fair order
+pub fair_lines : (workers : ℕ) (ls : List Line) → IsFair workers ls → Each (IsFairLine (openings workers)) ls
+fair_lines workers ls fair k l at = record {
+  is_line = fair.order.each k l at;
+  one_sided = fair.one_sided k l at;
+  in_time = fair.in_time k l at;
+  asked = fair.asked k l at;
+}
 
 -- the tests for a mover read devices and carried images alone
 movers_same : (w v : World) (k : ℕ) (e : Event) → w.devices ≡ v.devices → w.carried ≡ v.carried → stops_beside_a_mover w k e ≡ stops_beside_a_mover v k e

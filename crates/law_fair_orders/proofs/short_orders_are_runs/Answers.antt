@@ -1,21 +1,12 @@
 -- The numbers of the datagrams that arrive are picked line by line, and each line is an event of the world, or none.
-use Rattle.std.proofs.Common.{◌≡◌, ℕ, List, [], sym, ap, subst, ◌∙◌}
-use Rattle.law_world_orders.specs.Bridge.{IsFair}
-use Rattle.law_world_orders.specs.Lines.{Line, flown_after}
+use Rattle.std.proofs.Common.{◌≡◌, [], sym, ap, subst, ◌∙◌}
+use Rattle.law_world_orders.specs.Lines.{flown_after}
 use Rattle.law_world_orders.specs.Openings.{opening_verbs, opening_world, openings}
 use Rattle.law_world_orders.specs.Order.{Each}
 use Rattle.law_fair_orders.proofs.Opening.{begun, sent_none, starts, starts_world}
 use Rattle.law_fair_orders.proofs.Short.{AreAlike, IsShort, numbers, numbers_right, shorts}
-use Rattle.law_fair_orders.proofs.Walk.{IsFairLine}
+use Rattle.law_fair_orders.proofs.Walk.{IsFairLine, fair_lines}
 use Rattle.law_fair_orders.proofs.short_orders_are_runs.Goals as goal
-
-fair_lines : (workers : ℕ) (ls : List Line) → IsFair workers ls → Each (IsFairLine (openings workers)) ls
-fair_lines workers ls fair k l at = record {
-  is_line = fair.order.each k l at;
-  one_sided = fair.one_sided k l at;
-  in_time = fair.in_time k l at;
-  asked = fair.asked k l at;
-}
 
 pub returns : goal.returns
 unfolding flown_after
