@@ -1,25 +1,23 @@
 -- The numbers that the ends of a world expect and have sent are no more than those of the postings that were heard.
-use Rattle.std.proofs.Common.{arith, ◌≡◌, ◌≤◌, ◌<◌, ℕ, ◌+◌, List, [], ◌∷◌, Bool, true, false, Option, Some, None, refl, sym, ap, ◌∙◌, subst, if◌then◌else◌}
-use Rattle.std.specs.Prelude.{◌==◌, ◌&&◌, not, is_some, nat_lt}
+use Rattle.std.proofs.Common.{arith, ◌≡◌, ◌≤◌, ℕ, ◌+◌, List, [], ◌∷◌, Bool, true, false, Option, Some, None, refl, sym, ap, ◌∙◌, subst, if◌then◌else◌}
+use Rattle.std.specs.Prelude.{◌==◌, ◌&&◌, not, is_some}
 use Rattle.std.proofs.lemmas.Bool.Decides.{nat_tests, leb_tells}
 use Rattle.rdma_types.specs.declared.names.Name.{Name}
 use Rattle.rdma_types.specs.declared.names.ObjName.{ObjName}
 use Rattle.rdma_types.specs.Limits.{latest}
-use Rattle.rdma_types.specs.Lists.{first_that, has_name, named}
-use Rattle.rdma_types.specs.Spans.{end_number}
+use Rattle.rdma_types.specs.Lists.{has_name, named}
 use Rattle.protocol.specs.Bytes.{byte_at, number_at}
 use Rattle.protocol.specs.DeviceStep.{Found, found_in}
 use Rattle.protocol.specs.Fabric.{is_late}
-use Rattle.protocol.specs.State.{Context, Device, End, Link, World, context_at, device_at, end_at, no_end}
-use Rattle.protocol.specs.Wire.{Packet, is_request}
+use Rattle.protocol.specs.State.{Device, End, Link, World, context_at, device_at, end_at, no_end}
+use Rattle.protocol.specs.Wire.{is_request}
 use Rattle.protocol.specs.WorldStep.{has_device, home, is_live, mark_of, now_at}
-use Rattle.ideal_model.specs.Machine as machine
 use Rattle.ideal_model.specs.Machine.{Machine}
 use Rattle.ideal_model.specs.Numbers.{due}
 use Rattle.law_simulation.specs.Joined.{IsJoined}
 use Rattle.law_simulation.specs.Stands.{Stands}
-use Rattle.law_simulation.specs.Views.{context_of, end_of, in_rts, is_connected, link_of, link_or_none, name_of, net_of, peer}
-use Rattle.law_simulation.proofs.delivery.Found.{IsAt, found_at}
+use Rattle.law_simulation.specs.Views.{context_of, end_of, in_rts, link_or_none, name_of, net_of, peer}
+use Rattle.law_simulation.proofs.delivery.Found.{found_at}
 use Rattle.law_simulation.proofs.relation.Tables.{named-absent, named-there}
 use Rattle.law_simulation.proofs.relation.Worlds.{home_context}
 use Rattle.law_fair_orders.proofs.Found.{found_at_id}

@@ -1,5 +1,5 @@
 -- Datagrams that stand somewhere in a world's store, and are not lost.
-use Rattle.std.proofs.Common.{arith, ◌≡◌, ◌⊎◌, inl, inr, ℕ, zero, suc, ◌+◌, ◌-◌, List, [], ◌∷◌, ◌++◌, length, map, slice_get, Bool, true, false, Some, refl, sym, ap, ◌∙◌, subst, if◌then◌else◌}
+use Rattle.std.proofs.Common.{◌≡◌, ◌⊎◌, inl, inr, ℕ, zero, suc, ◌-◌, List, [], ◌∷◌, ◌++◌, length, map, slice_get, Bool, true, false, Some, refl, sym, ap, ◌∙◌, subst, if◌then◌else◌}
 use Rattle.rdma_types.specs.declared.answers.Sent.{Sent}
 use Rattle.rdma_types.specs.declared.requests.Address.{Address}
 use Rattle.protocol.specs.State.{Flight}

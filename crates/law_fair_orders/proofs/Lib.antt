@@ -13,3 +13,4 @@ pub mod Bounds
 pub mod Works
 pub mod OpeningWork
 pub mod Working
+pub mod Short

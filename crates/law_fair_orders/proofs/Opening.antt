@@ -1,11 +1,9 @@
 -- The opening world: it stands for a state of the machine, and its devices have ids of their own.
-use Rattle.std.proofs.Common.{arith, ◌≡◌, ◌≤◌, ◌<◌, ℕ, zero, suc, ◌+◌, List, [], ◌∷◌, ◌++◌, map, slice_get, Bool, true, false, Option, Some, None, refl, sym, ap, ◌∙◌, subst, if◌then◌else◌}
-use Rattle.std.specs.Prelude.{All, ◌==◌, ◌||◌, codes}
+use Rattle.std.proofs.Common.{arith, ◌≡◌, ◌≤◌, ℕ, zero, suc, ◌+◌, List, [], ◌∷◌, ◌++◌, true, Option, Some, None, refl, sym, ap, ◌∙◌, subst, if◌then◌else◌}
+use Rattle.std.specs.Prelude.{All, ◌==◌, codes}
 use Rattle.std.proofs.lemmas.List.{append-nil}
 use Rattle.std.proofs.lemmas.List.Elements.{All-cons, All-nil}
-use Rattle.rdma_types.specs.declared.answers.Answer.{Answer}
 use Rattle.rdma_types.specs.declared.answers.Refusal.{Refusal}
-use Rattle.rdma_types.specs.declared.verbs.Verb.{Verb}
 use Rattle.rdma_types.specs.declared.names.ObjName.{ObjName}
 use Rattle.rdma_types.specs.declared.requests.Terms.{Terms}
 use Rattle.rdma_types.specs.Limits.{AreTerms}
@@ -15,21 +13,23 @@ use Rattle.protocol.specs.declared.events.Event.TheVariants as event
 use Rattle.protocol.specs.declared.events.WorldEvent.{WorldEvent}
 use Rattle.protocol.specs.declared.events.WorldEvent.TheVariants as world_event
 use Rattle.protocol.specs.declared.images.ContextImage.{ContextImage}
-use Rattle.protocol.specs.State.{Device, Flight, World, device_at, empty_world, no_device}
+use Rattle.protocol.specs.State.{Device, World, device_at, empty_world, no_device}
 use Rattle.protocol.specs.WorldStep as step
 use Rattle.protocol.specs.Replay.{replay}
 use Rattle.protocol.specs.WorldStep.{exchanged, home, runs, world_after, world_step}
-use Rattle.protocol.specs.DeviceStep.{device_step}
+use Rattle.protocol.specs.DeviceStep as device
+use Rattle.protocol.specs.DeviceStep.{device_step, done_by}
+use Rattle.protocol.specs.Fabric.{sending}
 use Rattle.ideal_model.specs.Machine.{empty}
-use Rattle.law_simulation.specs.Law.{FollowsRun, IsInRange, Law, joined_steps, kept}
+use Rattle.law_simulation.specs.Law.{FollowsRun, IsInRange, Law, joined_steps}
 use Rattle.law_world_orders.specs.Hears.{heard}
-use Rattle.law_world_orders.specs.Lines.{flown, flown_after, opening_of}
+use Rattle.law_world_orders.specs.Lines.{flown_after}
 use Rattle.law_world_orders.specs.Sides.{carried_after}
 use Rattle.law_world_orders.specs.Order.{with_stopped}
-use Rattle.law_world_orders.specs.Openings.{AreOpenedApart, adds_device, bare_device, base_events, device_apart, end_name, ends_of, in_a, in_b, makes_end, opening_events, opening_terms, opening_verbs, opening_world, openings, openings_apart, pair, pairs}
+use Rattle.law_world_orders.specs.Openings.{AreOpenedApart, adds_device, bare_device, base_events, device_apart, end_name, ends_of, in_a, in_b, makes_end, opening_events, opening_terms, opening_verbs, opening_world, openings, pair, pairs}
 use Rattle.law_fair_orders.proofs.Devices.{IsNoStop, replay_itself, step_plain}
 use Rattle.law_fair_orders.proofs.Orders.{AreBegun, after_none}
-use Rattle.law_fair_orders.proofs.Playing.{ran_carried}
+use Rattle.law_fair_orders.proofs.Playing.{ran_carried, ran_sent}
 use Rattle.law_fair_orders.proofs.Walk.{Reached}
 
 -- ---- ids
@@ -142,11 +142,91 @@ opening_quiet workers = (
   ),
 )
 
+-- ---- nothing is sent
+
+-- an event that makes a thing, or connects
+abbrev IsMaking : Event → Type 0
+IsMaking (event.MakeContext name) = Unit {0}
+IsMaking (event.MakeDomain o) = Unit {0}
+IsMaking (event.MakeRegion o domain base count rights) = Unit {0}
+IsMaking (event.MakeCq o capacity) = Unit {0}
+IsMaking (event.MakeQp o domain send_cq recv_cq send_depth recv_depth) = Unit {0}
+IsMaking (event.Connect o peer partner terms) = Unit {0}
+IsMaking other = ⊥
+
+made_silent : (d : Device) (e : Event) → IsMaking e → (done_by d e).outcome.sent ≡ []
+unfolding device.makes_context device.makes_domain device.makes_region device.makes_queue device.makes_end device.connects
+made_silent d (event.MakeContext name) making = refl
+made_silent d (event.MakeDomain o) making = refl
+made_silent d (event.MakeRegion o domain base count rights) making = refl
+made_silent d (event.MakeCq o capacity) making = refl
+made_silent d (event.MakeQp o domain send_cq recv_cq send_depth recv_depth) making = refl
+made_silent d (event.Connect o peer partner terms) making = refl
+made_silent d other making = absurd making
+
+silent_by : (d : Device) (e : Event) (r : Option Refusal) → IsMaking e → (device.by_refusal d e r).outcome.sent ≡ []
+silent_by d e (Some r) making = refl
+silent_by d e None making = made_silent d e making
+
+step_silent : (d : Device) (e : Event) → IsMaking e → (device_step d e).outcome.sent ≡ []
+unfolding device_step
+step_silent d e making = silent_by d e _ making
+
+runs_sent : (w : World) (d : Device) (e : Event) → IsMaking e → (runs w d e).world.sent ≡ w.sent
+unfolding sending
+runs_sent w d e making = ran_sent w (device_step d e) ∙ (ap (λ xs. sending w.sent (device_step d e).device.address xs) (step_silent d e making) ∙ append-nil w.sent)
+
+refused_sent : (w : World) (r : Option Refusal) (s : step.Step) → s.world.sent ≡ w.sent → (step.by_refusal w r s).world.sent ≡ w.sent
+refused_sent w (Some r) s h = refl
+refused_sent w None s h = h
+
+connected_sent : (w : World) (one two : ObjName) (terms : Terms) → (step.connects_one w one two terms).sent ≡ w.sent
+unfolding step.connects_one
+connected_sent w one two terms = runs_sent w (home w one.context) (event.Connect one (step.end_of w two).number (home w two.context).address terms) tt
+
+abbrev IsStill : WorldEvent → Type 0
+IsStill (world_event.AddDevice id address) = Unit {0}
+IsStill (world_event.MakeContext n k) = Unit {0}
+IsStill (world_event.At e) = IsMaking e
+IsStill (world_event.Connect one two terms) = Unit {0}
+IsStill other = ⊥
+
+still_sent : (w : World) (x : WorldEvent) → IsStill x → (world_step w x).world.sent ≡ w.sent
+unfolding world_step step.adds_device step.makes_context step.steps_at step.connects
+still_sent w (world_event.AddDevice id address) q = refused_sent w _ _ refl
+still_sent w (world_event.MakeContext n k) q = refused_sent w _ _ (runs_sent w (device_at w k) (event.MakeContext n) tt)
+still_sent w (world_event.At e) q = refused_sent w _ _ (runs_sent w (home w (step.context_of_event e)) e q)
+still_sent w (world_event.Connect one two terms) q =
+    refused_sent w _ _ (connected_sent (step.connects_one w one two terms) two one (exchanged terms) ∙ connected_sent w one two terms)
+still_sent w other q = absurd q
+
+abbrev AreStill : List WorldEvent → Type 0
+AreStill [] = Unit {0}
+AreStill (x ∷ xs) = IsStill x × AreStill xs
+
+still_all : (w : World) (xs : List WorldEvent) → AreStill xs → (world_after w xs).sent ≡ w.sent
+unfolding world_after
+still_all w [] all = refl
+still_all w (x ∷ xs) all = still_all (world_step w x).world xs all.1 ∙ still_sent w x all.0
+
+pairs_still : (i n : ℕ) → AreStill (pairs i n)
+unfolding pairs
+pairs_still i zero = tt
+pairs_still i (suc n) = (tt, (tt, (tt, pairs_still (i + 1) n)))
+
+opening_still : (workers : ℕ) → AreStill (opening_events workers)
+opening_still workers = (tt, (tt, (tt, (tt, (tt, (tt, (tt, (tt, (tt, (tt, (tt, pairs_still 1 workers)))))))))))
+
 -- ---- what is reached before the first line
 
 nothing_carried : (n : List ℕ) → has_name (λ (c : ContextImage). c.name) n [] ≡ true → ⊥
 unfolding has_name
 nothing_carried n h = cc
+
+-- nothing was sent
+pub sent_none : (workers : ℕ) → (opening_world workers).sent ≡ []
+unfolding opening_world
+sent_none workers = still_all empty_world (opening_events workers) (opening_still workers)
 
 module _ (law : Law) (workers : ℕ) where
   followed : FollowsRun empty_world empty (opening_events workers)
@@ -170,3 +250,7 @@ module _ (law : Law) (workers : ℕ) where
     stopped = λ n there. absurd (nothing_carried n (sym (ap (has_name (λ c. c.name) n) carried_none) ∙ there));
     untaken = tt;
   }
+
+  pub starts_world : (begun : AreBegun (openings workers)) → (starts begun).world ≡ opening_world workers
+  unfolding starts
+  starts_world begun = refl

@@ -1,12 +1,11 @@
 -- What is kept of devices and images over lines of work holds of the opening devices.
-use Rattle.std.proofs.Common.{arith, ◌≡◌, ◌≤◌, ◌<◌, ℕ, zero, suc, ◌+◌, ◌*◌, List, [], ◌∷◌, ◌++◌, Bool, true, false, Option, Some, None, refl, sym, ap, ◌∙◌, subst, if◌then◌else◌}
-use Rattle.std.specs.Prelude.{◌==◌, ◌||◌, codes}
+use Rattle.std.proofs.Common.{arith, ◌≡◌, ◌≤◌, ℕ, zero, suc, ◌+◌, ◌*◌, List, [], ◌∷◌, true, Some, refl, sym, ap, ◌∙◌, subst, if◌then◌else◌}
+use Rattle.std.specs.Prelude.{◌==◌, codes}
 use Rattle.rdma_types.specs.declared.answers.Answer.{Answer}
 use Rattle.rdma_types.specs.declared.names.Name.{Name}
 use Rattle.rdma_types.specs.declared.names.ObjName.{ObjName}
 use Rattle.rdma_types.specs.declared.requests.Terms.{Terms}
 use Rattle.rdma_types.specs.declared.verbs.Verb.{Verb}
-use Rattle.rdma_types.specs.declared.verbs.Verb.TheVariants as verbs
 use Rattle.rdma_types.specs.Causes.{first_cause}
 use Rattle.rdma_types.specs.Lists.{at, has_name}
 use Rattle.protocol.specs.declared.events.Event.{Event}
@@ -23,11 +22,11 @@ use Rattle.law_simulation.specs.Kept.{kept_of, kept_verb, verb_in, verb_of}
 use Rattle.law_simulation.specs.Law.{kept}
 use Rattle.law_world_orders.specs.Hears.{heard}
 use Rattle.law_world_orders.specs.Lines.{device_after, events_on, opening_of}
-use Rattle.law_world_orders.specs.Openings.{AreOpenedApart, adds_device, bare_device, base_events, device_apart, end_name, end_number_at, ends_of, in_a, in_b, makes_end, opening_events, opening_terms, opening_verbs, openings, openings_apart, pair, pairs}
+use Rattle.law_world_orders.specs.Openings.{AreOpenedApart, adds_device, bare_device, base_events, device_apart, end_name, ends_of, in_a, in_b, makes_end, opening_events, opening_terms, opening_verbs, openings, openings_apart, pairs}
 use Rattle.law_world_orders.specs.Sides.{carried_after}
 use Rattle.law_fair_orders.proofs.Devices.{IsNoStop, replay_itself, step_itself, step_plain}
 use Rattle.law_fair_orders.proofs.Opening.{apart_id}
-use Rattle.law_fair_orders.proofs.Orders.{AreBegun, after_all, after_none}
+use Rattle.law_fair_orders.proofs.Orders.{AreBegun, after_none}
 use Rattle.law_fair_orders.proofs.Posted.{span_heard, spans, spans-both}
 use Rattle.law_fair_orders.proofs.Tame.{AllOf, of_two}
 use Rattle.law_fair_orders.proofs.TameSteps.{IsTameDevice, Opens, is_mover, opening_keeps}

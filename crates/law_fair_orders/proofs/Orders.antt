@@ -1,19 +1,16 @@
 -- What the lines of an order lead to, as a world that stands for a state of the machine.
-use Rattle.std.proofs.Common.{arith, ◌≡◌, ◌≢◌, ◌≤◌, ℕ, zero, suc, ◌+◌, List, [], ◌∷◌, ◌++◌, length, map, take, slice_get, Bool, true, false, Option, Some, None, refl, sym, ap, ◌∙◌, subst, if◌then◌else◌}
-use Rattle.std.specs.Prelude.{◌==◌, ◌&&◌, ◌||◌}
+use Rattle.std.proofs.Common.{arith, ◌≡◌, ◌≢◌, ℕ, List, [], ◌∷◌, ◌++◌, map, Bool, true, false, refl, sym, ap, ◌∙◌, if◌then◌else◌}
+use Rattle.std.specs.Prelude.{◌==◌, ◌||◌}
 use Rattle.std.proofs.lemmas.Bool.Decides.{nat_tests, eqb_tells}
 use Rattle.std.proofs.lemmas.List.{append-nil, append_assoc}
-use Rattle.rdma_types.specs.declared.answers.Answer.{Answer}
-use Rattle.rdma_types.specs.declared.verbs.Verb.{Verb}
 use Rattle.rdma_types.specs.Lists.{at, has, store}
-use Rattle.protocol.specs.declared.events.Event.{Event}
 use Rattle.protocol.specs.declared.images.ContextImage.{ContextImage}
 use Rattle.protocol.specs.DeviceStep.{device_step}
 use Rattle.protocol.specs.Replay.{replay}
-use Rattle.protocol.specs.State.{Device, Flight, World, device_at, no_device}
+use Rattle.protocol.specs.State.{Device, no_device}
 use Rattle.law_simulation.specs.Kept.{kept_verb, verb_in}
 use Rattle.law_world_orders.specs.Hears.{heard}
-use Rattle.law_world_orders.specs.Lines.{Line, device_after, events_on, flown, opening_of}
+use Rattle.law_world_orders.specs.Lines.{Line, device_after, events_on, opening_of}
 use Rattle.law_world_orders.specs.Order.{with_stopped}
 use Rattle.law_world_orders.specs.Sides.{carried_after, without_restored}
 use Rattle.law_world_orders.proofs.Growing.{events_on-here, events_on-other, replay-push}

@@ -1,6 +1,6 @@
 -- A world plays the step of one of its devices: the world events of the step, where they lead, and what is heard.
-use Rattle.std.proofs.Common.{arith, ◌≡◌, ◌≤◌, ◌<◌, ℕ, zero, suc, ◌+◌, ◌-◌, List, [], ◌∷◌, ◌++◌, length, map, slice_get, Bool, true, false, Option, Some, None, refl, sym, ap, ◌∙◌, subst, if◌then◌else◌}
-use Rattle.std.specs.Prelude.{All, not, ◌==◌, ◌&&◌, ◌||◌, bytes_eq, nat_le}
+use Rattle.std.proofs.Common.{◌≡◌, ℕ, ◌+◌, List, [], ◌∷◌, length, Bool, true, false, Option, Some, None, refl, sym, ap, ◌∙◌, subst, if◌then◌else◌}
+use Rattle.std.specs.Prelude.{All, not, ◌&&◌, ◌||◌, bytes_eq, nat_le}
 use Rattle.std.proofs.lemmas.List.{append-nil}
 use Rattle.std.proofs.lemmas.List.Elements.{All-cons, All-nil}
 use Rattle.rdma_types.specs.declared.answers.Answer.{Answer}
@@ -9,9 +9,8 @@ use Rattle.rdma_types.specs.declared.answers.Refusal.{Refusal}
 use Rattle.rdma_types.specs.declared.answers.Refusal.TheVariants as refusals
 use Rattle.rdma_types.specs.declared.names.Name.{Name}
 use Rattle.rdma_types.specs.declared.requests.Address.{Address}
-use Rattle.rdma_types.specs.declared.verbs.Verb.{Verb}
 use Rattle.rdma_types.specs.Causes.{Cause, cause, first_cause}
-use Rattle.rdma_types.specs.Lists.{at, first_that, has, has_name, has_word, some, store, without}
+use Rattle.rdma_types.specs.Lists.{at, has_name, has_word, some, store}
 use Rattle.protocol.specs.declared.events.Event.{Event}
 use Rattle.protocol.specs.declared.events.Event.TheVariants as event
 use Rattle.protocol.specs.declared.events.WorldEvent.{WorldEvent}
@@ -19,7 +18,7 @@ use Rattle.protocol.specs.declared.events.WorldEvent.TheVariants as world_event
 use Rattle.protocol.specs.declared.images.ContextImage.{ContextImage}
 use Rattle.protocol.specs.DeviceStep as device
 use Rattle.protocol.specs.DeviceStep.{device_step}
-use Rattle.protocol.specs.Fabric.{is_late, is_kept, kept_flight, look, look_at, Here, IsAged, IsLost, sending, took}
+use Rattle.protocol.specs.Fabric.{is_late, kept_flight, look, look_at, Here, IsAged, IsLost, sending, took}
 use Rattle.protocol.specs.Images as images
 use Rattle.protocol.specs.EndWords.{is_paused_link}
 use Rattle.protocol.specs.Refusals.{has_context, has_husk, has_moved_out, refusal_of, links_of}
@@ -30,15 +29,14 @@ use Rattle.protocol.specs.WorldStep.{context_causes, context_of_event, device_wi
 use Rattle.ideal_model.specs.Machine.{Machine}
 use Rattle.law_simulation.specs.Kept.{verb_in, verb_of, kept_of, kept_verb}
 use Rattle.law_simulation.specs.Law.{IsEventInRange, IsInRange, kept}
-use Rattle.law_simulation.specs.Stands.{Stands, IsPlaced}
-use Rattle.law_simulation.proofs.relation.Refusing.{first_no, later_no, not_lacking}
+use Rattle.law_simulation.specs.Stands.{Stands}
 use Rattle.law_simulation.proofs.relation.Tables.{has_name-push, map-store_at, number-at}
 use Rattle.law_simulation.proofs.relation.Verbs.{causes_are, stepped_at}
 use Rattle.std.proofs.lemmas.List.{map-id}
 use Rattle.law_world_orders.specs.Bridge.{IsAskable, is_at_home, unless_refused, where_it_lives, world_events}
 use Rattle.law_world_orders.specs.Order.{with_stopped}
 use Rattle.law_world_orders.specs.Sides.{is_stopped, stops_beside_a_mover, without_restored}
-use Rattle.law_fair_orders.proofs.Devices.{IsNoStop, IsWithin, away, heard_still, refused_away, step_itself, step_plain, unheard_husk}
+use Rattle.law_fair_orders.proofs.Devices.{IsNoStop, IsWithin, away, heard_still, refused_away, step_plain, unheard_husk}
 use Rattle.law_fair_orders.proofs.Found.{device_found, home_is}
 use Rattle.law_fair_orders.proofs.Images.{found_named, has_without_less, image_in}
 

@@ -1,9 +1,8 @@
 -- What an arrival does to the ends of a context: an end in Error keeps the number that it expects, and only an end that was
 -- Resuming is.
-use Rattle.std.proofs.Common.{arith, ◌≡◌, ◌≤◌, ◌<◌, ℕ, zero, suc, ◌+◌, ◌-◌, ◌*◌, ◌++◌, List, [], ◌∷◌, length, map, drop, Bool, true, false, Option, Some, None, refl, sym, ap, ◌∙◌, subst, if◌then◌else◌, bytes_eq, is_some}
-use Rattle.std.specs.Prelude.{◌==◌, ◌&&◌, ◌||◌, not, nat_le, nat_lt, min}
+use Rattle.std.proofs.Common.{◌≡◌, ◌≤◌, ◌<◌, ℕ, ◌+◌, List, [], ◌∷◌, Bool, true, false, Option, Some, None, refl, if◌then◌else◌, bytes_eq, is_some}
+use Rattle.std.specs.Prelude.{◌==◌, ◌&&◌, ◌||◌, not, nat_le, nat_lt}
 use Rattle.rdma_types.specs.declared.answers.SilentWhy.TheVariants as why
-use Rattle.rdma_types.specs.declared.answers.Took.{Took}
 use Rattle.rdma_types.specs.declared.answers.Why.{Why}
 use Rattle.rdma_types.specs.declared.answers.Why.TheVariants as refused
 use Rattle.rdma_types.specs.declared.names.Name.{Name}
@@ -11,9 +10,9 @@ use Rattle.rdma_types.specs.declared.requests.Completion.{Completion}
 use Rattle.rdma_types.specs.declared.requests.WcStatus.{WcStatus}
 use Rattle.rdma_types.specs.declared.requests.WcStatus.TheVariants as status
 use Rattle.rdma_types.specs.declared.requests.Receive.{Receive}
-use Rattle.rdma_types.specs.Lists.{store_named, first_that}
+use Rattle.rdma_types.specs.Lists.{store_named}
 use Rattle.rdma_types.specs.Limits.{number_limit}
-use Rattle.rdma_types.specs.Objects.{Region, no_region}
+use Rattle.rdma_types.specs.Objects.{Region}
 use Rattle.rdma_types.specs.Spans.{Piece, pieces}
 use Rattle.rdma_types.specs.Kinds.{is_read}
 use Rattle.protocol.specs.declared.wire.Aeth.{Aeth}
@@ -26,13 +25,13 @@ use Rattle.protocol.specs.declared.images.KeptReply.{KeptReply}
 use Rattle.protocol.specs.EndWords as words
 use Rattle.protocol.specs.EndWords.{EndStep, is_paused, linked, with_sender, with_receiver, with_moving, with_unused, completing, stays, silent}
 use Rattle.protocol.specs.EndStep.{takes, takes_kind, takes_other}
-use Rattle.protocol.specs.Memory.{written, landed, with_region, stored, region_of_key}
-use Rattle.protocol.specs.Moves.{Control, Stopped, Resume, ResumeAck, MoveTook, GoesPaused, Resumed, Again, GoesRunning, Stale, control_of, move_row, moves_by, resumed_link, takes_control, unpaused}
+use Rattle.protocol.specs.Memory.{written, landed, with_region}
+use Rattle.protocol.specs.Moves.{Control, Stopped, Resume, ResumeAck, MoveTook, GoesPaused, Resumed, GoesRunning, control_of, moves_by, resumed_link, takes_control, unpaused}
 use Rattle.protocol.specs.Requester as requester
 use Rattle.protocol.specs.Requester.{ended_link, ended_with, telling, takes_response}
 use Rattle.protocol.specs.Responder as responder
 use Rattle.protocol.specs.Responder.{takes_request}
-use Rattle.protocol.specs.State.{Sender, Receiver, Link, End, Context, Phase, Running, Paused, Resuming, Progress, NoMessage, InSend, InWrite}
+use Rattle.protocol.specs.State.{Sender, Receiver, Link, End, Context, Phase, Running, Paused, Resuming, Progress, NoMessage}
 use Rattle.protocol.specs.Wire.{Packet, is_read_response, is_request}
 
 -- each thing of a list has a fact

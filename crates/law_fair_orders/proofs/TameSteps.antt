@@ -1,5 +1,5 @@
 -- What a step of a device does to the ends of its contexts.
-use Rattle.std.proofs.Common.{arith, ◌≡◌, ◌≤◌, ◌<◌, ℕ, zero, suc, ◌+◌, ◌*◌, ◌++◌, List, [], ◌∷◌, map, Bool, true, false, Option, Some, None, refl, sym, ap, ◌∙◌, subst, if◌then◌else◌, bytes_eq}
+use Rattle.std.proofs.Common.{arith, ◌≡◌, ◌≤◌, ◌<◌, ℕ, ◌+◌, ◌*◌, ◌++◌, List, [], ◌∷◌, map, Bool, true, false, Option, Some, None, refl, sym, ap, ◌∙◌, subst, if◌then◌else◌, bytes_eq}
 use Rattle.std.specs.Prelude.{◌==◌, ◌&&◌, ◌||◌, not, codes, option_map}
 use Rattle.rdma_types.specs.declared.answers.NotWhy.{NotWhy}
 use Rattle.rdma_types.specs.declared.answers.Refusal.{Refusal}
@@ -8,23 +8,21 @@ use Rattle.rdma_types.specs.declared.names.Name.{Name}
 use Rattle.rdma_types.specs.declared.requests.Address.{Address}
 use Rattle.rdma_types.specs.declared.requests.Request.{Request}
 use Rattle.rdma_types.specs.Causes.{Cause, cause, first_cause}
-use Rattle.rdma_types.specs.Lists.{has_name, named, store_named, without}
+use Rattle.rdma_types.specs.Lists.{has_name, named, without}
 use Rattle.protocol.specs.declared.events.Event.{Event}
 use Rattle.protocol.specs.declared.events.Event.TheVariants as event
 use Rattle.protocol.specs.declared.images.ContextImage.{ContextImage}
 use Rattle.protocol.specs.DeviceStep as device
 use Rattle.protocol.specs.DeviceStep.{Found, device_step, done_by, found_in, found_link, ends_with}
-use Rattle.protocol.specs.EndWords as words
 use Rattle.protocol.specs.EndWords.{linked, with_sender}
 use Rattle.protocol.specs.Images as images
 use Rattle.protocol.specs.Images.{moved, moved_end, moved_link}
 use Rattle.protocol.specs.Refusals.{has_context, has_end, refusal_of}
-use Rattle.protocol.specs.Requester.{Transmission, SendsResume, Waits, IsIdle, WindowIsFull, ReadsAreFull, IsFenced, Sends, transmission, transmitted, not_counted, counted, waited_out, ended_with}
+use Rattle.protocol.specs.Requester.{Transmission, SendsResume, Waits, IsIdle, WindowIsFull, ReadsAreFull, IsFenced, Sends, transmission, transmitted, not_counted}
 use Rattle.protocol.specs.State.{Context, Device, End, HuskEntry, Link, Sender, Running, Resuming, context_at, end_at, fresh_link, no_context, no_end}
 use Rattle.protocol.specs.Wire.{Packet, is_control, packet_of}
-use Rattle.law_simulation.proofs.relation.Refusing.{first_no, later_no, not_lacking}
 use Rattle.law_simulation.proofs.relation.Tables.{name-named_there}
-use Rattle.law_fair_orders.proofs.Tame.{AllOf, IsTame, IsTameContext, IsTameEnd, IsTameLink, all_stored, completing_holds, ended_holds, linked_holds, of_two, queue_holds, takes_holds, unused_holds}
+use Rattle.law_fair_orders.proofs.Tame.{AllOf, IsTame, IsTameContext, IsTameEnd, IsTameLink, all_stored, completing_holds, ended_holds, linked_holds, of_two, queue_holds, takes_holds}
 
 -- ---- contexts and devices
 

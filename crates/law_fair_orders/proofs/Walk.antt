@@ -1,6 +1,6 @@
 -- A fair order leads to a world that stands for a state of the machine, line by line.
-use Rattle.std.proofs.Common.{arith, ◌≡◌, ◌≤◌, ℕ, zero, suc, ◌+◌, ◌-◌, List, [], ◌∷◌, ◌++◌, length, map, take, slice_get, get_or, Bool, true, false, Option, Some, None, refl, sym, ap, ◌∙◌, subst, if◌then◌else◌, length-append}
-use Rattle.std.specs.Prelude.{All, ◌==◌, ◌&&◌, ◌||◌, nat_le, nat_lt, bytes_eq}
+use Rattle.std.proofs.Common.{arith, ◌≡◌, ℕ, suc, ◌+◌, ◌-◌, List, [], ◌∷◌, ◌++◌, length, take, slice_get, get_or, Bool, true, false, Option, Some, None, refl, sym, ap, ◌∙◌, subst, if◌then◌else◌, length-append}
+use Rattle.std.specs.Prelude.{◌&&◌}
 use Rattle.std.proofs.lemmas.Bool.Decides.{nat_tests, leb_tells}
 use Rattle.std.proofs.lemmas.List.{append-nil, append_assoc}
 use Rattle.rdma_types.specs.declared.answers.Answer.{Answer}
@@ -10,39 +10,40 @@ use Rattle.rdma_types.specs.declared.names.Name.{Name}
 use Rattle.rdma_types.specs.declared.requests.Address.{Address}
 use Rattle.rdma_types.specs.declared.verbs.Verb.{Verb}
 use Rattle.rdma_types.specs.Limits.{most_flights}
-use Rattle.rdma_types.specs.Lists.{at, has, has_name, some, store, without}
+use Rattle.rdma_types.specs.Lists.{at, has, has_name, store}
 use Rattle.protocol.specs.declared.events.Event.{Event}
 use Rattle.protocol.specs.declared.events.Event.TheVariants as event
 use Rattle.protocol.specs.declared.events.WorldEvent.{WorldEvent}
 use Rattle.protocol.specs.declared.images.ContextImage.{ContextImage}
 use Rattle.protocol.specs.DeviceStep as device
 use Rattle.protocol.specs.DeviceStep.{device_step}
-use Rattle.protocol.specs.Fabric.{is_kept, is_late, kept_flight, sending, took}
+use Rattle.protocol.specs.Fabric.{is_kept, is_late, kept_flight, sending}
 use Rattle.protocol.specs.Images as images
-use Rattle.protocol.specs.Refusals.{has_context, refusal_of}
+use Rattle.protocol.specs.Refusals.{refusal_of}
 use Rattle.protocol.specs.State.{Context, Device, Flight, World, context_at, device_at, no_context, no_device}
 use Rattle.protocol.specs.WorldStep.{has_device, now_at, world_after}
 use Rattle.ideal_model.specs.declared.steps.IdealStep.{IdealStep}
 use Rattle.ideal_model.specs.Machine.{Machine, empty}
 use Rattle.ideal_model.specs.Legal.{IsRun, after, seen}
 use Rattle.law_simulation.specs.Kept.{kept_verb, verb_in}
-use Rattle.law_simulation.specs.Law.{AlwaysFollows, FollowsRun, joined_steps, kept}
+use Rattle.law_simulation.specs.Law.{AlwaysFollows, FollowsRun, joined_steps}
 use Rattle.law_simulation.specs.Runs.{RunsFollow}
 use Rattle.law_simulation.specs.Stands.{Stands}
 use Rattle.law_simulation.proofs.relation.Tables.{name-named_there, number-at}
 use Rattle.law_simulation.proofs.runs.Runs.{after_on, runs_on, seen_on}
-use Rattle.law_world_orders.specs.Bridge.{CopiesStand, IsAskedLine, is_at_home, world_events}
+use Rattle.law_world_orders.specs.Bridge.{CopiesStand, IsAskedLine, IsFair, is_at_home, world_events}
 use Rattle.law_world_orders.specs.Hears.{heard}
 use Rattle.law_world_orders.specs.Lines.{Line, device_after, flown, opening_of}
-use Rattle.law_world_orders.specs.Order.{AreRestored, Each, IsDatagram, IsLine, Takes, with_stopped}
+use Rattle.law_world_orders.specs.Openings.{openings}
+use Rattle.law_world_orders.specs.Order.{AreRestored, Each, IsLine, Takes, with_stopped}
 use Rattle.law_world_orders.specs.Sides.{IsInTime, IsInTimeLine, IsOneSidedLine, carried_after, is_stopped, stops_beside_a_mover, without_restored, world_of}
 use Rattle.law_world_orders.proofs.Growing.{flown-push}
 use Rattle.law_fair_orders.proofs.Devices.{IsNoStop, step_itself, step_plain}
-use Rattle.law_fair_orders.proofs.Flights.{AreThere, IsThere, get_last, there_before, there_sending, there_taken}
+use Rattle.law_fair_orders.proofs.Flights.{AreThere, get_last, there_before, there_sending, there_taken}
 use Rattle.law_fair_orders.proofs.Found.{home_is}
-use Rattle.law_fair_orders.proofs.Images.{AreUntaken, IsAmong, image_in, untaken_gone, untaken_less, untaken_more}
+use Rattle.law_fair_orders.proofs.Images.{AreUntaken, image_in, untaken_gone, untaken_less, untaken_more}
 use Rattle.law_fair_orders.proofs.Orders.{AreBegun, address_after, after_all, after_line, at_after, carried-push, has_after, heard-push}
-use Rattle.law_fair_orders.proofs.Playing.{AreStopped, Delivers, IsDelivered, Leads, Plays, Restores, plays, still_stops, store_for}
+use Rattle.law_fair_orders.proofs.Playing.{AreStopped, Delivers, Plays, Restores, plays, still_stops, store_for}
 
 -- ---- what the network has for an arrival
 
@@ -186,6 +187,15 @@ pub record IsFairLine (os : List Device) (ls : List Line) (l : Line) : Type 0 wh
   pub in_time : IsInTimeLine os ls l
   pub asked : IsAskedLine os ls l
 
+-- the lines of a fair order
+pub fair_lines : (workers : ℕ) (ls : List Line) → IsFair workers ls → Each (IsFairLine (openings workers)) ls
+fair_lines workers ls fair k l at = record {
+  is_line = fair.order.each k l at;
+  one_sided = fair.one_sided k l at;
+  in_time = fair.in_time k l at;
+  asked = fair.asked k l at;
+}
+
 -- the tests for a mover read devices and carried images alone
 movers_same : (w v : World) (k : ℕ) (e : Event) → w.devices ≡ v.devices → w.carried ≡ v.carried → stops_beside_a_mover w k e ≡ stops_beside_a_mover v k e
 unfolding stops_beside_a_mover
@@ -195,7 +205,8 @@ movers_same w v k e devices carried = ap (λ ds. of ds w.carried) devices ∙ ap
     of ds cs = stops_beside_a_mover (record { devices = ds; sent = w.sent; carried = cs; stopped = w.stopped }) k e
 
 module _ (always : (e : WorldEvent) → AlwaysFollows e) (runs : RunsFollow) (copies : CopiesStand) (os : List Device) (before : List (Verb × Answer)) (begun : AreBegun os) where
-  module _ (ls : List Line) (l : Line) (untaken rest : List ContextImage) (r : Reached os before ls untaken) (f : IsFairLine os ls l) (takes : Takes untaken l.receipt.event rest) where
+  module _ (ls : List Line) (l : Line) (untaken rest : List ContextImage) (r : Reached os before ls untaken) (f : IsFairLine os ls l) (takes : Takes untaken l.receipt.event rest)
+      (network : IsReady r.world (after empty r.steps) (device_after os ls l.receipt.device) l.receipt.event (flown os ls)) where
     abbrev k : ℕ
     k = l.receipt.device
 
@@ -220,9 +231,6 @@ module _ (always : (e : WorldEvent) → AlwaysFollows e) (runs : RunsFollow) (co
     here_in : (v : World) → v.devices ≡ w.devices → device_at v k ≡ d
     here_in v same = ap (at (λ x. x.id) no_device k) (same ∙ r.devices) ∙ at_after os ls k begun f.is_line.known
 
-    network : IsReady w m d e (flown os ls)
-    network = ready w m d e (flown os ls) copies r.stands r.sent (subst (λ a. IsInTime (flown os ls) a d e) (sym (address_after os ls k)) f.in_time)
-
     abbrev u : World
     u = network.world
 
@@ -238,7 +246,7 @@ module _ (always : (e : WorldEvent) → AlwaysFollows e) (runs : RunsFollow) (co
     abbrev es : List WorldEvent
     es = world_events d network.number e out.outcome.answer
 
-    played : Plays u network.number e out es
+    pub played : Plays u network.number e out es
     played =
         subst (λ x. Plays u network.number e (device_step x e) (world_events x network.number e (device_step x e).outcome.answer)) (here_in u network.devices)
         (plays u m network.stands k (made_in u network.devices) u_stopped network.number e f.asked.askable
@@ -284,7 +292,7 @@ module _ (always : (e : WorldEvent) → AlwaysFollows e) (runs : RunsFollow) (co
         ∙ (ap (λ o. with_stopped o.image (without_restored e o.answer (carried_after [] ls))) (sym f.is_line.outcome)
         ∙ sym (carried-push [] ls l)))
 
-    address_then : out.device.address ≡ (opening_of os k).address
+    pub address_then : out.device.address ≡ (opening_of os k).address
     address_then = (step_itself d e).address ∙ address_after os ls k
 
     sent_then : AreThere v.sent (flown os (ls ++ l ∷ []))
@@ -301,8 +309,8 @@ module _ (always : (e : WorldEvent) → AlwaysFollows e) (runs : RunsFollow) (co
         (subst (λ x. AreUntaken (with_stopped (device_step x e).outcome.image (without_restored e (device_step x e).outcome.answer w.carried)) (with_stopped (device_step x e).outcome.image rest)) (here_in w refl)
         (images_next w m r.stands k (made_in w refl) e untaken rest r.untaken takes)))
 
-    pub next : Reached os before (ls ++ l ∷ []) (with_stopped l.receipt.outcome.image rest)
-    next = record {
+    pub next_from : Reached os before (ls ++ l ∷ []) (with_stopped l.receipt.outcome.image rest)
+    next_from = record {
       world = v;
       steps = r.steps ++ steps;
       is_run = runs_on empty r.steps steps r.is_run followed.is_run;
@@ -314,6 +322,18 @@ module _ (always : (e : WorldEvent) → AlwaysFollows e) (runs : RunsFollow) (co
       stopped = played.leads.stopped;
       untaken = untaken_then;
     }
+
+    -- its world is where the events of the step lead
+    pub next_world : next_from.world ≡ world_after network.world (world_events d network.number e out.outcome.answer)
+    unfolding next_from
+    next_world = refl
+
+  -- .. where a datagram that arrives is sent again first
+  pub next : (ls : List Line) (l : Line) (untaken rest : List ContextImage) → Reached os before ls untaken → IsFairLine os ls l → Takes untaken l.receipt.event rest → Reached os before (ls ++ l ∷ []) (with_stopped l.receipt.outcome.image rest)
+  next ls l untaken rest r f takes =
+      next_from ls l untaken rest r f takes
+      (ready r.world (after empty r.steps) (device_after os ls l.receipt.device) l.receipt.event (flown os ls) copies r.stands r.sent
+      (subst (λ a. IsInTime (flown os ls) a (device_after os ls l.receipt.device) l.receipt.event) (sym (address_after os ls l.receipt.device)) f.in_time))
 
   -- ---- all lines
 

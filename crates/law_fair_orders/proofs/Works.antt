@@ -1,5 +1,5 @@
 -- An order of additions, polls and moves of one context is fair.
-use Rattle.std.proofs.Common.{arith, ◌≡◌, ◌≢◌, ◌≤◌, ◌<◌, ℕ, zero, suc, ◌+◌, ◌*◌, List, [], ◌∷◌, ◌++◌, length, map, take, slice_get, filter, Bool, true, false, Option, Some, None, refl, sym, ap, ◌∙◌, subst, inl, inr, if◌then◌else◌, length-append, bytes_eq}
+use Rattle.std.proofs.Common.{arith, ◌≡◌, ◌≢◌, ◌≤◌, ◌<◌, ℕ, zero, suc, ◌+◌, List, [], ◌∷◌, ◌++◌, length, map, take, slice_get, filter, Bool, true, false, Option, Some, None, refl, sym, ap, ◌∙◌, subst, inl, inr, if◌then◌else◌, length-append, bytes_eq}
 use Rattle.std.specs.Prelude.{◌==◌, ◌&&◌, ◌||◌, not, codes, option_map}
 use Rattle.std.proofs.lemmas.Bool.Decides.{nat_tests, eqb_tells}
 use Rattle.std.proofs.lemmas.List.{append-nil, append_assoc}
@@ -9,7 +9,6 @@ use Rattle.rdma_types.specs.declared.answers.Answer.TheVariants as answer
 use Rattle.rdma_types.specs.declared.answers.Refusal.{Refusal}
 use Rattle.rdma_types.specs.declared.names.Name.{Name}
 use Rattle.rdma_types.specs.declared.names.ObjName.{ObjName}
-use Rattle.rdma_types.specs.declared.requests.Address.{Address}
 use Rattle.rdma_types.specs.declared.requests.Kind.{Kind}
 use Rattle.rdma_types.specs.declared.requests.Kind.TheVariants as kind
 use Rattle.rdma_types.specs.declared.requests.Shape.{Shape}
@@ -30,29 +29,27 @@ use Rattle.protocol.specs.DeviceStep.{Found, device_step, found_in}
 use Rattle.protocol.specs.EndWords.{is_resuming, is_resuming_link}
 use Rattle.protocol.specs.Images as images
 use Rattle.protocol.specs.Refusals.{has_context, has_end, has_husk, refusal_of}
-use Rattle.protocol.specs.State.{Context, Device, End, Flight, Link, Phase, Running, Paused, Resuming, World, context_at, device_at, end_at, no_context, no_device}
-use Rattle.protocol.specs.Wire.{Packet, packet_of}
-use Rattle.protocol.specs.WorldStep.{context_of_event, has_device, is_carried, is_carried_end, is_done, is_linked_image, is_live, is_resuming_end, partner_moves}
+use Rattle.protocol.specs.State.{Context, Device, End, Link, Phase, Running, Paused, Resuming, World, context_at, device_at, end_at, no_context, no_device}
+use Rattle.protocol.specs.WorldStep.{has_device, is_carried_end, is_done, is_linked_image, is_resuming_end, partner_moves}
 use Rattle.ideal_model.specs.Machine.{Machine, empty}
-use Rattle.ideal_model.specs.Legal.{after, seen}
-use Rattle.law_simulation.specs.Kept.{is_unmade, is_unmade_by, kept_verb, verb_in}
+use Rattle.ideal_model.specs.Legal.{after}
+use Rattle.law_simulation.specs.Kept.{is_unmade, kept_verb, verb_in}
 use Rattle.law_simulation.specs.Law.{AlwaysFollows}
 use Rattle.law_simulation.specs.Runs.{RunsFollow}
-use Rattle.law_simulation.specs.Stands.{Stands}
 use Rattle.law_simulation.specs.Views.{end_of}
-use Rattle.law_world_orders.specs.Bridge.{CopiesStand, IsAskable, IsAskedLine, is_at_home, is_work}
+use Rattle.law_world_orders.specs.Bridge.{CopiesStand, IsAskable, is_at_home, is_work}
 use Rattle.law_world_orders.specs.Hears.{heard}
 use Rattle.law_world_orders.specs.Lines.{Line, device_after, flown, opening_of}
-use Rattle.law_world_orders.specs.Order.{AreRestored, Each, HasArrived, IsDatagram, IsLine, Takes, with_stopped}
-use Rattle.law_world_orders.specs.Sides.{IsInTime, IsInTimeLine, IsOneSidedLine, carried_after, is_stopped, stops_beside_a_mover, without_restored, world_of}
+use Rattle.law_world_orders.specs.Order.{AreRestored, Each, HasArrived, IsLine, Takes, with_stopped}
+use Rattle.law_world_orders.specs.Sides.{IsInTime, carried_after, is_stopped, stops_beside_a_mover, without_restored, world_of}
 use Rattle.law_world_orders.specs.Work.{accepts, is_addition, is_fetch_add, lines_with}
 use Rattle.law_fair_orders.proofs.Bounds.{HasFew, expected_few, found_few, in_time, link_there}
 use Rattle.law_fair_orders.proofs.Devices.{IsNoStop, step_plain}
 use Rattle.law_fair_orders.proofs.Found.{IsHome, home_is}
-use Rattle.law_fair_orders.proofs.Images.{AreUntaken, IsAmong, image_in, untaken_less}
+use Rattle.law_fair_orders.proofs.Images.{AreUntaken, image_in, untaken_less}
 use Rattle.law_fair_orders.proofs.Orders.{AreBegun, after_all, after_here, after_line, after_other, at_after, carried-push, has_after, heard-push}
 use Rattle.law_fair_orders.proofs.Posted.{heard_grows, span_answered, span_heard, spans, spans-both}
-use Rattle.law_fair_orders.proofs.Tame.{AllOf, IsTame, IsTameContext, IsTameEnd, IsTameLink, of_two}
+use Rattle.law_fair_orders.proofs.Tame.{AllOf, IsTame, IsTameEnd, IsTameLink, of_two}
 use Rattle.law_fair_orders.proofs.TameSteps.{ExpectsFew, IsTameDevice, IsTameFound, IsTameHere, IsTameImage, Keeps, contexts_found, end_tame, here_holds, is_mover, work_keeps}
 use Rattle.law_fair_orders.proofs.Playing.{still_stops}
 use Rattle.law_fair_orders.proofs.Walk.{IsFairLine, Reached, next}

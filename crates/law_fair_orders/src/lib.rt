@@ -3,7 +3,7 @@
 //! The functions do nothing. Each promises the law that it names.
 #![tactic(auto)]
 
-ghost use Rattle.law_world_orders.specs.Bridge.{FairOrdersAreLegal, WorkIsFair};
+ghost use Rattle.law_world_orders.specs.Bridge.{FairOrdersAreLegal, ShortOrdersAreRuns, WorkIsFair};
 
 use law_simulation::runs::{events_follow, law_holds, runs_follow};
 use law_world_orders::{copies_stand, devices_open_apart};
@@ -23,6 +23,18 @@ pub fn fair_orders_are_legal()
 /// An order of additions and polls at one context and of moves of the other is fair, if at most 2^22 additions are accepted.
 pub fn work_is_fair()
     ensures { WorkIsFair }
+{
+    law_holds();
+    events_follow();
+    runs_follow();
+    copies_stand();
+    devices_open_apart();
+}
+
+/// A fair order in which at most 16,384 datagrams are sent is a run of world events: it leads to the devices and the carried
+/// images of that world, and applications hear the same.
+pub fn short_orders_are_runs()
+    ensures { ShortOrdersAreRuns }
 {
     law_holds();
     events_follow();

@@ -1,21 +1,9 @@
 -- The opening world stands for a state of the machine, and each fair line leads to a world that does.
-use Rattle.std.specs.Prelude.{ℕ, List, []}
-use Rattle.protocol.specs.State.{Device}
-use Rattle.law_world_orders.specs.Bridge.{IsFair}
-use Rattle.law_world_orders.specs.Lines.{Line}
+use Rattle.std.specs.Prelude.{[]}
 use Rattle.law_world_orders.specs.Openings.{opening_verbs, openings}
-use Rattle.law_world_orders.specs.Order.{Each}
 use Rattle.law_fair_orders.proofs.Opening.{begun, starts}
-use Rattle.law_fair_orders.proofs.Walk.{IsFairLine, Reached, walks}
+use Rattle.law_fair_orders.proofs.Walk.{fair_lines, Reached, walks}
 use Rattle.law_fair_orders.proofs.fair_orders_are_legal.Goals as goal
-
-fair_lines : (workers : ℕ) (ls : List Line) → IsFair workers ls → Each (IsFairLine (openings workers)) ls
-fair_lines workers ls fair k l at = record {
-  is_line = fair.order.each k l at;
-  one_sided = fair.one_sided k l at;
-  in_time = fair.in_time k l at;
-  asked = fair.asked k l at;
-}
 
 pub returns : goal.returns
 returns c workers ls low high fair =
