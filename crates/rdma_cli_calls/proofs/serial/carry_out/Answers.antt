@@ -14,13 +14,13 @@ returns-in-Play-clause-performs g c words e =
     performs text_of r rules.Play (e ∙ ap (λ x. Some (known x)) c.in-Play.is) c.play_input.result (c.play_input.ensures.done r) (c.play_input.ensures.stops r) (c.play_input.ensures.counts (g.L.Link.faults c.args.ports.now.link) (g.D.Depot.faults c.args.ports.now.depot)) tt refl
 
 pub returns-in-Play-clause-depot_never_fails : goal.returns-in-Play-clause-depot_never_fails
-returns-in-Play-clause-depot_never_fails g c no s e =
+returns-in-Play-clause-depot_never_fails g c unless s e =
     let r = run_of [] (g.S.Source.left c.args.input.now) (g.S.Source.left c.play_input.new.input) (g.S.Source.faults c.args.input.now) (g.S.Source.faults c.play_input.new.input) (record { waiting = g.L.Link.waiting c.args.ports.now.link; sent = g.L.Link.sent c.args.ports.now.link; to_come = g.C.Ticks.to_come c.args.ports.now.ticks; held = g.D.Depot.held c.args.ports.now.depot; written = g.K.Sink.held c.args.ports.now.output; faults = record { link = g.L.Link.faults c.args.ports.now.link; depot = g.D.Depot.faults c.args.ports.now.depot; output = g.K.Sink.faults c.args.ports.now.output } }) (record { waiting = g.L.Link.waiting c.args.ports.now.link; sent = g.L.Link.sent c.args.ports.now.link; to_come = g.C.Ticks.to_come c.args.ports.now.ticks; held = g.D.Depot.held c.args.ports.now.depot; written = g.K.Sink.held c.play_input.new.output; faults = record { link = g.L.Link.faults c.args.ports.now.link; depot = g.D.Depot.faults c.args.ports.now.depot; output = g.K.Sink.faults c.play_input.new.output } }) in
     err_holds c.play_input.result (PlayStops r) stop.DepotFault (c.play_input.ensures.stops r) e
 
 pub returns-in-Play-clause-kept_input : goal.returns-in-Play-clause-kept_input
-returns-in-Play-clause-kept_input g c no =
-    absurd (no (subst (λ x. ReadsInput (Some (known x))) (sym c.in-Play.is) tt))
+returns-in-Play-clause-kept_input g c unless =
+    absurd (unless (subst (λ x. ReadsInput (Some (known x))) (sym c.in-Play.is) tt))
 
 pub returns-in-Bulk-clause-performs : goal.returns-in-Bulk-clause-performs
 returns-in-Bulk-clause-performs g c words e =
@@ -33,7 +33,7 @@ returns-in-Bulk-clause-never_fails g c s e =
     err_holds c.sum_up.result (BulkStops c.in-Bulk.seed c.in-Bulk.mix r) stop.ReadFault (c.sum_up.ensures.stops r) e
 
 pub returns-in-Bulk-clause-depot_never_fails : goal.returns-in-Bulk-clause-depot_never_fails
-returns-in-Bulk-clause-depot_never_fails g c no s e =
+returns-in-Bulk-clause-depot_never_fails g c unless s e =
     let r = run_of [] (g.S.Source.left c.args.input.now) (g.S.Source.left c.args.input.now) (g.S.Source.faults c.args.input.now) (g.S.Source.faults c.args.input.now) (record { waiting = g.L.Link.waiting c.args.ports.now.link; sent = g.L.Link.sent c.args.ports.now.link; to_come = g.C.Ticks.to_come c.args.ports.now.ticks; held = g.D.Depot.held c.args.ports.now.depot; written = g.K.Sink.held c.args.ports.now.output; faults = record { link = g.L.Link.faults c.args.ports.now.link; depot = g.D.Depot.faults c.args.ports.now.depot; output = g.K.Sink.faults c.args.ports.now.output } }) (record { waiting = g.L.Link.waiting c.args.ports.now.link; sent = g.L.Link.sent c.args.ports.now.link; to_come = g.C.Ticks.to_come c.args.ports.now.ticks; held = g.D.Depot.held c.args.ports.now.depot; written = g.K.Sink.held c.sum_up.new.output; faults = record { link = g.L.Link.faults c.args.ports.now.link; depot = g.D.Depot.faults c.args.ports.now.depot; output = g.K.Sink.faults c.sum_up.new.output } }) in
     err_holds c.sum_up.result (BulkStops c.in-Bulk.seed c.in-Bulk.mix r) stop.DepotFault (c.sum_up.ensures.stops r) e
 
@@ -48,8 +48,8 @@ returns-in-ShowDump-clause-never_fails g c s e =
     err_holds c.show_dump.result (ShowStops text_of c.in-ShowDump.name r) stop.ReadFault (c.show_dump.ensures.stops r) e
 
 pub returns-in-ShowDump-clause-kept_depot : goal.returns-in-ShowDump-clause-kept_depot
-returns-in-ShowDump-clause-kept_depot g c no =
-    absurd (no (subst (λ x. UsesDepot (Some (known x))) (sym c.in-ShowDump.is) tt))
+returns-in-ShowDump-clause-kept_depot g c unless =
+    absurd (unless (subst (λ x. UsesDepot (Some (known x))) (sym c.in-ShowDump.is) tt))
 
 pub returns-in-Evacuate-clause-performs : goal.returns-in-Evacuate-clause-performs
 returns-in-Evacuate-clause-performs g c words e =
@@ -57,13 +57,13 @@ returns-in-Evacuate-clause-performs g c words e =
     performs text_of r (rules.Evacuate c.in-Evacuate.from c.as_slice.result.now) ((e ∙ ap (λ x. Some (known x)) c.in-Evacuate.is) ∙ ap (λ ts. Some (rules.Evacuate c.in-Evacuate.from ts)) (sym c.as_slice.ensures.value)) c.evacuate_input.result (c.evacuate_input.ensures.done r) (c.evacuate_input.ensures.stops r) (c.evacuate_input.ensures.counts (g.L.Link.faults c.args.ports.now.link) (g.D.Depot.faults c.args.ports.now.depot)) tt refl
 
 pub returns-in-Evacuate-clause-depot_never_fails : goal.returns-in-Evacuate-clause-depot_never_fails
-returns-in-Evacuate-clause-depot_never_fails g c no s e =
+returns-in-Evacuate-clause-depot_never_fails g c unless s e =
     let r = run_of [] (g.S.Source.left c.args.input.now) (g.S.Source.left c.evacuate_input.new.input) (g.S.Source.faults c.args.input.now) (g.S.Source.faults c.evacuate_input.new.input) (record { waiting = g.L.Link.waiting c.args.ports.now.link; sent = g.L.Link.sent c.args.ports.now.link; to_come = g.C.Ticks.to_come c.args.ports.now.ticks; held = g.D.Depot.held c.args.ports.now.depot; written = g.K.Sink.held c.args.ports.now.output; faults = record { link = g.L.Link.faults c.args.ports.now.link; depot = g.D.Depot.faults c.args.ports.now.depot; output = g.K.Sink.faults c.args.ports.now.output } }) (record { waiting = g.L.Link.waiting c.args.ports.now.link; sent = g.L.Link.sent c.args.ports.now.link; to_come = g.C.Ticks.to_come c.args.ports.now.ticks; held = g.D.Depot.held c.args.ports.now.depot; written = g.K.Sink.held c.evacuate_input.new.output; faults = record { link = g.L.Link.faults c.args.ports.now.link; depot = g.D.Depot.faults c.args.ports.now.depot; output = g.K.Sink.faults c.evacuate_input.new.output } }) in
     err_holds c.evacuate_input.result (EvacuateStops c.in-Evacuate.from c.as_slice.result.now r) stop.DepotFault (c.evacuate_input.ensures.stops r) e
 
 pub returns-in-Evacuate-clause-kept_input : goal.returns-in-Evacuate-clause-kept_input
-returns-in-Evacuate-clause-kept_input g c no =
-    absurd (no (subst (λ x. ReadsInput (Some (known x))) (sym c.in-Evacuate.is) tt))
+returns-in-Evacuate-clause-kept_input g c unless =
+    absurd (unless (subst (λ x. ReadsInput (Some (known x))) (sym c.in-Evacuate.is) tt))
 
 pub returns-in-Audit-clause-performs : goal.returns-in-Audit-clause-performs
 returns-in-Audit-clause-performs g c words e =
@@ -71,13 +71,13 @@ returns-in-Audit-clause-performs g c words e =
     performs text_of r rules.Audit (e ∙ ap (λ x. Some (known x)) c.in-Audit.is) c.audit_input.result (c.audit_input.ensures.done r) (c.audit_input.ensures.stops r) (c.audit_input.ensures.counts (g.L.Link.faults c.args.ports.now.link) (g.D.Depot.faults c.args.ports.now.depot)) tt refl
 
 pub returns-in-Audit-clause-depot_never_fails : goal.returns-in-Audit-clause-depot_never_fails
-returns-in-Audit-clause-depot_never_fails g c no s e =
+returns-in-Audit-clause-depot_never_fails g c unless s e =
     let r = run_of [] (g.S.Source.left c.args.input.now) (g.S.Source.left c.audit_input.new.input) (g.S.Source.faults c.args.input.now) (g.S.Source.faults c.audit_input.new.input) (record { waiting = g.L.Link.waiting c.args.ports.now.link; sent = g.L.Link.sent c.args.ports.now.link; to_come = g.C.Ticks.to_come c.args.ports.now.ticks; held = g.D.Depot.held c.args.ports.now.depot; written = g.K.Sink.held c.args.ports.now.output; faults = record { link = g.L.Link.faults c.args.ports.now.link; depot = g.D.Depot.faults c.args.ports.now.depot; output = g.K.Sink.faults c.args.ports.now.output } }) (record { waiting = g.L.Link.waiting c.args.ports.now.link; sent = g.L.Link.sent c.args.ports.now.link; to_come = g.C.Ticks.to_come c.args.ports.now.ticks; held = g.D.Depot.held c.args.ports.now.depot; written = g.K.Sink.held c.audit_input.new.output; faults = record { link = g.L.Link.faults c.args.ports.now.link; depot = g.D.Depot.faults c.args.ports.now.depot; output = g.K.Sink.faults c.audit_input.new.output } }) in
     err_holds c.audit_input.result (AuditStops r) stop.DepotFault (c.audit_input.ensures.stops r) e
 
 pub returns-in-Audit-clause-kept_input : goal.returns-in-Audit-clause-kept_input
-returns-in-Audit-clause-kept_input g c no =
-    absurd (no (subst (λ x. ReadsInput (Some (known x))) (sym c.in-Audit.is) tt))
+returns-in-Audit-clause-kept_input g c unless =
+    absurd (unless (subst (λ x. ReadsInput (Some (known x))) (sym c.in-Audit.is) tt))
 
 pub returns-in-Node-clause-performs : goal.returns-in-Node-clause-performs
 returns-in-Node-clause-performs g c words e =
@@ -85,17 +85,17 @@ returns-in-Node-clause-performs g c words e =
     node_performs text_of r c.in-Node.id c.in-Node.own (e ∙ ap (λ x. Some (known x)) c.in-Node.is) c.run_device.result (c.run_device.ensures.ends r) c.run_device.ensures.counts
 
 pub returns-in-Node-clause-depot_never_fails : goal.returns-in-Node-clause-depot_never_fails
-returns-in-Node-clause-depot_never_fails g c no s e =
-    absurd (no (subst (λ x. UsesLink (Some (known x))) (sym c.in-Node.is) tt))
+returns-in-Node-clause-depot_never_fails g c unless s e =
+    absurd (unless (subst (λ x. UsesLink (Some (known x))) (sym c.in-Node.is) tt))
 
 pub returns-in-Node-clause-kept_input : goal.returns-in-Node-clause-kept_input
-returns-in-Node-clause-kept_input g c no =
-    absurd (no (subst (λ x. ReadsInput (Some (known x))) (sym c.in-Node.is) tt))
+returns-in-Node-clause-kept_input g c unless =
+    absurd (unless (subst (λ x. ReadsInput (Some (known x))) (sym c.in-Node.is) tt))
 
 pub returns-in-Node-clause-kept_link : goal.returns-in-Node-clause-kept_link
-returns-in-Node-clause-kept_link g c no =
-    absurd (no (subst (λ x. UsesLink (Some (known x))) (sym c.in-Node.is) tt))
+returns-in-Node-clause-kept_link g c unless =
+    absurd (unless (subst (λ x. UsesLink (Some (known x))) (sym c.in-Node.is) tt))
 
 pub returns-in-Node-clause-kept_depot : goal.returns-in-Node-clause-kept_depot
-returns-in-Node-clause-kept_depot g c no =
-    absurd (no (subst (λ x. UsesDepot (Some (known x))) (sym c.in-Node.is) tt))
+returns-in-Node-clause-kept_depot g c unless =
+    absurd (unless (subst (λ x. UsesDepot (Some (known x))) (sym c.in-Node.is) tt))

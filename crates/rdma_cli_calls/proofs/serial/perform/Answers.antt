@@ -19,20 +19,20 @@ returns-in-Ok-clause-never_fails g c =
     c.carry_out.ensures.never_fails
 
 pub returns-in-Ok-clause-depot_never_fails : goal.returns-in-Ok-clause-depot_never_fails
-returns-in-Ok-clause-depot_never_fails g c no =
-    c.carry_out.ensures.depot_never_fails (λ u. no (subst UsesLink c.in-Ok.ensures.spelled u))
+returns-in-Ok-clause-depot_never_fails g c unless =
+    c.carry_out.ensures.depot_never_fails (λ u. unless (subst UsesLink c.in-Ok.ensures.spelled u))
 
 pub returns-in-Ok-clause-kept_input : goal.returns-in-Ok-clause-kept_input
-returns-in-Ok-clause-kept_input g c no =
-    c.carry_out.ensures.kept_input (λ u. no (subst ReadsInput c.in-Ok.ensures.spelled u))
+returns-in-Ok-clause-kept_input g c unless =
+    c.carry_out.ensures.kept_input (λ u. unless (subst ReadsInput c.in-Ok.ensures.spelled u))
 
 pub returns-in-Ok-clause-kept_link : goal.returns-in-Ok-clause-kept_link
-returns-in-Ok-clause-kept_link g c no =
-    c.carry_out.ensures.kept_link (λ u. no (subst UsesLink c.in-Ok.ensures.spelled u))
+returns-in-Ok-clause-kept_link g c unless =
+    c.carry_out.ensures.kept_link (λ u. unless (subst UsesLink c.in-Ok.ensures.spelled u))
 
 pub returns-in-Ok-clause-kept_depot : goal.returns-in-Ok-clause-kept_depot
-returns-in-Ok-clause-kept_depot g c no =
-    c.carry_out.ensures.kept_depot (λ u. no (subst UsesDepot c.in-Ok.ensures.spelled u))
+returns-in-Ok-clause-kept_depot g c unless =
+    c.carry_out.ensures.kept_depot (λ u. unless (subst UsesDepot c.in-Ok.ensures.spelled u))
 
 pub returns-in-Err-clause-performs : goal.returns-in-Err-clause-performs
 returns-in-Err-clause-performs g c =
@@ -44,5 +44,5 @@ returns-in-Err-clause-never_fails g c s e =
     err_holds (Err c.in-Err.stop) (IsNotAsked (command_of (map string_bytes c.args.words.now))) stop.ReadFault c.in-Err.ensures.stops e
 
 pub returns-in-Err-clause-depot_never_fails : goal.returns-in-Err-clause-depot_never_fails
-returns-in-Err-clause-depot_never_fails g c no s e =
+returns-in-Err-clause-depot_never_fails g c unless s e =
     err_holds (Err c.in-Err.stop) (IsNotAsked (command_of (map string_bytes c.args.words.now))) stop.DepotFault c.in-Err.ensures.stops e

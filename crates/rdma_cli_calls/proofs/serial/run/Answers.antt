@@ -24,5 +24,5 @@ returns-in-Ok-write_last_line-clause-never_fails g c s e =
     c.in-Err.ensures.never_fails s (ap Err (stop_4 c.in-Err.stop (sym c.status.ensures ∙ e)))
 
 pub returns-in-Ok-write_last_line-clause-depot_never_fails : goal.returns-in-Ok-write_last_line-clause-depot_never_fails
-returns-in-Ok-write_last_line-clause-depot_never_fails g c no s e =
-    c.in-Err.ensures.depot_never_fails no s (ap Err (stop_7 c.in-Err.stop (sym c.status.ensures ∙ e)))
+returns-in-Ok-write_last_line-clause-depot_never_fails g c unless s e =
+    c.in-Err.ensures.depot_never_fails unless s (ap Err (stop_7 c.in-Err.stop (sym c.status.ensures ∙ e)))

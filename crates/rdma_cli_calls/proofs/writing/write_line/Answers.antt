@@ -1,5 +1,5 @@
-use Rattle.std.proofs.Common.{arith, map}
-use Rattle.std.proofs.lemmas.Result.{on_err_weaker}
+use Rattle.std.proofs.Common.{arith, map, ◌∙◌}
+use Rattle.std.proofs.lemmas.Result.{on_err_weaker, on_ok_weaker}
 use Rattle.script_lang.specs.Printed.{ended, line}
 use Rattle.script_runner.proofs.Fronts.{front_longer, on_err}
 use Rattle.rdma_cli_calls.proofs.Lines.{end_cut_off, space_cut_off, word_cut_off, word_written}
@@ -17,8 +17,12 @@ returns-in_err-write_text-3-clause-part g c = on_err c.from_residual-in_err-writ
 pub loop-word-preserved : goal.loop-word-preserved
 loop-word-preserved g c = record {
   written = word_written (g.K.Sink.held c.args.output.now) (g.K.Sink.held c.loop-word.output) (g.K.Sink.held c.write_text-in-loop-word.new.output) (line c.args.first.now (map (λ w. w.now) c.args.words.now)) c.args.words.now c.loop-word.word-index c.loop-word.invariant.written _ c.loop-word-test.true (g.K.Sink.held c.write_text-in-loop-word-2.new.output) c.in_ok-write_text-2.ensures.whole c.in_ok-write_text-3.ensures.whole;
+  faults = omega (arith, c.loop-word.invariant.faults, c.in_ok-write_text-2.ensures.faults_unchanged, c.in_ok-write_text-3.ensures.faults_unchanged);
   faults_monotone = omega (arith, c.loop-word.invariant.faults_monotone, c.write_text-in-loop-word.ensures.faults_monotone, c.write_text-in-loop-word-2.ensures.faults_monotone);
 }
 
 pub returns-clause-part : goal.returns-clause-part
 returns-clause-part g c = on_err_weaker c.write_text-2.result (end_cut_off (g.K.Sink.held c.args.output.now) (g.K.Sink.held c.loop-word.output) (g.K.Sink.held c.write_text-2.new.output) (line c.args.first.now (map (λ w. w.now) c.args.words.now)) c.args.words.now c.loop-word.word-index c.loop-word.invariant.written c.loop-word-test.false) c.write_text-2.ensures.part
+
+pub returns-clause-faults_unchanged : goal.returns-clause-faults_unchanged
+returns-clause-faults_unchanged g c = on_ok_weaker c.write_text-2.result (λ e. e ∙ c.loop-word.invariant.faults) c.write_text-2.ensures.faults_unchanged
