@@ -14,6 +14,9 @@ enum Spelled {
     Another,
     /// The device, and how many targets.
     Evacuate(u8, usize),
+    Audit,
+    /// The device.
+    Node(u8),
 }
 
 fn told(command: &Option<Command>) -> Spelled {
@@ -24,6 +27,8 @@ fn told(command: &Option<Command>) -> Spelled {
         Some(Command::ShowDump { name }) if name.as_bytes() == b"help".as_slice() => Spelled::Help,
         Some(Command::ShowDump { .. }) => Spelled::Another,
         Some(Command::Evacuate { from, targets }) => Spelled::Evacuate(*from, targets.len()),
+        Some(Command::Audit) => Spelled::Audit,
+        Some(Command::Node { id, .. }) => Spelled::Node(*id),
     }
 }
 
@@ -58,6 +63,9 @@ fn words_spell_commands(rt: HostRuntime) -> Result<(), AllocError> {
         ("show-dump help", Spelled::Help),
         ("evacuate 2 3 1", Spelled::Evacuate(2, 2)),
         ("evacuate 2 2", Spelled::Nothing),
+        ("audit", Spelled::Audit),
+        ("node 1 127.0.0.1:4801", Spelled::Node(1)),
+        ("node 0 127.0.0.1:4801", Spelled::Nothing),
     ];
     for (line, wanted) in lines {
         assert!(rt; command_of(rt.alloc(), line)? == wanted, "{line}");
