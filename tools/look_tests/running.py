@@ -16,8 +16,8 @@ from look_parts.program import TOP, VARIABLE, find_program
 
 LOOK = TOP / "tools" / "look"
 EXAMPLES = TOP / "examples"
-# The examples without those of `large`, which send thousands of datagrams.
-SCRIPTS = sorted(path for path in EXAMPLES.rglob("*.script") if path.parent.name != "large")
+# The examples that `play` answers, without those of `large`, which send thousands of datagrams; those of `live_move` are of nodes.
+SCRIPTS = sorted(path for path in EXAMPLES.rglob("*.script") if path.parent.name not in ("large", "live_move"))
 # The worked cases of other implementations, where they stand beside the repository.
 CASES = TOP.parent / "shared" / "cases" / "scripts"
 
