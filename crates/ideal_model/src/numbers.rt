@@ -13,7 +13,7 @@ use crate::posted::IdealRequest;
 use rdma_types::ObjName;
 
 /// How many packet numbers a request takes.
-fn span_of(r: &IdealRequest, mtu: u32) -> u64
+pub(crate) fn span_of(r: &IdealRequest, mtu: u32) -> u64
     requires { 0 < mtu }
     ensures { result ≡ span_of r.now mtu }
 {

@@ -40,8 +40,8 @@ impl Ideal {
         Ok(Answer::Done)
     }
 
-    /// It is an inner step that may be made.
-    fn may_make(&self, step: &IdealStep) -> bool
+    /// Whether it is an inner step that may be made.
+    pub fn may_make(&self, step: &IdealStep) -> bool
         ensures { result ≡ may_inner self.now step.now }
     {
         match step {
