@@ -1,2 +1,4 @@
 pub mod Parts
+pub mod Joined
 pub mod Given
+pub mod Back

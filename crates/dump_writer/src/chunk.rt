@@ -1,6 +1,6 @@
 //! A few bytes that wait to be handed out.
 
-ghost use Rattle.std.specs.Prelude.{◌≡◌, ℕ, ◌+◌, ◌<◌, ◌≤◌, ◌++◌, ◌∷◌, [], length};
+ghost use Rattle.std.specs.Prelude.{◌≡◌, ℕ, ◌+◌, ◌^◌, ◌<◌, ◌≤◌, ◌++◌, ◌∷◌, [], length};
 ghost use Rattle.protocol.specs.Bytes.{big_bytes};
 ghost use Rattle.protocol.specs.Dumps.{text};
 
@@ -62,6 +62,7 @@ impl Chunk {
         requires { length self.old + 1 ≤ 128 }
         ensures bytes { self.new ≡ self.old ++ big_bytes 1 n }
         ensures len { length self.new ≡ length self.old + 1 }
+        ensures fits { n < 2 ^ 8 }
     {
         self.put(&[n]);
     }
@@ -72,6 +73,7 @@ impl Chunk {
         requires { length self.old + 2 ≤ 128 }
         ensures bytes { self.new ≡ self.old ++ big_bytes 2 n }
         ensures len { length self.new ≡ length self.old + 2 }
+        ensures fits { n < 2 ^ 16 }
     {
         self.put(&n.to_be_bytes());
     }
@@ -82,6 +84,7 @@ impl Chunk {
         requires { length self.old + 4 ≤ 128 }
         ensures bytes { self.new ≡ self.old ++ big_bytes 4 n }
         ensures len { length self.new ≡ length self.old + 4 }
+        ensures fits { n < 2 ^ 32 }
     {
         self.put(&n.to_be_bytes());
     }
@@ -92,6 +95,7 @@ impl Chunk {
         requires { length self.old + 8 ≤ 128 }
         ensures bytes { self.new ≡ self.old ++ big_bytes 8 n }
         ensures len { length self.new ≡ length self.old + 8 }
+        ensures fits { n < 2 ^ 64 }
     {
         self.put(&n.to_be_bytes());
     }

@@ -1,8 +1,10 @@
 //! The fields of the things of an image as bytes.
 
-ghost use Rattle.std.specs.Prelude.{◌≡◌, ◌+◌, ◌<◌, ◌≤◌, ◌++◌, ◌∷◌, [], length, is_some, if◌then◌else◌};
+ghost use Rattle.std.specs.Prelude.{◌≡◌, ◌+◌, ◌^◌, ◌<◌, ◌≤◌, ◌++◌, ◌∷◌, [], length, is_some, if◌then◌else◌};
 ghost use Rattle.protocol.specs.Bytes.{big_bytes};
 ghost use Rattle.protocol.specs.Dumps.{entry_bytes, receive_bytes, progress_bytes, kept_bytes, kind_number, completed_number, status_number, flag_byte, imm_number, request_flags, state_byte, text};
+ghost use Rattle.law_dump_round_trip.specs.Fits.{FitsEntry, FitsProgress, FitsReceive, FitsRequest};
+ghost use Rattle.dump_writer.specs.Fitting.{FitsHead, FitsKept, FitsRegion};
 ghost use Rattle.dump_writer.specs.Groups.{opening, region_head, queue_head, terms_bytes, link_head, link_numbers, request_head, end_head};
 
 use crate::chunk::Chunk;
@@ -117,6 +119,7 @@ pub fn count_bytes(count: usize) -> Chunk
 pub fn region_fields(region: &RegionImage) -> Chunk
     ensures bytes { result ≡ region_head region.now }
     ensures some { 1 ≤ length result }
+    ensures fits { FitsRegion region.now }
 {
     let mut chunk = Chunk::make();
     chunk.put_text(&region.name);
@@ -146,6 +149,7 @@ pub fn queue_fields(queue: &CqImage) -> Chunk
 pub fn entry_fields(entry: &Completion) -> Chunk
     ensures bytes { result ≡ entry_bytes entry.now }
     ensures some { 1 ≤ length result }
+    ensures fits { FitsEntry entry.now }
 {
     let mut chunk = Chunk::make();
     chunk.put_u32(entry.qp);
@@ -179,6 +183,7 @@ pub fn end_fields(end: &EndImage) -> Chunk
 pub fn link_fields(link: &LinkImage) -> Chunk
     ensures bytes { result ≡ link_head link.now }
     ensures some { 1 ≤ length result }
+    ensures fits { FitsHead link.now }
 {
     let mut chunk = Chunk::make();
     chunk.put_u32(link.peer);
@@ -209,6 +214,7 @@ pub fn terms_fields(terms: &Terms) -> Chunk
 pub fn number_fields(link: &LinkImage) -> Chunk
     ensures bytes { result ≡ link_numbers link.now }
     ensures some { 1 ≤ length result }
+    ensures fits { link.now.waits < 2 ^ 8 }
 {
     let mut chunk = Chunk::make();
     chunk.put_u64(link.first);
@@ -228,6 +234,7 @@ pub fn number_fields(link: &LinkImage) -> Chunk
 pub fn receive_fields(receive: &Receive) -> Chunk
     ensures bytes { result ≡ receive_bytes receive.now }
     ensures some { 1 ≤ length result }
+    ensures fits { FitsReceive receive.now }
 {
     let mut chunk = Chunk::make();
     chunk.put_u64(receive.id);
@@ -242,6 +249,7 @@ pub fn receive_fields(receive: &Receive) -> Chunk
 pub fn progress_fields(progress: &Progress) -> Chunk
     ensures bytes { result ≡ progress_bytes progress.now }
     ensures some { 1 ≤ length result }
+    ensures fits { FitsProgress progress.now }
 {
     let mut chunk = Chunk::make();
     match progress {
@@ -281,6 +289,7 @@ pub fn kept_count(link: &LinkImage) -> Chunk
 pub fn kept_fields(kept: &KeptReply) -> Chunk
     ensures bytes { result ≡ kept_bytes kept.now }
     ensures some { 1 ≤ length result }
+    ensures fits { FitsKept kept.now }
 {
     let mut chunk = Chunk::make();
     chunk.put_u64(kept.number);
@@ -293,6 +302,7 @@ pub fn kept_fields(kept: &KeptReply) -> Chunk
 pub fn request_fields(posted: &PostedImage) -> Chunk
     ensures bytes { result ≡ request_head posted.now }
     ensures some { 1 ≤ length result }
+    ensures fits { FitsRequest posted.now }
 {
     let request = &posted.request;
     let mut chunk = Chunk::make();

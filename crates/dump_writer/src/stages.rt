@@ -1,6 +1,8 @@
 //! The places between two groups of fields of a dump.
 
-ghost use Rattle.std.specs.Prelude.{◌≡◌, ◌≤◌, ◌++◌, [], ◌∷◌, length};
+ghost use Rattle.std.specs.Prelude.{◌≡◌, ◌≤◌, ◌++◌, [], ◌∷◌, length, All};
+ghost use Rattle.law_dump_round_trip.specs.Fits.{FitsEnd};
+ghost use Rattle.dump_writer.specs.Fitting.{EntriesFit, KeptFit, LinkFits, QueuesFit, ReceivesFit, RegionsFit, RequestsFit, fits_left};
 ghost use Rattle.dump_writer.specs.Left.{left, IsPast, domains_left, regions_left, queues_left, entries_left, ends_left, link_left, kept_left, requests_left, receives_left};
 
 use crate::chunk::Chunk;
@@ -37,10 +39,11 @@ pub struct Step<'a> {
     pub next: Stage<'a>,
 }
 
-#[tactic(auto, unfolding(crate::specs::Left::left))]
+#[tactic(auto, unfolding(crate::specs::Left::left, crate::specs::Fitting::fits_left))]
 fn domain_step<'a>(image: &'a ContextImage, names: &'a [Name]) -> Step<'a>
     ensures bytes { result.chunk ++ left image.now result.next ≡ domains_left image.now names.now }
     ensures some { 1 ≤ length result.chunk }
+    ensures fits { fits_left image.now result.next → RegionsFit image.now image.now.regions }
 {
     match names {
         [] => Step {
@@ -54,10 +57,11 @@ fn domain_step<'a>(image: &'a ContextImage, names: &'a [Name]) -> Step<'a>
     }
 }
 
-#[tactic(auto, unfolding(crate::specs::Left::left))]
+#[tactic(auto, unfolding(crate::specs::Left::left, crate::specs::Fitting::fits_left))]
 fn region_step<'a>(image: &'a ContextImage, regions: &'a [RegionImage]) -> Step<'a>
     ensures bytes { result.chunk ++ left image.now result.next ≡ regions_left image.now regions.now }
     ensures some { 1 ≤ length result.chunk }
+    ensures fits { fits_left image.now result.next → RegionsFit image.now regions.now }
 {
     match regions {
         [] => Step {
@@ -71,10 +75,11 @@ fn region_step<'a>(image: &'a ContextImage, regions: &'a [RegionImage]) -> Step<
     }
 }
 
-#[tactic(auto, unfolding(crate::specs::Left::left))]
+#[tactic(auto, unfolding(crate::specs::Left::left, crate::specs::Fitting::fits_left))]
 fn queue_step<'a>(image: &'a ContextImage, queues: &'a [CqImage]) -> Step<'a>
     ensures bytes { result.chunk ++ left image.now result.next ≡ queues_left image.now queues.now }
     ensures some { 1 ≤ length result.chunk }
+    ensures fits { fits_left image.now result.next → QueuesFit image.now queues.now }
 {
     match queues {
         [] => Step {
@@ -88,7 +93,7 @@ fn queue_step<'a>(image: &'a ContextImage, queues: &'a [CqImage]) -> Step<'a>
     }
 }
 
-#[tactic(auto, unfolding(crate::specs::Left::left))]
+#[tactic(auto, unfolding(crate::specs::Left::left, crate::specs::Fitting::fits_left))]
 fn entry_step<'a>(
     image: &'a ContextImage,
     entries: &'a [Completion],
@@ -96,6 +101,7 @@ fn entry_step<'a>(
 ) -> Step<'a>
     ensures bytes { result.chunk ++ left image.now result.next ≡ entries_left image.now entries.now queues.now }
     ensures some { 1 ≤ length result.chunk }
+    ensures fits { fits_left image.now result.next → EntriesFit image.now entries.now queues.now }
 {
     match entries {
         [] => queue_step(image, queues),
@@ -106,10 +112,12 @@ fn entry_step<'a>(
     }
 }
 
-#[tactic(auto, unfolding(crate::specs::Left::left))]
+#[tactic(auto, unfolding(crate::specs::Left::left, crate::specs::Fitting::fits_left))]
 fn end_step<'a>(image: &'a ContextImage, ends: &'a [EndImage]) -> Step<'a>
     ensures bytes { result.chunk ++ left image.now result.next ≡ ends_left ends.now }
     ensures some { length result.chunk ≡ 0 → ends.now ≡ [] }
+    ensures fits { fits_left image.now result.next → All FitsEnd ends.now }
+    ensures last { length result.chunk ≡ 0 → All FitsEnd ends.now }
 {
     match ends {
         [] => Step {
@@ -123,7 +131,7 @@ fn end_step<'a>(image: &'a ContextImage, ends: &'a [EndImage]) -> Step<'a>
     }
 }
 
-#[tactic(auto, unfolding(crate::specs::Left::left))]
+#[tactic(auto, unfolding(crate::specs::Left::left, crate::specs::Fitting::fits_left))]
 fn receive_step<'a>(
     image: &'a ContextImage,
     receives: &'a [Receive],
@@ -131,6 +139,8 @@ fn receive_step<'a>(
 ) -> Step<'a>
     ensures bytes { result.chunk ++ left image.now result.next ≡ receives_left receives.now ends.now }
     ensures some { length result.chunk ≡ 0 → receives_left receives.now ends.now ≡ [] }
+    ensures fits { fits_left image.now result.next → ReceivesFit receives.now ends.now }
+    ensures last { length result.chunk ≡ 0 → ReceivesFit receives.now ends.now }
 {
     match receives {
         [] => end_step(image, ends),
@@ -141,7 +151,7 @@ fn receive_step<'a>(
     }
 }
 
-#[tactic(auto, unfolding(crate::specs::Left::left))]
+#[tactic(auto, unfolding(crate::specs::Left::left, crate::specs::Fitting::fits_left))]
 fn request_step<'a>(
     image: &'a ContextImage,
     requests: &'a [PostedImage],
@@ -150,6 +160,7 @@ fn request_step<'a>(
 ) -> Step<'a>
     ensures bytes { result.chunk ++ left image.now result.next ≡ requests_left end.now requests.now ends.now }
     ensures some { 1 ≤ length result.chunk }
+    ensures fits { fits_left image.now result.next → RequestsFit end.now requests.now ends.now }
 {
     match requests {
         [] => Step {
@@ -163,7 +174,7 @@ fn request_step<'a>(
     }
 }
 
-#[tactic(auto, unfolding(crate::specs::Left::left))]
+#[tactic(auto, unfolding(crate::specs::Left::left, crate::specs::Fitting::fits_left))]
 fn kept_step<'a>(
     image: &'a ContextImage,
     kept: &'a [KeptReply],
@@ -172,6 +183,7 @@ fn kept_step<'a>(
 ) -> Step<'a>
     ensures bytes { result.chunk ++ left image.now result.next ≡ kept_left end.now kept.now ends.now }
     ensures some { 1 ≤ length result.chunk }
+    ensures fits { fits_left image.now result.next → KeptFit end.now kept.now ends.now }
 {
     match kept {
         [] => Step {
@@ -185,10 +197,11 @@ fn kept_step<'a>(
     }
 }
 
-#[tactic(auto, unfolding(crate::specs::Left::left))]
+#[tactic(auto, unfolding(crate::specs::Left::left, crate::specs::Fitting::fits_left))]
 fn link_step<'a>(image: &'a ContextImage, end: &'a EndImage, ends: &'a [EndImage]) -> Step<'a>
     ensures bytes { result.chunk ++ left image.now result.next ≡ link_left end.now.linked end.now ends.now }
     ensures some { 1 ≤ length result.chunk }
+    ensures fits { fits_left image.now result.next → LinkFits end.now.linked end.now ends.now }
 {
     match &end.linked {
         None => kept_step(image, &[], end, ends),
@@ -200,11 +213,13 @@ fn link_step<'a>(image: &'a ContextImage, end: &'a EndImage, ends: &'a [EndImage
 }
 
 /// The next fields: none only where nothing is left.
-#[tactic(auto, unfolding(crate::specs::Left::left))]
+#[tactic(auto, unfolding(crate::specs::Left::left, crate::specs::Fitting::fits_left))]
 pub fn next_step<'a>(image: &'a ContextImage, stage: Stage<'a>) -> Step<'a>
     requires { IsPast stage }
     ensures bytes { result.chunk ++ left image.now result.next ≡ left image.now stage.entry }
     ensures some { length result.chunk ≡ 0 → left image.now stage.entry ≡ [] }
+    ensures fits { fits_left image.now result.next → fits_left image.now stage.entry }
+    ensures last { length result.chunk ≡ 0 → fits_left image.now stage.entry }
 {
     match stage {
         Stage::Opening => Step {

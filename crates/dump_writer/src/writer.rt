@@ -3,6 +3,9 @@
 ghost use Rattle.std.specs.Prelude.{◌≡◌, ◌+◌, ◌-◌, ◌<◌, ◌≤◌, ◌++◌, [], length, take, drop, min, IfOk, IfSome, IfNone};
 ghost use Rattle.protocol.specs.Dumps.{dump_bytes, Dumps};
 ghost use Rattle.protocol.specs.Lawful.{IsLawful};
+ghost use Rattle.law_dump_round_trip.specs.Fits.{FitsFields};
+ghost use Rattle.dump_writer.specs.Fitting.{fits_left};
+ghost use Rattle.dump_writer.specs.Writing.{ReadsBack};
 ghost use Rattle.dump_writer.specs.Left.{left, IsPast};
 ghost use Rattle.dump_writer.specs.Gives.{Gives};
 ghost use Rattle.protocol.specs.declared.images.ContextImage.{ContextImage};
@@ -24,14 +27,17 @@ pub struct DumpWriter<'a> {
 }
 
 impl<'a> Model for DumpWriter<'a> {
-    ghost use Rattle.std.specs.Prelude.{ℕ, List, ◌++◌, ◌≤◌, length, drop};
+    ghost use Rattle.std.specs.Prelude.{◌++◌, ◌≤◌, length, drop};
+    ghost use Rattle.law_dump_round_trip.specs.Fits.{FitsFields};
+    ghost use Rattle.dump_writer.specs.Fitting.{fits_left};
+    ghost use Rattle.dump_writer.specs.Writing.{Writing};
     ghost use Rattle.dump_writer.specs.Left.{left};
 
-    ghost Value = { List ℕ };
+    ghost Value = { Writing };
 
-    ghost view = { λ w. drop w.done w.chunk ++ left w.image.now w.next };
+    ghost view = { λ w. record { image = w.image.now; left = drop w.done w.chunk ++ left w.image.now w.next } };
 
-    ghost invariant = { λ w. w.done ≤ length w.chunk };
+    ghost invariant = { λ w. (w.done ≤ length w.chunk) × (fits_left w.image.now w.next → FitsFields w.image.now) };
 }
 
 /// Copies as many bytes as both have.
@@ -64,10 +70,11 @@ struct Copied<'a> {
 }
 
 /// Copies bytes of the run that stands next, unless none are left of one.
-#[tactic(auto, unfolding(crate::specs::Left::left))]
+#[tactic(auto, unfolding(crate::specs::Left::left, crate::specs::Fitting::fits_left))]
 fn give_run<'a>(stage: Stage<'a>, out: &mut [u8]) -> Option<Copied<'a>>
     requires { 0 < length out.old }
     ensures given { IfSome result (λ r. (c : ContextImage) → Gives (left c stage.entry) (left c r.next) out.old out.new r.count) }
+    ensures fits { IfSome result (λ r. (c : ContextImage) → fits_left c r.next → fits_left c stage.entry) }
     ensures some { IfSome result (λ r. 0 < r.count) }
     ensures none { IfNone result (IsPast stage.entry) }
     ensures same { IfNone result (out.new ≡ out.old) }
@@ -89,10 +96,11 @@ fn give_run<'a>(stage: Stage<'a>, out: &mut [u8]) -> Option<Copied<'a>>
 
 impl<'a> DumpWriter<'a> {
     /// All bytes of an image are to come. It needs an image that keeps the rules.
-    #[tactic(auto, unfolding(crate::specs::Left::left), using(crate::proofs::Parts::whole))]
+    #[tactic(auto, unfolding(crate::specs::Left::left, crate::specs::Fitting::fits_left), using(crate::proofs::Parts::whole))]
     pub fn make(image: &'a ContextImage) -> DumpWriter<'a>
         requires { IsLawful image.now }
-        ensures { result ≡ dump_bytes 2 image.now }
+        ensures image { result.image ≡ image.now }
+        ensures left { result.left ≡ dump_bytes 2 image.now }
     {
         DumpWriter {
             image,
@@ -103,11 +111,13 @@ impl<'a> DumpWriter<'a> {
     }
 
     /// Hands out some bytes: none only where none are left.
-    #[tactic(auto, unfolding(crate::specs::Left::left))]
+    #[tactic(auto, unfolding(crate::specs::Left::left, crate::specs::Fitting::fits_left))]
     fn give(&mut self, out: &mut [u8]) -> usize
         requires { 0 < length out.old }
-        ensures given { Gives self.old self.new out.old out.new result }
-        ensures end { result ≡ 0 → self.old ≡ [] }
+        ensures image { self.new.image ≡ self.old.image }
+        ensures given { Gives self.old.left self.new.left out.old out.new result }
+        ensures end { result ≡ 0 → self.old.left ≡ [] }
+        ensures fits { result ≡ 0 → FitsFields self.old.image }
     {
         let waiting = &self.chunk.as_slice()[self.done..];
         if !waiting.is_empty() {
@@ -127,11 +137,14 @@ impl<'a> DumpWriter<'a> {
         count
     }
 
-    /// Writes the next bytes, as many as there is room for, and says how many. It takes no memory.
+    /// Writes the next bytes, as many as there is room for, and says how many. It takes no memory. With room to spare
+    /// behind the last byte, all numbers of the image are known to fit their fields, so its bytes read back.
     pub fn fill(&mut self, out: &mut [u8]) -> usize
-        ensures count { result ≡ min (length out.old) (length self.old) }
-        ensures bytes { out.new ≡ take result self.old ++ drop result out.old }
-        ensures left { self.new ≡ drop result self.old }
+        ensures image { self.new.image ≡ self.old.image }
+        ensures count { result ≡ min (length out.old) (length self.old.left) }
+        ensures bytes { out.new ≡ take result self.old.left ++ drop result out.old }
+        ensures left { self.new.left ≡ drop result self.old.left }
+        ensures fits { length self.old.left < length out.old → FitsFields self.old.image }
     {
         let mut filled = 0;
         while filled < out.len() {
@@ -145,12 +158,13 @@ impl<'a> DumpWriter<'a> {
     }
 }
 
-/// The bytes of an image, in version 2. It needs an image that keeps the rules. Errors: `AllocError` when out of
-/// memory.
+/// The bytes of an image, in version 2. They read back as that image. It needs an image that keeps the rules. Errors:
+/// `AllocError` when out of memory.
 pub fn encode_dump(alloc: Global, image: &ContextImage) -> Result<Vec<u8>, AllocError>
     requires { IsLawful image.now }
     ensures bytes { IfOk result (λ dump. dump.items ≡ dump_bytes 2 image.now) }
     ensures dumps { IfOk result (λ dump. Dumps image.now dump.items) }
+    ensures reads_back { IfOk result (λ dump. ReadsBack image.now dump.items) }
 {
     let mut dump = Vec::new(alloc);
     let mut writer = DumpWriter::make(image);
