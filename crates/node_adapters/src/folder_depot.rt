@@ -182,10 +182,14 @@ impl<'a, R: Files> Depot for FolderDepot<'a, R> {
 mod tests {
     use super::*;
     use std::os::unix::fs::symlink;
+    use std::process;
     use std::test::Fail;
 
-    /// A folder of the tests.
-    const HERE: &str = "/tmp/jichurpa_depot";
+    /// A folder for one test of this run.
+    fn folder_of(rt: &HostRuntime, test: &str) -> io::Result<String> {
+        let run = process::id(rt.process());
+        Ok(format!(in rt.alloc(); "/tmp/jichurpa_depot_{run}_{test}")?)
+    }
 
     /// A name.
     fn named(text: &[u8]) -> Result<Name, DepotFault> {
@@ -194,7 +198,8 @@ mod tests {
 
     #[test]
     fn a_name_has_the_bytes_that_were_put_last(rt: HostRuntime) -> Result<(), Fail> {
-        let mut depot = FolderDepot::at(&rt, HERE);
+        let folder = folder_of(&rt, "last")?;
+        let mut depot = FolderDepot::at(&rt, folder.as_str());
         let name = named(b"last")?;
         depot.put(rt.alloc(), name, b"first")?;
         depot.put(rt.alloc(), name, b"second")?;
@@ -209,16 +214,26 @@ mod tests {
         assert!(rt; matches!(depot.look(rt.alloc(), name), Err(DepotFault::Missing)));
         assert!(rt; matches!(depot.take(rt.alloc(), name), Err(DepotFault::Missing)));
         assert_eq!(rt; depot.fault_count, 0);
+        // (no other file is left in it)
+        fs::remove_dir(&rt, folder.as_str())?;
         Ok(())
+    }
+
+    /// Makes a folder, a file that is too long, and a link to what has no end.
+    fn make_others(rt: &HostRuntime, folder: &str) -> io::Result<()> {
+        let within = format!(in rt.alloc(); "{folder}/folder")?;
+        let long = format!(in rt.alloc(); "{folder}/long")?;
+        let endless = format!(in rt.alloc(); "{folder}/endless")?;
+        fs::create_dir_all(rt, within.as_str())?;
+        fs::create(rt, long.as_str())?.set_len(LONGEST_DUMP + 1)?;
+        symlink(rt, "/dev/zero", endless.as_str())
     }
 
     #[test]
     fn what_is_no_file_of_a_dump_is_a_fault(rt: HostRuntime) -> Result<(), Fail> {
-        fs::create_dir_all(&rt, "/tmp/jichurpa_depot/folder")?;
-        fs::create(&rt, "/tmp/jichurpa_depot/long")?.set_len(LONGEST_DUMP + 1)?;
-        let _ = fs::remove_file(&rt, "/tmp/jichurpa_depot/endless");
-        symlink(&rt, "/dev/zero", "/tmp/jichurpa_depot/endless")?;
-        let mut depot = FolderDepot::at(&rt, HERE);
+        let folder = folder_of(&rt, "others")?;
+        make_others(&rt, folder.as_str())?;
+        let mut depot = FolderDepot::at(&rt, folder.as_str());
         for text in [b"folder".as_slice(), b"long", b"endless"] {
             let name = named(text)?;
             let before = depot.fault_count;
@@ -227,16 +242,20 @@ mod tests {
             assert!(rt; matches!(depot.look(rt.alloc(), name), Err(DepotFault::Failed)));
             assert_eq!(rt; depot.fault_count, before.saturating_add(3));
         }
+        fs::remove_dir_all(&rt, folder.as_str())?;
         Ok(())
     }
 
     #[test]
     fn the_longest_dump_is_read_whole(rt: HostRuntime) -> Result<(), Fail> {
-        fs::create_dir_all(&rt, HERE)?;
-        fs::create(&rt, "/tmp/jichurpa_depot/longest")?.set_len(LONGEST_DUMP)?;
-        let mut depot = FolderDepot::at(&rt, HERE);
+        let folder = folder_of(&rt, "longest")?;
+        let path = format!(in rt.alloc(); "{folder}/longest")?;
+        fs::create_dir_all(&rt, folder.as_str())?;
+        fs::create(&rt, path.as_str())?.set_len(LONGEST_DUMP)?;
+        let mut depot = FolderDepot::at(&rt, folder.as_str());
         let bytes = depot.take(rt.alloc(), named(b"longest")?)?;
         assert_eq!(rt; bytes.len() as u64, LONGEST_DUMP);
+        fs::remove_dir(&rt, folder.as_str())?;
         Ok(())
     }
 

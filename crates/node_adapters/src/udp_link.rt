@@ -149,29 +149,36 @@ mod tests {
     use super::*;
     use std::test::Fail;
 
-    const ONE: Address = Address {
+    /// This machine alone, at a port that the system gives.
+    const ANYWHERE: Address = Address {
         ip: 0x7f00_0001,
-        port: 48_021,
+        port: 0,
     };
 
-    const TWO: Address = Address {
-        ip: 0x7f00_0001,
-        port: 48_022,
-    };
+    /// Where a link is that was started.
+    fn place_of<R>(link: &UdpLink<'_, R>) -> io::Result<Address> {
+        match &link.socket {
+            Some(socket) => Ok(Address {
+                port: socket.local_addr()?.port(),
+                ..ANYWHERE
+            }),
+            None => Err(ErrorKind::NotConnected.into()),
+        }
+    }
 
     #[test]
     fn datagrams_go_over_loopback(rt: HostRuntime) -> Result<(), Fail> {
         let mut one = UdpLink::new(&rt);
         let mut two = UdpLink::new(&rt);
-        one.start(ONE)?;
-        two.start(TWO)?;
+        one.start(ANYWHERE)?;
+        two.start(ANYWHERE)?;
         let mut out = [0; LONGEST_DATAGRAM];
         assert_eq!(rt; two.take(&mut out)?, Got::Nothing);
-        one.send_to(TWO, b"datagram")?;
+        one.send_to(place_of(&two)?, b"datagram")?;
         assert_eq!(rt;
             two.take(&mut out)?,
             Got::Datagram {
-                from: ONE,
+                from: place_of(&one)?,
                 length: 8
             }
         );
@@ -179,20 +186,16 @@ mod tests {
         Ok(())
     }
 
-    const THREE: Address = Address {
-        ip: 0x7f00_0001,
-        port: 48_023,
-    };
-
     #[test]
     fn a_longer_datagram_is_dropped(rt: HostRuntime) -> Result<(), Fail> {
         let mut link = UdpLink::new(&rt);
-        link.start(THREE)?;
+        link.start(ANYWHERE)?;
+        let place = host_of(place_of(&link)?);
         let other = UdpSocket::bind(&rt, (Ipv4Addr::LOCALHOST, 0))?;
         let mut out = [0; LONGEST_DATAGRAM];
-        other.send_to(&[7; ROOM], host_of(THREE))?;
+        other.send_to(&[7; ROOM], place)?;
         assert_eq!(rt; link.take(&mut out)?, Got::Nothing);
-        other.send_to(&[7; LONGEST_DATAGRAM], host_of(THREE))?;
+        other.send_to(&[7; LONGEST_DATAGRAM], place)?;
         assert!(rt;
             matches!(
                 link.take(&mut out)?,
@@ -207,15 +210,26 @@ mod tests {
     }
 
     #[test]
+    fn a_datagram_to_nowhere_is_lost(rt: HostRuntime) -> Result<(), Fail> {
+        let mut link = UdpLink::new(&rt);
+        link.start(ANYWHERE)?;
+        for ip in [0x0a00_0001, 0xf000_0001, 0xffff_ffff] {
+            link.send_to(Address { ip, port: 4791 }, b"datagram")?;
+        }
+        assert_eq!(rt; link.fault_count, 0);
+        Ok(())
+    }
+
+    #[test]
     fn each_fault_is_counted(rt: HostRuntime) -> Result<(), Fail> {
-        let other = UdpSocket::bind(&rt, (Ipv4Addr::LOCALHOST, 0))?;
-        let mut taken = ONE;
-        taken.port = other.local_addr()?.port();
+        let mut first = UdpLink::new(&rt);
+        first.start(ANYWHERE)?;
+        let place = place_of(&first)?;
         let mut link = UdpLink::new(&rt);
         let mut out = [0; LONGEST_DATAGRAM];
-        assert!(rt; link.start(taken).is_err());
+        assert!(rt; link.start(place).is_err());
         assert!(rt; link.take(&mut out).is_err());
-        assert!(rt; link.send_to(ONE, b"datagram").is_err());
+        assert!(rt; link.send_to(place, b"datagram").is_err());
         assert_eq!(rt; link.fault_count, 3);
         Ok(())
     }
