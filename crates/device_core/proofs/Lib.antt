@@ -27,3 +27,4 @@ mod Seen
 mod LiveEnds
 mod Copied
 mod Within
+mod Numbered

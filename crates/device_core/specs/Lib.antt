@@ -7,3 +7,4 @@ pub mod Leaving
 pub mod Coming
 pub mod Acting
 pub mod Views
+pub mod Numbered

@@ -4,6 +4,7 @@ ghost use Rattle.std.specs.Prelude.{◌≡◌, ◌<◌, ◌^◌, IfSome, length}
 ghost use Rattle.protocol.specs.Readers.{context_name, end_view};
 ghost use Rattle.protocol.specs.Refusals as refusals;
 ghost use Rattle.protocol.specs.State as state;
+ghost use Rattle.device_core.specs.Numbered.{numbered_view};
 ghost use Rattle.device_core.specs.Readings as readings;
 ghost use Rattle.device_core.specs.Readings.{head_ended, head_marks, head_resumes, head_state, head_view};
 
@@ -150,6 +151,25 @@ impl Device {
             return None;
         };
         held.end_at(spot.place)
+    }
+
+    /// The connected queue pair with a number; None where none lives here.
+    pub fn end_numbered(&self, number: u32) -> Option<EndView>
+        ensures { result ≡ numbered_view self.now number }
+    {
+        let Some(spot) = self.index.get(&number) else {
+            return None;
+        };
+        let Some(held) = self.contexts.get(&spot.context) else {
+            return None;
+        };
+        let Some(end) = held.end_at(spot.place) else {
+            return None;
+        };
+        match end.link {
+            None => None,
+            Some(_) => Some(view_of(spot.context, &end)),
+        }
     }
 
     /// The number of the next packet to execute, and one past the highest number sent, of the connected queue pair with a

@@ -132,7 +132,7 @@ length-lines_in (last ∷ []) = last_by (length last == 0)
 length-lines_in (piece ∷ next ∷ more) = omega (arith, length-lines_in (next ∷ more))
 
 -- a text has no more lines than bytes, and one
-length-lines_of : (text : List ℕ) → length (lines_of text) ≤ length text + 1
+pub length-lines_of : (text : List ℕ) → length (lines_of text) ≤ length text + 1
 unfolding lines_of
 length-lines_of text = omega (arith, length-lines_in (slice_split is_newline text), length-slice_split is_newline text, count_by-le-length is_newline text)
 

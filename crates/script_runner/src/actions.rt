@@ -10,7 +10,7 @@ use script_lang::Line;
 
 /// What a line asks for that is not blank.
 #[derive(Drop)]
-pub(crate) enum Action {
+pub enum Action {
     Event(WorldEvent),
     /// The dump of a carried context is shown.
     Dump(Name),
@@ -74,7 +74,7 @@ fn at(event: Event) -> WorldEvent
 }
 
 /// What a line asks for; a blank line asks for nothing.
-pub(crate) fn action_of(line: Line) -> Option<Action>
+pub fn action_of(line: Line) -> Option<Action>
     ensures { happening_by result ≡ rules.happening_of line }
 {
     let event = match line {

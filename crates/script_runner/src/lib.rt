@@ -6,5 +6,6 @@ mod answering;
 mod fault;
 mod playing;
 
+pub use actions::{Action, action_of};
 pub use fault::PlayFault;
 pub use playing::{play, play_world};

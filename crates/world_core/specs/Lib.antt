@@ -8,3 +8,4 @@ pub mod Settled
 pub mod Sites
 pub mod Told
 pub mod Lives
+pub mod Reached

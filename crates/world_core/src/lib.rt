@@ -15,6 +15,7 @@ mod settling;
 mod world;
 
 pub use device_core::{ContextImage, Device, Event, LinkView, LiveEnd};
+pub use fabric::Flight;
 pub use laws::steps_are_followed;
 pub use protocol::WorldEvent;
 pub use settling::{Quiet, Settler};

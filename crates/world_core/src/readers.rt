@@ -4,13 +4,17 @@ ghost use Rattle.std.specs.Prelude.{◌≡◌, ℕ, slice_get, Option, IfSome};
 ghost use Rattle.protocol.specs.Lawful.{IsLawful};
 ghost use Rattle.std.specs.Option.{option_copied};
 ghost use Rattle.protocol.specs.Fabric as fabric;
+ghost use Rattle.protocol.specs.Fabric.{kept_flight};
 ghost use Rattle.protocol.specs.Readers.{carried_name, context_name, device_id, world_end_view};
 ghost use Rattle.protocol.specs.WorldStep.{carried_image};
+ghost use Rattle.rdma_types.specs.Lists.{has};
+ghost use Rattle.world_core.specs.Reached.{view_reached};
 ghost use Rattle.world_core.specs.Told.{name_on};
 
 use crate::World;
 use device_core::ContextImage;
-use rdma_types::{EndView, Name};
+use fabric::Flight;
+use rdma_types::{Address, EndView, Name};
 
 impl World {
     /// The image of a carried context, which keeps the rules of images; None exactly where it is not carried.
@@ -49,6 +53,28 @@ impl World {
     {
         let place = self.home_of(context)?;
         self.devices[place].end_at(context, i)
+    }
+
+    /// Whether there is a device with an id.
+    pub fn has_device(&self, id: u8) -> bool
+        ensures { result ≡ has (λ d. d.id) id self.now.devices }
+    {
+        self.place_of(id).is_some()
+    }
+
+    /// The connected end with a queue pair number on the device that has an address; None where there is none.
+    pub fn end_reached(&self, at: Address, number: u32) -> Option<EndView>
+        ensures { result ≡ view_reached self.now at number }
+    {
+        let place = self.place_with(at)?;
+        self.devices[place].end_numbered(number)
+    }
+
+    /// Datagram `k`, whether lost or not; None where the network keeps it no more.
+    pub fn flight(&self, k: u64) -> Option<&Flight>
+        ensures { option_copied result ≡ kept_flight self.now.sent k }
+    {
+        self.fabric.kept(k)
     }
 
     /// The least number of a datagram that is kept and neither lost nor taken.
