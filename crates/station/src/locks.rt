@@ -1,7 +1,8 @@
 //! Locks round the order and round devices.
 
-ghost use Rattle.std.specs.Prelude.{◌≡◌, IfOk};
+ghost use Rattle.std.specs.Prelude.{◌≡◌, IfOk, IfSome};
 ghost use Rattle.protocol.specs.Events.{IsLawfulEvent};
+ghost use Rattle.protocol.specs.Lawful.{IsLawful};
 ghost use Rattle.station.specs.Books.{IsReceiptOf};
 
 use crate::{Book, Claim, OrderBook, Receipt};
@@ -149,7 +150,7 @@ impl Station {
     }
 
     /// Steps the device on a lawful event under its lock, and enters the step into the orders before it lets go of the
-    /// lock; the receipt tells what was asked, by whom, and the outcome. Errors: `AllocError` when out of memory; the
+    /// lock; the receipt tells what was asked, by whom, and the outcome, whose image keeps the rules. Errors: `AllocError` when out of memory; the
     /// orders are then halted, and the step may stand in the book alone.
     pub fn call<R: Wait>(
         &self,
@@ -160,7 +161,8 @@ impl Station {
         event: Event,
     ) -> Result<Receipt, AllocError>
         requires { IsLawfulEvent event }
-        ensures { IfOk result (λ r. IsReceiptOf self.now worker event r) }
+        ensures ok { IfOk result (λ r. IsReceiptOf self.now worker event r) }
+        ensures image { IfOk result (λ r. IfSome r.outcome.image (λ i. IsLawful i)) }
     {
         let receipt = self.step(rt, alloc, orders, worker, event);
         if receipt.is_err() {
@@ -179,7 +181,8 @@ impl Station {
         event: Event,
     ) -> Result<Receipt, AllocError>
         requires { IsLawfulEvent event }
-        ensures { IfOk result (λ r. IsReceiptOf self.now worker event r) }
+        ensures ok { IfOk result (λ r. IsReceiptOf self.now worker event r) }
+        ensures image { IfOk result (λ r. IfSome r.outcome.image (λ i. IsLawful i)) }
     {
         let asked = copy_event(alloc, &event)?;
         let mut book = self.book.lock(rt);
