@@ -150,8 +150,8 @@ impl Station {
     }
 
     /// Steps the device on a lawful event under its lock, and enters the step into the orders before it lets go of the
-    /// lock; the receipt tells what was asked, by whom, and the outcome, whose image keeps the rules. Errors: `AllocError` when out of memory; the
-    /// orders are then halted, and the step may stand in the book alone.
+    /// lock. The receipt tells what was asked, by whom, and the outcome, whose image keeps the rules. Errors: `AllocError`
+    /// when out of memory; the orders are then halted, and the step may stand in the book alone.
     pub fn call<R: Wait>(
         &self,
         rt: &R,
