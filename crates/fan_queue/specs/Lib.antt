@@ -1,0 +1,4 @@
+pub mod Fanned
+pub mod Rule
+pub mod Served
+pub mod Feeding

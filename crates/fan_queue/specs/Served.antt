@@ -1,0 +1,39 @@
+-- What consumers did, and what is known after they are joined (this project's choice).
+use Rattle.std.specs.Prelude.{◌≡◌, ℕ, ◌<◌, Bool, false, List, length, flat_map, slice_get, Some, Option}
+use Rattle.crossbeam_queue.specs.declared.array_queue.Doing.{Doing}
+use Rattle.crossbeam_queue.specs.declared.array_queue.Slotted.{Slotted}
+use Rattle.crossbeam_queue.specs.declared.array_queue.Turns.{Turns}
+use Rattle.std.specs.declared.alloc.Global.{Global}
+use Rattle.crossbeam_queue.specs.Passes.{view, IsPassOf, Pass}
+use Rattle.fan_queue.specs.declared.entry.FanEntry.{FanEntry}
+use Rattle.fan_queue.specs.declared.entry.Parcel.{Parcel}
+use Rattle.fan_queue.specs.declared.feeding.Fed.{Fed}
+use Rattle.fan_queue.specs.declared.rule.Fan.{Fan}
+use Rattle.fan_queue.specs.declared.rule.Share.{Share}
+use Rattle.fan_queue.specs.declared.serving.Served.{Served}
+use Rattle.fan_queue.specs.Fanned.{IsRising, places}
+use Rattle.fan_queue.specs.Rule.{root_share, taker_share, writer_share}
+
+-- a queue under the rule
+abbrev pub Queue : Type 0
+Queue = Slotted (Option Parcel) (Doing Parcel Share) (Turns Fan) Global
+
+module _ (queue : Queue) where
+  -- a consumer ended: its pass took just the entries of its list, and an end mark, unless memory ran out
+  pub record IsServed (s : Served) : Type 0 where
+    pub pass : IsPassOf queue s.pass
+    pub knows : view s.pass ≡ taker_share s.taken (view s.pass).ended
+    pub marked : s.is_out_of_memory ≡ false → 0 < (view s.pass).ended
+
+  -- consumers were joined: the root pass has that many parts, and was joined with those that took these lists; an end mark was
+  -- taken, unless memory ran out or there were no consumers
+  pub record AreServed (parts : ℕ) (root : Pass Parcel Share) (lists : List (List FanEntry)) (is_out_of_memory : Bool) : Type 0 where
+    pub pass : IsPassOf queue root
+    pub knows : view root ≡ root_share parts (flat_map (λ es. es) lists) (view root).ended
+    pub rising : (i : ℕ) (es : List FanEntry) → slice_get lists i ≡ Some es → IsRising (places es)
+    pub marked : is_out_of_memory ≡ false → 0 < length lists → 0 < (view root).ended
+
+  -- the one who puts has ended: its pass put just the completions of its list, and then end marks
+  pub record IsFed (f : Fed) : Type 0 where
+    pub pass : IsPassOf queue f.pass
+    pub knows : view f.pass ≡ writer_share f.put (view f.pass).marks

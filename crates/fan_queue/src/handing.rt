@@ -1,0 +1,126 @@
+//! Completions handed to consumers in threads.
+
+ghost use Rattle.std.specs.Prelude.{◌≡◌, ◌<◌, ◌≤◌, [], length, vec_len, IfOk};
+ghost use Rattle.crossbeam_queue.specs.Passes.{view, IsPassOf};
+ghost use Rattle.fan_queue.specs.Fanned.{IsFanned};
+ghost use Rattle.fan_queue.specs.Rule.{root_share, writer_share};
+
+use crate::consumers::consume_all;
+use crate::entry::FanEntry;
+use crate::feeding::{Feeder, Source};
+use crate::finishing::{HandedOut, finish};
+use crate::moves::{lend, make};
+use crate::rule::{FanPass, FanQueue};
+use crate::serving::PopGate;
+use rdma_types::Items;
+use std::alloc::{AllocError, Global};
+use std::sync::Wait;
+use std::thread;
+use std::thread::{Scope, Threads};
+
+/// Room for that many entries, for each consumer.
+fn rooms(alloc: Global, consumers: u32, entries: usize) -> Result<Vec<Items<FanEntry>>, AllocError>
+    ensures { IfOk result (λ rooms. vec_len rooms ≡ consumers) }
+{
+    let mut rooms = Vec::with_capacity(alloc, consumers as usize)?;
+    for _ in 0..consumers {
+        rooms.push(Items::new(Vec::with_capacity(alloc, entries)?))?;
+    }
+    Ok(rooms)
+}
+
+/// Runs all in a scope, and joins them.
+fn run<
+    's,
+    E,
+    R: Threads + Wait + Sync,
+    G: PopGate + Sync,
+    S: Source + Sync,
+    L: FnOnce() -> T,
+    T: Drop,
+>(
+    scope: &'s Scope<'s, E>,
+    rt: &'s R,
+    alloc: Global,
+    queue: &'s FanQueue,
+    gate: &'s G,
+    root: FanPass,
+    rooms: Vec<Items<FanEntry>>,
+    feeder: Feeder<'s, S>,
+    beside: L,
+) -> Result<(HandedOut, T), AllocError>
+    requires root { IsPassOf queue.now root × (view root ≡ root_share 1023 [] 0) }
+    requires feeder { IsPassOf queue.now feeder.pass × (view feeder.pass ≡ writer_share [] 0) }
+    requires rooms { (0 < vec_len rooms) × (vec_len rooms ≤ 4) }
+    requires beside { L.pre beside }
+    ensures fanned { IfOk result (λ out. IsFanned out.0.put out.0.taken out.0.left) }
+    ensures lists { IfOk result (λ out. length out.0.taken ≡ vec_len rooms) }
+    ensures none { IfOk result (λ out. out.0.left ≡ []) }
+{
+    let all = consume_all(scope, rt, queue, gate, root, rooms, feeder, beside)?;
+    let fed = all.feeding.join(rt, queue);
+    let out = finish(
+        rt,
+        alloc,
+        queue,
+        all.root,
+        all.lists,
+        all.is_out_of_memory,
+        fed,
+    )?;
+    Ok((out, all.beside))
+}
+
+/// Hands the completions of a source, in their order, to 1 to 4 consumers over a queue of that many places. Each consumer
+/// takes in a thread of its own, and one thread puts; the caller runs `beside` when all are started. Each completion is taken
+/// once, under its place, and nothing is left. A thread whose start is refused is run by the caller after that. `most` is for
+/// how many completions there is room from the start. It may wait, and so it does where there is no room for one more.
+///
+/// # Errors
+///
+/// `AllocError` when out of memory.
+pub fn hand_out<
+    R: Threads + Wait + Sync,
+    G: PopGate + Sync,
+    S: Source + Sync,
+    L: FnOnce() -> T,
+    T: Drop,
+>(
+    rt: &R,
+    alloc: Global,
+    consumers: u32,
+    capacity: usize,
+    most: usize,
+    gate: &G,
+    source: &S,
+    beside: L,
+) -> Result<(HandedOut, T), AllocError>
+    requires consumers { (1 ≤ consumers) × (consumers ≤ 4) }
+    requires capacity { 0 < capacity }
+    requires beside { L.pre beside }
+    ensures fanned { IfOk result (λ out. IsFanned out.0.put out.0.taken out.0.left) }
+    ensures lists { IfOk result (λ out. length out.0.taken ≡ consumers) }
+    ensures none { IfOk result (λ out. out.0.left ≡ []) }
+{
+    let rooms = rooms(alloc, consumers, most)?;
+    let room = Items::new(Vec::with_capacity(alloc, most)?);
+    let (queue, mut root) = make(alloc, capacity)?;
+    let pass = lend(&queue, &mut root);
+    let row = &queue;
+    thread::scope(
+        thread::scope_env(),
+        rt,
+        move |scope| -> Result<(HandedOut, T), AllocError>
+            requires { IsPassOf row.now root × (view root ≡ root_share 1023 [] 0) × IsPassOf row.now pass × (view pass ≡ writer_share [] 0) × (0 < vec_len rooms) × (vec_len rooms ≤ 4) × L.pre beside }
+            ensures { IfOk result (λ out. IsFanned out.0.put out.0.taken out.0.left × (length out.0.taken ≡ vec_len rooms) × (out.0.left ≡ [])) }
+        {
+            let feeder = Feeder {
+                pass,
+                source,
+                room,
+                consumers,
+            };
+            run(scope, rt, alloc, row, gate, root, rooms, feeder, beside)
+        },
+    )
+}
