@@ -1,0 +1,5 @@
+pub mod Learns
+pub mod Due
+pub mod Offers
+pub mod Repeats
+pub mod Numbered
