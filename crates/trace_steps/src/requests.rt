@@ -128,12 +128,7 @@ fn act(
 
 /// Whether all that is left of request `i` of an end, from a piece on, may be offered at once. Errors: `AllocError` where a
 /// number is 2^32 or more.
-fn may_offer_rest(
-    machine: &Ideal,
-    q: &ObjName,
-    i: usize,
-    piece: u64,
-) -> Result<bool, AllocError>
+fn may_offer_rest(machine: &Ideal, q: &ObjName, i: usize, piece: u64) -> Result<bool, AllocError>
     ensures { IfOk result (λ b. b ≡ rules.may_offer_rest machine.now q.now i piece) }
 {
     let i_short = short_place(i)?;

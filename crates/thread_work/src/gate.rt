@@ -1,0 +1,14 @@
+//! Gates, which tests use to hold a worker.
+
+/// Called by each worker before each of its calls of a station; the mover and the caller have number 0.
+pub trait Gate {
+    fn pass(&self, worker: u32);
+}
+
+/// The gate that is always open.
+#[derive(Clone, Copy, Drop)]
+pub struct FreeGate;
+
+impl Gate for FreeGate {
+    fn pass(&self, _worker: u32) {}
+}

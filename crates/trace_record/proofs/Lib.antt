@@ -1,0 +1,6 @@
+pub mod Sorts
+pub mod Reached
+pub mod Arrived
+pub mod Happened
+pub mod Said
+pub mod Played

@@ -1,0 +1,25 @@
+use Rattle.std.proofs.Common.{arith, ◌≤◌, ◌++◌, ◌∙◌, ap, length, refl}
+use Rattle.std.proofs.lemmas.List.{take_all}
+use Rattle.ideal_model.specs.Legal.{after}
+use Rattle.trace_writer.specs.Written.{steps_text}
+use Rattle.trace_record.proofs.Happened.{made_more, text_more, text_none}
+use Rattle.trace_record.proofs.events.make_all.Goals as goal
+
+pub loop-step-init : goal.loop-step-init
+loop-step-init c = record { made = refl; text = text_none c.args.out.now.items c.args.steps.now }
+
+pub loop-step-preserved : goal.loop-step-preserved
+loop-step-preserved c = record {
+  made = made_more c.args.machine.now c.loop-step.machine c.make.new.machine c.args.steps.now c.loop-step.step-index c.step-item.result c.loop-step-test.true c.step-item.is c.loop-step.invariant.made c.in_ok-make.ensures;
+  text = text_more c.args.out.now.items c.loop-step.out.items c.put_step.new.out.items c.args.steps.now c.loop-step.step-index c.step-item.result c.loop-step-test.true c.step-item.is c.loop-step.invariant.text c.in_ok-put_step.ensures;
+}
+
+pub returns-clause-made : goal.returns-clause-made
+returns-clause-made c =
+    let all : length c.args.steps.now ≤ c.loop-step.step-index = omega (arith, c.loop-step-test.false) in
+    c.loop-step.invariant.made ∙ ap (after c.args.machine.now) (take_all c.loop-step.step-index c.args.steps.now all)
+
+pub returns-clause-text : goal.returns-clause-text
+returns-clause-text c =
+    let all : length c.args.steps.now ≤ c.loop-step.step-index = omega (arith, c.loop-step-test.false) in
+    c.loop-step.invariant.text ∙ ap (λ ss. c.args.out.now.items ++ steps_text ss) (take_all c.loop-step.step-index c.args.steps.now all)

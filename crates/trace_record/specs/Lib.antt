@@ -1,0 +1,4 @@
+pub mod Arrivals
+pub mod Events
+pub mod Lines
+pub mod Recorded
