@@ -28,3 +28,4 @@ mod LiveEnds
 mod Copied
 mod Within
 mod Numbered
+mod NumberedHeads

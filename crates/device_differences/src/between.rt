@@ -1,4 +1,5 @@
 //! Numbers, and lists of them.
+#![tactic(auto, using(crate::proofs::Found::looked), unfolding(crate::specs::Differing::apart))]
 
 ghost use Rattle.std.specs.Prelude.{◌≡◌, ◌<◌, ◌^◌, ◌∷◌, [], ℕ, List, length, Option};
 ghost use Rattle.device_differences.specs.Differing.{apart as apart_in, between, first_of};

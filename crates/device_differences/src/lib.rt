@@ -1,6 +1,6 @@
 //! Where two devices differ: the first field in which they do, and the two values that it has. Nothing here takes memory.
 //! What is told, and in which order, is this project's choice.
-#![tactic(auto, using(crate::proofs::Found::looked), unfolding(crate::specs::Differing::apart, crate::specs::Differences::receive_difference, crate::specs::Differences::posted_difference, crate::specs::Differences::completion_difference, crate::specs::Differences::queue_difference, crate::specs::Differences::region_difference, crate::specs::Differences::sender_difference, crate::specs::Differences::reply_difference, crate::specs::Differences::receiver_difference, crate::specs::Differences::link_difference, crate::specs::Differences::work_difference))]
+#![tactic(auto)]
 
 mod between;
 mod laws;

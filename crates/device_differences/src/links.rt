@@ -1,4 +1,5 @@
 //! Connections, and what queue pairs have besides their names and numbers.
+#![tactic(auto, using(crate::proofs::Found::looked), unfolding(crate::specs::Differences::sender_difference, crate::specs::Differences::receiver_difference, crate::specs::Differences::link_difference, crate::specs::Differences::work_difference))]
 
 ghost use Rattle.std.specs.Prelude.{◌≡◌, All};
 ghost use Rattle.std.specs.Option.{option_map};

@@ -1,4 +1,5 @@
 //! Lists of plain values, and completion queues.
+#![tactic(auto, using(crate::proofs::Found::looked), unfolding(crate::specs::Differing::apart, crate::specs::Differences::receive_difference, crate::specs::Differences::completion_difference, crate::specs::Differences::queue_difference, crate::specs::Differences::reply_difference))]
 
 ghost use Rattle.std.specs.Prelude.{◌≡◌};
 ghost use Rattle.endpoint_core.specs.Queues.{queues_of};

@@ -1,4 +1,5 @@
 //! Bytes in memory, and memory regions.
+#![tactic(auto, using(crate::proofs::Found::looked), unfolding(crate::specs::Differing::apart, crate::specs::Differences::region_difference))]
 
 ghost use Rattle.std.specs.Prelude.{◌≡◌, ◌≤◌};
 ghost use Rattle.page_pool.specs.Held.{HoldsPayload, payload_bytes};

@@ -1,4 +1,5 @@
 //! Posted requests.
+#![tactic(auto, using(crate::proofs::Found::looked), unfolding(crate::specs::Differing::apart, crate::specs::Differences::posted_difference))]
 
 ghost use Rattle.std.specs.Prelude.{◌≡◌, All};
 ghost use Rattle.page_pool.specs.Held.{HoldsPayload};

@@ -3,6 +3,9 @@
 //! The functions do nothing. Each promises the equations that it names, which the prover evaluates on the definitions.
 #![tactic(auto)]
 
+#[cfg(test)]
+mod tests;
+
 ghost use Rattle.std.specs.Prelude.{◌≡◌, Ok, Err, codes};
 ghost use Rattle.script_lang.specs.declared.lines.LineWhy.TheVariants.{Word};
 ghost use Rattle.script_lang.specs.Words.{offence};

@@ -23,6 +23,44 @@ ghost use Rattle.example_traces.specs.Refusals as refusals;
 ghost use Rattle.example_traces.specs.RepeatedRead as repeated_read;
 ghost use Rattle.example_traces.specs.Small as small;
 
+/// The trace of one write.
+pub const ONE_WRITE: &[u8] = b"\
+v context a made\n\
+= ok\n\
+v context b made\n\
+= ok\n\
+v domain a.p\n\
+= ok\n\
+v domain b.p\n\
+= ok\n\
+v region a.m a.p 4096 64 lwra\n\
+= region 01000002 01000003\n\
+v region b.n b.p 8192 64 lwra\n\
+= region 02000002 02000003\n\
+v cq a.c 16\n\
+= ok\n\
+v cq b.c 16\n\
+= ok\n\
+v qp a.q a.p a.c a.c 8 8\n\
+= qp 010001\n\
+v qp b.q b.p b.c b.c 8 8\n\
+= qp 020001\n\
+v connect a.q b.q mtu 256 psn 100 200 retry 7 rnr 7 reads 4\n\
+= ok\n\
+v store a.m 4096 deadbeef\n\
+= ok\n\
+v write a.q 1 01000002 4096 4 8192 02000003\n\
+= ok\n\
+i run a.q 4\n\
+i tell a.q\n\
+v poll a.c 4\n\
+= wc 010001 1 write 0 4\n\
+v poll a.c 4\n\
+= none\n\
+v load b.n 8192 4\n\
+= bytes deadbeef\n\
+end\n";
+
 /// The trace of one write is legal: sixteen verbs and two inner steps.
 pub fn one_write_is_legal()
     ensures { audited one_write.trace ≡ Ok (Legal 16 2) }

@@ -1,5 +1,5 @@
 -- Each kind of step keeps the rule.
-use Rattle.std.proofs.Common.{arith, ◌≡◌, ◌≢◌, ℕ, zero, suc, ◌+◌, ◌<◌, true, false, true≢false, List, [], ◌∷◌, ◌++◌, length, set, refl, ap, sym, subst, ◌∙◌, ⊎_elim, append_assoc}
+use Rattle.std.proofs.Common.{arith, ◌≡◌, ◌≢◌, ℕ, zero, suc, ◌+◌, ◌<◌, Bool, true, false, true≢false, List, [], ◌∷◌, ◌++◌, length, set, refl, ap, sym, subst, ◌∙◌, ⊎_elim, append_assoc}
 use Rattle.std.proofs.lemmas.Bool.Decides.{nat_tests}
 use Rattle.std.proofs.Math.ListN.{length-append}
 use mathlib.Core.Option.{some, some-ne-none}
@@ -12,7 +12,7 @@ use Rattle.fan_queue.specs.declared.entry.Parcel.{Parcel}
 use Rattle.fan_queue.specs.declared.entry.Parcel.TheVariants.{Entry, End}
 use Rattle.fan_queue.specs.declared.rule.Share.{Share}
 use Rattle.fan_queue.specs.Fanned.{AreOf, IsRising, places, times}
-use Rattle.fan_queue.specs.Rule.{IsKept, IsFit, IsTake, IsWhole, IsBalanced, MayPut, after_cut, after_lend, after_put, after_take, below, end_marks, first_share, joined_with, lent_share, new_share, numbered, parcels, returned_with, share, spent_share, times_in}
+use Rattle.fan_queue.specs.Rule.{IsKept, IsFit, IsTake, IsWhole, IsBalanced, MayPut, after_cut, after_lend, after_put, after_take, below, end_marks, first_share, joined_with, lent_share, new_share, numbered, parcels, returned_with, share, spent_share, times_in, total}
 use Rattle.fan_queue.proofs.Lists.{below_more, fits_set, of_both, of_more, of_none, of_push, only, part_le, rising_push, times_places, total_set, total_snoc}
 
 some_is : (a b : Share) → some a ≡ some b → a ≡ b
@@ -307,6 +307,26 @@ forks port v many items views f at =
           (at_snoc vs new_share u j e);
     }
 
+-- a pass takes in what another took, whatever it puts from then on: what is counted over all passes stays
+module _ (views : List Share) (port other : ℕ) (v u : Share) (puts : Bool) (put : List Completion) (marks : ℕ) where
+  abbrev both : Share
+  both = share (v.parts + u.parts) puts put marks v.taken (v.joined ++ (u.taken ++ u.joined)) (v.ended + u.ended)
+
+  module _ (at : get_elem? views port ≡ some v) (at_other : get_elem? (set views port both) other ≡ some u) where
+    same_parts : total (λ z. z.parts) views ≡ 1024 → total (λ z. z.parts) (set (set views port both) other spent_share) ≡ 1024
+    same_parts p = let s = total_set (λ z. z.parts) views port v both at in let t = total_set (λ z. z.parts) (set views port both) other u spent_share at_other in omega arith
+
+    same_once : (k : ℕ) (got : List Completion) → total (times_in k) views ≡ below k (length got) → total (times_in k) (set (set views port both) other spent_share) ≡ below k (length got)
+    same_once k got p =
+        let s = total_set (times_in k) views port v both at in
+        let t = total_set (times_in k) (set views port both) other u spent_share at_other in
+        let a = times_places k v.joined (u.taken ++ u.joined) in
+        let b = times_places k u.taken u.joined in
+        omega arith
+
+    same_ended : (ends all : ℕ) → total (λ z. z.ended) views + ends ≡ all → total (λ z. z.ended) (set (set views port both) other spent_share) + ends ≡ all
+    same_ended ends all p = let s = total_set (λ z. z.ended) views port v both at in let t = total_set (λ z. z.ended) (set views port both) other u spent_share at_other in omega arith
+
 pub merges : (port : ℕ) (v : Share) (other : ℕ) (u : Share) → 0 < v.parts → Merges IsKept port v other u (joined_with v u) spent_share
 merges port v other u some_part items views f at two at_other =
     let both = joined_with v u in
@@ -323,15 +343,9 @@ merges port v other u some_part items views f at two at_other =
       ends = f.ends;
       all = f.all;
       held = f.held;
-      parts = let s = total_set (λ z. z.parts) views port v both at in let t = total_set (λ z. z.parts) vs other u spent_share at_other in let p = f.parts in omega arith;
-      once = λ k.
-          let s = total_set (times_in k) views port v both at in
-          let t = total_set (times_in k) vs other u spent_share at_other in
-          let a = times_places k v.joined (u.taken ++ u.joined) in
-          let b = times_places k u.taken u.joined in
-          let p = f.once k in
-          omega arith;
-      ended = let s = total_set (λ z. z.ended) views port v both at in let t = total_set (λ z. z.ended) vs other u spent_share at_other in let p = f.ended in omega arith;
+      parts = same_parts views port other v u v.puts v.put v.marks at at_other f.parts;
+      once = λ k. same_once views port other v u v.puts v.put v.marks at at_other k f.got (f.once k);
+      ended = same_ended views port other v u v.puts v.put v.marks at at_other f.ends f.marks f.ended;
       fits = fits_set (IsFit f.writer f.put f.got f.rest f.marks) vs other spent_share (fresh_fit f.writer f.put f.got f.rest f.marks other 0)
           (λ j z _ e. fits_set (IsFit f.writer f.put f.got f.rest f.marks) views port both
           (record {
@@ -421,15 +435,9 @@ gives_back port v other u some_part may items views f at two at_other =
       ends = f.ends;
       all = f.all;
       held = f.held;
-      parts = let s = total_set (λ z. z.parts) views port v both at in let t = total_set (λ z. z.parts) vs other u spent_share at_other in let p = f.parts in omega arith;
-      once = λ k.
-          let s = total_set (times_in k) views port v both at in
-          let t = total_set (times_in k) vs other u spent_share at_other in
-          let a = times_places k v.joined (u.taken ++ u.joined) in
-          let b = times_places k u.taken u.joined in
-          let p = f.once k in
-          omega arith;
-      ended = let s = total_set (λ z. z.ended) views port v both at in let t = total_set (λ z. z.ended) vs other u spent_share at_other in let p = f.ended in omega arith;
+      parts = same_parts views port other v u u.puts u.put u.marks at at_other f.parts;
+      once = λ k. same_once views port other v u u.puts u.put u.marks at at_other k f.got (f.once k);
+      ended = same_ended views port other v u u.puts u.put u.marks at at_other f.ends f.marks f.ended;
       fits = fits_set (IsFit port f.put f.got f.rest f.marks) vs other spent_share (fresh_fit port f.put f.got f.rest f.marks other 0) (λ j y apart e. now j y e apart);
     }
 

@@ -8,7 +8,6 @@ use Rattle.rdma_types.specs.declared.answers.Sent.{Sent}
 use Rattle.rdma_types.specs.declared.answers.Refusal.{Refusal}
 use Rattle.rdma_types.specs.declared.answers.Refusal.TheVariants as refusal
 use Rattle.rdma_types.specs.declared.names.Name.{Name}
-use Rattle.rdma_types.specs.declared.requests.Address.{Address}
 use Rattle.rdma_types.specs.declared.requests.WcStatus.{WcStatus}
 use Rattle.rdma_types.specs.Causes.{Cause, cause, first_cause}
 use Rattle.rdma_types.specs.Lists.{first_that, store}
@@ -18,17 +17,16 @@ use Rattle.protocol.specs.declared.events.WorldEvent.{WorldEvent}
 use Rattle.protocol.specs.declared.events.WorldEvent.TheVariants as world_event
 use Rattle.protocol.specs.declared.images.ContextImage.{ContextImage}
 use Rattle.protocol.specs.DeviceStep as device
-use Rattle.protocol.specs.DeviceStep.{Found, device_step, ends_with, found_in, found_link, husk_entries}
+use Rattle.protocol.specs.DeviceStep.{device_step}
 use Rattle.protocol.specs.EndWords.{completing, linked, with_end, with_queue}
 use Rattle.protocol.specs.Fabric.{Look, Here, IsGone, IsLost, IsAged, kept_flight, look}
 use Rattle.protocol.specs.Refusals.{has_context, has_husk, refusal_of, within}
 use Rattle.protocol.specs.Requester.{ended_with, Transmission, SendsResume, Waits, IsIdle, WindowIsFull, ReadsAreFull, IsFenced, Sends, not_counted, transmission}
 use Rattle.protocol.specs.Script.{Settles, happens, settles}
 use Rattle.protocol.specs.Settle.{settled}
-use Rattle.protocol.specs.State.{Context, Device, End, Flight, HuskEntry, Link, World, context_at, no_context}
-use Rattle.protocol.specs.Wire.{Packet, is_control, packet_of}
+use Rattle.protocol.specs.State.{Context, Device, End, Flight, Link, World, context_at, no_context}
 use Rattle.protocol.specs.WorldStep as step
-use Rattle.protocol.specs.WorldStep.{device_with, home, is_carried, is_live, now_of, ran, runs, same_address, with_device, with_image, with_sent, with_taken, world_after, world_step}
+use Rattle.protocol.specs.WorldStep.{device_with, home, is_live, now_of, ran, runs, with_device, with_image, with_sent, with_taken, world_after, world_step}
 use Rattle.ideal_model.specs.Legal.{after}
 use Rattle.ideal_model.specs.Machine.{Machine}
 use Rattle.law_simulation.specs.Law.{FollowsRun, joined_steps}
@@ -38,6 +36,7 @@ use Rattle.law_simulation.proofs.relation.Tables.{map-store_found, name-named_th
 use Rattle.law_simulation.proofs.relation.Worlds.{holds_it, home_found, ids_once, shape_of, shapes_of}
 use Rattle.law_settling.specs.Settling.{ComesOf, IsSettling, IsTurn, SettlingFollows, SettlingIsEvents}
 use Rattle.law_settling.proofs.bound.Delivering.{ran_devices}
+use Rattle.law_settling.proofs.steps.Bare.{bare}
 use Rattle.law_settling.specs.Weights.{TakingLightens}
 use Rattle.law_settling.proofs.sending_stops.Arrivals.{IsQuietStep, Lands, delivers_either, shape_kept}
 
@@ -122,27 +121,6 @@ module _ (d : Device) where
   unfolding device_step
   turn_keeps e is = turned e is (refusal_of d e) refl
 
-  -- an arrival carries nothing off
-  by_control : (b : Bool) (s t : device.Step) → s.outcome.image ≡ None → t.outcome.image ≡ None → (if b then s else t).outcome.image ≡ None
-  by_control true s t h k = h
-  by_control false s t h k = k
-
-  at_husk_none : (from : Address) (p : Packet) (hs : List HuskEntry) → (device.at_husk d from p hs).outcome.image ≡ None
-  at_husk_none from p [] = refl
-  at_husk_none from p (h ∷ hs) = by_control (is_control p) _ _ refl refl
-
-  found_none : (from : Address) (p : Packet) (fs : List Found) → (device.at_found d from p fs).outcome.image ≡ None
-  found_none from p [] = at_husk_none from p (husk_entries p.dest d.husks)
-  found_none from p (f ∷ fs) = refl
-
-  packet_none : (from : Address) (o : Option Packet) → (device.arrives_packet d from o).outcome.image ≡ None
-  packet_none from None = refl
-  packet_none from (Some p) = found_none from p (found_in p.dest d.contexts)
-
-  arrival_none : (from : Address) (bytes : List ℕ) → (device_step d (event.Arrive from bytes)).outcome.image ≡ None
-  unfolding device_step refusal_of first_cause device.arrives
-  arrival_none from bytes = packet_none from (packet_of bytes)
-
 -- ---- a world
 
 -- a world keeps the names of the contexts of each device, its carried images and what was stopped
@@ -199,7 +177,7 @@ module _ (laws : SettlingLaws) (w : World) (m : Machine) (stands : Stands w m) w
 
   reached_by : (k : ℕ) (f : Flight) (o : Option Device) → IsCalm w (step.reaches (with_taken w k) f o).world
   reached_by k f None = record { carried = refl; stopped = refl }
-  reached_by k f (Some d) = ran_calm w (with_taken w k) (device_step d (event.Arrive f.from f.bytes)) refl refl (arrival_none d f.from f.bytes)
+  reached_by k f (Some d) = ran_calm w (with_taken w k) (device_step d (event.Arrive f.from f.bytes)) refl refl (bare d (event.Arrive f.from f.bytes) tt)
 
   delivered_by : (k : ℕ) (l : Look) → IsCalm w (step.delivers_by w k l).world
   delivered_by k IsGone = record { carried = refl; stopped = refl }

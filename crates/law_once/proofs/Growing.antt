@@ -1,8 +1,7 @@
 -- What a step of the machine does to the requests of an end, to the count of those that acted, and to the bytes in place.
-use Rattle.std.proofs.Common.{arith, ◌≡◌, ◌≢◌, ◌+◌, ◌<◌, ◌≤◌, ℕ, zero, suc, List, [], ◌∷◌, ◌++◌, length, get_or, drop, true, false, Bool, refl, sym, ap, ◌∙◌, subst, inl, inr}
-use Rattle.std.specs.Prelude.{◌⊎◌, Option, Some, None, bytes_eq, if◌then◌else◌, ◌==◌, is_some, ◌&&◌, ◌||◌, not, nat_le, nat_lt}
-use Rattle.std.proofs.lemmas.Bool.Decides.{nat_tests, eqb_tells}
-use Rattle.std.proofs.lemmas.List.{append-nil, append_assoc, length-append, get_or_append_left}
+use Rattle.std.proofs.Common.{◌≡◌, ℕ, List, [], ◌∷◌, ◌++◌, drop, true, false, Bool, refl, sym, ap, ◌∙◌, subst}
+use Rattle.std.specs.Prelude.{Option, Some, None, if◌then◌else◌, ◌==◌, is_some, ◌&&◌}
+use Rattle.std.proofs.lemmas.List.{append-nil, append_assoc}
 use Rattle.rdma_types.specs.declared.names.Name.{Name}
 use Rattle.rdma_types.specs.declared.names.ObjName.{ObjName}
 use Rattle.rdma_types.specs.declared.requests.Receive.{Receive}
@@ -16,20 +15,17 @@ use Rattle.rdma_types.specs.declared.answers.Why.{Why}
 use Rattle.rdma_types.specs.declared.verbs.Verb.{Verb}
 use Rattle.rdma_types.specs.declared.verbs.Verb.TheVariants as verbs
 use Rattle.rdma_types.specs.declared.requests.WcKind.TheVariants as wc_kinds
-use Rattle.rdma_types.specs.Kinds.{is_send, kind_of, receive_done, request_done, size_of}
+use Rattle.rdma_types.specs.Kinds.{is_send, kind_of, receive_done, request_done}
 use Rattle.rdma_types.specs.Lists.{named}
-use Rattle.rdma_types.specs.Objects.{CompletionQueue, Posted, Region, no_posted}
-use Rattle.ideal_model.specs.declared.reply.Reply.{Reply}
-use Rattle.ideal_model.specs.declared.reply.Reply.TheVariants.{Finished, OldValue}
-use Rattle.ideal_model.specs.declared.steps.IdealStep.TheVariants as steps
-use Rattle.ideal_model.specs.Tables.{replaced}
-use Rattle.ideal_model.specs.Machine.{Machine, Context, End, no_context, nobody, new_end, context_of, end_of, with_context, with_end, with_end_in, with_regions, with_queues, with_queue, with_queue_in, completing, in_end, posted_at}
+use Rattle.rdma_types.specs.Objects.{CompletionQueue, Posted, Region}
+use Rattle.ideal_model.specs.declared.reply.Reply.TheVariants.{OldValue}
+use Rattle.ideal_model.specs.Machine.{Machine, Context, End, no_context, nobody, new_end, context_of, end_of, with_context, with_end, with_regions, with_queues, with_queue, with_queue_in, completing, in_end}
 use Rattle.ideal_model.specs.Steps as ideal
 use Rattle.ideal_model.specs.Steps.{advanced, acted_with, fills, receiving, placing, put_in_receive, put_in_range, run_towards, run, atom, atom_on, read_turn, refuse, refuse_at, denied, closed, dried, dried_at, offered, with_offer, landed, land_at, with_known, knowing, tell, tell_at, told_one, expire, expired, ended_with, wait, waited, bounce, peer_of, receive_for, current, put_old, in_place}
 use Rattle.ideal_model.specs.Verbs as verbal
 use Rattle.ideal_model.specs.Verbs.{refusal_of, after_answer, done}
 use Rattle.ideal_model.proofs.Views.{end_of-with_context, end_of-with_regions, end_of-completing, end_of-put_old}
-use Rattle.law_simulation.proofs.runs.Acting.{related, pushed, end_related, end_other, object_or_not}
+use Rattle.law_simulation.proofs.runs.Acting.{related, pushed, end_related}
 
 -- an end after a step that puts nothing of it: more is posted, at most
 pub record Grows (old new : End) : Type 0 where

@@ -1,6 +1,6 @@
 -- The end that fails has exactly one more completion with the status.
-use Rattle.std.proofs.Common.{arith, ◌≡◌, ◌≢◌, ◌+◌, ◌<◌, ◌-◌, ℕ, zero, suc, List, [], ◌∷◌, ◌++◌, length, drop, length-drop, true, false, Bool, refl, sym, ap, ◌∙◌, subst, inl, inr}
-use Rattle.std.specs.Prelude.{◌⊎◌, None, ◌&&◌, not, nat_lt, if◌then◌else◌, ◌==◌, bytes_eq}
+use Rattle.std.proofs.Common.{arith, ◌≡◌, ◌≢◌, ◌+◌, ◌<◌, ℕ, List, [], ◌∷◌, length, length-drop, true, false, Bool, refl, sym, ap, ◌∙◌, subst, inl, inr}
+use Rattle.std.specs.Prelude.{None, ◌&&◌, not, nat_lt, if◌then◌else◌, ◌==◌, bytes_eq}
 use Rattle.std.proofs.lemmas.Bool.Decides.{nat_tests, eqb_tells}
 use Rattle.rdma_types.specs.declared.names.Name.{Name}
 use Rattle.rdma_types.specs.declared.names.ObjName.{ObjName}
@@ -13,17 +13,15 @@ use Rattle.rdma_types.specs.Kinds.{receive_done, request_done}
 use Rattle.rdma_types.specs.Lists.{has_name, named, store_named}
 use Rattle.rdma_types.specs.Objects.{CompletionQueue, Posted, no_queue}
 use Rattle.ideal_model.specs.declared.steps.IdealStep.TheVariants as steps
-use Rattle.ideal_model.specs.Tables.{replaced}
 use Rattle.ideal_model.specs.Machine.{Machine, Context, End, no_context, context_of, end_of, queue_of, with_context, with_end, with_end_in, with_queues, completed, longer, in_end}
-use Rattle.ideal_model.specs.Steps as ideal
-use Rattle.ideal_model.specs.Steps.{closed, ended_with, expire, expired, failed_queues, failed_receives, failed_requests, has_untold, receives_of, untold, wait, waited}
+use Rattle.ideal_model.specs.Steps.{closed, ended_with, expire, failed_queues, failed_receives, failed_requests, has_untold, receives_of, untold, wait}
 use Rattle.ideal_model.specs.Verbs.{has_queue}
-use Rattle.ideal_model.specs.Legal.{effect}
 use Rattle.law_simulation.specs.Spent.{IsLastExpiry, IsLastWait}
-use Rattle.law_simulation.proofs.relation.Tables.{name_tells, named-absent, named-store_other, named-store_same, has_name-store, name-named, name-named_there, replaced-stored, same_name}
+use Rattle.law_simulation.proofs.relation.Tables.{name_tells, named-absent, named-store_other, named-store_same, has_name-store, name-named, name-named_there, replaced-stored}
 use Rattle.law_simulation.proofs.runs.Acting.{related}
-use Rattle.law_once.specs.Counted.{GrowsByOne, GrowsOnlyBy, count_at, count_in, is_queue_of, is_retry_exceeded, is_rnr_exceeded}
-use Rattle.law_once.proofs.Counts.{AreQueuesKept, count_both, count_cons, end_kept, ended_new, grows_only}
+use Rattle.law_simulation.proofs.runs.Adding.{AreQueuesKept, end_kept}
+use Rattle.law_once.specs.Counted.{GrowsByOne, count_at, count_in, is_queue_of, is_retry_exceeded, is_rnr_exceeded}
+use Rattle.law_once.proofs.Counts.{count_both, count_cons}
 
 -- ---- where things are
 
@@ -166,14 +164,3 @@ one_wait m o last untold' there c k =
     let endless : ((end_of m o).rnr == 7) ≡ false = grind (arith, nat_tests, eqb_tells (end_of m o).rnr 7, few) in
     let is : ((end_of m o).waits == (end_of m o).rnr) ≡ true = grind (arith, nat_tests, eqb_tells (end_of m o).waits (end_of m o).rnr, spent) in
     rw (endless, is) (ended_count is_rnr_exceeded refl statuses.RnrExceeded refl m o (some_untold m o untold') there c k)
-
-pub expiries_only : GrowsOnlyBy is_retry_exceeded IsLastExpiry
-expiries_only =
-    grows_only is_retry_exceeded refl refl refl refl refl IsLastExpiry (λ m o t. inr t)
-    (λ m o s t. inl (ended_new is_retry_exceeded refl refl refl refl refl m o statuses.RnrExceeded refl))
-
-pub waits_only : GrowsOnlyBy is_rnr_exceeded IsLastWait
-waits_only =
-    grows_only is_rnr_exceeded refl refl refl refl refl IsLastWait
-    (λ m o t. inl (ended_new is_rnr_exceeded refl refl refl refl refl m o statuses.RetryExceeded refl))
-    (λ m o s t. inr (s, t))

@@ -1,8 +1,8 @@
 -- Each byte of a message is put in place once.
-use Rattle.std.proofs.Common.{arith, ◌≡◌, ◌≢◌, ◌+◌, ◌<◌, ◌≤◌, ℕ, zero, suc, List, [], ◌∷◌, ◌++◌, length, get_or, true, false, Bool, refl, sym, ap, ◌∙◌, subst, inl, inr}
-use Rattle.std.specs.Prelude.{◌⊎◌, if◌then◌else◌, ◌==◌, ◌&&◌, not, nat_le, nat_lt, bytes_eq}
+use Rattle.std.proofs.Common.{arith, ◌≡◌, ◌≢◌, ◌+◌, ◌<◌, ◌≤◌, ℕ, suc, List, [], ◌∷◌, ◌++◌, length, true, false, Bool, refl, sym, ap, ◌∙◌, subst, inl, inr}
+use Rattle.std.specs.Prelude.{if◌then◌else◌, ◌==◌, ◌&&◌, not, nat_le, nat_lt}
 use Rattle.std.proofs.lemmas.Bool.Decides.{nat_tests, eqb_tells}
-use Rattle.std.proofs.lemmas.List.{append-nil, length-append, get_or_append_left}
+use Rattle.std.proofs.lemmas.List.{length-append, get_or_append_left}
 use Rattle.rdma_types.specs.declared.names.Name.{Name}
 use Rattle.rdma_types.specs.declared.names.ObjName.{ObjName}
 use Rattle.rdma_types.specs.Kinds.{is_atomic, is_read, kind_of, lands, size_of}
@@ -22,6 +22,7 @@ use Rattle.ideal_model.specs.Legal.{IsRun, after, effect, is_enabled}
 use Rattle.law_simulation.proofs.relation.Linked.{machine_here}
 use Rattle.law_simulation.proofs.relation.Tables.{name_tells, name-named_there, named-absent, same_name}
 use Rattle.law_simulation.proofs.runs.Acting.{end_other, object_or_not}
+use Rattle.law_simulation.proofs.runs.Adding.{eq}
 use Rattle.law_once.specs.Put.{IsMessage, PutOnce, has_byte, puts, times_put}
 use Rattle.law_once.proofs.Growing.{Grows, same, on, run_grown, atom_grown, refuse_grown, dry_grown, offer_grown, land_grown, know_grown, tell_grown, expire_grown, wait_grown, bounce_grown, verb_grown}
 
@@ -106,9 +107,6 @@ goes_on put i b a x c h g =
       stays = λ less. k.stays (omega (arith, less, h.longer)) ∙ h.stays less;
       counted = λ may. h.counted may ∙ ap (λ (n : ℕ). one_if (nat_lt b n)) (sym (place_same x c i g h.few));
     }
-
-eq : (a b : ℕ) → (a == b) ≡ true → a ≡ b
-eq a b t = grind (arith, nat_tests, eqb_tells a b, t)
 
 advanced_goes : (i b n : ℕ) (e : End) → e.acted < length e.posted → Goes (has_byte e n i b) i b e (advanced e n)
 unfolding advanced acted_with in_place

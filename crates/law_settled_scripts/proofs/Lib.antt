@@ -1,4 +1,4 @@
-pub mod Bare
+pub mod Images
 pub mod Worlds
 pub mod Names
 pub mod Scripts

@@ -1,5 +1,5 @@
 -- The worlds that a script leads to are sound, and each of its settlings leaves a quiet world.
-use Rattle.std.proofs.Common.{◌≡◌, ◌+◌, ℕ, List, [], ◌∷◌, ◌++◌, refl, sym, ap, subst, ◌∙◌, Result, Ok, Err, Option, Some, None}
+use Rattle.std.proofs.Common.{◌≡◌, ◌+◌, ℕ, List, [], ◌∷◌, ◌++◌, refl, sym, subst, ◌∙◌, Result, Ok, Err, Option, Some, None}
 use Rattle.std.specs.Prelude.{All}
 use Rattle.std.proofs.lemmas.List.{append_assoc}
 use Rattle.std.proofs.lemmas.List.Elements.{All-cons, All-head, All-nil, All-tail}
@@ -23,9 +23,9 @@ use Rattle.law_settling.specs.Leaves.{SettlingLeaves}
 use Rattle.law_headline.specs.Does.{IsWithinOf, MayBeAskedOf, before, happening_of, happenings_of}
 use Rattle.law_headline.specs.Follows.{FollowsAll, line_steps, lines_steps}
 use Rattle.law_headline.specs.Left.{ReachesAll}
-use Rattle.law_headline.specs.Script.{begins_with, happenings, script_from, script_of, world_left}
+use Rattle.law_headline.specs.Script.{begins_with, happenings, script_from, world_left}
 use Rattle.law_headline.proofs.Following.{all_reached}
-use Rattle.law_settled_scripts.specs.Settled.{IsLeftQuiet, SettledScriptsAreQuiet, settled_after}
+use Rattle.law_settled_scripts.specs.Settled.{SettledScriptsAreQuiet, settled_after}
 use Rattle.law_settled_scripts.specs.Sound.{IsSoundWorld, MayBeSaid, MayBeSaidOf, NamesThings, NamesThingsIn}
 
 -- ---- what is read may be said

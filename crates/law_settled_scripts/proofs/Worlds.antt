@@ -1,6 +1,6 @@
 -- A world stays sound.
-use Rattle.std.proofs.Common.{arith, ◌≡◌, ◌≤◌, ◌<◌, ◌^◌, ℕ, List, [], ◌∷◌, ◌++◌, true, false, Bool, refl, sym, ap, subst, ◌∙◌}
-use Rattle.std.specs.Prelude.{All, ◌==◌, ◌&&◌, ◌||◌, not, nat_lt, Option, Some, None, IfSome, if◌then◌else◌, is_some, bytes_eq}
+use Rattle.std.proofs.Common.{arith, ◌≡◌, ◌≤◌, ◌<◌, ◌^◌, ℕ, List, [], ◌∷◌, true, false, Bool, refl, sym, subst}
+use Rattle.std.specs.Prelude.{All, ◌==◌, ◌&&◌, ◌||◌, not, nat_lt, Option, Some, None, IfSome, if◌then◌else◌, is_some}
 use Rattle.std.proofs.lemmas.Bool.Decides.{nat_tests}
 use Rattle.std.proofs.lemmas.List.Elements.{All-cons, All-head, All-nil, All-push, All-tail}
 use Rattle.rdma_types.specs.declared.answers.Answer.TheVariants as answer
@@ -12,7 +12,7 @@ use Rattle.rdma_types.specs.declared.requests.Address.{Address}
 use Rattle.rdma_types.specs.declared.requests.Terms.{Terms}
 use Rattle.rdma_types.specs.Causes.{Cause, cause, first_cause}
 use Rattle.rdma_types.specs.Limits.{AreTerms, most_keys, most_numbers}
-use Rattle.rdma_types.specs.Lists.{at, first_that, has, store, without}
+use Rattle.rdma_types.specs.Lists.{at, first_that, has, store}
 use Rattle.rdma_types.specs.Spelled.{is_name}
 use Rattle.protocol.specs.declared.events.Event.{Event}
 use Rattle.protocol.specs.declared.events.Event.TheVariants as events
@@ -21,12 +21,12 @@ use Rattle.protocol.specs.declared.events.WorldEvent.TheVariants as world_events
 use Rattle.protocol.specs.declared.images.ContextImage.{ContextImage}
 use Rattle.protocol.specs.DeviceStep as device
 use Rattle.protocol.specs.DeviceStep.{device_step}
-use Rattle.protocol.specs.Events.{IsHandedOn, IsLawfulEvent, IsLawfulWorldEvent}
+use Rattle.protocol.specs.Events.{IsLawfulEvent, IsLawfulWorldEvent}
 use Rattle.protocol.specs.Fabric.{Look, IsGone, IsLost, IsAged, Here, kept_flight, look, losing}
 use Rattle.protocol.specs.Images.{image_of}
 use Rattle.protocol.specs.Lawful.{IsLawful, is_number}
 use Rattle.protocol.specs.Refusals.{has_end, is_init}
-use Rattle.protocol.specs.State.{Context, Device, End, Flight, World, context_at, device_at, empty_world, end_at, fresh_link, no_context, no_device, no_end}
+use Rattle.protocol.specs.State.{Context, Device, Flight, World, context_at, device_at, empty_world, end_at, fresh_link, no_context, no_device, no_end}
 use Rattle.protocol.specs.WorldStep as step
 use Rattle.protocol.specs.WorldStep.{connects_one, context_of_event, device_with, exchanged, has_device, home, is_live, live_context, now_of, ran, restored_by, runs, with_device, with_image, with_sent, with_taken, without_image, world_step}
 use Rattle.protocol.specs.Settle.{settled}
@@ -36,12 +36,12 @@ use Rattle.law_simulation.proofs.relation.Linked as linking
 use Rattle.law_simulation.proofs.relation.Linked.{connected_world, linked_changed, linked_of, live_kept}
 use Rattle.law_simulation.proofs.relation.Refusing.{first_no, later_no, not_lacking}
 use Rattle.law_simulation.proofs.relation.Tables.{All-named, All-without, named-absent}
-use Rattle.law_simulation.proofs.relation.Worlds.{WorldChanged, holds_it, home_found, home_holds}
+use Rattle.law_simulation.proofs.relation.Worlds.{holds_it, home_found, home_holds}
 use Rattle.law_settling.specs.Settling.{IsSettling, IsTurn}
 use Rattle.law_settling.proofs.steps.Made.{settled_keeps}
 use Rattle.law_device_sound.specs.Sound.{GivesNames, IsSoundContext, IsSoundDevice, IsSoundEnd, names_of_queues, plans}
 use Rattle.law_settled_scripts.specs.Sound.{IsSoundWorld, NamesThings}
-use Rattle.law_settled_scripts.proofs.Bare.{HandsOutLawful, image_lawful}
+use Rattle.law_settled_scripts.proofs.Images.{HandsOutLawful, image_lawful}
 
 -- ---- lists
 

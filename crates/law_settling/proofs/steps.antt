@@ -1,3 +1,4 @@
 pub mod Made
 pub mod Following
 pub mod Events
+pub mod Bare

@@ -5,5 +5,6 @@ pub mod Table
 pub mod Requests
 pub mod Unchanged
 pub mod Acting
+pub mod Adding
 pub mod Statuses
 pub mod Telling

@@ -1,6 +1,6 @@
 //! The moves of a connected end: whether it runs, pauses or resumes, how often it and its partner have moved, and where
 //! its partner is. NAK_STOPPED and pausing are MigrOS's; the counts, RESUME and RESUME_ACK are this project's choice.
-#![tactic(auto, unfolding(protocol::specs::Moves::move_row))]
+#![tactic(auto)]
 
 ghost use Rattle.std.specs.Prelude.{◌≡◌, ◌≢◌, ℕ, ◌+◌, ◌<◌, ◌≤◌, ◌↔◌, IsTrue};
 ghost use Rattle.rdma_types.specs.declared.requests.Address.{Address};
@@ -81,6 +81,7 @@ impl MoveState {
     /// - RESUME with the recorded count, at an end that is not paused, is to be answered again.
     /// - RESUME_ACK with the end's own count lets a resuming end run.
     /// - All else is stale and changes nothing.
+    #[tactic(auto, unfolding(protocol::specs::Moves::move_row))]
     pub fn take(&mut self, c: Control) -> MoveTook
         ensures paused { (result ≡ MoveTook.Paused) ↔ ((c ≡ Control.Stopped self.old.recorded) × (self.old.phase ≢ Phase.Paused)) }
         ensures resumed { (result ≡ MoveTook.Resumed)

@@ -15,57 +15,11 @@ use crate::state::Node;
 use device_core::{ContextImage, Event};
 use dump_reader::decode_dump;
 use dump_writer::encode_dump;
+use protocol::WorldEvent;
 use rdma_types::{Answer, Name, Verb};
 use script_lang::{NodeLine, print_answer};
 use std::alloc::{AllocError, Global};
-
-/// The event of a verb at a device; a context and a connection of two ends have none.
-fn event_of(verb: Verb) -> Option<Event>
-    requires { IsLawfulVerb verb }
-    ensures event { result ≡ rules.verb_event verb }
-    ensures lawful { IfSome result IsLawfulEvent }
-{
-    let event = match verb {
-        Verb::Context { .. } | Verb::Connect { .. } => return None,
-        Verb::MakeDomain { name } => Event::MakeDomain { name },
-        Verb::MakeRegion {
-            name,
-            domain,
-            base,
-            length,
-            rights,
-        } => Event::MakeRegion {
-            name,
-            domain,
-            base,
-            length,
-            rights,
-        },
-        Verb::MakeCq { name, capacity } => Event::MakeCq { name, capacity },
-        Verb::MakeQp {
-            name,
-            domain,
-            send_cq,
-            recv_cq,
-            send_depth,
-            recv_depth,
-        } => Event::MakeQp {
-            name,
-            domain,
-            send_cq,
-            recv_cq,
-            send_depth,
-            recv_depth,
-        },
-        Verb::DropRegion { name } => Event::DropRegion { name },
-        Verb::Store { region, at, bytes } => Event::Store { region, at, bytes },
-        Verb::Load { region, at, length } => Event::Load { region, at, length },
-        Verb::PostSend { end, request } => Event::PostSend { end, request },
-        Verb::PostRecv { end, receive } => Event::PostRecv { end, receive },
-        Verb::Poll { cq, max } => Event::Poll { cq, max },
-    };
-    Some(event)
-}
+use verb_events::event_of;
 
 /// An answer with the count of sent datagrams in the place of the number that a device does not know.
 fn counted(answer: Answer, sent: u64) -> Answer
@@ -273,8 +227,8 @@ impl Node {
         ensures { Does (rules.stepped_if self.old (rules.verb_event verb)) (λ done. self.new) (P.contents ports.old) result (P.contents ports.new) }
     {
         match event_of(verb) {
-            Some(event) => self.step_and_answer(alloc, ports, &event),
-            None => Ok(()),
+            Some(WorldEvent::At { event }) => self.step_and_answer(alloc, ports, &event),
+            _ => Ok(()),
         }
     }
 

@@ -1,6 +1,6 @@
 //! Packet numbers. An end's request packets are numbered 0, 1, 2 and so on, which are their true numbers; a packet
 //! carries 24 bits, its packet sequence number (IBA 9.7).
-#![tactic(auto, unfolding(protocol::specs::Numbers::wire_number))]
+#![tactic(auto)]
 
 ghost use Rattle.std.specs.Prelude.{◌≡◌, ℕ, ◌^◌, ◌<◌, ◌↔◌, Option, Some, IsNone, IfSome};
 ghost use Rattle.protocol.specs.Numbers.{wire_number, IsNear, unwrap_near as near_number};
@@ -19,6 +19,7 @@ const WIRE_NUMBERS: u32 = 16_777_216;
 const HALF: u64 = 8_388_608;
 
 /// The packet sequence number of packet `n` of an end whose numbering begins at `start`.
+#[tactic(auto, unfolding(protocol::specs::Numbers::wire_number))]
 pub fn wire_of(n: u64, start: u32) -> u32
     requires { n < 2 ^ 63 }
     ensures spelled { result ≡ wire_number start n }
@@ -29,6 +30,7 @@ pub fn wire_of(n: u64, start: u32) -> u32
 
 /// The one packet number from `near` - 2^23 up to `near` + 2^23 - 1 that has the packet sequence number `psn`, and None
 /// exactly where that number lies below 0. Reading numbers within this half range is this project's choice.
+#[tactic(auto, unfolding(protocol::specs::Numbers::wire_number))]
 pub fn unwrap_near(psn: u32, start: u32, near: u64) -> Option<u64>
     requires psn_fits { psn < 2 ^ 24 }
     requires near_fits { near < 2 ^ 62 }
@@ -59,6 +61,7 @@ pub fn place(n: u64, expected: u64) -> PsnOrder
 }
 
 /// At most one number near another has a given packet sequence number.
+#[tactic(auto, unfolding(protocol::specs::Numbers::wire_number))]
 pub fn near_numbers_are_one()
     ensures { (start psn near m n : ℕ) → IsNear start psn near m → IsNear start psn near n → m ≡ n }
 {}

@@ -5,8 +5,9 @@ ghost use Rattle.law_headline.specs.Does as rules;
 ghost use Rattle.script_runner.specs.Actions.{happening_by};
 
 use protocol::{Event, WorldEvent};
-use rdma_types::{Name, Verb};
+use rdma_types::Name;
 use script_lang::Line;
+use verb_events::event_of;
 
 /// What a line asks for that is not blank.
 #[derive(Drop)]
@@ -15,55 +16,6 @@ pub enum Action {
     /// The dump of a carried context is shown.
     Dump(Name),
     Settle,
-}
-
-/// The event that a verb is. No line says the verb of a new context.
-fn event_of(verb: Verb) -> Option<WorldEvent>
-    ensures { result ≡ rules.event_of verb }
-{
-    let event = match verb {
-        Verb::Context { .. } => return None,
-        Verb::Connect { one, two, terms } => {
-            return Some(WorldEvent::Connect { one, two, terms });
-        }
-        Verb::MakeDomain { name } => Event::MakeDomain { name },
-        Verb::MakeRegion {
-            name,
-            domain,
-            base,
-            length,
-            rights,
-        } => Event::MakeRegion {
-            name,
-            domain,
-            base,
-            length,
-            rights,
-        },
-        Verb::MakeCq { name, capacity } => Event::MakeCq { name, capacity },
-        Verb::MakeQp {
-            name,
-            domain,
-            send_cq,
-            recv_cq,
-            send_depth,
-            recv_depth,
-        } => Event::MakeQp {
-            name,
-            domain,
-            send_cq,
-            recv_cq,
-            send_depth,
-            recv_depth,
-        },
-        Verb::DropRegion { name } => Event::DropRegion { name },
-        Verb::Store { region, at, bytes } => Event::Store { region, at, bytes },
-        Verb::Load { region, at, length } => Event::Load { region, at, length },
-        Verb::PostSend { end, request } => Event::PostSend { end, request },
-        Verb::PostRecv { end, receive } => Event::PostRecv { end, receive },
-        Verb::Poll { cq, max } => Event::Poll { cq, max },
-    };
-    Some(WorldEvent::At { event })
 }
 
 /// An event of the device where its context lives.

@@ -9,8 +9,6 @@ mod arrivals;
 mod events;
 mod lines;
 mod recording;
-#[cfg(test)]
-mod tests;
 mod verbs;
 
 pub use recording::record_trace;

@@ -7,55 +7,9 @@ ghost use Rattle.law_simulation.specs.Named as named;
 ghost use Rattle.protocol.specs.State as state;
 ghost use Rattle.trace_record.specs.Events.{made_by};
 
-use protocol::{Event, WorldEvent};
+use protocol::WorldEvent;
 use rdma_types::{Answer, Refusal, Verb};
-
-/// The verb that a device's event is.
-#[tactic(auto, unfolding(law_simulation::specs::Kept::verb_in))]
-fn verb_in(event: Event) -> Option<Verb>
-    ensures { result ≡ kept.verb_in event }
-{
-    let verb = match event {
-        Event::MakeDomain { name } => Verb::MakeDomain { name },
-        Event::MakeRegion {
-            name,
-            domain,
-            base,
-            length,
-            rights,
-        } => Verb::MakeRegion {
-            name,
-            domain,
-            base,
-            length,
-            rights,
-        },
-        Event::MakeCq { name, capacity } => Verb::MakeCq { name, capacity },
-        Event::MakeQp {
-            name,
-            domain,
-            send_cq,
-            recv_cq,
-            send_depth,
-            recv_depth,
-        } => Verb::MakeQp {
-            name,
-            domain,
-            send_cq,
-            recv_cq,
-            send_depth,
-            recv_depth,
-        },
-        Event::DropRegion { name } => Verb::DropRegion { name },
-        Event::Store { region, at, bytes } => Verb::Store { region, at, bytes },
-        Event::Load { region, at, length } => Verb::Load { region, at, length },
-        Event::PostSend { end, request } => Verb::PostSend { end, request },
-        Event::PostRecv { end, receive } => Verb::PostRecv { end, receive },
-        Event::Poll { cq, max } => Verb::Poll { cq, max },
-        _ => return None,
-    };
-    Some(verb)
-}
+use verb_events::verb_in;
 
 /// The verb that an event is; `made` says whether the device of a new context was there.
 #[tactic(auto, unfolding(law_simulation::specs::Kept::verb_of))]

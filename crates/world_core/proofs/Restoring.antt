@@ -19,7 +19,8 @@ use Rattle.world_core.specs.Kept.{Makes}
 use Rattle.world_core.specs.Sites.{put_back}
 use Rattle.world_core.proofs.Places.{IsFirstPlace, none_passes, spot, without-place, is_some-position}
 use Rattle.world_core.proofs.Causes.{holds_not, no_cause, not_true, or_neither}
-use Rattle.world_core.proofs.Stepping.{not_done, restore_bare}
+use Rattle.law_settling.proofs.steps.Bare.{bare}
+use Rattle.world_core.proofs.Stepping.{not_done}
 use Rattle.world_core.proofs.Worlds.{Stays, device_stays, passes}
 
 -- ---- an image is put back
@@ -35,7 +36,7 @@ put_makes mid new spot s a made (inr not_done) =
 -- a restore carries nothing off
 restored_carried : (w : World) (d : Device) (image : ContextImage) → (runs w d (event.Restore image)).world.carried ≡ w.carried
 unfolding ran with_device
-restored_carried w d image = by (device_step d (event.Restore image)) (restore_bare d image)
+restored_carried w d image = by (device_step d (event.Restore image)) (bare d (event.Restore image) tt)
   where
     by : (s : device.Step) → s.outcome.image ≡ None → (ran w s).world.carried ≡ w.carried
     by s none = ap (λ o. (with_image o (record w { devices = store (λ x. x.id) s.device.id s.device w.devices; sent = sending w.sent s.device.address s.outcome.sent })).carried) none

@@ -1,5 +1,5 @@
 -- A device's step in a world, done to the world's parts.
-use Rattle.std.proofs.Common.{◌≡◌, ℕ, ◌+◌, List, [], ◌∷◌, ◌++◌, length, Bool, true, false, Option, Some, None, refl, sym, ap, ◌∙◌, subst, bytes_eq, nat_eq, slice_get, if◌then◌else◌, reverse}
+use Rattle.std.proofs.Common.{◌≡◌, ℕ, ◌+◌, List, [], ◌∷◌, ◌++◌, length, Bool, false, Option, Some, None, refl, sym, ap, ◌∙◌, subst, bytes_eq, nat_eq, slice_get, if◌then◌else◌, reverse}
 use Rattle.std.specs.Prelude.{All, IfSome}
 use Rattle.std.specs.List.{remove, IsDistinct}
 use Rattle.std.specs.Map.{lookup}
@@ -8,23 +8,16 @@ use Rattle.std.proofs.lemmas.List.{append-nil, reverse-append}
 use Rattle.std.proofs.lemmas.List.Elements.{All-push}
 use Rattle.rdma_types.specs.declared.answers.Answer.{Answer}
 use Rattle.rdma_types.specs.declared.answers.Answer.TheVariants as answer
-use Rattle.rdma_types.specs.declared.answers.Refusal.{Refusal}
-use Rattle.rdma_types.specs.declared.answers.SilentWhy.TheVariants as why
-use Rattle.rdma_types.specs.declared.answers.Took.TheVariants as took
 use Rattle.rdma_types.specs.declared.names.Name.{Name}
 use Rattle.rdma_types.specs.declared.requests.Address.{Address}
 use Rattle.rdma_types.specs.Lists.{store, has, some}
 use Rattle.protocol.specs.declared.events.Event.{Event}
-use Rattle.protocol.specs.declared.events.Event.TheVariants as event
 use Rattle.protocol.specs.declared.images.ContextImage.{ContextImage}
 use Rattle.protocol.specs.declared.images.Outcome.{Outcome}
 use Rattle.protocol.specs.DeviceStep as device
 use Rattle.protocol.specs.DeviceStep.{device_step}
 use Rattle.protocol.specs.Fabric.{sending}
-use Rattle.protocol.specs.Refusals.{refusal_of}
-use Rattle.protocol.specs.Moves.{nak_stopped}
-use Rattle.protocol.specs.Wire.{Packet, is_control, packet_of, wire_of}
-use Rattle.protocol.specs.State.{Device, Flight, HuskEntry, World}
+use Rattle.protocol.specs.State.{Device, Flight, World}
 use Rattle.protocol.specs.WorldStep.{has_device, is_done, numbered, ran, runs, same_address, with_device, with_image}
 use Rattle.protocol.specs.Lawful.{IsLawful}
 use Rattle.fabric.specs.Store.{forgetting}
@@ -152,37 +145,3 @@ not_done a other = refl
 -- the names in the other order
 pub names_reversed : (names : List Name) (o : Option ContextImage) → reverse (names ++ names_of o) ≡ reverse (names_of o) ++ reverse names
 names_reversed names o = reverse-append names (names_of o)
-
--- ---- events that carry nothing off
-
-pub arrives_bare : (d : Device) (from : Address) (bytes : List ℕ) → (device_step d (event.Arrive from bytes)).outcome.image ≡ None
-unfolding device_step device.arrives
-arrives_bare d from bytes = by_refusal (refusal_of d (event.Arrive from bytes))
-  where
-    by_husk : (p : Packet) (hs : List HuskEntry) → (device.at_husk d from p hs).outcome.image ≡ None
-    by_husk p [] = refl
-    by_husk p (h ∷ hs) = by (is_control p)
-      where
-        by : (b : Bool) → (if b then device.answers d (device.took_answer (took.Silent why.Unknown) []) else device.gives d (answer.Took took.Stopped 0 1) (record { to = from; number = None; bytes = wire_of (nak_stopped h p.psn) } ∷ [])).outcome.image ≡ None
-        by true = refl
-        by false = refl
-
-    by_found : (p : Packet) (fs : List device.Found) → (device.at_found d from p fs).outcome.image ≡ None
-    by_found p [] = by_husk p (device.husk_entries p.dest d.husks)
-    by_found p (f ∷ fs) = refl
-
-    by_packet : (o : Option Packet) → (device.arrives_packet d from o).outcome.image ≡ None
-    by_packet None = refl
-    by_packet (Some p) = by_found p (device.found_in p.dest d.contexts)
-
-    by_refusal : (r : Option Refusal) → (device.by_refusal d (event.Arrive from bytes) r).outcome.image ≡ None
-    by_refusal (Some r) = refl
-    by_refusal None = by_packet (packet_of bytes)
-
-pub restore_bare : (d : Device) (image : ContextImage) → (device_step d (event.Restore image)).outcome.image ≡ None
-unfolding device_step device.restores
-restore_bare d image = by_refusal (refusal_of d (event.Restore image))
-  where
-    by_refusal : (r : Option Refusal) → (device.by_refusal d (event.Restore image) r).outcome.image ≡ None
-    by_refusal (Some r) = refl
-    by_refusal None = refl

@@ -1,4 +1,5 @@
-use Rattle.law_once.proofs.Lasts.{expiries_only, one_expiry, one_wait, waits_only}
+use Rattle.law_once.proofs.Counts.{expiries_only, waits_only}
+use Rattle.law_once.proofs.Lasts.{one_expiry, one_wait}
 use Rattle.law_once.proofs.limits_are_counted.Goals as goal
 
 pub returns-clause-expiries : goal.returns-clause-expiries

@@ -1,375 +1,52 @@
 -- The completions that each step of the machine adds, by their statuses.
-use Rattle.std.proofs.Common.{arith, ◌≡◌, ◌≢◌, ℕ, zero, suc, List, [], ◌∷◌, ◌++◌, drop, true, false, Bool, refl, sym, ◌∙◌, subst, inl, inr}
-use Rattle.std.specs.Prelude.{◌⊎◌, Contains, Option, Some, None, if◌then◌else◌, ◌==◌}
-use Rattle.std.proofs.lemmas.Bool.Decides.{nat_tests, eqb_tells}
-use Rattle.std.proofs.lemmas.List.Elements.{Contains-append_cases}
-use Rattle.rdma_types.specs.declared.names.Name.{Name}
-use Rattle.rdma_types.specs.declared.names.ObjName.{ObjName}
+use Rattle.std.proofs.Common.{◌≢◌, ℕ, zero, suc, List, [], ◌∷◌, drop, inl, inr}
+use Rattle.std.specs.Prelude.{◌⊎◌, Contains}
+use Rattle.std.proofs.lemmas.List.Elements.{All-contains, Contains-append_cases}
 use Rattle.rdma_types.specs.declared.requests.Completion.{Completion}
-use Rattle.rdma_types.specs.declared.requests.Receive.{Receive}
-use Rattle.rdma_types.specs.declared.requests.Request.{Request}
-use Rattle.rdma_types.specs.declared.requests.WcKind.TheVariants as wc_kinds
 use Rattle.rdma_types.specs.declared.requests.WcStatus.{WcStatus}
 use Rattle.rdma_types.specs.declared.requests.WcStatus.TheVariants as statuses
-use Rattle.rdma_types.specs.declared.answers.Refusal.{Refusal}
-use Rattle.rdma_types.specs.declared.answers.Why.{Why}
-use Rattle.rdma_types.specs.declared.answers.Why.TheVariants as whys
-use Rattle.rdma_types.specs.declared.verbs.Verb.{Verb}
-use Rattle.rdma_types.specs.declared.verbs.Verb.TheVariants as verbs
-use Rattle.rdma_types.specs.Kinds.{is_send, kind_of, receive_done, request_done, size_of}
-use Rattle.rdma_types.specs.Lists.{named}
-use Rattle.rdma_types.specs.Objects.{CompletionQueue, Posted, Region, no_queue}
-use Rattle.ideal_model.specs.declared.reply.Reply.{Reply}
-use Rattle.ideal_model.specs.declared.reply.Reply.TheVariants.{Finished, OldValue, Denied}
 use Rattle.ideal_model.specs.declared.steps.IdealStep.{IdealStep}
-use Rattle.ideal_model.specs.declared.steps.IdealStep.TheVariants as steps
-use Rattle.ideal_model.specs.Tables.{replaced}
-use Rattle.ideal_model.specs.Machine.{Machine, Context, End, no_context, new_end, context_of, end_of, queue_of, with_context, with_end, with_end_in, with_regions, with_queues, with_queue, with_queue_in, completing, completed, longer, in_end}
-use Rattle.ideal_model.specs.Steps as ideal
-use Rattle.ideal_model.specs.Steps.{arrivals, fills, received_whole, used_by, placing, put_in_receive, put_in_range, receive_for, current, run, run_towards, atom, atom_on, read_turn, refuse, refuse_at, refused_queues, refused_entries, too_long, dried, offered, landed, land_at, knowing, tell, tell_at, put_old, success, expire, expired, ended_with, failed_queues, failed_requests, failed_receives, wait, waited, bounce, bounce_status}
-use Rattle.ideal_model.specs.Verbs as verbal
-use Rattle.ideal_model.specs.Verbs.{refusal_of, after_answer, done}
-use Rattle.ideal_model.specs.Legal.{effect}
-use Rattle.law_simulation.proofs.relation.Grants.{contains_cases, contains_later}
+use Rattle.ideal_model.specs.Machine.{Machine}
+use Rattle.law_simulation.proofs.relation.Grants.{contains_later}
+use Rattle.law_simulation.proofs.runs.Adding.{Admits, IsUsualUnless, step_new}
 use Rattle.law_simulation.specs.Spent.{ComesOnlyBy, IsLastExpiry, IsLastWait}
-use Rattle.law_simulation.proofs.runs.Acting.{related, pushed}
-
--- ---- queues of a machine that stay
-
-abbrev AreQueuesKept : Machine → Machine → Type 0
-AreQueuesKept m m' = (c : Name) → (context_of m' c).queues ≡ (context_of m c).queues
-
-kept_then : (a b c : Machine) → AreQueuesKept a b → AreQueuesKept b c → AreQueuesKept a c
-kept_then a b c first second n = second n ∙ first n
-
-context_kept : (m : Machine) (c : Name) (x : Context) → x.name ≡ (context_of m c).name → x.queues ≡ (context_of m c).queues → AreQueuesKept m (with_context m c x)
-unfolding context_of with_context
-context_kept m c x n h k = related (λ a b. a.queues ≡ b.queues) (λ a. refl) (λ z. z.name) (no_context c) (no_context k) c k x m.contexts n h
-
-end_kept : (m : Machine) (o : ObjName) (e : End) → AreQueuesKept m (with_end m o e)
-unfolding with_end with_end_in
-end_kept m o e = context_kept m o.context _ refl refl
-
-regions_kept : (m : Machine) (c : Name) (rs : List Region) → AreQueuesKept m (with_regions m c rs)
-unfolding with_regions
-regions_kept m c rs = context_kept m c _ refl refl
-
-receive_kept : (m : Machine) (c : Name) (into : ℕ) (new : List ℕ) (v : Option Receive) → AreQueuesKept m (put_in_receive m c into new v)
-unfolding put_in_receive
-receive_kept m c into new None k = refl
-receive_kept m c into new (Some v) k = regions_kept m c _ k
-
-placing_kept : (m : Machine) (c : Name) (e x : End) (new : List ℕ) → AreQueuesKept m (placing m c e x new)
-unfolding placing
-placing_kept m c e x new k = by (is_send (kind_of (current e)))
-  where
-    by : (b : Bool) → (context_of (if b then put_in_receive m c e.into new (receive_for x) else put_in_range m c e.into new (current e)) k).queues ≡ (context_of m k).queues
-    by true = receive_kept m c e.into new (receive_for x) k
-    by false = regions_kept m c _ k
-
-old_kept : (m : Machine) (c : Name) (r : Request) (a : Option Reply) → AreQueuesKept m (put_old m c r a)
-unfolding put_old
-old_kept m c r None k = refl
-old_kept m c r (Some Finished) k = refl
-old_kept m c r (Some (OldValue value)) k = regions_kept m c _ k
-old_kept m c r (Some (Denied why)) k = refl
-
-made_kept : (m : Machine) (o : ObjName) (domain send_cq recv_cq : Name) (send_depth recv_depth given : ℕ) → AreQueuesKept m (verbal.made_end m o domain send_cq recv_cq send_depth recv_depth given)
-unfolding verbal.made_end context_of with_context
-made_kept m o domain send_cq recv_cq send_depth recv_depth given k =
-    related (λ a b. a.queues ≡ b.queues) (λ a. refl) (λ z. z.name) (no_context o.context) (no_context k) o.context k
-    (record (context_of m o.context) { ends = (context_of m o.context).ends ++ new_end o given domain send_cq recv_cq send_depth recv_depth ∷ [] }) m.contexts refl refl
-
-keys_kept : (m : Machine) (keys : List ℕ) → AreQueuesKept m (record m { keys = keys })
-unfolding context_of
-keys_kept m keys k = refl
-
-pushed_kept : (m : Machine) (name : Name) → AreQueuesKept m (record m { contexts = m.contexts ++ no_context name ∷ [] })
-unfolding context_of
-pushed_kept m name k = pushed (λ x. x.queues) (λ x. x.name) (no_context k) k (no_context name) m.contexts refl
 
 drop_contains : (n : ℕ) (xs : List Completion) (x : Completion) → Contains (drop n xs) x → Contains xs x
 drop_contains zero xs x h = h
 drop_contains (suc n) [] x h = h
 drop_contains (suc n) (y ∷ ys) x h = contains_later x y ys (drop_contains n ys x h)
 
--- ---- a status that the usual completions do not have
-
-module _ (st : WcStatus) (good : statuses.Success ≢ st) (flush : statuses.Flush ≢ st) (long : statuses.LocalLength ≢ st) (invalid : statuses.RemoteInvalid ≢ st) (access : statuses.RemoteAccess ≢ st) where
+module _ (st : WcStatus) (success : statuses.Success ≢ st) (flush : statuses.Flush ≢ st) (length : statuses.LocalLength ≢ st) (invalid : statuses.RemoteInvalid ≢ st) (access : statuses.RemoteAccess ≢ st) where
+  -- a completion was there before, or has another status
   abbrev New : List Completion → List Completion → Type 0
   New old new = (x : Completion) → Contains new x → Contains old x ⊎ (x.status ≢ st)
 
-  abbrev AreOther : List Completion → Type 0
-  AreOther xs = (x : Completion) → Contains xs x → x.status ≢ st
+  admits : Admits New (λ status. status ≢ st)
+  admits = record {
+    same = λ xs x h. inl h;
+    turn = λ a b c first second x h. elim (second x h) [ inl g ↦ first x g | inr g ↦ inr g ];
+    more = λ old more usual x h. elim (Contains-append_cases old more x h) [ inl g ↦ inl g | inr g ↦ inr (All-contains (λ y. y.status ≢ st) more x usual g) ];
+    polled = λ n xs x h. inl (drop_contains n xs x h);
+    success = success;
+    flush = flush;
+    length = length;
+    invalid = invalid;
+    access = access;
+  }
 
-  abbrev NewIn : List CompletionQueue → List CompletionQueue → Type 0
-  NewIn qs qs' = (k : Name) → New (named (λ z. z.name) no_queue k qs).entries (named (λ z. z.name) no_queue k qs').entries
-
-  abbrev NewAt : Machine → Machine → Type 0
-  NewAt m m' = (c k : Name) → New (queue_of m c k).entries (queue_of m' c k).entries
-
-  new_then : (a b c : List Completion) → New a b → New b c → New a c
-  new_then a b c first second x h = elim (second x h) [ inl g ↦ first x g | inr g ↦ inr g ]
-
-  new_more : (old more : List Completion) → AreOther more → New old (old ++ more)
-  new_more old more other x h = elim (Contains-append_cases old more x h) [ inl g ↦ inl g | inr g ↦ inr (other x g) ]
-
-  none_other : AreOther []
-  none_other x h = absurd (omega (arith, h.1))
-
-  one_other : (y : Completion) (ys : List Completion) → y.status ≢ st → AreOther ys → AreOther (y ∷ ys)
-  one_other y ys other rest x h = elim (contains_cases x y ys h) [ inl same ↦ subst (λ z. z.status ≢ st) same other | inr g ↦ rest x g ]
-
-  -- ---- entries of queues
-
-  completed_new : (q : Name) (more : List Completion) (qs : List CompletionQueue) → AreOther more → NewIn qs (completed q more qs)
-  unfolding completed
-  completed_new q more qs other k =
-      related (λ a b. New b.entries a.entries) (λ a x h. inl h) (λ z. z.name) no_queue no_queue q k (longer (named (λ z. z.name) no_queue q qs) more) qs refl (new_more _ more other)
-
-  context_new : (m : Machine) (c : Name) (x : Context) → x.name ≡ (context_of m c).name → NewIn (context_of m c).queues x.queues → NewAt m (with_context m c x)
-  unfolding queue_of context_of with_context
-  context_new m c x n h c' k =
-      related (λ a b. New (named (λ z. z.name) no_queue k b.queues).entries (named (λ z. z.name) no_queue k a.queues).entries) (λ a y g. inl g) (λ z. z.name) (no_context c) (no_context c') c c' x m.contexts n (h k)
-
-  kept_new : (m m' : Machine) → AreQueuesKept m m' → NewAt m m'
-  unfolding queue_of
-  kept_new m m' same c k x h = inl (subst (λ qs. Contains (named (λ z. z.name) no_queue k qs).entries x) (same c) h)
-
-  queues_new : (m m' : Machine) (c : Name) (qs : List CompletionQueue) → AreQueuesKept m m' → NewIn (context_of m c).queues qs → NewAt m (with_queues m' c qs)
-  unfolding with_queues
-  queues_new m m' c qs same h c' k =
-      new_then _ _ _ (kept_new m m' same c' k) (context_new m' c (record (context_of m' c) { queues = qs }) refl (subst (λ z. NewIn z qs) (sym (same c)) h) c' k)
-
-  completing_new : (m : Machine) (c q : Name) (more : List Completion) → AreOther more → NewAt m (completing m c q more)
-  unfolding completing with_queue with_queue_in queue_of
-  completing_new m c q more other =
-      context_new m c (record (context_of m c) { queues = replaced (λ z. z.name) q (longer (named (λ z. z.name) no_queue q (context_of m c).queues) more) (context_of m c).queues }) refl
-      (λ k. related (λ a b. New b.entries a.entries) (λ a x h. inl h) (λ z. z.name) no_queue no_queue q k (longer (named (λ z. z.name) no_queue q (context_of m c).queues) more) (context_of m c).queues refl (new_more _ more other))
-
-  polled_new : (m : Machine) (cq : ObjName) (max : ℕ) → NewAt m (verbal.polled m cq max)
-  unfolding verbal.polled with_queue with_queue_in queue_of
-  polled_new m cq max =
-      context_new m cq.context
-      (record (context_of m cq.context) { queues = replaced (λ z. z.name) cq.name (record (named (λ z. z.name) no_queue cq.name (context_of m cq.context).queues) { entries = drop max (named (λ z. z.name) no_queue cq.name (context_of m cq.context).queues).entries }) (context_of m cq.context).queues })
-      refl
-      (λ k. related (λ a b. New b.entries a.entries) (λ a x h. inl h) (λ z. z.name) no_queue no_queue cq.name k (record (named (λ z. z.name) no_queue cq.name (context_of m cq.context).queues) { entries = drop max (named (λ z. z.name) no_queue cq.name (context_of m cq.context).queues).entries }) (context_of m cq.context).queues refl
-      (λ x h. inl (drop_contains max _ x h)))
-
-  queue_made : (m : Machine) (o : ObjName) (capacity : ℕ) → NewAt m (verbal.made_queue m o capacity)
-  unfolding verbal.made_queue
-  queue_made m o capacity =
-      context_new m o.context _ refl
-      (λ k x h. inl (subst (λ z. Contains z x) (pushed (λ z. z.entries) (λ z. z.name) no_queue k (record { name = o.name; capacity = capacity; entries = [] }) (context_of m o.context).queues refl) h))
-
-  -- ---- an end fails
-
-  requests_other : (number : ℕ) (status : WcStatus) (rs : List Posted) → status ≢ st → AreOther (failed_requests number status rs)
-  unfolding failed_requests request_done
-  requests_other number status [] other = none_other
-  requests_other number status (r ∷ rs) other = one_other (request_done number r status 0) (failed_requests number statuses.Flush rs) other (requests_other number statuses.Flush rs flush)
-
-  receives_other : (number : ℕ) (vs : List Receive) → AreOther (failed_receives number vs)
-  unfolding failed_receives receive_done
-  receives_other number [] = none_other
-  receives_other number (v ∷ vs) = one_other (receive_done number v wc_kinds.Recv statuses.Flush 0 None) (failed_receives number vs) flush (receives_other number vs)
-
-  failed_new : (e : End) (status : WcStatus) (vs : List Receive) (qs : List CompletionQueue) → status ≢ st → NewIn qs (failed_queues e status vs qs)
-  unfolding failed_queues
-  failed_new e status vs qs other k =
-      new_then _ _ _ (completed_new e.send_queue (failed_requests e.number status (ideal.untold e)) qs (requests_other e.number status (ideal.untold e) other) k)
-      (completed_new e.receive_queue (failed_receives e.number vs) (completed e.send_queue (failed_requests e.number status (ideal.untold e)) qs) (receives_other e.number vs) k)
-
-  ended_new : (m : Machine) (o : ObjName) (status : WcStatus) → status ≢ st → NewAt m (ended_with m o status)
-  unfolding ended_with
-  ended_new m o status other = queues_new m (in_end m o ideal.closed) o.context _ (end_kept m o _) (failed_new (end_of m o) status _ (context_of m o.context).queues other)
-
-  -- ---- the inner steps
-
-  whole_other : (number : ℕ) (r : Posted) (v : Option Receive) → AreOther (received_whole number r v)
-  unfolding received_whole receive_done
-  whole_other number r None = none_other
-  whole_other number r (Some v) = one_other _ [] good none_other
-
-  arrivals_other : (e : End) (n : ℕ) (x : End) → AreOther (arrivals e n x)
-  unfolding arrivals
-  arrivals_other e n x = by (fills e n)
-    where
-      by : (b : Bool) → AreOther (if b then received_whole x.number (current e) (used_by (current e) x) else [])
-      by true = whole_other x.number (current e) (used_by (current e) x)
-      by false = none_other
-
-  run_new : (m : Machine) (o : ObjName) (n : ℕ) → NewAt m (run m o n)
-  unfolding run run_towards
-  run_new m o n =
-      queues_new m _ (end_of m o).peer.context _ (kept_then m _ _ (end_kept m o _) (kept_then _ _ _ (placing_kept _ _ _ _ _) (end_kept _ _ _)))
-      (completed_new (ideal.peer_of m o).receive_queue (arrivals (end_of m o) n (ideal.peer_of m o)) (context_of m (end_of m o).peer.context).queues (arrivals_other (end_of m o) n (ideal.peer_of m o)))
-
-  atom_new : (m : Machine) (o : ObjName) → NewAt m (atom m o)
-  unfolding atom atom_on
-  atom_new m o = kept_new m _ (kept_then m _ _ (end_kept m o _) (regions_kept _ _ _))
-
-  turn_new : (m : Machine) (o : ObjName) → NewAt m (read_turn m o)
-  unfolding read_turn
-  turn_new m o = kept_new m _ (end_kept m o _)
-
-  too_long_other : (number : ℕ) (v : Option Receive) → AreOther (too_long number v)
-  unfolding too_long receive_done
-  too_long_other number None = none_other
-  too_long_other number (Some v) = one_other _ [] long none_other
-
-  entries_other : (x : End) (why : Why) → AreOther (refused_entries x why)
-  unfolding refused_entries
-  entries_other x whys.Invalid = none_other
-  entries_other x whys.Access = none_other
-  entries_other x whys.Length = too_long_other x.number (receive_for x)
-
-  refused_new : (x : End) (why : Why) (qs : List CompletionQueue) → NewIn qs (refused_queues x why qs)
-  unfolding refused_queues
-  refused_new x why qs k =
-      new_then _ _ _ (completed_new x.receive_queue (refused_entries x why) qs (entries_other x why) k)
-      (failed_new x statuses.Flush (ideal.refused_receives x why) (completed x.receive_queue (refused_entries x why) qs) flush k)
-
-  refuse_new : (m : Machine) (o : ObjName) (why : Why) → NewAt m (refuse m o why)
-  unfolding refuse refuse_at
-  refuse_new m o why = queues_new m _ (end_of m o).peer.context _ (kept_then m _ _ (end_kept m o _) (end_kept _ _ _)) (refused_new (ideal.peer_of m o) why (context_of m (end_of m o).peer.context).queues)
-
-  dry_new : (m : Machine) (o : ObjName) → NewAt m (dried m o)
-  unfolding dried
-  dry_new m o = kept_new m _ (end_kept m o _)
-
-  offer_new : (m : Machine) (o : ObjName) (i off n : ℕ) → NewAt m (offered m o i off n)
-  unfolding offered
-  offer_new m o i off n = kept_new m _ (end_kept m o _)
-
-  land_new : (m : Machine) (o : ObjName) (i : ℕ) → NewAt m (landed m o i)
-  unfolding landed land_at
-  land_new m o i = kept_new m _ (kept_then m _ _ (regions_kept m _ _) (end_kept _ o _))
-
-  know_new : (m : Machine) (o : ObjName) (bytes : ℕ) → NewAt m (knowing m o bytes)
-  unfolding knowing
-  know_new m o bytes = kept_new m _ (end_kept m o _)
-
-  success_other : (e : End) (r : Posted) → AreOther (success e r)
-  unfolding success request_done
-  success_other e r = by r.request.signaled
-    where
-      by : (b : Bool) → AreOther (if b then request_done e.number r statuses.Success (size_of r) ∷ [] else [])
-      by true = one_other _ [] good none_other
-      by false = none_other
-
-  tell_new : (m : Machine) (o : ObjName) → NewAt m (tell m o)
-  unfolding tell tell_at
-  tell_new m o c k =
-      new_then _ _ _ (completing_new m o.context (end_of m o).send_queue (success (end_of m o) (ideal.front (end_of m o))) (success_other (end_of m o) (ideal.front (end_of m o))) c k)
-      (kept_new _ _ (kept_then _ _ _ (old_kept _ _ _ _) (end_kept _ o _)) c k)
-
-  bounce_other : (a : Option Reply) → bounce_status a ≢ st
-  unfolding bounce_status
-  bounce_other None = invalid
-  bounce_other (Some Finished) = invalid
-  bounce_other (Some (OldValue value)) = invalid
-  bounce_other (Some (Denied whys.Access)) = access
-  bounce_other (Some (Denied whys.Invalid)) = invalid
-  bounce_other (Some (Denied whys.Length)) = invalid
-
-  bounce_new : (m : Machine) (o : ObjName) → NewAt m (bounce m o)
-  unfolding bounce
-  bounce_new m o = ended_new m o _ (bounce_other _)
-
-  -- ---- verbs
-
-  posted_new : (m : Machine) (o : ObjName) (r : Request) → NewAt m (verbal.posted m o r)
-  unfolding verbal.posted request_done
-  posted_new m o r = by (end_of m o).ended
-    where
-      by : (b : Bool) → NewAt m (if b then completing m o.context (end_of m o).send_queue (request_done (end_of m o).number (verbal.taken m o r) statuses.Flush 0 ∷ []) else in_end m o (verbal.with_request (verbal.taken m o r)))
-      by true = completing_new m o.context (end_of m o).send_queue _ (one_other _ [] flush none_other)
-      by false = kept_new m _ (end_kept m o _)
-
-  received_new : (m : Machine) (o : ObjName) (v : Receive) → NewAt m (verbal.received m o v)
-  unfolding verbal.received receive_done
-  received_new m o v = by (end_of m o).ended
-    where
-      by : (b : Bool) → NewAt m (if b then completing m o.context (end_of m o).receive_queue (receive_done (end_of m o).number v wc_kinds.Recv statuses.Flush 0 None ∷ []) else in_end m o (verbal.with_receive v))
-      by true = completing_new m o.context (end_of m o).receive_queue _ (one_other _ [] flush none_other)
-      by false = kept_new m _ (end_kept m o _)
-
-  done_new : (m : Machine) (v : Verb) (given : ℕ) → NewAt m (done m v given)
-  unfolding verbal.connected_pair verbal.with_domain verbal.made_region verbal.stored
-  done_new m (verbs.Context name made) given = kept_new m _ (pushed_kept m name)
-  done_new m (verbs.Connect one two terms) given = kept_new m _ (kept_then m _ _ (end_kept m one _) (end_kept _ two _))
-  done_new m (verbs.MakeDomain o) given = kept_new m _ (context_kept m o.context _ refl refl)
-  done_new m (verbs.MakeRegion o domain base count rights) given = kept_new m _ (kept_then m _ _ (keys_kept m (m.keys ++ given ∷ [])) (regions_kept (record m { keys = m.keys ++ given ∷ [] }) o.context _))
-  done_new m (verbs.MakeCq o capacity) given = queue_made m o capacity
-  done_new m (verbs.MakeQp o domain send_cq recv_cq send_depth recv_depth) given = kept_new m _ (made_kept m o (verbal.word_or_none domain) (verbal.word_or_none send_cq) (verbal.word_or_none recv_cq) send_depth recv_depth given)
-  done_new m (verbs.DropRegion o) given = kept_new m _ (regions_kept m o.context _)
-  done_new m (verbs.Store o address bytes) given = kept_new m _ (regions_kept m o.context _)
-  done_new m (verbs.Load o address count) given = λ c k x h. inl h
-  done_new m (verbs.PostSend o r) given = posted_new m o r
-  done_new m (verbs.PostRecv o v) given = received_new m o v
-  done_new m (verbs.Poll cq max) given = polled_new m cq max
-
-  verb_new : (m : Machine) (v : Verb) (given : ℕ) (r : Option Refusal) → NewAt m (after_answer r m v given)
-  verb_new m v given None = done_new m v given
-  verb_new m v given (Some r) = λ c k x h. inl h
-
-  -- ---- each step
-
-  module _ (IsLast : Machine → IdealStep → Type 0)
-      (expiring : (m : Machine) (o : ObjName) → (end_of m o).spent ≡ (end_of m o).retry → NewAt m (ended_with m o statuses.RetryExceeded) ⊎ IsLast m (steps.Expire o))
-      (waiting : (m : Machine) (o : ObjName) → (end_of m o).rnr ≢ 7 → (end_of m o).waits ≡ (end_of m o).rnr → NewAt m (ended_with m o statuses.RnrExceeded) ⊎ IsLast m (steps.Wait o)) where
-    eq : (a b : ℕ) → (a == b) ≡ true → a ≡ b
-    eq a b t = grind (arith, nat_tests, eqb_tells a b, t)
-
-    ne : (a b : ℕ) → (a == b) ≡ false → a ≢ b
-    ne a b t h = grind (arith, nat_tests, eqb_tells a b, t, h)
-
-    expire_new : (m : Machine) (o : ObjName) → NewAt m (expire m o) ⊎ IsLast m (steps.Expire o)
-    unfolding expire
-    expire_new m o = by ((end_of m o).spent == (end_of m o).retry) refl
-      where
-        by : (b : Bool) → ((end_of m o).spent == (end_of m o).retry) ≡ b → NewAt m (if b then ended_with m o statuses.RetryExceeded else in_end m o expired) ⊎ IsLast m (steps.Expire o)
-        by true t = expiring m o (eq _ _ t)
-        by false t = inl (kept_new m _ (end_kept m o _))
-
-    wait_new : (m : Machine) (o : ObjName) → NewAt m (wait m o) ⊎ IsLast m (steps.Wait o)
-    unfolding wait
-    wait_new m o = by ((end_of m o).rnr == 7) ((end_of m o).waits == (end_of m o).rnr) refl refl
-      where
-        by : (a b : Bool) → ((end_of m o).rnr == 7) ≡ a → ((end_of m o).waits == (end_of m o).rnr) ≡ b → NewAt m (if a then m else if b then ended_with m o statuses.RnrExceeded else in_end m o waited) ⊎ IsLast m (steps.Wait o)
-        by true b s t = inl (λ c k x h. inl h)
-        by false true s t = waiting m o (ne _ _ s) (eq _ _ t)
-        by false false s t = inl (kept_new m _ (end_kept m o _))
-
-    step_new : (m : Machine) (s : IdealStep) → NewAt m (effect m s) ⊎ IsLast m s
-    step_new m (steps.Verb v given) = inl (verb_new m v given (refusal_of m v))
-    step_new m (steps.Run o n) = inl (run_new m o n)
-    step_new m (steps.Atom o) = inl (atom_new m o)
-    step_new m (steps.ReadTurn o) = inl (turn_new m o)
-    step_new m (steps.Refuse o why) = inl (refuse_new m o why)
-    step_new m (steps.Dry o) = inl (dry_new m o)
-    step_new m (steps.Offer o i off n) = inl (offer_new m o i off n)
-    step_new m (steps.Land o i) = inl (land_new m o i)
-    step_new m (steps.Known o bytes) = inl (know_new m o bytes)
-    step_new m (steps.Tell o) = inl (tell_new m o)
-    step_new m (steps.Expire o) = expire_new m o
-    step_new m (steps.Wait o) = wait_new m o
-    step_new m (steps.Bounce o) = inl (bounce_new m o)
-
-    comes_only : ComesOnlyBy st IsLast
-    comes_only m s c k x h = elim (step_new m s) [
-      | inl new ↦ elim (new c k x h) [ inl g ↦ inl g | inr g ↦ inr (inl g) ]
-      | inr last ↦ inr (inr last)
-    ]
+  comes_only : (IsLast : Machine → IdealStep → Type 0) → IsUsualUnless (statuses.RetryExceeded ≢ st) IsLastExpiry IsLast → IsUsualUnless (statuses.RnrExceeded ≢ st) IsLastWait IsLast → ComesOnlyBy st IsLast
+  comes_only IsLast expiring waiting m s c k x h = elim (step_new New (λ status. status ≢ st) admits IsLast expiring waiting m s) [
+    | inl new ↦ elim (new c k x h) [ inl g ↦ inl g | inr g ↦ inr (inl g) ]
+    | inr last ↦ inr (inr last)
+  ]
 
 pub expiries_only : ComesOnlyBy statuses.RetryExceeded IsLastExpiry
 expiries_only =
-    comes_only statuses.RetryExceeded (λ h. absurd (cc)) (λ h. absurd (cc)) (λ h. absurd (cc)) (λ h. absurd (cc)) (λ h. absurd (cc)) IsLastExpiry (λ m o t. inr t)
-    (λ m o s t. inl (ended_new statuses.RetryExceeded (λ h. absurd (cc)) (λ h. absurd (cc)) (λ h. absurd (cc)) (λ h. absurd (cc)) (λ h. absurd (cc)) m o statuses.RnrExceeded (λ h. absurd (cc))))
+    comes_only statuses.RetryExceeded (λ h. absurd (cc)) (λ h. absurd (cc)) (λ h. absurd (cc)) (λ h. absurd (cc)) (λ h. absurd (cc)) IsLastExpiry (λ m s last. inr last)
+    (λ m s last. inl (λ h. absurd (cc)))
 
 pub waits_only : ComesOnlyBy statuses.RnrExceeded IsLastWait
 waits_only =
     comes_only statuses.RnrExceeded (λ h. absurd (cc)) (λ h. absurd (cc)) (λ h. absurd (cc)) (λ h. absurd (cc)) (λ h. absurd (cc)) IsLastWait
-    (λ m o t. inl (ended_new statuses.RnrExceeded (λ h. absurd (cc)) (λ h. absurd (cc)) (λ h. absurd (cc)) (λ h. absurd (cc)) (λ h. absurd (cc)) m o statuses.RetryExceeded (λ h. absurd (cc))))
-    (λ m o s t. inr (s, t))
+    (λ m s last. inl (λ h. absurd (cc)))
+    (λ m s last. inr last)

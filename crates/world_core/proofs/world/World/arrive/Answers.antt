@@ -9,8 +9,9 @@ use Rattle.protocol.specs.WorldStep.{with_taken}
 use Rattle.protocol.specs.declared.events.Event.{Event}
 use Rattle.protocol.specs.declared.events.Event.TheVariants as event
 use Rattle.fabric.specs.Store.{forgetting}
+use Rattle.law_settling.proofs.steps.Bare as handing
 use Rattle.world_core.proofs.Delivering.{delivered-at}
-use Rattle.world_core.proofs.Stepping.{arrives_bare, bare_carried, bare_stopped, parts_after, ran_all}
+use Rattle.world_core.proofs.Stepping.{bare_carried, bare_stopped, parts_after, ran_all}
 use Rattle.world_core.proofs.Places.{read_set, some_there}
 use Rattle.world_core.proofs.world.World.arrive.Goals as goal
 
@@ -32,7 +33,7 @@ returns-clause-ok c = λ f d kept h.
     let here : slice_get ds c.args.place ≡ Some c.index_mut.result.now = slice_get_read ds (length ds) c.args.place c.index_mut.result.now refl lt c.index_mut.ensures.value in
     let there : c.index.result.now ≡ c.reach.new.device = read_set ds c.args.place c.reach.new.device c.index.result.now lt c.index.ensures in
     let step : device_step c.index_mut.result.now e ≡ record { device = c.reach.new.device; outcome = c.in_ok-outcome.outcome } = c.in_ok-outcome.ensures.ok f (ap (λ (w : World). kept_flight w.sent c.args.k) c.self.view_is ∙ kept) in
-    let bare : c.in_ok-outcome.outcome.image ≡ None = sym (ap (λ (s : device.Step). s.outcome.image) step) ∙ arrives_bare c.index_mut.result.now f.from f.bytes in
+    let bare : c.in_ok-outcome.outcome.image ≡ None = sym (ap (λ (s : device.Step). s.outcome.image) step) ∙ handing.bare c.index_mut.result.now e tt in
     ran_all _ (with_taken c.args.self.now c.args.k) _ c.args.place d c.index_mut.result.now c.reach.new.device e c.in_ok-outcome.outcome c.send_outcome.result c.address-from.result (length c.took.new.self + 1)
     (ap (λ (w : World). with_taken w c.args.k) c.self.view_is) c.self.invariant.ids here step c.reach.ensures.same.0
     refl (c.address-from.ensures ∙ ap (λ x. x.address) there)

@@ -7,9 +7,10 @@ use Rattle.protocol.specs.DeviceStep.{device_step}
 use Rattle.protocol.specs.State.{World}
 use Rattle.protocol.specs.WorldStep.{is_done, runs}
 use Rattle.protocol.specs.declared.events.Event.TheVariants as event
+use Rattle.law_settling.proofs.steps.Bare as handing
 use Rattle.world_core.specs.Kept.{Makes}
 use Rattle.world_core.proofs.Restoring.{put_makes}
-use Rattle.world_core.proofs.Stepping.{bare_carried, bare_stopped, homes_noted, not_done, parts_after, parts_less, ran_all, restore_bare}
+use Rattle.world_core.proofs.Stepping.{bare_carried, bare_stopped, homes_noted, not_done, parts_after, parts_less, ran_all}
 use Rattle.world_core.proofs.Places.{read_set, same_thing}
 use Rattle.world_core.proofs.world.World.put_back.Goals as goal
 use Rattle.world_core.proofs.world.World.put_back.Goals.{in-Done, in_default}
@@ -44,7 +45,7 @@ returns-clause-ok c = λ d x h k.
     let within : c.args.spot < length is = subst (λ (w : World). c.args.spot < length w.carried) (sym c.self.view_is) c.requires.spot in
     let image : c.index-image.result.now ≡ x = same_thing c.index-image.result.now x (sym (slice_get_read is (length is) c.args.spot c.index-image.result.now refl within c.index-image.ensures) ∙ (ap (λ (w : World). slice_get w.carried c.args.spot) c.self.view_is ∙ k)) in
     let step : device_step c.index_mut.result.now (event.Restore x) ≡ record { device = c.restore.new.self; outcome = o } = subst (λ y. device_step c.index_mut.result.now (event.Restore y) ≡ record { device = c.restore.new.self; outcome = o }) image c.in_ok-outcome.ensures.ok in
-    let bare : o.image ≡ None = sym (ap (λ (s : device.Step). s.outcome.image) step) ∙ restore_bare c.index_mut.result.now x in
+    let bare : o.image ≡ None = sym (ap (λ (s : device.Step). s.outcome.image) step) ∙ handing.bare c.index_mut.result.now (event.Restore x) tt in
     let mid : World = record { devices = set ds c.args.place c.restore.new.self; sent = c.send_outcome-answer.new.fabric; carried = is; stopped = reverse c.self.inside.stopped.items } in
     let made : Makes (runs c.args.self.now d (event.Restore x)) c.send_outcome-answer.result mid =
     ran_all _ c.args.self.now mid c.args.place d c.index_mut.result.now c.restore.new.self (event.Restore x) o c.send_outcome-answer.result c.address-from.result (length c.self.inside.fabric + 1)

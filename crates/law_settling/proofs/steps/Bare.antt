@@ -1,28 +1,20 @@
--- A step of a device hands out no image but that of a stop, which keeps the rules.
-use Rattle.std.proofs.Common.{◌≡◌, List, [], ◌∷◌, true, false, Bool, refl, sym, subst}
-use Rattle.std.specs.Prelude.{◌==◌, Option, Some, None, IfSome, if◌then◌else◌}
+-- A step of a device hands out no image, unless it is a stop.
+use Rattle.std.proofs.Common.{◌≡◌, List, [], ◌∷◌, true, false, Bool, refl}
+use Rattle.std.specs.Prelude.{◌==◌, Option, Some, None, if◌then◌else◌}
 use Rattle.rdma_types.specs.declared.answers.NotWhy.{NotWhy}
 use Rattle.rdma_types.specs.declared.answers.Refusal.{Refusal}
-use Rattle.rdma_types.specs.declared.names.Name.{Name}
 use Rattle.rdma_types.specs.declared.requests.Address.{Address}
 use Rattle.rdma_types.specs.declared.requests.Request.{Request}
 use Rattle.protocol.specs.declared.events.Event.{Event}
 use Rattle.protocol.specs.declared.events.Event.TheVariants as events
-use Rattle.protocol.specs.declared.images.ContextImage.{ContextImage}
 use Rattle.protocol.specs.DeviceStep as device
 use Rattle.protocol.specs.DeviceStep.{device_step}
-use Rattle.protocol.specs.Images.{image_of}
-use Rattle.protocol.specs.Lawful.{IsLawful}
-use Rattle.protocol.specs.Refusals.{has_context, refusal_of, stop_causes}
+use Rattle.protocol.specs.Refusals.{refusal_of}
 use Rattle.protocol.specs.Requester.{Transmission, SendsResume, Waits, IsIdle, WindowIsFull, ReadsAreFull, IsFenced, Sends, not_counted, transmission}
-use Rattle.protocol.specs.State.{Context, Device, End, HuskEntry, Link, context_at}
+use Rattle.protocol.specs.State.{Context, Device, End, HuskEntry, Link}
 use Rattle.protocol.specs.Wire.{Packet, is_control, packet_of}
-use Rattle.law_device_sound.specs.Sound.{IsSoundContext, IsSoundDevice}
-use Rattle.law_device_sound.proofs.Founds.{live, within-context}
 
--- ---- steps that hand out no image
-
-abbrev IsBare : device.Step → Type 0
+abbrev pub IsBare : device.Step → Type 0
 IsBare s = s.outcome.image ≡ None
 
 if_bare : (b : Bool) (s t : device.Step) → IsBare s → IsBare t → IsBare (if b then s else t)
@@ -65,7 +57,7 @@ packet_bare d from None = refl
 packet_bare d from (Some p) = found_bare d from p (device.found_in p.dest d.contexts)
 
 -- every event but a stop
-abbrev IsNoStop : Event → Type 0
+abbrev pub IsNoStop : Event → Type 0
 IsNoStop (events.Stop name alone) = ⊥
 IsNoStop other = Unit {0}
 
@@ -83,25 +75,6 @@ refusal_bare : (d : Device) (e : Event) (r : Option Refusal) → IsBare (device.
 refusal_bare d e (Some r) h = refl
 refusal_bare d e None h = h
 
-bare : (d : Device) (e : Event) → IsNoStop e → IsBare (device_step d e)
+pub bare : (d : Device) (e : Event) → IsNoStop e → IsBare (device_step d e)
 unfolding device_step
 bare d e is = refusal_bare d e (refusal_of d e) (done_bare d e is)
-
--- ---- the image of a stop
-
--- the image, where there is one, keeps the rules
-abbrev pub HandsOutLawful : device.Step → Type 0
-HandsOutLawful s = IfSome s.outcome.image IsLawful
-
-module _ (images : (c : Context) → IsSoundContext c → IsLawful (image_of c)) where
-  stop_lawful : (d : Device) (name : Name) (alone : Bool) → IsSoundDevice d → HandsOutLawful (device_step d (events.Stop name alone))
-  unfolding device_step refusal_of device.stops
-  stop_lawful d name alone s = by (refusal_of d (events.Stop name alone)) refl
-    where
-      by : (r : Option Refusal) → refusal_of d (events.Stop name alone) ≡ r → HandsOutLawful (device.by_refusal d (events.Stop name alone) r)
-      by (Some r) h = tt
-      by None h = images (context_at d name) (live d name s (within-context d name _ _ (stop_causes d (context_at d name) alone) refl h).there).sound
-
-  pub image_lawful : (d : Device) (e : Event) → IsSoundDevice d → HandsOutLawful (device_step d e)
-  image_lawful d (events.Stop name alone) s = stop_lawful d name alone s
-  image_lawful d other s = subst (λ (o : Option ContextImage). IfSome o IsLawful) (sym (bare d other tt)) tt
