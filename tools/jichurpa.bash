@@ -4,7 +4,7 @@
 _jichurpa_words() {
     local dump LC_ALL=C
     if [ "$COMP_CWORD" = 1 ]; then
-        printf '%s\n' play bulk show-dump evacuate audit node --help -h --version
+        printf '%s\n' play bulk show-dump evacuate audit record node --help -h --version
         return
     fi
     if [ "$COMP_CWORD" = 2 ] && [[ ${COMP_WORDS[2]} = -* ]]; then

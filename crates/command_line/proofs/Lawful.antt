@@ -13,7 +13,7 @@ use Rattle.law_program.specs.Commands.{placed_of}
 use Rattle.clap.specs.Words.{Text, subcommand_of, takes}
 use Rattle.command_line.specs.Splitting.{spelled_in, splitter_app}
 use Rattle.command_line.proofs.Plain.{IsPlain, plain}
-use Rattle.command_line.proofs.Splits.{audit_split, audit_taken, bulk_split, node_split, play_split, play_taken, show_dump_split}
+use Rattle.command_line.proofs.Splits.{audit_split, audit_taken, bulk_split, node_split, play_split, play_taken, record_split, record_taken, show_dump_split}
 use Rattle.command_line.proofs.Taken.{bulk_taken, node_taken, show_dump_taken}
 
 -- ---- steps that may fail
@@ -139,6 +139,10 @@ command_is_audit : (words : List Text) → placed_of (codes "audit" ∷ words) �
 unfolding placed_of
 command_is_audit words = refl
 
+command_is_record : (words : List Text) → placed_of (codes "record" ∷ words) ≡ rules.alone rules.Record words
+unfolding placed_of
+command_is_record words = refl
+
 command_is_node : (words : List Text) → placed_of (codes "node" ∷ words) ≡ rules.node_of words
 unfolding placed_of
 command_is_node words = refl
@@ -159,6 +163,10 @@ show_dump_splits (n ∷ word ∷ words) e = absurd (cc e)
 audit_splits : (words : List Text) → is_some (rules.alone rules.Audit words) ≡ true → Splits (codes "audit" ∷ words)
 audit_splits [] e = record { taken = audit_taken; says = audit_split ∙ sym (command_is_audit []) }
 audit_splits (word ∷ words) e = absurd (cc e)
+
+record_splits : (words : List Text) → is_some (rules.alone rules.Record words) ≡ true → Splits (codes "record" ∷ words)
+record_splits [] e = record { taken = record_taken; says = record_split ∙ sym (command_is_record []) }
+record_splits (word ∷ words) e = absurd (cc e)
 
 -- the two words of `node`
 two_split : (i a : Text) → is_some (rules.node_of (i ∷ a ∷ [])) ≡ true → Splits (codes "node" ∷ i ∷ a ∷ [])
@@ -198,26 +206,28 @@ bulk_splits (s ∷ c ∷ m ∷ v ∷ word ∷ words) e = absurd (cc e)
 -- ---- all
 
 -- what the table of commands says, by its tests
-table : Bool → Bool → Bool → Bool → Bool → List Text → Option rules.Command
-table is_play is_bulk is_show_dump is_audit is_node words =
+table : Bool → Bool → Bool → Bool → Bool → Bool → List Text → Option rules.Command
+table is_play is_bulk is_show_dump is_audit is_record is_node words =
     if is_play then rules.alone rules.Play words
     else if is_bulk then rules.bulk_of words
     else if is_show_dump then rules.show_dump_of words
     else if is_audit then rules.alone rules.Audit words
+    else if is_record then rules.alone rules.Record words
     else if is_node then rules.node_of words
     else None
 
-by_table : (word : Text) (words : List Text) (p b s a n : Bool) → bytes_eq word (codes "play") ≡ p → bytes_eq word (codes "bulk") ≡ b → bytes_eq word (codes "show-dump") ≡ s → bytes_eq word (codes "audit") ≡ a → bytes_eq word (codes "node") ≡ n
-    → is_some (table p b s a n words) ≡ true → Splits (word ∷ words)
+by_table : (word : Text) (words : List Text) (p b s a r n : Bool) → bytes_eq word (codes "play") ≡ p → bytes_eq word (codes "bulk") ≡ b → bytes_eq word (codes "show-dump") ≡ s → bytes_eq word (codes "audit") ≡ a → bytes_eq word (codes "record") ≡ r → bytes_eq word (codes "node") ≡ n
+    → is_some (table p b s a r n words) ≡ true → Splits (word ∷ words)
 unfolding table
-by_table word words true b s a n ep eb es ea en e = subst (λ w. Splits (w ∷ words)) (sym (same_bytes word (codes "play") ep)) (play_splits words e)
-by_table word words false true s a n ep eb es ea en e = subst (λ w. Splits (w ∷ words)) (sym (same_bytes word (codes "bulk") eb)) (bulk_splits words e)
-by_table word words false false true a n ep eb es ea en e = subst (λ w. Splits (w ∷ words)) (sym (same_bytes word (codes "show-dump") es)) (show_dump_splits words e)
-by_table word words false false false true n ep eb es ea en e = subst (λ w. Splits (w ∷ words)) (sym (same_bytes word (codes "audit") ea)) (audit_splits words e)
-by_table word words false false false false true ep eb es ea en e = subst (λ w. Splits (w ∷ words)) (sym (same_bytes word (codes "node") en)) (node_splits words e)
-by_table word words false false false false false ep eb es ea en e = absurd (cc e)
+by_table word words true b s a r n ep eb es ea er en e = subst (λ w. Splits (w ∷ words)) (sym (same_bytes word (codes "play") ep)) (play_splits words e)
+by_table word words false true s a r n ep eb es ea er en e = subst (λ w. Splits (w ∷ words)) (sym (same_bytes word (codes "bulk") eb)) (bulk_splits words e)
+by_table word words false false true a r n ep eb es ea er en e = subst (λ w. Splits (w ∷ words)) (sym (same_bytes word (codes "show-dump") es)) (show_dump_splits words e)
+by_table word words false false false true r n ep eb es ea er en e = subst (λ w. Splits (w ∷ words)) (sym (same_bytes word (codes "audit") ea)) (audit_splits words e)
+by_table word words false false false false true n ep eb es ea er en e = subst (λ w. Splits (w ∷ words)) (sym (same_bytes word (codes "record") er)) (record_splits words e)
+by_table word words false false false false false true ep eb es ea er en e = subst (λ w. Splits (w ∷ words)) (sym (same_bytes word (codes "node") en)) (node_splits words e)
+by_table word words false false false false false false ep eb es ea er en e = absurd (cc e)
 
 pub splits : (words : List Text) → is_some (placed_of words) ≡ true → Splits words
 unfolding placed_of table
 splits [] e = absurd (cc e)
-splits (word ∷ words) e = by_table word words (bytes_eq word (codes "play")) (bytes_eq word (codes "bulk")) (bytes_eq word (codes "show-dump")) (bytes_eq word (codes "audit")) (bytes_eq word (codes "node")) refl refl refl refl refl e
+splits (word ∷ words) e = by_table word words (bytes_eq word (codes "play")) (bytes_eq word (codes "bulk")) (bytes_eq word (codes "show-dump")) (bytes_eq word (codes "audit")) (bytes_eq word (codes "record")) (bytes_eq word (codes "node")) refl refl refl refl refl refl e

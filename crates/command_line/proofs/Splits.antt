@@ -30,6 +30,16 @@ pub audit_split : spelled_in (subcommand_of splitter_app (codes "audit" ∷ []))
 unfolding clap_on_literals
 audit_split = refl
 
+-- ---- `record`
+
+pub record_taken : takes splitter_app (codes "record" ∷ []) ≡ true
+unfolding clap_on_literals
+record_taken = refl
+
+pub record_split : spelled_in (subcommand_of splitter_app (codes "record" ∷ [])) ≡ Some rules.Record
+unfolding clap_on_literals
+record_split = refl
+
 -- ---- `show-dump`
 
 abbrev pub top : Shape

@@ -1,6 +1,6 @@
 -- A command as the rules know it.
 use Rattle.std.specs.Prelude.{◌≤◌, Option, Some, None}
-use Rattle.law_program.specs.Commands.{Play, Bulk, ShowDump, Evacuate, Audit, Node}
+use Rattle.law_program.specs.Commands.{Play, Bulk, ShowDump, Evacuate, Audit, Record, Node}
 use Rattle.law_program.specs.Commands as rules
 use Rattle.law_program.specs.Mixes.{IsMix}
 use Rattle.command_line.specs.declared.command.Command.{Command}
@@ -12,6 +12,7 @@ known (command.Bulk seed mix) = Bulk seed mix
 known (command.ShowDump name) = ShowDump name
 known (command.Evacuate from targets) = Evacuate from targets.items
 known command.Audit = Audit
+known command.Record = Record
 known (command.Node id own) = Node id own
 
 -- .. if there is one

@@ -24,6 +24,9 @@ show_dump_shape = (with_rule (new_app (codes "show-dump")) (place_rule (codes "n
 abbrev pub audit_shape : Shape
 audit_shape = (new_app (codes "audit")).top
 
+abbrev pub record_shape : Shape
+record_shape = (new_app (codes "record")).top
+
 abbrev pub node_shape : Shape
 node_shape = (with_rule (with_rule (new_app (codes "node")) (place_rule (codes "id"))) (place_rule (codes "address"))).top
 
@@ -33,9 +36,9 @@ bare_app = record (new_app (codes "jichurpa")) {
   top = record (new_app (codes "jichurpa")).top { no_binary_name = true; disable_help_flag = true; disable_help_subcommand = true; subcommand_required = true };
 }
 
--- the five commands
+-- the six commands
 abbrev pub splitter_app : App
-splitter_app = with_subcommand (with_subcommand (with_subcommand (with_subcommand (with_subcommand bare_app play_shape) bulk_shape) show_dump_shape) audit_shape) node_shape
+splitter_app = with_subcommand (with_subcommand (with_subcommand (with_subcommand (with_subcommand (with_subcommand bare_app play_shape) bulk_shape) show_dump_shape) audit_shape) record_shape) node_shape
 
 -- the command has this shape, and no argument of it is one of every command
 abbrev pub MakesLeaf : Shape → Command → Type 0
@@ -72,6 +75,7 @@ spelled_by name rows =
     else if bytes_eq name (codes "bulk") then bulk_in rows
     else if bytes_eq name (codes "show-dump") then show_dump_in rows
     else if bytes_eq name (codes "audit") then Some rules.Audit
+    else if bytes_eq name (codes "record") then Some rules.Record
     else if bytes_eq name (codes "node") then node_in rows
     else None
 

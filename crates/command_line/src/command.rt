@@ -26,6 +26,8 @@ pub enum Command {
     Evacuate { from: u8, targets: ArrayVec<u8, 16> },
     /// The whole input is a trace, which is audited.
     Audit,
+    /// The whole input is a script, whose trace is written.
+    Record,
     /// One device with that id and address, over the link, does the lines of the whole input.
     Node { id: u8, own: Address },
 }

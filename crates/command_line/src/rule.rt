@@ -148,6 +148,13 @@ fn takes_audit(words: &[String]) -> bool
     words.is_empty()
 }
 
+/// Whether `record` takes the words.
+fn takes_record(words: &[String]) -> bool
+    ensures { result ≡ is_some (rules.alone rules.Record (map string_bytes words.now)) }
+{
+    words.is_empty()
+}
+
 /// Whether `node` takes the words.
 fn takes_node(words: &[String]) -> bool
     ensures { result ≡ is_some (rules.node_of (map string_bytes words.now)) }
@@ -171,6 +178,7 @@ pub(crate) fn is_lawful(words: &[String]) -> bool
         word if spells(word, b"bulk") => takes_bulk(rest),
         word if spells(word, b"show-dump") => takes_show_dump(rest),
         word if spells(word, b"audit") => takes_audit(rest),
+        word if spells(word, b"record") => takes_record(rest),
         word if spells(word, b"node") => takes_node(rest),
         _ => false,
     }

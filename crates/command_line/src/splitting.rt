@@ -5,7 +5,7 @@ ghost use Rattle.std.specs.String.{string_bytes};
 ghost use Rattle.law_program.specs.Commands.{placed_of};
 ghost use Rattle.clap.specs.Words.{app_of, first_of, found_of, rows_of, rule_of, subcommand_rows_of};
 ghost use Rattle.command_line.specs.Commands.{IsInRange, known_if};
-ghost use Rattle.command_line.specs.Splitting.{MakesLeaf, audit_shape, bulk_in, bulk_shape, node_in, node_shape, place_rule, play_shape, show_dump_in, show_dump_shape, spelled_in, splitter_app};
+ghost use Rattle.command_line.specs.Splitting.{MakesLeaf, audit_shape, bulk_in, bulk_shape, node_in, node_shape, place_rule, play_shape, record_shape, show_dump_in, show_dump_shape, spelled_in, splitter_app};
 
 use crate::command::Command;
 use crate::rule::{bulk_of, node_of, show_dump_of};
@@ -53,6 +53,13 @@ fn audit_form<'a>(alloc: Global) -> clap::Command<'a>
     clap::Command::new(alloc, "audit")
 }
 
+/// `record`.
+fn record_form<'a>(alloc: Global) -> clap::Command<'a>
+    ensures { MakesLeaf record_shape result }
+{
+    clap::Command::new(alloc, "record")
+}
+
 /// `node` with a place for each of its words.
 fn node_form<'a>(alloc: Global) -> Result<clap::Command<'a>, AllocError>
     ensures { IfOk result (MakesLeaf node_shape) }
@@ -62,7 +69,7 @@ fn node_form<'a>(alloc: Global) -> Result<clap::Command<'a>, AllocError>
         .arg(place(alloc, "address"))
 }
 
-/// The five commands, and nothing beside them: no word asks for help or for the version.
+/// The six commands, and nothing beside them: no word asks for help or for the version.
 fn forms<'a>(alloc: Global) -> Result<clap::Command<'a>, AllocError>
     ensures { IfOk result (λ c. app_of c ≡ splitter_app) }
 {
@@ -75,6 +82,7 @@ fn forms<'a>(alloc: Global) -> Result<clap::Command<'a>, AllocError>
         .subcommand(bulk_form(alloc)?)?
         .subcommand(show_dump_form(alloc)?)?
         .subcommand(audit_form(alloc))?
+        .subcommand(record_form(alloc))?
         .subcommand(node_form(alloc)?)
 }
 
@@ -139,6 +147,7 @@ pub(crate) fn command_in(matches: &ArgMatches<'_>) -> Option<Command>
         "bulk" => bulk_in_matches(values),
         "show-dump" => show_dump_in_matches(values),
         "audit" => Some(Command::Audit),
+        "record" => Some(Command::Record),
         "node" => node_in_matches(values),
         _ => None,
     }

@@ -15,6 +15,7 @@ enum Spelled {
     /// The device, and how many targets.
     Evacuate(u8, usize),
     Audit,
+    Record,
     /// The device.
     Node(u8),
 }
@@ -28,6 +29,7 @@ fn told(command: &Option<Command>) -> Spelled {
         Some(Command::ShowDump { .. }) => Spelled::Another,
         Some(Command::Evacuate { from, targets }) => Spelled::Evacuate(*from, targets.len()),
         Some(Command::Audit) => Spelled::Audit,
+        Some(Command::Record) => Spelled::Record,
         Some(Command::Node { id, .. }) => Spelled::Node(*id),
     }
 }
@@ -64,6 +66,7 @@ fn words_spell_commands(rt: HostRuntime) -> Result<(), AllocError> {
         ("evacuate 2 3 1", Spelled::Evacuate(2, 2)),
         ("evacuate 2 2", Spelled::Nothing),
         ("audit", Spelled::Audit),
+        ("record", Spelled::Record),
         ("node 1 127.0.0.1:4801", Spelled::Node(1)),
         ("node 0 127.0.0.1:4801", Spelled::Nothing),
     ];

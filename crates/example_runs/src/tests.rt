@@ -116,7 +116,32 @@ quiet 0
 wc 010001 1 write 0 600
 ";
 
-/// One write of four bytes, recorded.
+/// One write of four bytes from one region to another.
+const RECORDED: &[u8] = b"device 1 10.0.0.1
+device 2 10.0.0.2
+device 3 10.0.0.3
+context a 1
+context b 2
+domain a.p
+domain b.p
+region a.m a.p 4096 64 lwra
+region b.n b.p 8192 64 lwra
+cq a.c 16
+cq b.c 16
+qp a.q a.p a.c a.c 8 8
+qp b.q b.p b.c b.c 8 8
+connect a.q b.q mtu 256 psn 100 200 retry 7 rnr 7 reads 4
+store a.m 4096 DEADBEEF
+ write  a.q 1 01000002 4096 4 8192 02000003
+go a.q
+deliver 1
+deliver 2
+poll a.c 4
+poll a.c 4
+load b.n 8192 4
+";
+
+/// Its trace.
 const TRACE: &[u8] = b"v context a made
 = ok
 v context b made
@@ -231,6 +256,13 @@ fn show(dump: &[u8], call: u64) -> Run<'_> {
 fn audit(trace: &[u8]) -> Run<'_> {
     let mut run = play(trace, 0, 0);
     run.words = "audit";
+    run
+}
+
+/// A script that is recorded; the write of that number fails.
+fn record_of(script: &[u8], write: u64) -> Run<'_> {
+    let mut run = play(script, 0, write);
+    run.words = "record";
     run
 }
 
@@ -411,6 +443,21 @@ fn audits_a_trace(rt: HostRuntime) -> Result<(), AllocError> {
     assert_eq!(rt;
         [legal, illegal, bad],
         [(0, true, 1), (13, true, 1), (3, true, 1)]
+    );
+    Ok(())
+}
+
+/// The trace of a script is written in one write; where a line settles nothing of it is written.
+#[test]
+fn records_a_script(rt: HostRuntime) -> Result<(), AllocError> {
+    let alloc = rt.alloc();
+    let settling = joined(alloc, OPENING, MOVE)?;
+    let done = told(alloc, &record_of(RECORDED, 0), TRACE)?;
+    let unwritten = told(alloc, &record_of(RECORDED, 1), TRACE)?;
+    let settles = told(alloc, &record_of(&settling, 0), b"bad line 23 column 1 word\n")?;
+    assert_eq!(rt;
+        [done, unwritten, settles],
+        [(0, true, 35), (5, true, 0), (3, true, 1)]
     );
     Ok(())
 }

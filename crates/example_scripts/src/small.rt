@@ -7,7 +7,7 @@ ghost use Rattle.script_lang.specs.declared.lines.LineWhy.TheVariants.{Word};
 ghost use Rattle.example_scripts.specs.ASwapAndAWait as in_a_swap_and_a_wait;
 ghost use Rattle.example_scripts.specs.GeneratedLines as in_generated_lines;
 ghost use Rattle.law_headline.specs.Evaluate.{heard_in, said_in, written_for};
-ghost use Rattle.law_program.specs.Commands.{Audit, Bulk, Evacuate, Node, Play, ShowDump, command_of};
+ghost use Rattle.law_program.specs.Commands.{Audit, Bulk, Evacuate, Node, Play, Record, ShowDump, command_of};
 ghost use Rattle.law_program.specs.Texts.{bad_line_line};
 
 /// An empty script has no bad line, and nothing is written for it.
@@ -45,6 +45,7 @@ pub fn words_of_commands()
     ensures evacuate { command_of (codes "evacuate" ∷ codes "2" ∷ codes "3" ∷ codes "1" ∷ []) ≡ Some (Evacuate 2 (3 ∷ 1 ∷ [])) }
     ensures onto_itself { command_of (codes "evacuate" ∷ codes "2" ∷ codes "2" ∷ []) ≡ None }
     ensures audit { command_of (codes "audit" ∷ []) ≡ Some Audit }
+    ensures recording { command_of (codes "record" ∷ []) ≡ Some Record }
     ensures node { command_of (codes "node" ∷ codes "1" ∷ codes "127.0.0.1:4801" ∷ []) ≡ Some (Node 1 (record { ip = 2130706433; port = 4801 })) }
     ensures no_device { command_of (codes "node" ∷ codes "0" ∷ codes "127.0.0.1" ∷ []) ≡ None }
     ensures no_address { command_of (codes "node" ∷ codes "1" ∷ codes "127.0.0" ∷ []) ≡ None }

@@ -6,7 +6,7 @@ use Rattle.rdma_types.specs.declared.names.Name.{Name}
 use Rattle.rdma_types.specs.declared.requests.Address.{Address}
 use Rattle.script_lang.specs.Texts.{digits_after, greatest_u64, is_decimal, name_of, number_in}
 use Rattle.workload_gen.specs.declared.plan.Mix.{Mix}
-use Rattle.law_program.specs.Commands.{Audit, Bulk, Evacuate, Node, Play, ShowDump, alone, bulk_of, command_of, evacuate_by, evacuate_of, ids_of, mix_of, node_of, own_of, placed_of, repeats, show_dump_of}
+use Rattle.law_program.specs.Commands.{Audit, Bulk, Evacuate, Node, Play, Record, ShowDump, alone, bulk_of, command_of, evacuate_by, evacuate_of, ids_of, mix_of, node_of, own_of, placed_of, repeats, show_dump_of}
 use Rattle.law_program.specs.Mixes.{IsMix}
 
 in_range : (low high n m : ℕ) → (if nat_le low n && nat_le n high then Some n else None) ≡ Some m → (low ≤ m) × (m ≤ high)
@@ -64,6 +64,10 @@ audit_is_not : (words : List (List ℕ)) (seed : ℕ) (mix : Mix) → alone Audi
 audit_is_not [] seed mix h = cc h
 audit_is_not (w ∷ ws) seed mix h = cc h
 
+record_is_not : (words : List (List ℕ)) (seed : ℕ) (mix : Mix) → alone Record words ≡ Some (Bulk seed mix) → IsMix mix
+record_is_not [] seed mix h = cc h
+record_is_not (w ∷ ws) seed mix h = cc h
+
 named_is_not : (id : Option ℕ) (own : Option Address) (seed : ℕ) (mix : Mix) → option_and_then (λ i. option_and_then (λ a. Some (Node i a)) own) id ≡ Some (Bulk seed mix) → IsMix mix
 named_is_not None own seed mix h = cc h
 named_is_not (Some i) None seed mix h = cc h
@@ -84,20 +88,21 @@ show_is_not [] seed mix h = cc h
 show_is_not (w ∷ []) seed mix h = shown_is_not (name_of w) seed mix h
 show_is_not (w ∷ v ∷ ws) seed mix h = cc h
 
-chosen : (plays bulks shows audits serves : Bool) (words : List (List ℕ)) (seed : ℕ) (mix : Mix)
-    → (if plays then alone Play words else if bulks then bulk_of words else if shows then show_dump_of words else if audits then alone Audit words else if serves then node_of words else None) ≡ Some (Bulk seed mix)
+chosen : (plays bulks shows audits records serves : Bool) (words : List (List ℕ)) (seed : ℕ) (mix : Mix)
+    → (if plays then alone Play words else if bulks then bulk_of words else if shows then show_dump_of words else if audits then alone Audit words else if records then alone Record words else if serves then node_of words else None) ≡ Some (Bulk seed mix)
     → IsMix mix
-chosen true bulks shows audits serves words seed mix h = play_is_not words seed mix h
-chosen false true shows audits serves words seed mix h = bulk_in_range words seed mix h
-chosen false false true audits serves words seed mix h = show_is_not words seed mix h
-chosen false false false true serves words seed mix h = audit_is_not words seed mix h
-chosen false false false false true words seed mix h = node_is_not words seed mix h
-chosen false false false false false words seed mix h = cc h
+chosen true bulks shows audits records serves words seed mix h = play_is_not words seed mix h
+chosen false true shows audits records serves words seed mix h = bulk_in_range words seed mix h
+chosen false false true audits records serves words seed mix h = show_is_not words seed mix h
+chosen false false false true records serves words seed mix h = audit_is_not words seed mix h
+chosen false false false false true serves words seed mix h = record_is_not words seed mix h
+chosen false false false false false true words seed mix h = node_is_not words seed mix h
+chosen false false false false false false words seed mix h = cc h
 
 placed_in_range : (word : List ℕ) (words : List (List ℕ)) (seed : ℕ) (mix : Mix) → placed_of (word ∷ words) ≡ Some (Bulk seed mix) → IsMix mix
 unfolding placed_of
 placed_in_range word words seed mix h =
-    chosen (bytes_eq word (codes "play")) (bytes_eq word (codes "bulk")) (bytes_eq word (codes "show-dump")) (bytes_eq word (codes "audit")) (bytes_eq word (codes "node")) words seed mix h
+    chosen (bytes_eq word (codes "play")) (bytes_eq word (codes "bulk")) (bytes_eq word (codes "show-dump")) (bytes_eq word (codes "audit")) (bytes_eq word (codes "record")) (bytes_eq word (codes "node")) words seed mix h
 
 tested_is_not : (b : Bool) (from : ℕ) (targets : List ℕ) (seed : ℕ) (mix : Mix) → (if b then Some (Evacuate from targets) else None) ≡ Some (Bulk seed mix) → IsMix mix
 tested_is_not true from targets seed mix h = cc h

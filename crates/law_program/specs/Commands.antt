@@ -14,6 +14,7 @@ pub data Command : Type 0 where
   ShowDump : (name : Name) → Command  -- what a dump in the depot says is written
   Evacuate : (from : ℕ) → (targets : List ℕ) → Command  -- the lines of the whole input are answered, and then a device is emptied
   Audit : Command  -- the whole input is a trace, which is audited
+  Record : Command  -- the whole input is a script, whose trace is written
   Node : (id : ℕ) → (own : Address) → Command  -- one device over the link does the lines of the whole input
 
 -- no more words behind
@@ -88,6 +89,7 @@ placed_of (word ∷ words) =
     else if bytes_eq word (codes "bulk") then bulk_of words
     else if bytes_eq word (codes "show-dump") then show_dump_of words
     else if bytes_eq word (codes "audit") then alone Audit words
+    else if bytes_eq word (codes "record") then alone Record words
     else if bytes_eq word (codes "node") then node_of words
     else None
 

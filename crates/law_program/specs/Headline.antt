@@ -17,10 +17,11 @@ use Rattle.trace_audit.specs.declared.verdicts.AuditWhy.{AuditWhy}
 use Rattle.trace_audit.specs.declared.verdicts.Verdict.{Verdict}
 use Rattle.trace_audit.specs.declared.verdicts.Verdict.TheVariants as verdict
 use Rattle.trace_audit.specs.Traces.{Traced, trace_of}
-use Rattle.trace_audit.specs.Verdicts.{IsVerdict, verdict_of}
+use Rattle.trace_audit.specs.Verdicts.{AreRun, IsVerdict, verdict_of}
+use Rattle.law_traces.specs.Recording.{IsTraceOf, recorded_of}
 use Rattle.law_node.specs.Plan.{AllAnswered}
 use Rattle.law_node.specs.Stops.{DepotFailed, HasEnded, LinkFailed, OutputFailed}
-use Rattle.law_program.specs.Commands.{Command, Play, Bulk, ShowDump, Evacuate, Audit, Node}
+use Rattle.law_program.specs.Commands.{Command, Play, Bulk, ShowDump, Evacuate, Audit, Record, Node}
 use Rattle.law_headline.specs.Follows.{FollowsAll, IsFollowed}
 use Rattle.law_headline.specs.Left.{world_of}
 use Rattle.law_headline.specs.Script.{BadLine, answers_text, bad_line}
@@ -94,6 +95,19 @@ pub record IsLegalTrace (r : Run) : Type 0 where
   pub audited : IsAudited r (verdict.Legal verbs inner)
   pub written : Writes r (verdict_line (verdict.Legal verbs inner))
 
+-- `record`: the whole input was read, and what was written is the trace of its lines, none of which is bad or settles; its steps are
+-- a run of the packetless machine
+pub record IsRecorded (r : Run) : Type 0 where
+  pub text : List ℕ
+  pub read : ReadsAll r text
+  pub short : length text ≤ input_limit
+  pub trace : List ℕ
+  pub is : IsTraceOf text trace
+  pub steps : List Traced
+  pub says : trace_of trace ≡ Ok steps
+  pub run : AreRun steps
+  pub written : Writes r trace
+
 -- the command is done
 abbrev pub IsDoneBy : ImageText → Run → Option Command → Type 0
 IsDoneBy said r None = ⊥
@@ -102,6 +116,7 @@ IsDoneBy said r (Some (Bulk seed mix)) = IsSummedUp r seed mix
 IsDoneBy said r (Some (ShowDump name)) = IsShown said r name
 IsDoneBy said r (Some (Evacuate from targets)) = IsEvacuated r from targets None
 IsDoneBy said r (Some Audit) = IsLegalTrace r
+IsDoneBy said r (Some Record) = IsRecorded r
 IsDoneBy said r (Some (Node id own)) = ComesTo r id own (HasEnded AllAnswered) r.after
 
 -- .. the run's command
@@ -154,6 +169,16 @@ pub record IsStoppedAtBadTrace (r : Run) : Type 0 where
   pub first : trace_of text ≡ Err (bad.number, bad.offence)
   pub written : Writes r (bad_line_line bad)
 
+-- `record`: the whole input was read, and what was written is the last line with the number, the column and the reason of its first
+-- line that is bad or settles
+pub record IsStoppedAtBadRecord (r : Run) : Type 0 where
+  pub text : List ℕ
+  pub read : ReadsAll r text
+  pub short : length text ≤ input_limit
+  pub bad : BadLine
+  pub first : recorded_of text ≡ Err bad
+  pub written : Writes r (bad_line_line bad)
+
 -- a line or the dump is not in its grammar
 abbrev pub IsStoppedBy : Run → Option Command → Type 0
 IsStoppedBy r None = ⊥
@@ -162,6 +187,7 @@ IsStoppedBy r (Some (Bulk seed mix)) = IsStoppedInBulk r seed mix
 IsStoppedBy r (Some (ShowDump name)) = IsStoppedAtBadDump r name
 IsStoppedBy r (Some (Evacuate from targets)) = IsStoppedAtBadLine r
 IsStoppedBy r (Some Audit) = IsStoppedAtBadTrace r
+IsStoppedBy r (Some Record) = IsStoppedAtBadRecord r
 IsStoppedBy r (Some (Node id own)) = EndsAtBadLine r id own ⊎ EndsAtBadDump r id own
 
 -- .. which the run's command was given
@@ -251,6 +277,7 @@ IsToWriteBy said r (Some (Bulk seed mix)) text = (text ≡ []) ⊎ (text ≡ bul
 IsToWriteBy said r (Some (ShowDump name)) text = (text ≡ []) ⊎ IsDumpRead said r name text
 IsToWriteBy said r (Some (Evacuate from targets)) text = (text ≡ []) ⊎ AreAnswersRead r text
 IsToWriteBy said r (Some Audit) text = text ≡ []
+IsToWriteBy said r (Some Record) text = text ≡ []
 IsToWriteBy said r (Some (Node id own)) text = ⊥
 
 -- .. for the run's command

@@ -2,7 +2,7 @@
 use Rattle.std.specs.Prelude.{ℕ, ◌≡◌, ◌≤◌, List, Option, Some, None}
 use Rattle.mig_ports.specs.Streams.{Puts, TakesAll, TakesCount}
 use Rattle.law_node.specs.Told.{Contents}
-use Rattle.law_program.specs.Commands.{Audit, Command, Evacuate, Node, Play, ShowDump, command_of}
+use Rattle.law_program.specs.Commands.{Audit, Command, Evacuate, Node, Play, Record, ShowDump, command_of}
 
 pub record Run : Type 0 where
   pub words : List (List ℕ)  -- without the program's name
@@ -47,6 +47,7 @@ abbrev pub ReadsInput : Option Command → Type 0
 ReadsInput (Some Play) = Unit {0}
 ReadsInput (Some (Evacuate from targets)) = Unit {0}
 ReadsInput (Some Audit) = Unit {0}
+ReadsInput (Some Record) = Unit {0}
 ReadsInput (Some (Node id own)) = Unit {0}
 ReadsInput other = ⊥
 
@@ -55,6 +56,7 @@ abbrev pub KeepsInput : Run → Option Command → Type 0
 KeepsInput r (Some Play) = Unit {0}
 KeepsInput r (Some (Evacuate from targets)) = Unit {0}
 KeepsInput r (Some Audit) = Unit {0}
+KeepsInput r (Some Record) = Unit {0}
 KeepsInput r (Some (Node id own)) = Unit {0}
 KeepsInput r other = r.left_after ≡ r.left
 

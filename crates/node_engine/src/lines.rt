@@ -21,6 +21,17 @@ use script_lang::{NodeLine, print_answer};
 use std::alloc::{AllocError, Global};
 use verb_events::event_of;
 
+/// The event of a verb at a device; a context and a connection of two ends have none.
+fn device_event_of(verb: Verb) -> Option<Event>
+    ensures event { result ≡ rules.verb_event verb }
+    ensures lawful { IsLawfulVerb verb → IfSome result IsLawfulEvent }
+{
+    match event_of(verb) {
+        Some(WorldEvent::At { event }) => Some(event),
+        _ => None,
+    }
+}
+
 /// An answer with the count of sent datagrams in the place of the number that a device does not know.
 fn counted(answer: Answer, sent: u64) -> Answer
     ensures { result ≡ rules.counting sent answer }
@@ -226,9 +237,9 @@ impl Node {
         requires { IsLawfulVerb verb }
         ensures { Does (rules.stepped_if self.old (rules.verb_event verb)) (λ done. self.new) (P.contents ports.old) result (P.contents ports.new) }
     {
-        match event_of(verb) {
-            Some(WorldEvent::At { event }) => self.step_and_answer(alloc, ports, &event),
-            _ => Ok(()),
+        match device_event_of(verb) {
+            Some(event) => self.step_and_answer(alloc, ports, &event),
+            None => Ok(()),
         }
     }
 

@@ -8,6 +8,7 @@ jichurpa COMMAND
   show-dump NAME                          tells what the dump in the file depot/NAME holds
   evacuate FROM TARGET..                  answers the lines of a script, and then empties a device
   audit                                   tells whether a recorded run is one of the packetless machine
+  record                                  writes the trace of a script, which audit finds legal
   node ID ADDRESS                         does the lines of a script on one device, over UDP
   COMMAND --help                          tells the words, the limits and the statuses of a command
   --help, -h                              writes this text
@@ -112,6 +113,23 @@ a run of the packetless machine. The input is read to its end, and has at most 1
 Example: jichurpa audit < run.trace
 ";
 
+const RECORD: &str = "\
+jichurpa record
+
+Plays a script from standard input, and writes its trace: its verbs with their answers, the inner
+steps of the packetless machine where they happen, and `end`. The script has no line that settles.
+The input is read to its end, and has at most 1048576 bytes.
+
+  0   the trace is written
+  3   a line is bad, or settles: nothing but the last line is written, which names it
+  4   the input cannot be read
+  5   the output cannot be written
+  8   memory runs out: nothing but the last line is written
+  9   the input is too long
+
+Example: jichurpa record < hello.script > run.trace
+";
+
 const NODE: &str = "\
 jichurpa node ID ADDRESS
 
@@ -150,6 +168,7 @@ fn help_of(command: &String) -> Option<&'static str> {
         b"show-dump" => Some(SHOW_DUMP),
         b"evacuate" => Some(EVACUATE),
         b"audit" => Some(AUDIT),
+        b"record" => Some(RECORD),
         b"node" => Some(NODE),
         _ => None,
     }

@@ -1,5 +1,5 @@
 -- What follows of how a run ends, where its words, its input and what the depot holds are known, and nothing failed.
-use Rattle.std.proofs.Common.{arith, ◌≡◌, ◌≢◌, ◌≤◌, ◌⊎◌, ◌+◌, ◌-◌, ℕ, List, [], Option, Some, None, Ok, Err, length, drop, refl, ap, subst, sym, ◌∙◌, inl, inr, length-drop}
+use Rattle.std.proofs.Common.{arith, ◌≡◌, ◌≢◌, ◌≤◌, ◌⊎◌, ◌+◌, ◌-◌, ℕ, List, [], Option, Some, None, Result, Ok, Err, length, drop, refl, ap, subst, sym, ◌∙◌, inl, inr, length-drop}
 use Rattle.std.specs.Prelude.{IsSome}
 use Rattle.rdma_types.specs.declared.names.Name.{Name}
 use Rattle.protocol.specs.declared.images.ContextImage.{ContextImage}
@@ -14,12 +14,13 @@ use Rattle.trace_audit.specs.Traces.{Reading as TraceReading, Traced, trace_of}
 use Rattle.trace_audit.specs.Verdicts.{verdict_of}
 use Rattle.trace_audit.specs.declared.verdicts.Verdict.{Verdict}
 use Rattle.trace_audit.specs.declared.verdicts.Verdict.TheVariants as verdict
+use Rattle.law_traces.specs.Recording.{Written, recorded_of}
 use Rattle.law_headline.specs.Left.{world_of}
 use Rattle.law_headline.specs.Script.{BadLine, bad_line}
 use Rattle.law_program.specs.Commands as rules
 use Rattle.law_program.specs.Ends as ends
 use Rattle.law_program.specs.Ends.{Claims, CountsAs, Ends, Status, code, emptied_status, verdict_status}
-use Rattle.law_program.specs.Headline.{ImageText, IsAudited, IsDone, IsDoneBy, IsEvacuated, IsMissingBy, IsNotEmptiedBy, IsNotLegalBy, IsShortOfMemoryBy, IsShown, IsStopped, IsStoppedAtBadDump, IsStoppedAtBadLine, IsStoppedAtBadTrace, IsStoppedBy, IsWithoutDepotBy, IsWithoutLinkBy, IsHeldBack, IsIllegalTrace, IsLegalTrace}
+use Rattle.law_program.specs.Headline.{ImageText, IsAudited, IsDone, IsDoneBy, IsEvacuated, IsMissingBy, IsNotEmptiedBy, IsNotLegalBy, IsShortOfMemoryBy, IsShown, IsStopped, IsStoppedAtBadDump, IsStoppedAtBadLine, IsStoppedAtBadRecord, IsStoppedAtBadTrace, IsStoppedBy, IsWithoutDepotBy, IsWithoutLinkBy, IsHeldBack, IsIllegalTrace, IsLegalTrace}
 use Rattle.law_program.specs.Runs.{ReadsInput, Run, TakesFew, Writes, command, input_limit}
 use Rattle.rdma_cli_calls.proofs.Stops.{all_is_few}
 
@@ -56,6 +57,10 @@ one_reading l a b h k = cc (h, k)
 read_or_bad : (l : TraceReading) (a : List Traced) (e : ℕ × Offence) → l ≡ Ok a → l ≡ Err e → ⊥
 read_or_bad l a e h k = cc (h, k)
 
+-- a script is recorded or bad
+recorded_or_bad : (l : Result (List Written) BadLine) (a : List Written) (e : BadLine) → l ≡ Ok a → l ≡ Err e → ⊥
+recorded_or_bad l a e h k = cc (h, k)
+
 -- what was to be read is what was read
 same_text : (left left_after : Option (List ℕ)) (a b : List ℕ) → left ≡ Some a → TakesAll left left_after b → b ≡ a
 same_text None left_after a b told t = absurd (cc told)
@@ -85,6 +90,7 @@ module _ (said : ImageText) (r : Run) where
   done_few (Some (rules.ShowDump name)) i d = absurd i
   done_few (Some (rules.Evacuate from targets)) i d = all_is_few r d.text d.read d.short
   done_few (Some rules.Audit) i d = all_is_few r d.audited.text d.audited.read d.audited.short
+  done_few (Some rules.Record) i d = all_is_few r d.text d.read d.short
   done_few (Some (rules.Node id own)) i d = all_is_few r d.text d.read d.short
 
   stopped_few : (k : Option rules.Command) → ReadsInput k → IsStoppedBy r k → TakesFew r
@@ -94,6 +100,7 @@ module _ (said : ImageText) (r : Run) where
   stopped_few (Some (rules.ShowDump name)) i d = absurd i
   stopped_few (Some (rules.Evacuate from targets)) i d = all_is_few r d.text d.read d.short
   stopped_few (Some rules.Audit) i d = all_is_few r d.text d.read d.short
+  stopped_few (Some rules.Record) i d = all_is_few r d.text d.read d.short
   stopped_few (Some (rules.Node id own)) i d = elim d [
     | inl b ↦ all_is_few r b.ends.comes.text b.ends.comes.read b.ends.comes.short
     | inr b ↦ all_is_few r b.ends.comes.text b.ends.comes.read b.ends.comes.short
@@ -106,6 +113,7 @@ module _ (said : ImageText) (r : Run) where
   link_few (Some (rules.ShowDump name)) i d = absurd d
   link_few (Some (rules.Evacuate from targets)) i d = absurd d
   link_few (Some rules.Audit) i d = absurd d
+  link_few (Some rules.Record) i d = absurd d
   link_few (Some (rules.Node id own)) i d = all_is_few r d.comes.text d.comes.read d.comes.short
 
   depot_few : (k : Option rules.Command) → ReadsInput k → IsWithoutDepotBy r k → TakesFew r
@@ -115,6 +123,7 @@ module _ (said : ImageText) (r : Run) where
   depot_few (Some (rules.ShowDump name)) i d = absurd i
   depot_few (Some (rules.Evacuate from targets)) i d = absurd d
   depot_few (Some rules.Audit) i d = absurd d
+  depot_few (Some rules.Record) i d = absurd d
   depot_few (Some (rules.Node id own)) i d = all_is_few r d.comes.text d.comes.read d.comes.short
 
   memory_few : (k : Option rules.Command) → ReadsInput k → IsShortOfMemoryBy said r k → TakesFew r
@@ -124,6 +133,7 @@ module _ (said : ImageText) (r : Run) where
   memory_few (Some (rules.ShowDump name)) i d = d.few
   memory_few (Some (rules.Evacuate from targets)) i d = d.few
   memory_few (Some rules.Audit) i d = d.few
+  memory_few (Some rules.Record) i d = d.few
   memory_few (Some (rules.Node id own)) i d = elim d [ inl b ↦ all_is_few r b.comes.text b.comes.read b.comes.short | inr b ↦ b.few ]
 
   missing_few : (k : Option rules.Command) → ReadsInput k → IsMissingBy r k → TakesFew r
@@ -133,6 +143,7 @@ module _ (said : ImageText) (r : Run) where
   missing_few (Some (rules.ShowDump name)) i d = absurd i
   missing_few (Some (rules.Evacuate from targets)) i d = absurd d
   missing_few (Some rules.Audit) i d = absurd d
+  missing_few (Some rules.Record) i d = absurd d
   missing_few (Some (rules.Node id own)) i d = all_is_few r d.ends.comes.text d.ends.comes.read d.ends.comes.short
 
   illegal_few : (k : Option rules.Command) → IsNotLegalBy r k → TakesFew r
@@ -142,6 +153,7 @@ module _ (said : ImageText) (r : Run) where
   illegal_few (Some (rules.ShowDump name)) d = absurd d
   illegal_few (Some (rules.Evacuate from targets)) d = absurd d
   illegal_few (Some rules.Audit) d = all_is_few r d.audited.text d.audited.read d.audited.short
+  illegal_few (Some rules.Record) d = absurd d
   illegal_few (Some (rules.Node id own)) d = absurd d
 
   held_few : (k : Option rules.Command) → IsNotEmptiedBy r k → TakesFew r
@@ -151,6 +163,7 @@ module _ (said : ImageText) (r : Run) where
   held_few (Some (rules.ShowDump name)) d = absurd d
   held_few (Some (rules.Evacuate from targets)) d = all_is_few r d.is.text d.is.read d.is.short
   held_few (Some rules.Audit) d = absurd d
+  held_few (Some rules.Record) d = absurd d
   held_few (Some (rules.Node id own)) d = absurd d
 
 -- ---- what follows
@@ -348,3 +361,24 @@ module _ (said : ImageText) (r : Run) (n : ℕ) (e : Ends said r n) where
         by ends.NotHeld is h c = absurd (subst (IsMissingBy r) k h)
         by ends.NotLegal is h c = absurd (subst (IsNotLegalBy r) k h)
         by ends.NotEmptied is h c = inl (held is (subst (IsNotEmptiedBy r) k h))
+
+    -- `record` is done
+    pub record_ends : (lines : List Written) → command r ≡ Some rules.Record → recorded_of text ≡ Ok lines → (n ≡ 0) ⊎ (n ≡ 8)
+    record_ends lines k good = by e.status e.is e.claims e.counts
+      where
+        bad : IsStoppedAtBadRecord r → ⊥
+        bad b = recorded_or_bad (recorded_of text) lines b.bad good (sym (ap recorded_of (same_text r.left r.left_after text b.text left b.read)) ∙ b.first)
+
+        by : (s : Status) → n ≡ code s → Claims said r s → CountsAs r s → (n ≡ 0) ⊎ (n ≡ 8)
+        by ends.Done is h c = inl is
+        by ends.WrongWords is h c = absurd (no_command_is_one rules.Record (sym h.no_command ∙ k))
+        by ends.BadInput is h c = absurd (bad (subst (IsStoppedBy r) k h))
+        by ends.Unread is h c = absurd (reads c.0.1)
+        by ends.Unwritten is h c = absurd (writes c.1.1)
+        by ends.NoLink is h c = absurd (subst (IsWithoutLinkBy r) k h)
+        by ends.NoDepot is h c = absurd (subst (IsWithoutDepotBy r) k h)
+        by ends.NoMemory is h c = inr is
+        by ends.TooLong is h c = absurd (not_long h.read)
+        by ends.NotHeld is h c = absurd (subst (IsMissingBy r) k h)
+        by ends.NotLegal is h c = absurd (subst (IsNotLegalBy r) k h)
+        by ends.NotEmptied is h c = absurd (subst (IsNotEmptiedBy r) k h)

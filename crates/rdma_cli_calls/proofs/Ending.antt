@@ -23,7 +23,7 @@ use Rattle.law_program.specs.Texts.{bad_dump_line, bad_line_line, depot_line, ev
 use Rattle.script_runner.specs.Playing.{PutsFront}
 use Rattle.rdma_cli_calls.specs.declared.stop.Stop.{Stop}
 use Rattle.rdma_cli_calls.specs.declared.stop.Stop.TheVariants as stop
-use Rattle.rdma_cli_calls.specs.Stopping.{AuditStops, BulkStops, Counted, EvacuateStops, IsEvacuationCut, IsJudgedInPart, IsSilent, IsSummedUpInPart, IsToldInPart, MovesAreFollowed, NodeStops, Performs, PlayStops, ShowStops, StopsBy, StopsFor, WritesFront}
+use Rattle.rdma_cli_calls.specs.Stopping.{AuditStops, BulkStops, Counted, EvacuateStops, IsEvacuationCut, IsJudgedInPart, IsRecordedInPart, IsSilent, IsSummedUpInPart, IsToldInPart, MovesAreFollowed, NodeStops, Performs, PlayStops, RecordStops, ShowStops, StopsBy, StopsFor, WritesFront}
 use Rattle.rdma_cli_calls.specs.Writing.{last_line, status}
 
 -- ---- a last line alone, and one behind a front
@@ -80,6 +80,7 @@ to_write_later said r t (Some (rules.Evacuate from targets)) text h = elim h [
   | inr a ↦ inr (record { text = a.text; read = a.read; short = a.short; are = a.are; followed = a.followed })
 ]
 to_write_later said r t (Some rules.Audit) text h = h
+to_write_later said r t (Some rules.Record) text h = h
 to_write_later said r t (Some (rules.Node id own)) text h = h
 
 -- memory was wanting, where a front was written of what a command writes
@@ -217,6 +218,27 @@ module _ (said : ImageText) (r : Run) (k : IsCountedBack r) where
       inner = s.inner;
       audited = audited_later r (uncut r (with_more r.after.written s.front.rest)).after (Legal s.verbs s.inner) s.audited;
       written = put_whole r.before.written r.after.written s.front.front s.front.rest (verdict_line (Legal s.verbs s.inner)) s.front.written s.front.holds;
+    });
+    counts = k;
+  }
+
+  -- the trace of a script was
+  trace_cut : command r ≡ Some rules.Record → IsRecordedInPart r → IsCutOff said r
+  trace_cut e s = record {
+    rest = s.front.rest;
+    whole = with_more r.after.written s.front.rest;
+    missing = puts_more r.after.written s.front.rest;
+    status = ends.Done;
+    is = subst (IsDoneBy said (uncut r (with_more r.after.written s.front.rest))) (sym e) (record {
+      text = s.text;
+      read = s.read;
+      short = s.short;
+      trace = s.trace;
+      is = s.is;
+      steps = s.steps;
+      says = s.says;
+      run = s.run;
+      written = put_whole r.before.written r.after.written s.front.front s.front.rest s.trace s.front.written s.front.holds;
     });
     counts = k;
   }
@@ -422,6 +444,28 @@ module _ (said : ImageText) (r : Run) (w : Option (List ℕ)) where
   })
   audit_end e o stop.NotEmptied s c p = absurd s
 
+  -- `record`
+  record_end : command r ≡ Some rules.Record → OnlyWrites r → (x : Stop) → RecordStops r x → StopCounts r x → Puts r.after.written w (last_line x) → Claims said (with_written r w) (status x)
+  record_end e o stop.Usage s c p = absurd s
+  record_end e o (stop.BadLine line column why) s c p = subst (IsStoppedBy (with_written r w)) (sym e) (record {
+    text = s.1.text;
+    read = s.1.read;
+    short = s.1.short;
+    bad = record { number = line; offence = record { column = column; why = why } };
+    first = s.1.first;
+    written = behind_nothing r w (bad_line_line (record { number = line; offence = record { column = column; why = why } })) s.0 p;
+  })
+  record_end e o (stop.BadDump place why) s c p = absurd s
+  record_end e o stop.ReadFault s c p = unread rules.Record e tt o c.1 s p
+  record_end e o stop.WriteFault s c p = no_line said r w p (inl (trace_cut said r (counted_back r c) e s))
+  record_end e o stop.LinkFault s c p = absurd s
+  record_end e o stop.DepotFault s c p = absurd s
+  record_end e o stop.OutOfMemory s c p = subst (IsShortOfMemoryBy said (with_written r w)) (sym e) (short said r w (Some rules.Record) e s.1 (silent_front said r (Some rules.Record) refl s.0) p)
+  record_end e o stop.TooLong s c p = too_long rules.Record e tt o c.1 s.0 s.1 p
+  record_end e o (stop.Missing name) s c p = absurd s
+  record_end e o (stop.Illegal line why) s c p = absurd s
+  record_end e o stop.NotEmptied s c p = absurd s
+
   -- `evacuate`
   evacuate_end : (from : ℕ) (targets : List ℕ) → command r ≡ Some (rules.Evacuate from targets) → OnlyWrites r → (x : Stop) → EvacuateStops from targets r x → StopCounts r x → Puts r.after.written w (last_line x) → Claims said (with_written r w) (status x)
   evacuate_end from targets e o stop.Usage s c p = absurd s
@@ -498,6 +542,7 @@ module _ (said : ImageText) (r : Run) (w : Option (List ℕ)) where
   end_by (Some (rules.ShowDump own)) e i o x s c p = show_end own e (few_kept i) x s c p
   end_by (Some (rules.Evacuate from targets)) e i o x s c p = evacuate_end from targets e o x s c p
   end_by (Some rules.Audit) e i o x s c p = audit_end e o x s c p
+  end_by (Some rules.Record) e i o x s c p = record_end e o x s c p
   end_by (Some (rules.Node id own)) e i o x s c p = node_end id own e x s c p
 
   -- the command of the run
@@ -579,6 +624,7 @@ keeps_input r t (Some (rules.Bulk seed mix)) k = k
 keeps_input r t (Some (rules.ShowDump name)) k = k
 keeps_input r t (Some (rules.Evacuate from targets)) k = k
 keeps_input r t (Some rules.Audit) k = k
+keeps_input r t (Some rules.Record) k = k
 keeps_input r t (Some (rules.Node id own)) k = k
 
 module _ (r : Run) (w : Option (List ℕ)) (n : ℕ) where
@@ -592,6 +638,7 @@ module _ (r : Run) (w : Option (List ℕ)) (n : ℕ) where
   keeps_outside (Some (rules.ShowDump name)) o = only_writes o
   keeps_outside (Some (rules.Evacuate from targets)) o = only_writes o
   keeps_outside (Some rules.Audit) o = only_writes o
+  keeps_outside (Some rules.Record) o = only_writes o
   keeps_outside (Some (rules.Node id own)) o = o
 
   keeps_unused : KeepsUnused r → KeepsUnused (with_output r w n)

@@ -18,7 +18,9 @@ use Rattle.dump_reader.specs.Steps.{IsFault}
 use Rattle.workload_gen.specs.declared.plan.Mix.{Mix}
 use Rattle.workload_gen.specs.Plan.{plan}
 use Rattle.trace_audit.specs.Traces.{trace_of}
-use Rattle.trace_audit.specs.Verdicts.{Audits, VerdictsAreRight}
+use Rattle.trace_audit.specs.Verdicts.{AreRun, Audits, VerdictsAreRight}
+use Rattle.law_traces.specs.Recording.{IsFaultOf, IsTraceOf}
+use Rattle.trace_record.specs.Recorded.{IsLegalText}
 use Rattle.trace_audit.specs.declared.verdicts.AuditFault.{AuditFault}
 use Rattle.trace_audit.specs.declared.verdicts.AuditFault.TheVariants as audit
 use Rattle.trace_audit.specs.declared.verdicts.Verdict.{Verdict}
@@ -32,7 +34,7 @@ use Rattle.node_engine.specs.declared.faults.NodeFault.{NodeFault}
 use Rattle.node_engine.specs.declared.faults.NodeFault.TheVariants as node
 use Rattle.law_program.specs.Commands as rules
 use Rattle.law_headline.specs.Follows.{IsFollowed}
-use Rattle.law_program.specs.Headline.{AreAnswersRead, ImageText, IsAnswered, IsAudited, IsDoneBy, IsDumpRead, IsEvacuated, IsLegalTrace, IsShown, IsSummedUp, bulk_text}
+use Rattle.law_program.specs.Headline.{AreAnswersRead, ImageText, IsAnswered, IsAudited, IsDoneBy, IsDumpRead, IsEvacuated, IsLegalTrace, IsRecorded, IsShown, IsSummedUp, bulk_text}
 use Rattle.law_program.specs.Runs.{KeepsInput, KeepsOutside, Run, TakesFew, command, input_limit}
 use Rattle.law_headline.specs.Left.{world_of}
 use Rattle.law_headline.specs.Script.{answers_text, bad_line}
@@ -44,7 +46,7 @@ use Rattle.script_runner.specs.declared.fault.PlayFault.{PlayFault}
 use Rattle.script_runner.specs.declared.fault.PlayFault.TheVariants as play
 use Rattle.rdma_cli_calls.specs.declared.stop.Stop.{Stop}
 use Rattle.rdma_cli_calls.specs.declared.stop.Stop.TheVariants as stop
-use Rattle.rdma_cli_calls.specs.Stopping.{AnswersStop, AuditStops, BulkStops, Counted, EvacuateStops, IsNotAsked, IsSilent, IsSummedUpInPart, LookStops, MovesAreFollowed, NodeEnds, NodeStops, Performs, PlayStops, ShowStops, StopsBy, WritesFront, counts_of, is_empty, stop_of_audit, stop_of_dump, stop_of_node, stop_of_play, stop_of_read}
+use Rattle.rdma_cli_calls.specs.Stopping.{AnswersStop, AuditStops, BulkStops, Counted, EvacuateStops, IsNotAsked, IsSilent, IsSummedUpInPart, LookStops, MovesAreFollowed, NodeEnds, NodeStops, Performs, PlayStops, RecordStops, ShowStops, StopsBy, WritesFront, counts_of, is_empty, stop_of_audit, stop_of_dump, stop_of_node, stop_of_play, stop_of_read}
 
 -- no more was taken than a text within the limit
 pub all_is_few : (r : Run) (text : List ℕ) → TakesAll r.left r.left_after text → length text ≤ input_limit → TakesFew r
@@ -247,6 +249,32 @@ module _ (r : Run) (text : List ℕ) (t : TakesAll r.left r.left_after text) (sh
     pub judged : Puts r.before.written r.after.written (verdict_line (Legal verbs inner)) → IsLegalTrace r
     judged p = record { verbs = verbs; inner = inner; audited = audited law (Legal verbs inner) a; written = p }
 
+-- ---- record
+
+-- the input is not read
+pub record_unread : (r : Run) (f : ReadAllFault) → (f ≡ read.TooLong → TakesCount r.left r.left_after (input_limit + 1)) → (f ≡ read.ReadFault → TakesFew r) → (f ≡ read.OutOfMemory → TakesFew r) → IsSilent r → RecordStops r (stop_of_read f)
+record_unread r read.ReadFault long part short s = (s, part refl)
+record_unread r read.TooLong long part short s = (s, long refl)
+record_unread r read.OutOfMemory long part short s = (s, short refl)
+
+module _ (r : Run) (text : List ℕ) (t : TakesAll r.left r.left_after text) (short : length text ≤ input_limit) where
+  -- a line of it is bad
+  pub record_stopped : (f : AuditFault) → IsFaultOf text f → IsSilent r → RecordStops r (stop_of_audit f)
+  record_stopped (audit.BadLine line column why) a s = (s, record { text = text; read = t; short = short; first = a })
+  record_stopped audit.OutOfMemory a s = (s, all_is_few r text t short)
+
+  module _ (law : VerdictsAreRight) (trace : List ℕ) (is : IsTraceOf text trace) (legal : IsLegalText trace) where
+    run_is : AreRun legal.steps
+    run_is = ((law legal.steps).legal legal.verbs legal.inner legal.finds).0
+
+    -- the trace is written in part
+    pub recorded_in_part : PutsFront r.before.written r.after.written trace → RecordStops r stop.WriteFault
+    recorded_in_part p = record { text = text; read = t; short = short; trace = trace; is = is; steps = legal.steps; says = legal.says; run = run_is; front = record { front = p.front; rest = p.rest; holds = sym p.splits; written = p.put } }
+
+    -- or whole
+    pub recorded : Puts r.before.written r.after.written trace → IsRecorded r
+    recorded p = record { text = text; read = t; short = short; trace = trace; is = is; steps = legal.steps; says = legal.says; run = run_is; written = p }
+
 -- ---- node
 
 -- the input is not read
@@ -407,6 +435,7 @@ module _ (r : Run) (u : IsUntouched r) where
   memory_stops said (Some (rules.ShowDump name)) n = silent
   memory_stops said (Some (rules.Evacuate from targets)) n = (few, nothing_written (λ text. (text ≡ []) ⊎ AreAnswersRead r text) r (inl refl) silent)
   memory_stops said (Some rules.Audit) n = (silent, few)
+  memory_stops said (Some rules.Record) n = (silent, few)
   memory_stops said (Some (rules.Node id own)) n = inr (u.outside, few)
 
   -- .. and the input is as it was
@@ -417,6 +446,7 @@ module _ (r : Run) (u : IsUntouched r) where
   input_stays (Some (rules.ShowDump name)) = u.left
   input_stays (Some (rules.Evacuate from targets)) = tt
   input_stays (Some rules.Audit) = tt
+  input_stays (Some rules.Record) = tt
   input_stays (Some (rules.Node id own)) = tt
 
   outside_stays : (k : Option rules.Command) → KeepsOutside r k
@@ -426,6 +456,7 @@ module _ (r : Run) (u : IsUntouched r) where
   outside_stays (Some (rules.ShowDump name)) = only_writes
   outside_stays (Some (rules.Evacuate from targets)) = only_writes
   outside_stays (Some rules.Audit) = only_writes
+  outside_stays (Some rules.Record) = only_writes
   outside_stays (Some (rules.Node id own)) = tt
 
   -- so the run stops as it is to

@@ -14,7 +14,9 @@ use Rattle.dump_reader.specs.declared.fault.DumpFault.{DumpFault}
 use Rattle.dump_reader.specs.declared.fault.DumpFault.TheVariants as dump
 use Rattle.workload_gen.specs.declared.plan.Mix.{Mix}
 use Rattle.workload_gen.specs.Plan.{plan}
-use Rattle.trace_audit.specs.Traces.{trace_of}
+use Rattle.law_traces.specs.Recording.{IsTraceOf, recorded_of}
+use Rattle.trace_audit.specs.Traces.{Traced, trace_of}
+use Rattle.trace_audit.specs.Verdicts.{AreRun}
 use Rattle.trace_audit.specs.declared.verdicts.AuditFault.{AuditFault}
 use Rattle.trace_audit.specs.declared.verdicts.AuditFault.TheVariants as audit
 use Rattle.trace_audit.specs.declared.verdicts.Verdict.TheVariants.{Illegal, Legal}
@@ -194,6 +196,34 @@ AuditStops r stop.TooLong = IsSilent r × TakesCount r.left r.left_after (input_
 AuditStops r (stop.Illegal line why) = IsSilent r × IsAudited r (Illegal line why)
 AuditStops r other = ⊥
 
+-- the whole input was read, and this is its first line that is bad or settles
+pub record IsBadRecord (r : Run) (bad : BadLine) : Type 0 where
+  pub text : List ℕ
+  pub read : TakesAll r.left r.left_after text
+  pub short : length text ≤ input_limit
+  pub first : recorded_of text ≡ Err bad
+
+-- a prefix of the trace was written
+pub record IsRecordedInPart (r : Run) : Type 0 where
+  pub text : List ℕ
+  pub read : TakesAll r.left r.left_after text
+  pub short : length text ≤ input_limit
+  pub trace : List ℕ
+  pub is : IsTraceOf text trace
+  pub steps : List Traced
+  pub says : trace_of trace ≡ Ok steps
+  pub run : AreRun steps
+  pub front : WritesFront (λ front. front ≡ trace) r
+
+-- `record` stops
+abbrev pub RecordStops : Run → Stop → Type 0
+RecordStops r (stop.BadLine line column why) = IsSilent r × IsBadRecord r (record { number = line; offence = record { column = column; why = why } })
+RecordStops r stop.ReadFault = IsSilent r × TakesFew r
+RecordStops r stop.WriteFault = IsRecordedInPart r
+RecordStops r stop.OutOfMemory = IsSilent r × TakesFew r
+RecordStops r stop.TooLong = IsSilent r × TakesCount r.left r.left_after (input_limit + 1)
+RecordStops r other = ⊥
+
 -- `node` stops
 abbrev pub NodeStops : ℕ → Address → Run → Stop → Type 0
 NodeStops id own r (stop.BadLine line column why) = ComesTo r id own (HasEnded (calls.BadLine line (record { column = column; why = why }))) r.after
@@ -272,6 +302,7 @@ StopsBy said r (Some (rules.Bulk seed mix)) x = BulkStops seed mix r x
 StopsBy said r (Some (rules.ShowDump name)) x = ShowStops said name r x
 StopsBy said r (Some (rules.Evacuate from targets)) x = EvacuateStops from targets r x
 StopsBy said r (Some rules.Audit) x = AuditStops r x
+StopsBy said r (Some rules.Record) x = RecordStops r x
 StopsBy said r (Some (rules.Node id own)) x = NodeStops id own r x
 
 -- the command of a run stops

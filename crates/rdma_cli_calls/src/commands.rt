@@ -6,12 +6,12 @@ ghost use Rattle.mig_ports.specs.Streams.{FaultsCounted, Puts, TakesCount};
 ghost use Rattle.dump_writer.specs.Text.{text_of};
 ghost use Rattle.law_headline.specs.Follows.{IsFollowed};
 ghost use Rattle.law_headline.specs.Script.{answers_text, bad_line};
-ghost use Rattle.law_program.specs.Headline.{IsAnswered, IsEvacuated, IsLegalTrace, IsShown, IsSummedUp};
+ghost use Rattle.law_program.specs.Headline.{IsAnswered, IsEvacuated, IsLegalTrace, IsRecorded, IsShown, IsSummedUp};
 ghost use Rattle.law_program.specs.Runs.{Run, input_limit};
 ghost use Rattle.law_program.specs.Texts.{verdict_line};
 ghost use Rattle.script_runner.specs.Playing.{PutsFront};
 ghost use Rattle.trace_audit.specs.declared.verdicts.Verdict.TheVariants.{Legal};
-ghost use Rattle.rdma_cli_calls.specs.Stopping.{AnswersStop, AuditStops, BulkStops, Counted, EvacuateStops, LookStops, NodeEnds, PlayStops, ShowStops, counts_of, over, over_depot, over_output};
+ghost use Rattle.rdma_cli_calls.specs.Stopping.{AnswersStop, AuditStops, BulkStops, Counted, EvacuateStops, LookStops, NodeEnds, PlayStops, RecordStops, ShowStops, counts_of, over, over_depot, over_output};
 
 use crate::stop::Stop;
 use crate::telling::tale_of;
@@ -28,6 +28,7 @@ use script_runner::{PlayFault, play, play_world};
 use settle_core::Rounds;
 use std::alloc::Global;
 use trace_audit::{Verdict, audit, audits_are_right};
+use trace_record::record_trace;
 use workload_gen::{Mix, plan_of, summary_of};
 
 /// Bytes of an input at most (this project's choice).
@@ -177,6 +178,24 @@ pub(crate) fn audit_input<S: Source, K: Sink>(
         Verdict::Legal { verbs, inner } => write_legal(verbs, inner, output)?,
         Verdict::Illegal { line, why } => return Err(Stop::Illegal { line, why }),
     }
+    Ok(())
+}
+
+/// Reads the input to its end, and writes the trace of its lines, in one write.
+pub(crate) fn record_input<S: Source, K: Sink>(
+    alloc: Global,
+    input: &mut S,
+    output: &mut K,
+) -> Result<(), Stop>
+    ensures done { (r : Run) → OnOk result (IsRecorded (over r (S.left input.old) (S.left input.new) (K.held output.old) (K.held output.new))) }
+    ensures stops { (r : Run) → IfErr result (RecordStops (over r (S.left input.old) (S.left input.new) (K.held output.old) (K.held output.new))) }
+    ensures counts { (link depot : ℕ) → Counted result (S.faults input.old) (S.faults input.new) (counts_of link depot (K.faults output.old)) (counts_of link depot (K.faults output.new)) }
+    ensures never_fails { S.never_fails input.old → result ≡ Err Stop.ReadFault → ⊥ }
+{
+    audits_are_right();
+    let script = read_all(alloc, input, LIMIT)?;
+    let trace = record_trace(alloc, script.as_slice())?;
+    write_text(trace.as_slice(), output)?;
     Ok(())
 }
 

@@ -10,6 +10,7 @@ ghost use Rattle.evac_rules.specs.Evacuation.{evacuation};
 ghost use Rattle.mig_ports.specs.Depots.{Has};
 ghost use Rattle.mig_ports.specs.Streams.{FaultsCounted, Puts, TakesCount};
 ghost use Rattle.dump_writer.specs.Text.{text_of};
+ghost use Rattle.law_traces.specs.Recording.{Written, recorded_of};
 ghost use Rattle.trace_audit.specs.Traces.{Traced, trace_of};
 ghost use Rattle.trace_audit.specs.Verdicts.{verdict_of};
 ghost use Rattle.workload_gen.specs.declared.plan.Mix.{Mix};
@@ -22,7 +23,9 @@ ghost use Rattle.law_program.specs.Runs.{ReadsInput, UsesDepot, UsesLink, input_
 ghost use Rattle.command_line.specs.Commands.{IsInRange, known};
 ghost use Rattle.rdma_cli_calls.specs.Stopping.{IsNotAsked, Performs, run_of};
 
-use crate::commands::{audit_input, evacuate_input, play_input, run_device, show_dump, sum_up};
+use crate::commands::{
+    audit_input, evacuate_input, play_input, record_input, run_device, show_dump, sum_up,
+};
 use crate::stop::Stop;
 use command_line::Command;
 use law_generated_scripts::no_generated_line_is_bad;
@@ -71,6 +74,7 @@ fn carry_out<S: Source, L: Link, K: Sink, D: Depot, C: Ticks>(
             evacuate_input(alloc, *from, targets.as_slice(), input, &mut ports.output)
         }
         Command::Audit => audit_input(alloc, input, &mut ports.output),
+        Command::Record => record_input(alloc, input, &mut ports.output),
         Command::Node { id, own } => run_device(alloc, *id, *own, input, ports),
     }
 }
@@ -132,6 +136,7 @@ fn run<S: Source, L: Link, K: Sink, D: Depot, C: Ticks>(
 /// - `evacuate` does what `play` does, and then empties a device of the world that the lines left; it writes a line for each
 ///   context that moved, and a last line on how it ended.
 /// - `audit` reads the whole input as a trace, and writes whether it is a run of the packetless machine.
+/// - `record` reads the whole input as a script without lines that settle, and writes its trace.
 /// - `node` reads the whole input, and does its lines one after the other on one device over the link.
 ///
 /// A run that is not done writes a last line, but none after a fault of the input or the output. Status 8, out of memory,
@@ -177,6 +182,9 @@ pub fn run_serial<S: Source, L: Link, K: Sink, D: Depot, C: Ticks>(
     // where the rules say so: else the status is 14.
     ensures audit_is_done { (text : List ℕ) (steps : List Traced) → command_of (map string_bytes words.now) ≡ Some rules.Audit → S.left input.old ≡ Some text → length text ≤ input_limit → trace_of text ≡ Ok steps → (FaultsCounted (S.faults input.old) (S.faults input.new) → ⊥) → (FaultsCounted (K.faults ports.old.output) (K.faults ports.new.output) → ⊥) → (result ≡ verdict_status (verdict_of steps)) ⊎ (result ≡ 8) }
     ensures evacuate_is_done { (from : ℕ) (targets text : List ℕ) → command_of (map string_bytes words.now) ≡ Some (rules.Evacuate from targets) → S.left input.old ≡ Some text → length text ≤ input_limit → bad_line text ≡ None → (FaultsCounted (S.faults input.old) (S.faults input.new) → ⊥) → (FaultsCounted (K.faults ports.old.output) (K.faults ports.new.output) → ⊥) → (result ≡ emptied_status (evacuation (world_of text) from targets).fault) ⊎ (result ≡ 8) }
+
+    // And the trace of a script is written, where none of its lines is bad or settles.
+    ensures record_is_done { (text : List ℕ) (lines : List Written) → command_of (map string_bytes words.now) ≡ Some rules.Record → S.left input.old ≡ Some text → length text ≤ input_limit → recorded_of text ≡ Ok lines → (FaultsCounted (S.faults input.old) (S.faults input.new) → ⊥) → (FaultsCounted (K.faults ports.old.output) (K.faults ports.new.output) → ⊥) → (result ≡ 0) ⊎ (result ≡ 8) }
 {
     no_generated_line_is_bad();
     run(alloc, words, input, ports)

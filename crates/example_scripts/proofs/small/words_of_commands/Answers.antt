@@ -39,6 +39,10 @@ pub returns-clause-audit : goal.returns-clause-audit
 unfolding command_of placed_of number_in name_of address_of host_of part_of cut_at
 returns-clause-audit c = refl
 
+pub returns-clause-recording : goal.returns-clause-recording
+unfolding command_of placed_of number_in name_of address_of host_of part_of cut_at
+returns-clause-recording c = refl
+
 pub returns-clause-node : goal.returns-clause-node
 unfolding command_of placed_of number_in name_of address_of host_of part_of cut_at
 returns-clause-node c = refl

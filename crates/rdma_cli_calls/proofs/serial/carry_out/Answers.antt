@@ -4,7 +4,7 @@ use Rattle.law_program.specs.Commands as rules
 use Rattle.law_program.specs.Runs.{ReadsInput, UsesDepot, UsesLink}
 use Rattle.command_line.specs.Commands.{known}
 use Rattle.rdma_cli_calls.specs.declared.stop.Stop.TheVariants as stop
-use Rattle.rdma_cli_calls.specs.Stopping.{AuditStops, BulkStops, EvacuateStops, PlayStops, ShowStops, run_of}
+use Rattle.rdma_cli_calls.specs.Stopping.{AuditStops, BulkStops, EvacuateStops, PlayStops, RecordStops, ShowStops, run_of}
 use Rattle.rdma_cli_calls.proofs.Stops.{err_holds, node_performs, performs}
 use Rattle.rdma_cli_calls.proofs.serial.carry_out.Goals as goal
 
@@ -78,6 +78,20 @@ returns-in-Audit-clause-depot_never_fails g c unless s e =
 pub returns-in-Audit-clause-kept_input : goal.returns-in-Audit-clause-kept_input
 returns-in-Audit-clause-kept_input g c unless =
     absurd (unless (subst (λ x. ReadsInput (Some (known x))) (sym c.in-Audit.is) tt))
+
+pub returns-in-Record-clause-performs : goal.returns-in-Record-clause-performs
+returns-in-Record-clause-performs g c words e =
+    let r = run_of words (g.S.Source.left c.args.input.now) (g.S.Source.left c.record_input.new.input) (g.S.Source.faults c.args.input.now) (g.S.Source.faults c.record_input.new.input) (record { waiting = g.L.Link.waiting c.args.ports.now.link; sent = g.L.Link.sent c.args.ports.now.link; to_come = g.C.Ticks.to_come c.args.ports.now.ticks; held = g.D.Depot.held c.args.ports.now.depot; written = g.K.Sink.held c.args.ports.now.output; faults = record { link = g.L.Link.faults c.args.ports.now.link; depot = g.D.Depot.faults c.args.ports.now.depot; output = g.K.Sink.faults c.args.ports.now.output } }) (record { waiting = g.L.Link.waiting c.args.ports.now.link; sent = g.L.Link.sent c.args.ports.now.link; to_come = g.C.Ticks.to_come c.args.ports.now.ticks; held = g.D.Depot.held c.args.ports.now.depot; written = g.K.Sink.held c.record_input.new.output; faults = record { link = g.L.Link.faults c.args.ports.now.link; depot = g.D.Depot.faults c.args.ports.now.depot; output = g.K.Sink.faults c.record_input.new.output } }) in
+    performs text_of r rules.Record (e ∙ ap (λ x. Some (known x)) c.in-Record.is) c.record_input.result (c.record_input.ensures.done r) (c.record_input.ensures.stops r) (c.record_input.ensures.counts (g.L.Link.faults c.args.ports.now.link) (g.D.Depot.faults c.args.ports.now.depot)) tt refl
+
+pub returns-in-Record-clause-depot_never_fails : goal.returns-in-Record-clause-depot_never_fails
+returns-in-Record-clause-depot_never_fails g c unless s e =
+    let r = run_of [] (g.S.Source.left c.args.input.now) (g.S.Source.left c.record_input.new.input) (g.S.Source.faults c.args.input.now) (g.S.Source.faults c.record_input.new.input) (record { waiting = g.L.Link.waiting c.args.ports.now.link; sent = g.L.Link.sent c.args.ports.now.link; to_come = g.C.Ticks.to_come c.args.ports.now.ticks; held = g.D.Depot.held c.args.ports.now.depot; written = g.K.Sink.held c.args.ports.now.output; faults = record { link = g.L.Link.faults c.args.ports.now.link; depot = g.D.Depot.faults c.args.ports.now.depot; output = g.K.Sink.faults c.args.ports.now.output } }) (record { waiting = g.L.Link.waiting c.args.ports.now.link; sent = g.L.Link.sent c.args.ports.now.link; to_come = g.C.Ticks.to_come c.args.ports.now.ticks; held = g.D.Depot.held c.args.ports.now.depot; written = g.K.Sink.held c.record_input.new.output; faults = record { link = g.L.Link.faults c.args.ports.now.link; depot = g.D.Depot.faults c.args.ports.now.depot; output = g.K.Sink.faults c.record_input.new.output } }) in
+    err_holds c.record_input.result (RecordStops r) stop.DepotFault (c.record_input.ensures.stops r) e
+
+pub returns-in-Record-clause-kept_input : goal.returns-in-Record-clause-kept_input
+returns-in-Record-clause-kept_input g c unless =
+    absurd (unless (subst (λ x. ReadsInput (Some (known x))) (sym c.in-Record.is) tt))
 
 pub returns-in-Node-clause-performs : goal.returns-in-Node-clause-performs
 returns-in-Node-clause-performs g c words e =
