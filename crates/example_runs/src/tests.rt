@@ -454,7 +454,11 @@ fn records_a_script(rt: HostRuntime) -> Result<(), AllocError> {
     let settling = joined(alloc, OPENING, MOVE)?;
     let done = told(alloc, &record_of(RECORDED, 0), TRACE)?;
     let unwritten = told(alloc, &record_of(RECORDED, 1), TRACE)?;
-    let settles = told(alloc, &record_of(&settling, 0), b"bad line 23 column 1 word\n")?;
+    let settles = told(
+        alloc,
+        &record_of(&settling, 0),
+        b"bad line 23 column 1 word\n",
+    )?;
     assert_eq!(rt;
         [done, unwritten, settles],
         [(0, true, 35), (5, true, 0), (3, true, 1)]

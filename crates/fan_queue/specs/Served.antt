@@ -1,5 +1,6 @@
 -- What consumers did, and what is known after they are joined (this project's choice).
 use Rattle.std.specs.Prelude.{◌≡◌, ℕ, ◌<◌, Bool, false, List, length, flat_map, slice_get, Some, Option}
+use Rattle.rdma_types.specs.declared.requests.Completion.{Completion}
 use Rattle.crossbeam_queue.specs.declared.array_queue.Doing.{Doing}
 use Rattle.crossbeam_queue.specs.declared.array_queue.Slotted.{Slotted}
 use Rattle.crossbeam_queue.specs.declared.array_queue.Turns.{Turns}
@@ -7,7 +8,6 @@ use Rattle.std.specs.declared.alloc.Global.{Global}
 use Rattle.crossbeam_queue.specs.Passes.{view, IsPassOf, Pass}
 use Rattle.fan_queue.specs.declared.entry.FanEntry.{FanEntry}
 use Rattle.fan_queue.specs.declared.entry.Parcel.{Parcel}
-use Rattle.fan_queue.specs.declared.feeding.Fed.{Fed}
 use Rattle.fan_queue.specs.declared.rule.Fan.{Fan}
 use Rattle.fan_queue.specs.declared.rule.Share.{Share}
 use Rattle.fan_queue.specs.declared.serving.Served.{Served}
@@ -33,7 +33,7 @@ module _ (queue : Queue) where
     pub rising : (i : ℕ) (es : List FanEntry) → slice_get lists i ≡ Some es → IsRising (places es)
     pub marked : is_out_of_memory ≡ false → 0 < length lists → 0 < (view root).ended
 
-  -- the one who puts has ended: its pass put just the completions of its list, and then end marks
-  pub record IsFed (f : Fed) : Type 0 where
-    pub pass : IsPassOf queue f.pass
-    pub knows : view f.pass ≡ writer_share f.put (view f.pass).marks
+  -- the one who puts has ended: its pass put just these completions, and then end marks
+  pub record IsFed (pass : Pass Parcel Share) (put : List Completion) : Type 0 where
+    pub is_pass : IsPassOf queue pass
+    pub knows : view pass ≡ writer_share put (view pass).marks

@@ -21,29 +21,29 @@ const BEFORE_CONSUMERS: u32 = 100;
 
 /// Consumers that have ended, the one who puts, and what was done beside.
 #[derive(Drop)]
-pub(crate) struct AllServed<'a, T> {
+pub(crate) struct AllServed<'a, S: Source, T> {
     pub root: FanPass,
     /// What consumers 101, 102 and so on took.
     pub lists: Vec<Items<FanEntry>>,
     /// Whether one ended since memory ran out.
     pub is_out_of_memory: bool,
-    pub feeding: Feeding<'a>,
+    pub feeding: Feeding<'a, S>,
     pub beside: T,
 }
 
 /// Joins a consumer that has ended.
-fn take_in<'a, T: Drop>(
+fn take_in<'a, S: Source + Drop, T: Drop>(
     queue: &FanQueue,
-    all: AllServed<'a, T>,
+    all: AllServed<'a, S, T>,
     served: Served,
-) -> Result<AllServed<'a, T>, AllocError>
+) -> Result<AllServed<'a, S, T>, AllocError>
     requires all { AreServed queue.now (view all.root).parts all.root all.lists.items all.is_out_of_memory }
     requires parts { 0 < (view all.root).parts }
-    requires feeding { IsFeeding queue.now all.feeding }
+    requires feeding { IsFeeding S.given queue.now all.feeding }
     requires served { IsServed queue.now served }
     ensures all { IfOk result (λ r. AreServed queue.now ((view all.entry.root).parts + 1) r.root r.lists.items r.is_out_of_memory) }
     ensures lists { IfOk result (λ r. vec_len r.lists ≡ vec_len all.entry.lists + 1) }
-    ensures feeding { IfOk result (λ r. IsFeeding queue.now r.feeding) }
+    ensures feeding { IfOk result (λ r. IsFeeding S.given queue.now r.feeding) }
 {
     let AllServed {
         mut root,
@@ -76,7 +76,7 @@ pub(crate) fn consume_all<
     E,
     R: Threads + Wait + Sync,
     G: PopGate + Sync,
-    S: Source + Sync,
+    S: Source + Send + Drop + 's,
     L: FnOnce() -> T,
     T: Drop,
 >(
@@ -86,18 +86,19 @@ pub(crate) fn consume_all<
     gate: &'s G,
     mut root: FanPass,
     mut rooms: Vec<Items<FanEntry>>,
-    feeder: Feeder<'s, S>,
+    feeder: Feeder<S>,
     beside: L,
-) -> Result<AllServed<'s, T>, AllocError>
+) -> Result<AllServed<'s, S, T>, AllocError>
     requires pass { IsPassOf queue.now root }
     requires root { view root ≡ root_share (view root).parts [] 0 }
     requires parts { vec_len rooms + 1 ≤ (view root).parts }
     requires few { vec_len rooms ≤ 4 }
     requires feeder { IsPassOf queue.now feeder.pass × (view feeder.pass ≡ writer_share [] 0) }
+    requires given { S.given feeder.source ≡ [] }
     requires beside { L.pre beside }
     ensures all { IfOk result (λ r. AreServed queue.now (view root).parts r.root r.lists.items r.is_out_of_memory) }
     ensures lists { IfOk result (λ r. vec_len r.lists ≡ vec_len rooms) }
-    ensures feeding { IfOk result (λ r. IsFeeding queue.now r.feeding) }
+    ensures feeding { IfOk result (λ r. IsFeeding S.given queue.now r.feeding) }
 {
     let Some(room) = rooms.pop() else {
         let (feeding, beside) = start(scope, rt, queue, feeder, beside);

@@ -1,6 +1,6 @@
 //! The one who puts.
 
-ghost use Rattle.std.specs.Prelude.{◌≡◌, []};
+ghost use Rattle.std.specs.Prelude.{◌≡◌, ◌++◌, ◌∷◌, [], List, MatchOption};
 ghost use Rattle.crossbeam_queue.specs.Passes.{view, IsPassOf};
 ghost use Rattle.fan_queue.specs.Feeding.{IsFeeding};
 ghost use Rattle.fan_queue.specs.Rule.{writer_share};
@@ -9,34 +9,36 @@ ghost use Rattle.fan_queue.specs.Served.{IsFed};
 use crate::entry::{FanEntry, Parcel};
 use crate::moves::put;
 use crate::rule::{FanPass, FanQueue};
-use rdma_types::{Completion, Items};
+use rdma_types::Completion;
 use std::sync::Wait;
 use std::thread::{Promise, PromisedHandle, Scope, Threads};
 
-/// Where the completions come from. One thread asks.
+/// Where the completions come from.
 pub trait Source {
+    ghost use Rattle.rdma_types.specs.declared.requests.Completion.{Completion};
+
+    // The completions that it has given, in their order.
+    ghost given: { Self → List Completion };
+
     /// The next completion; None where no more come. It may wait.
-    fn next<R: Wait>(&self, rt: &R) -> Option<Completion>;
+    fn next<R: Wait>(&mut self, rt: &R) -> Option<Completion>
+        ensures { MatchOption result (given self.new ≡ given self.old) (λ c. given self.new ≡ given self.old ++ c ∷ []) };
 }
 
 /// The one who puts, before it begins.
-pub(crate) struct Feeder<'a, S> {
+#[derive(Drop)]
+pub(crate) struct Feeder<S> {
     pub pass: FanPass,
-    pub source: &'a S,
-    /// It is emptied first, and is for the completions that were put.
-    pub room: Items<Completion>,
+    pub source: S,
     /// How many end marks to put.
     pub consumers: u32,
 }
 
 /// The one who puts, when it has ended.
 #[derive(Drop)]
-pub(crate) struct Fed {
+pub(crate) struct Fed<S> {
     pub pass: FanPass,
-    /// The completions that it put, in their order.
-    pub put: Items<Completion>,
-    /// Whether it ended since there was no memory for one more completion.
-    pub is_out_of_memory: bool,
+    pub source: S,
 }
 
 /// Puts so many end marks.
@@ -52,39 +54,29 @@ fn put_ends<R: Wait>(rt: &R, queue: &FanQueue, mut pass: FanPass, marks: u32) ->
     pass
 }
 
-/// Puts the completions of the source, with the places 0, 1, 2 and so on, until it has no more or memory runs out; and then
-/// an end mark for each consumer.
-fn feed<R: Wait, S: Source>(
-    rt: &R,
-    queue: &FanQueue,
-    mut pass: FanPass,
-    source: &S,
-    room: Items<Completion>,
-    consumers: u32,
-) -> Fed
-    requires { IsPassOf queue.now pass × (view pass ≡ writer_share [] 0) }
-    ensures { IsFed queue.now result }
+/// Puts the completions of the source, with the places 0, 1, 2 and so on, until it has no more; and then an end mark for each
+/// consumer.
+fn feed<R: Wait, S: Source>(rt: &R, queue: &FanQueue, feeder: Feeder<S>) -> Fed<S>
+    requires pass { IsPassOf queue.now feeder.pass × (view feeder.pass ≡ writer_share [] 0) }
+    requires given { S.given feeder.source ≡ [] }
+    ensures fed { IsFed queue.now result.pass (S.given result.source) }
+    ensures marks { (view result.pass).marks ≡ feeder.consumers }
 {
-    let mut given = room.into_vec();
-    given.clear();
-    let mut is_out_of_memory = false;
-    for _ in rt.forever() {
-        if given.try_reserve(1).is_err() {
-            is_out_of_memory = true;
-            break;
-        }
+    let Feeder {
+        mut pass,
+        mut source,
+        consumers,
+    } = feeder;
+    for place in 0..u64::MAX {
         let Some(completion) = source.next(rt) else {
             break;
         };
-        let place = given.len() as u64;
         let entry = FanEntry { place, completion };
         put(rt, queue, &mut pass, Parcel::Entry(entry));
-        given.push(completion).unwrap();
     }
     Fed {
         pass: put_ends(rt, queue, pass, consumers),
-        put: Items::new(given),
-        is_out_of_memory,
+        source,
     }
 }
 
@@ -92,24 +84,24 @@ fn feed<R: Wait, S: Source>(
 #[derive(Clone, Copy)]
 pub(crate) struct FedAt<'a>(&'a FanQueue);
 
-impl<'a> Promise<Fed> for FedAt<'a> {
+impl<'a, S: Source> Promise<Fed<S>> for FedAt<'a> {
     ghost use Rattle.fan_queue.specs.Served.{IsFed};
 
-    ghost kept_by = { λ p fed. IsFed p.0.now fed };
+    ghost kept_by = { λ p fed. IsFed p.0.now fed.pass (S.given fed.source) };
 }
 
 /// The one who puts: in a thread, or run by the caller.
 #[derive(Drop)]
-pub(crate) enum Feeding<'a> {
-    There(PromisedHandle<Fed, FedAt<'a>>),
-    Here(Fed),
+pub(crate) enum Feeding<'a, S: Source> {
+    There(PromisedHandle<Fed<S>, FedAt<'a>>),
+    Here(Fed<S>),
 }
 
-impl<'a> Feeding<'a> {
+impl<'a, S: Source> Feeding<'a, S> {
     /// Waits until it has ended.
-    pub fn join<R: Threads>(self, rt: &R, queue: &FanQueue) -> Fed
-        requires { IsFeeding queue.now self }
-        ensures { IsFed queue.now result }
+    pub fn join<R: Threads>(self, rt: &R, queue: &FanQueue) -> Fed<S>
+        requires { IsFeeding S.given queue.now self }
+        ensures { IsFed queue.now result.pass (S.given result.source) }
     {
         match self {
             Feeding::There(handle) => handle.join(rt),
@@ -119,26 +111,26 @@ impl<'a> Feeding<'a> {
 }
 
 /// Starts the one who puts in a thread, and runs `beside`. Where the start is refused, the caller then puts.
-pub(crate) fn start<'s, E, R: Threads + Wait + Sync, S: Source + Sync, L: FnOnce() -> T, T: Drop>(
+pub(crate) fn start<
+    's,
+    E,
+    R: Threads + Wait + Sync,
+    S: Source + Send + Drop + 's,
+    L: FnOnce() -> T,
+    T: Drop,
+>(
     scope: &'s Scope<'s, E>,
     rt: &'s R,
     queue: &'s FanQueue,
-    feeder: Feeder<'s, S>,
+    feeder: Feeder<S>,
     beside: L,
-) -> (Feeding<'s>, T)
+) -> (Feeding<'s, S>, T)
     requires feeder { IsPassOf queue.now feeder.pass × (view feeder.pass ≡ writer_share [] 0) }
+    requires given { S.given feeder.source ≡ [] }
     requires beside { L.pre beside }
-    ensures { IsFeeding queue.now result.0 }
+    ensures { IsFeeding S.given queue.now result.0 }
 {
-    let Feeder {
-        pass,
-        source,
-        room,
-        consumers,
-    } = feeder;
-    let started = scope.spawn_with(FedAt(queue), move || {
-        feed(rt, queue, pass, source, room, consumers)
-    });
+    let started = scope.spawn_with(FedAt(queue), move || feed(rt, queue, feeder));
     let done = beside();
     let feeding = match started {
         Ok(handle) => Feeding::There(handle),

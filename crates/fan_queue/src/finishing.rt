@@ -7,10 +7,10 @@ ghost use Rattle.fan_queue.specs.Rule.{IsWhole, left_share};
 ghost use Rattle.fan_queue.specs.Served.{AreServed, IsFed};
 
 use crate::entry::{FanEntry, Parcel};
-use crate::feeding::Fed;
+use crate::feeding::{Fed, Source};
 use crate::moves::{give_back, take};
 use crate::rule::{FanPass, FanQueue};
-use rdma_types::{Completion, Items};
+use rdma_types::Items;
 use std::alloc::{AllocError, Global};
 use std::sync::Wait;
 
@@ -45,8 +45,6 @@ fn take_left<R: Wait>(
 /// Completions that were handed out.
 #[derive(Drop)]
 pub struct HandedOut {
-    /// All of them, in their order.
-    pub put: Items<Completion>,
     /// What consumers 101, 102 and so on took, each in its order.
     pub taken: Items<Items<FanEntry>>,
     /// What none of them took.
@@ -55,36 +53,31 @@ pub struct HandedOut {
 
 /// Joins the one who put to the pass that consumers were joined to, and takes what is left: each completion stands once in
 /// the lists, under its place, and nothing is left. Errors: `AllocError` where memory runs out, or ran out for one of them.
-pub(crate) fn finish<R: Wait>(
+pub(crate) fn finish<R: Wait, S: Source + Drop>(
     rt: &R,
     alloc: Global,
     queue: &FanQueue,
     mut root: FanPass,
     lists: Vec<Items<FanEntry>>,
     is_out_of_memory: bool,
-    fed: Fed,
-) -> Result<HandedOut, AllocError>
+    fed: Fed<S>,
+) -> Result<(HandedOut, S), AllocError>
     requires all { AreServed queue.now 1023 root lists.items is_out_of_memory }
     requires some { 0 < vec_len lists }
-    requires fed { IsFed queue.now fed }
-    ensures fanned { IfOk result (λ out. IsFanned out.put out.taken out.left) }
-    ensures put { IfOk result (λ out. out.put ≡ fed.put) }
-    ensures lists { IfOk result (λ out. length out.taken ≡ vec_len lists) }
-    ensures none { IfOk result (λ out. out.left ≡ []) }
+    requires fed { IsFed queue.now fed.pass (S.given fed.source) }
+    ensures fanned { IfOk result (λ out. IsFanned (S.given out.1) out.0.taken out.0.left) }
+    ensures lists { IfOk result (λ out. length out.0.taken ≡ vec_len lists) }
+    ensures none { IfOk result (λ out. out.0.left ≡ []) }
 {
-    let Fed {
-        pass,
-        put,
-        is_out_of_memory: is_short,
-    } = fed;
-    if is_out_of_memory || is_short {
+    let Fed { pass, source } = fed;
+    if is_out_of_memory {
         return Err(AllocError);
     }
     give_back(queue, &mut root, pass);
     let left = take_left(rt, alloc, queue, &mut root)?;
-    Ok(HandedOut {
-        put,
+    let out = HandedOut {
         taken: Items::new(lists),
         left: Items::new(left),
-    })
+    };
+    Ok((out, source))
 }

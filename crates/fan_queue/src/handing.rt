@@ -35,7 +35,7 @@ fn run<
     E,
     R: Threads + Wait + Sync,
     G: PopGate + Sync,
-    S: Source + Sync,
+    S: Source + Send + Drop + 's,
     L: FnOnce() -> T,
     T: Drop,
 >(
@@ -46,20 +46,22 @@ fn run<
     gate: &'s G,
     root: FanPass,
     rooms: Vec<Items<FanEntry>>,
-    feeder: Feeder<'s, S>,
+    feeder: Feeder<S>,
     beside: L,
-) -> Result<(HandedOut, T), AllocError>
+) -> Result<(HandedOut, S, T), AllocError>
     requires root { IsPassOf queue.now root × (view root ≡ root_share 1023 [] 0) }
     requires feeder { IsPassOf queue.now feeder.pass × (view feeder.pass ≡ writer_share [] 0) }
+    requires marks { feeder.consumers ≡ vec_len rooms }
+    requires given { S.given feeder.source ≡ [] }
     requires rooms { (0 < vec_len rooms) × (vec_len rooms ≤ 4) }
     requires beside { L.pre beside }
-    ensures fanned { IfOk result (λ out. IsFanned out.0.put out.0.taken out.0.left) }
+    ensures fanned { IfOk result (λ out. IsFanned (S.given out.1) out.0.taken out.0.left) }
     ensures lists { IfOk result (λ out. length out.0.taken ≡ vec_len rooms) }
     ensures none { IfOk result (λ out. out.0.left ≡ []) }
 {
     let all = consume_all(scope, rt, queue, gate, root, rooms, feeder, beside)?;
     let fed = all.feeding.join(rt, queue);
-    let out = finish(
+    let (out, source) = finish(
         rt,
         alloc,
         queue,
@@ -68,13 +70,13 @@ fn run<
         all.is_out_of_memory,
         fed,
     )?;
-    Ok((out, all.beside))
+    Ok((out, source, all.beside))
 }
 
 /// Hands the completions of a source, in their order, to 1 to 4 consumers over a queue of that many places. Each consumer
-/// takes in a thread of its own, and one thread puts; the caller runs `beside` when all are started. Each completion is taken
-/// once, under its place, and nothing is left. A thread whose start is refused is run by the caller after that. `most` is for
-/// how many completions there is room from the start. It may wait, and so it does where there is no room for one more.
+/// takes in a thread of its own, and one thread puts; the caller runs `beside` when all are started. Each completion that the
+/// source gave is taken once, under its place, and nothing is left. A thread whose start is refused is run by the caller after
+/// that. `most` is for how many completions each consumer has room from the start. It may wait.
 ///
 /// # Errors
 ///
@@ -82,7 +84,7 @@ fn run<
 pub fn hand_out<
     R: Threads + Wait + Sync,
     G: PopGate + Sync,
-    S: Source + Sync,
+    S: Source + Send + Drop,
     L: FnOnce() -> T,
     T: Drop,
 >(
@@ -92,32 +94,31 @@ pub fn hand_out<
     capacity: usize,
     most: usize,
     gate: &G,
-    source: &S,
+    source: S,
     beside: L,
-) -> Result<(HandedOut, T), AllocError>
+) -> Result<(HandedOut, S, T), AllocError>
     requires consumers { (1 ≤ consumers) × (consumers ≤ 4) }
     requires capacity { 0 < capacity }
+    requires given { S.given source ≡ [] }
     requires beside { L.pre beside }
-    ensures fanned { IfOk result (λ out. IsFanned out.0.put out.0.taken out.0.left) }
+    ensures fanned { IfOk result (λ out. IsFanned (S.given out.1) out.0.taken out.0.left) }
     ensures lists { IfOk result (λ out. length out.0.taken ≡ consumers) }
     ensures none { IfOk result (λ out. out.0.left ≡ []) }
 {
     let rooms = rooms(alloc, consumers, most)?;
-    let room = Items::new(Vec::with_capacity(alloc, most)?);
     let (queue, mut root) = make(alloc, capacity)?;
     let pass = lend(&queue, &mut root);
     let row = &queue;
     thread::scope(
         thread::scope_env(),
         rt,
-        move |scope| -> Result<(HandedOut, T), AllocError>
-            requires { IsPassOf row.now root × (view root ≡ root_share 1023 [] 0) × IsPassOf row.now pass × (view pass ≡ writer_share [] 0) × (0 < vec_len rooms) × (vec_len rooms ≤ 4) × L.pre beside }
-            ensures { IfOk result (λ out. IsFanned out.0.put out.0.taken out.0.left × (length out.0.taken ≡ vec_len rooms) × (out.0.left ≡ [])) }
+        move |scope| -> Result<(HandedOut, S, T), AllocError>
+            requires { IsPassOf row.now root × (view root ≡ root_share 1023 [] 0) × IsPassOf row.now pass × (view pass ≡ writer_share [] 0) × (consumers ≡ vec_len rooms) × (0 < vec_len rooms) × (vec_len rooms ≤ 4) × (S.given source ≡ []) × L.pre beside }
+            ensures { IfOk result (λ out. IsFanned (S.given out.1) out.0.taken out.0.left × (length out.0.taken ≡ vec_len rooms) × (out.0.left ≡ [])) }
         {
             let feeder = Feeder {
                 pass,
                 source,
-                room,
                 consumers,
             };
             run(scope, rt, alloc, row, gate, root, rooms, feeder, beside)
