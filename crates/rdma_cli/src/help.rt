@@ -10,14 +10,16 @@ jichurpa COMMAND
   audit                                   tells whether a recorded run is one of the packetless machine
   record                                  writes the trace of a script, which audit finds legal
   node ID ADDRESS                         does the lines of a script on one device, over UDP
+  threads WORKERS ADDS MOVES              adds by threads that share devices, while one context moves
   COMMAND --help                          tells the words, the limits and the statuses of a command
   --help, -h                              writes this text
   --version                               writes the version
 
 The status is 0 where all is done, 2 for other words, 3 for a bad line or dump, 4, 5, 6 and 7 where
 the input, the output, the link and the depot fail, 8 where memory runs out, 9 for an input of more
-than 1048576 bytes, 12 for a name of which the depot holds no dump, 13 for a trace that is no run of
-the packetless machine, and 14 where a device is not emptied.
+than 1048576 bytes, 10 where a run of threads is not as planned, 12 for a name of which the depot
+holds no dump, 13 for a trace that is no run of the packetless machine, and 14 where a device is not
+emptied.
 ";
 
 const PLAY: &str = "\
@@ -153,6 +155,29 @@ most 1048576 bytes.
 Example: jichurpa node 1 10.0.0.1 < node.script
 ";
 
+const THREADS: &str = "\
+jichurpa threads WORKERS ADDS MOVES
+
+Runs workers in threads of their own, which share three devices. Each adds 1 to one word ADDS times,
+over its own queue pair, while another thread moves the context of that word from device to device.
+Then the whole run is checked, and summed up in one line: `by threads`, or `by caller` where the
+threads' run did not pass the check, and was made anew without threads.
+
+  WORKERS   1 to 8
+  ADDS      1 to 2000, of each worker
+  MOVES     0 to 8
+
+Numbers are decimal digits, without a sign or a leading zero.
+
+  0   the run is as planned: the word and the number of completions are WORKERS times ADDS
+  2   a number is out of its range
+  5   the output cannot be written
+  8   memory runs out
+  10  neither run is as planned: the last line is `not as planned`
+
+Example: jichurpa threads 4 1000 3
+";
+
 const VERSION: &str = "jichurpa 0.1.0\n";
 
 /// Whether the word asks for help.
@@ -170,6 +195,7 @@ fn help_of(command: &String) -> Option<&'static str> {
         b"audit" => Some(AUDIT),
         b"record" => Some(RECORD),
         b"node" => Some(NODE),
+        b"threads" => Some(THREADS),
         _ => None,
     }
 }

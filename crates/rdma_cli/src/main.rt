@@ -7,10 +7,12 @@ use help::about;
 use mig_ports::{Failed, write_all_of};
 use node_adapters::{ClockTicks, FolderDepot, StdSink, StdSource, UdpLink};
 use node_engine::NodePorts;
-use rdma_cli_calls::run_serial;
 use std::io::{BufReader, BufWriter};
 use std::process::ExitCode;
+use std::sync::Wait;
+use std::thread::Threads;
 use std::{env, io};
+use tool_calls::run_words;
 
 /// The words of the command, without the program's name. Words that are no text are of no command.
 ///
@@ -30,8 +32,9 @@ fn is_node(words: &[String]) -> bool {
     words.first().is_some_and(|word| word.as_str() == "node")
 }
 
-/// Does what the words ask for, and gives the status. No socket is opened but by a node.
-fn run(rt: &HostRuntime) -> io::Result<u8> {
+/// Does what the words ask for, and gives the status. No socket is opened but by a node, and no thread is started but by
+/// `threads`.
+fn run<R: Threads + Wait + Sync>(rt: &HostRuntime, threads: &R) -> io::Result<u8> {
     let words = words_of(rt)?;
     let writer = BufWriter::new(rt.alloc(), io::writer(rt))?;
     let mut input = StdSource::new(BufReader::new(rt.alloc(), rt.reader())?);
@@ -48,7 +51,7 @@ fn run(rt: &HostRuntime) -> io::Result<u8> {
     let status = match about(&words) {
         Some(text) if write_all_of(&mut ports.output, text.as_bytes()).is_ok() => 0,
         Some(_) => 5,
-        None => run_serial(rt.alloc(), &words, &mut input, &mut ports),
+        None => run_words(threads, rt.alloc(), &words, &mut input, &mut ports),
     };
     match ports.output.flush() {
         Ok(()) => Ok(status),
@@ -57,7 +60,7 @@ fn run(rt: &HostRuntime) -> io::Result<u8> {
 }
 
 fn main(rt: HostRuntime) -> ExitCode {
-    match run(&rt) {
+    match run(&rt, &rt) {
         Ok(status) => ExitCode::from(status),
         Err(_) => {
             // It only was out of memory; the last line is written where that can be done.
