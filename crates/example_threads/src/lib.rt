@@ -1,7 +1,9 @@
-//! Tests of whole runs, by threads and by one caller, and of a run that is not as planned.
+//! Worked examples of books, orders, the check of a run, and runs.
 #![tactic(auto)]
 
 #[cfg(test)]
 mod runs;
 #[cfg(test)]
 mod tests;
+#[cfg(test)]
+mod threads;

@@ -1,10 +1,164 @@
-//! A run that is not as planned.
+//! Two polls of an empty queue at device 1, gathered as they were told and with a fault.
+
+ghost use Rattle.std.specs.Prelude.{IfOk, IfSome};
+ghost use Rattle.protocol.specs.Events.{IsLawfulEvent};
+ghost use Rattle.station.specs.Books.{AreApart};
 
 use opening_books::open_books;
-use rdma_types::Items;
-use station::OrderBook;
-use std::alloc::Global;
+use protocol::{Event, Outcome};
+use rdma_types::{Answer, Items, Name, ObjName, Sent};
+use station::{Book, OrderBook, Receipt};
+use std::alloc::{AllocError, Global};
 use thread_plan::{PlanFault, ThreadPlan, planned_run};
+use thread_run::{Run, RunFault, gather};
+
+/// What is wrong with the first of two steps, or with what is told of both.
+#[derive(Clone, Copy, PartialEq, Eq)]
+enum Fault {
+    None,
+    /// Its receipt has a place more.
+    Place,
+    /// Its receipt has another event.
+    Event,
+    /// Its receipt has another answer.
+    Answer,
+    /// Its receipt has a datagram more.
+    Count,
+    /// Its receipt has another worker's number.
+    Worker,
+    /// It is not entered into the order.
+    NotEntered,
+    /// It has no receipt.
+    NotTold,
+    /// A third step stands in the journal alone.
+    Journal,
+}
+
+/// A poll of a's queue, for so many completions.
+fn poll_of(max: u32) -> Option<Event>
+    ensures { IfSome result (λ e. IsLawfulEvent e) }
+{
+    let cq = ObjName {
+        context: Name::read(b"a")?,
+        name: Name::read(b"c")?,
+    };
+    Some(Event::Poll { cq, max })
+}
+
+/// A poll of a's queue.
+pub(crate) fn poll() -> Option<Event>
+    ensures { IfSome result (λ e. IsLawfulEvent e) }
+{
+    poll_of(256)
+}
+
+/// An outcome as it is told.
+fn outcome_told(alloc: Global, book: &Book, mut outcome: Outcome, fault: Fault) -> Option<Outcome> {
+    if fault == Fault::Answer {
+        outcome.answer = Answer::Idle;
+    }
+    if fault == Fault::Count {
+        let to = book.opening().address();
+        let bytes = Items::new(Vec::new(alloc));
+        outcome
+            .sent
+            .push(Sent {
+                to,
+                number: None,
+                bytes,
+            })
+            .ok()?;
+    }
+    Some(outcome)
+}
+
+/// A step of a book that worker 0 asks for, with its receipt.
+fn asked(alloc: Global, book: &mut Book, order: &mut OrderBook, fault: Fault) -> Option<Receipt> {
+    let (place, outcome) = book.step(alloc, poll()?).ok()?;
+    let device = book.opening().id();
+    let from = book.opening().address();
+    if fault != Fault::NotEntered {
+        order.enter(alloc, device, place, from, &outcome).ok()?;
+    }
+    let raised = if fault == Fault::Place { 1 } else { 0 };
+    Some(Receipt {
+        worker: if fault == Fault::Worker { 1 } else { 0 },
+        device,
+        place: place.checked_add(raised)?,
+        event: poll_of(if fault == Fault::Event { 255 } else { 256 })?,
+        outcome: outcome_told(alloc, book, outcome, fault)?,
+    })
+}
+
+/// One book.
+#[tactic(auto, using(crate::proofs::Apart::are_apart))]
+fn alone(alloc: Global, book: Book) -> Result<Vec<Book>, AllocError>
+    ensures { IfOk result (λ books. AreApart books.items) }
+{
+    let mut books = Vec::new(alloc);
+    books.push(book)?;
+    Ok(books)
+}
+
+/// The number of entries, the word and the number of completions; or the place of the disagreement and its two values.
+pub(crate) fn told(run: Result<Run, RunFault>) -> Option<[u64; 3]> {
+    match run {
+        Ok(run) => Some([run.order.len() as u64, run.word, run.completions]),
+        Err(RunFault::Disagree { place, left, right }) => Some([place, left, right]),
+        Err(RunFault::OutOfMemory) => None,
+    }
+}
+
+/// The run of one book.
+pub(crate) fn run_of(
+    alloc: Global,
+    book: Book,
+    order: OrderBook,
+    receipts: Vec<Items<Receipt>>,
+) -> Result<Run, RunFault> {
+    let books = alone(alloc, book)?;
+    gather(alloc, books, order, receipts)
+}
+
+/// What is gathered of two polls, the first of which has a fault.
+fn gathered(alloc: Global, fault: Fault) -> Option<[u64; 3]> {
+    let mut book = open_books(alloc, 1).ok()?.into_iter().next()?;
+    let mut order = OrderBook::make(alloc).ok()?;
+    let mut held = Items::new(Vec::new(alloc));
+    let first = asked(alloc, &mut book, &mut order, fault)?;
+    if fault != Fault::NotTold {
+        held.push(first).ok()?;
+    }
+    held.push(asked(alloc, &mut book, &mut order, Fault::None)?)
+        .ok()?;
+    if fault == Fault::Journal {
+        book.step(alloc, poll()?).ok()?;
+    }
+    let mut receipts = Vec::new(alloc);
+    receipts.push(held).ok()?;
+    told(gather(alloc, alone(alloc, book).ok()?, order, receipts))
+}
+
+#[test]
+fn two_polls_are_gathered(rt: HostRuntime) {
+    assert_eq!(rt; gathered(rt.alloc(), Fault::None), Some([2, 0, 0]));
+}
+
+#[test]
+fn a_changed_receipt_is_found(rt: HostRuntime) {
+    assert_eq!(rt; gathered(rt.alloc(), Fault::Place), Some([0, 0, 1]));
+    assert_eq!(rt; gathered(rt.alloc(), Fault::Event), Some([0, 0, 1]));
+    assert_eq!(rt; gathered(rt.alloc(), Fault::Answer), Some([0, 5, 7]));
+    assert_eq!(rt; gathered(rt.alloc(), Fault::Count), Some([0, 0, 1]));
+    assert_eq!(rt; gathered(rt.alloc(), Fault::Worker), Some([0, 1, 0]));
+}
+
+#[test]
+fn a_step_that_one_tells_of_alone_is_found(rt: HostRuntime) {
+    assert_eq!(rt; gathered(rt.alloc(), Fault::NotEntered), Some([1, 1, 0]));
+    assert_eq!(rt; gathered(rt.alloc(), Fault::NotTold), Some([0, 0, 1]));
+    assert_eq!(rt; gathered(rt.alloc(), Fault::Journal), Some([2, 2, 3]));
+}
 
 /// Why a run of no step is no run of one addition.
 fn idle(alloc: Global) -> Option<PlanFault> {
