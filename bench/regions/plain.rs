@@ -45,10 +45,22 @@ fn snapshots(length: usize, bytes: &[u8], turns: u64) {
     println!("plain: a copy of {length} bytes and a store of {}: {each} ns ({sum})", bytes.len());
 }
 
+fn moves(turns: u64) {
+    let mut list = vec![7u8; 16 << 20];
+    let start = Instant::now();
+    for _ in 0..turns {
+        let image = black_box(&list).to_vec();
+        list = image;
+    }
+    let each = start.elapsed().as_nanos() / u128::from(turns);
+    println!("plain: a copy of 16 MiB: {each} ns ({})", list[4096]);
+}
+
 fn main() {
     writes(&[7; 64], 4_000_000);
     writes(&[7; 1024], 4_000_000);
     writes(&[7; 4096], 4_000_000);
     snapshots(1024, &[7; 1024], 1_000_000);
     snapshots(65_536, &[7; 4], 1_000_000);
+    moves(64);
 }

@@ -1,6 +1,5 @@
 -- Parts of a list of bytes, read and written.
-use Rattle.std.proofs.Common.{◌≡◌, ℕ, ◌+◌, ◌-◌, ◌<◌, ◌≤◌, List, [], ◌++◌, length, take, drop, arith, rules, refl}
-use Rattle.std.specs.Prelude.{◌⊎◌, replicate}
+use Rattle.std.proofs.Common.{◌≡◌, ℕ, ◌+◌, ◌≤◌, List, [], ◌++◌, length, arith}
 use Rattle.std.proofs.lemmas.List.{places, same_lists, length-take, length-drop, length-append, take_all}
 use Rattle.rdma_types.specs.Memory.{cut, put}
 

@@ -1,15 +1,17 @@
 -- Runs of bytes in pages.
-use Rattle.std.proofs.Common.{◌≡◌, ℕ, ◌+◌, ◌*◌, ◌/◌, ◌%◌, ◌<◌, ◌≤◌, List, [], ◌∷◌, ◌++◌, length, take, drop, get_or, set, arith, refl, ap, sym, ◌∙◌}
-use Rattle.std.specs.declared.boxed.Box.{Box}
-use Rattle.std.proofs.lemmas.List.{append_assoc, places, same_lists, length-take, length-set, length-append, take_all, take-take, take-append-le, length-take-le, length-drop, drop-drop, get_or_default, get_or-set_same, get_or-set_other, append-nil}
+use Rattle.std.proofs.Common.{◌≡◌, ℕ, zero, suc, ◌+◌, ◌*◌, ◌/◌, ◌%◌, ◌<◌, ◌≤◌, List, [], ◌∷◌, ◌++◌, length, take, drop, get_or, set, arith, refl, ap, sym, ◌∙◌}
+use Rattle.std.specs.Prelude.{All, OnErr, Result, Ok, Err, Option, IfOk, IfSome}
+use Rattle.std.specs.Result.{result_ok}
+use Rattle.std.specs.declared.sync.Arc.{Arc}
+use Rattle.std.proofs.lemmas.List.{append_assoc, places, same_lists, length-take, length-set, length-append, take_all, take-take, take-append-le, length-take-le, length-drop, drop-drop, get_or_default, get_or-set_same, get_or-set_other, append-nil, set-get_or, length_push}
 use Rattle.std.proofs.lemmas.Slice.{take-put_mid}
 use borrow.Rule.Slice.PartMut.{put_mid, mid_of}
-use Rattle.std.proofs.lemmas.List.Elements.{All-get_or}
+use Rattle.std.proofs.lemmas.List.Elements.{All-get_or, All-set, All-append, All-take}
 use Rattle.std.proofs.lemmas.List.Concat.{flat_map-append}
 use Rattle.rdma_types.specs.Memory.{cut, put}
 use Rattle.byte_run.specs.Pages.{joined, ArePages, IsRun}
-use Rattle.byte_run.proofs.Joined.{AreEven, length-joined, cut-joined, put-joined}
-use Rattle.byte_run.proofs.Cuts.{length-cut, put-meet, cut-meet}
+use Rattle.byte_run.proofs.Joined.{AreEven, length-joined, cut-joined, put-joined, joined-part}
+use Rattle.byte_run.proofs.Cuts.{length-cut, length-put, put-meet, cut-meet, cut-whole}
 
 -- a part of a front
 pub cut-take : (a n m : ℕ) (bytes : List ℕ) → a + n ≤ m → m ≤ length bytes → cut a n (take m bytes) ≡ cut a n bytes
@@ -54,21 +56,21 @@ unfolding put
 take-put a w bytes h = same_lists _ _ (simp (length-append, length-take, length-drop) (omega arith)) (λ i d l. grind (arith, places))
 
 module _ {A : Type 0} where
-  even : (pages : List (Box (List ℕ) A)) (d : Box (List ℕ) A) → ArePages pages → AreEven (λ page. page.value) 4096 d pages
+  even : (pages : List (Arc (List ℕ) A)) (d : Arc (List ℕ) A) → ArePages pages → AreEven (λ page. page.value) 4096 d pages
   even pages d h i l = All-get_or (λ page. length page.value ≡ 4096) pages i d l h
 
-  pub length-pages : (pages : List (Box (List ℕ) A)) → ArePages pages → length (joined pages) ≡ 4096 * length pages
+  pub length-pages : (pages : List (Arc (List ℕ) A)) → ArePages pages → length (joined pages) ≡ 4096 * length pages
   length-pages [] h = refl
   length-pages (p ∷ ps) h = length-joined (λ page. page.value) 4096 p (p ∷ ps) (even (p ∷ ps) p h)
 
-  pub length-run : (pages : List (Box (List ℕ) A)) (n : ℕ) → IsRun pages n → length (take n (joined pages)) ≡ n
+  pub length-run : (pages : List (Arc (List ℕ) A)) (n : ℕ) → IsRun pages n → length (take n (joined pages)) ≡ n
   length-run pages n h =
       let whole : length (joined pages) ≡ 4096 * length pages = length-pages pages h.even in
       let room : n ≤ 4096 * length pages = h.room in
       simp length-take (omega arith)
 
   -- a piece of one page
-  pub piece_is : (pages : List (Box (List ℕ) A)) (n at count : ℕ) (d : Box (List ℕ) A) → IsRun pages n → at < n → at + count ≤ n → at % 4096 + count ≤ 4096 → cut at count (take n (joined pages)) ≡ cut (at % 4096) count (get_or pages (at / 4096) d).value
+  pub piece_is : (pages : List (Arc (List ℕ) A)) (n at count : ℕ) (d : Arc (List ℕ) A) → IsRun pages n → at < n → at + count ≤ n → at % 4096 + count ≤ 4096 → cut at count (take n (joined pages)) ≡ cut (at % 4096) count (get_or pages (at / 4096) d).value
   piece_is pages n at count d h l k page =
       let whole : length (joined pages) ≡ 4096 * length pages = length-pages pages h.even in
       let room : n ≤ 4096 * length pages = h.room in
@@ -79,21 +81,21 @@ module _ {A : Type 0} where
       ∙ cut-joined (λ p. p.value) 4096 d pages (at / 4096) (at % 4096) count (even pages d h.even) place page)
 
   -- a piece written in one page
-  pub piece_put : (pages later : List (Box (List ℕ) A)) (at : ℕ) (w : List ℕ) (d : Box (List ℕ) A) → ArePages pages → at / 4096 < length pages → at % 4096 + length w ≤ 4096 → later ≡ set pages (at / 4096) d → d.value ≡ put (get_or pages (at / 4096) d).value (at % 4096) w → joined later ≡ put (joined pages) at w
+  pub piece_put : (pages later : List (Arc (List ℕ) A)) (at : ℕ) (w : List ℕ) (d : Arc (List ℕ) A) → ArePages pages → at / 4096 < length pages → at % 4096 + length w ≤ 4096 → later ≡ set pages (at / 4096) d → d.value ≡ put (get_or pages (at / 4096) d).value (at % 4096) w → joined later ≡ put (joined pages) at w
   piece_put pages later at w d h place page e v =
       let split : 4096 * (at / 4096) + at % 4096 ≡ at = omega arith in
       rw e (put-joined (λ p. p.value) (λ p. p.value) 4096 d d pages (set pages (at / 4096) d) (at / 4096) (at % 4096) w (even pages d h) place page (length-set pages (at / 4096) d)
-      (ap (λ (p : Box (List ℕ) A). p.value) (get_or-set_same pages (at / 4096) d d place) ∙ v)
-      (λ j l n. ap (λ (p : Box (List ℕ) A). p.value) (get_or-set_other pages (at / 4096) j d d n))
+      (ap (λ (p : Arc (List ℕ) A). p.value) (get_or-set_same pages (at / 4096) d d place) ∙ v)
+      (λ j l n. ap (λ (p : Arc (List ℕ) A). p.value) (get_or-set_other pages (at / 4096) j d d n))
       ∙ ap (λ a. put (joined pages) a w) split)
 
   -- a page behind whole pages
-  pub page_added : (pages later : List (Box (List ℕ) A)) (page : Box (List ℕ) A) (at : ℕ) (w : List ℕ) → IsRun pages at → length pages ≤ at / 4096 → later ≡ pages ++ page ∷ [] → take (length w) page.value ≡ w → take (at + length w) (joined later) ≡ take at (joined pages) ++ w
+  pub page_added : (pages later : List (Arc (List ℕ) A)) (page : Arc (List ℕ) A) (at : ℕ) (w : List ℕ) → IsRun pages at → length pages ≤ at / 4096 → later ≡ pages ++ page ∷ [] → take (length w) page.value ≡ w → take (at + length w) (joined later) ≡ take at (joined pages) ++ w
   page_added pages later page at w h end added begins =
       let whole : length (joined pages) ≡ 4096 * length pages = length-pages pages h.even in
       let room : at ≤ 4096 * length pages = h.room in
       let here : at ≡ length (joined pages) = omega arith in
-      let all : joined later ≡ joined pages ++ page.value = ap joined added ∙ (flat_map-append (λ (p : Box (List ℕ) A). p.value) pages (page ∷ []) ∙ ap (λ xs. joined pages ++ xs) (append-nil page.value)) in
+      let all : joined later ≡ joined pages ++ page.value = ap joined added ∙ (flat_map-append (λ (p : Arc (List ℕ) A). p.value) pages (page ∷ []) ∙ ap (λ xs. joined pages ++ xs) (append-nil page.value)) in
       rw (all, here, take_all (length (joined pages)) (joined pages) (omega arith)) (take_behind (joined pages) page.value (length w) ∙ ap (λ xs. joined pages ++ xs) begins)
 
 -- the front of a part
@@ -127,20 +129,88 @@ put-more before bytes at done count h l =
     ∙ ap (put before at) (take-meet done count bytes l))
 
 module _ {A : Type 0} where
-  -- a piece written through a box
-  pub piece_written : (pages later : List (Box (List ℕ) A)) (at k : ℕ) (w new page : List ℕ) (x d : Box (List ℕ) A) → ArePages pages → at / 4096 < length pages → at % 4096 + length w ≤ 4096 → later ≡ set pages (at / 4096) d → x ≡ get_or pages (at / 4096) x → page ≡ x.value → d.value ≡ put_mid (at % 4096) k page new → new ≡ w → k ≡ length w → joined later ≡ put (joined pages) at w
-  piece_written pages later at k w new page x d h place room e read is v new_is k_is =
+  -- a piece written in a page
+  pub page_written : (pages : List (Arc (List ℕ) A)) (at : ℕ) (w : List ℕ) (x d : Arc (List ℕ) A) → ArePages pages → at / 4096 < length pages → at % 4096 + length w ≤ 4096 → x ≡ get_or pages (at / 4096) x → d.value ≡ put x.value (at % 4096) w → joined (set pages (at / 4096) d) ≡ put (joined pages) at w
+  page_written pages at w x d h place room read v =
       let found : get_or pages (at / 4096) d ≡ x = get_or_default pages (at / 4096) d x place ∙ sym read in
-      piece_put pages later at w d h place room e
-      (v ∙ (put_mid-put page new w (at % 4096) k new_is k_is ∙ ap (λ p. put p (at % 4096) w) (is ∙ ap (λ (b : Box (List ℕ) A). b.value) (sym found))))
+      piece_put pages (set pages (at / 4096) d) at w d h place room refl (v ∙ ap (λ (b : Arc (List ℕ) A). put b.value (at % 4096) w) (sym found))
+
+  pub even_written : (pages : List (Arc (List ℕ) A)) (i at : ℕ) (w : List ℕ) (x d : Arc (List ℕ) A) → ArePages pages → length x.value ≡ 4096 → at + length w ≤ 4096 → d.value ≡ put x.value at w → ArePages (set pages i d)
+  even_written pages i at w x d h size room v =
+      All-set (λ page. length page.value ≡ 4096) pages i d (ap length v ∙ (length-put x.value at w (omega arith) ∙ size)) h
+
+  pub page_even : (pages : List (Arc (List ℕ) A)) (i : ℕ) (x : Arc (List ℕ) A) → ArePages pages → i < length pages → x ≡ get_or pages i x → length x.value ≡ 4096
+  page_even pages i x h l read = ap (λ (b : Arc (List ℕ) A). length b.value) read ∙ All-get_or (λ page. length page.value ≡ 4096) pages i x l h
+
+  -- a page that is as it was
+  pub page_left : (pages : List (Arc (List ℕ) A)) (i : ℕ) (x d : Arc (List ℕ) A) → x ≡ get_or pages i x → d ≡ x → set pages i d ≡ pages
+  page_left pages i x d read e = ap (set pages i) (e ∙ read) ∙ set-get_or pages i x
+
+  -- a whole page
+  pub page_found : (pages : List (Arc (List ℕ) A)) (n place : ℕ) (self : List ℕ) (x : Arc (List ℕ) A) → IsRun pages n → 4096 * place + 4096 ≤ n → x ≡ get_or pages place x → take n (joined pages) ≡ self → x.value ≡ cut (4096 * place) 4096 self
+  page_found pages n place self x h l read view =
+      let whole : length (joined pages) ≡ 4096 * length pages = length-pages pages h.even in
+      let room : n ≤ 4096 * length pages = h.room in
+      let there : place < length pages = omega arith in
+      let size : length x.value ≡ 4096 = page_even pages place x h.even there read in
+      let zero_more : 4096 * place + 0 ≡ 4096 * place = omega arith in
+      sym (ap (cut (4096 * place) 4096) (sym view)
+      ∙ (cut-take (4096 * place) 4096 n (joined pages) l (omega arith)
+      ∙ (ap (λ a. cut a 4096 (joined pages)) (sym zero_more)
+      ∙ (cut-joined (λ p. p.value) 4096 x pages place 0 4096 (even pages x h.even) there (omega arith)
+      ∙ (ap (λ (b : Arc (List ℕ) A). cut 0 4096 b.value) (sym read)
+      ∙ cut-whole x.value 4096 (omega arith))))))
+
+  -- the first pages
+  pub joined_front : (pages : List (Arc (List ℕ) A)) (k : ℕ) (d : Arc (List ℕ) A) → ArePages pages → k ≤ length pages → joined (take k pages) ≡ take (4096 * k) (joined pages)
+  unfolding cut
+  joined_front pages k d h l = joined-part (λ p. p.value) 4096 d pages 0 k (even pages d h) (omega arith)
+
+  all_one : (P : Arc (List ℕ) A → Type 0) (page : Arc (List ℕ) A) → P page → All P (page ∷ [])
+  all_one P page p zero d l = p
+  all_one P page p (suc k) d l = absurd (omega arith)
+
+  -- a page behind the whole pages of a run
+  module _ (pages later : List (Arc (List ℕ) A)) (page : Arc (List ℕ) A) (n n' : ℕ) (h : IsRun pages n) (round : n % 4096 ≡ 0) (size : length page.value ≡ 4096) (added : later ≡ take (n / 4096) pages ++ page ∷ []) (more : n' ≡ n + 4096) where
+    front_length : length (take (n / 4096) pages) ≡ n / 4096
+    front_length = let room : n ≤ 4096 * length pages = h.room in length-take-le (n / 4096) pages (omega arith)
+
+    pub run_more : IsRun later n'
+    run_more =
+        let count : length later ≡ length (take (n / 4096) pages) + 1 = ap length added ∙ length_push (take (n / 4096) pages) page in
+        let front : length (take (n / 4096) pages) ≡ n / 4096 = front_length in
+        record {
+          even = rw added (All-append (λ page. length page.value ≡ 4096) (take (n / 4096) pages) (page ∷ []) (All-take (λ page. length page.value ≡ 4096) (n / 4096) pages h.even) (all_one (λ page. length page.value ≡ 4096) page size));
+          room = omega arith;
+        }
+
+    pub bytes_more : (self : List ℕ) → take n (joined pages) ≡ self → take n' (joined later) ≡ self ++ page.value
+    bytes_more self view =
+        let room : n ≤ 4096 * length pages = h.room in
+        let all : 4096 * (n / 4096) ≡ n = omega arith in
+        let front : joined (take (n / 4096) pages) ≡ self = joined_front pages (n / 4096) page h.even (omega arith) ∙ (ap (λ k. take k (joined pages)) all ∙ view) in
+        let both : joined later ≡ self ++ page.value = ap joined added ∙ (flat_map-append (λ (p : Arc (List ℕ) A). p.value) (take (n / 4096) pages) (page ∷ []) ∙ (ap (λ xs. joined (take (n / 4096) pages) ++ xs) (append-nil page.value) ∙ ap (λ xs. xs ++ page.value) front)) in
+        let count : length self ≡ n = ap length (sym view) ∙ length-run pages n h in
+        let total : length (self ++ page.value) ≡ length self + length page.value = length-append self page.value in
+        ap (take n') both ∙ take_all n' (self ++ page.value) (omega arith)
 
   -- a piece read from one page
-  pub piece_found : (pages : List (Box (List ℕ) A)) (n at count k : ℕ) (page self : List ℕ) (x : Box (List ℕ) A) → IsRun pages n → at < n → at + count ≤ n → at % 4096 + count ≤ 4096 → x ≡ get_or pages (at / 4096) x → page ≡ x.value → k ≡ count → take n (joined pages) ≡ self
+  pub piece_found : (pages : List (Arc (List ℕ) A)) (n at count k : ℕ) (page self : List ℕ) (x : Arc (List ℕ) A) → IsRun pages n → at < n → at + count ≤ n → at % 4096 + count ≤ 4096 → x ≡ get_or pages (at / 4096) x → page ≡ x.value → k ≡ count → take n (joined pages) ≡ self
       → (mid_of (at % 4096) k page ≡ cut at (length (mid_of (at % 4096) k page)) self) × (length (mid_of (at % 4096) k page) ≡ count)
   unfolding cut
   piece_found pages n at count k page self x h l room within read is k_is view =
       let whole : length self ≡ n = ap length (sym view) ∙ length-run pages n h in
-      let here : cut at count self ≡ cut (at % 4096) count x.value = ap (cut at count) (sym view) ∙ (piece_is pages n at count x h l room within ∙ ap (λ (b : Box (List ℕ) A). cut (at % 4096) count b.value) (sym read)) in
+      let here : cut at count self ≡ cut (at % 4096) count x.value = ap (cut at count) (sym view) ∙ (piece_is pages n at count x h l room within ∙ ap (λ (b : Arc (List ℕ) A). cut (at % 4096) count b.value) (sym read)) in
       let mid : mid_of (at % 4096) k page ≡ cut at count self = rw (k_is, is) (sym here) in
       let size : length (mid_of (at % 4096) k page) ≡ count = ap length mid ∙ length-cut at count self (omega arith) in
       (mid ∙ ap (λ m. cut at m self) (sym size), size)
+
+-- what is known of a result is known of its value
+pub some_of : {T E : Type 0} (r : Result T E) (o : Option T) (P Q : T → Type 0) → o ≡ result_ok r → IfOk r P → ((x : T) → P x → Q x) → IfSome o Q
+some_of (Ok x) o P Q e h f = rw e (f x h)
+some_of (Err x) o P Q e h f = rw e h
+
+-- what holds anyway holds at an error
+pub on_err : {T E P : Type 0} (r : Result T E) → P → OnErr r P
+on_err (Ok x) p = tt
+on_err (Err x) p = p

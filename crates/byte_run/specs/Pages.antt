@@ -1,17 +1,18 @@
--- Bytes in boxed pages.
+-- Bytes in pages.
 use Rattle.std.specs.Prelude.{ℕ, ◌≡◌, ◌*◌, ◌≤◌, List, length, All}
 use Rattle.std.specs.List.{flat_map}
-use Rattle.std.specs.declared.boxed.Box.{Box}
+use Rattle.std.specs.Arc.{arc_value}
+use Rattle.std.specs.declared.sync.Arc.{Arc}
 
 -- the bytes of the pages in order
-abbrev pub joined : {A : Type 0} → List (Box (List ℕ) A) → List ℕ
-joined = flat_map (λ page. page.value)
+abbrev pub joined : {A : Type 0} → List (Arc (List ℕ) A) → List ℕ
+joined = flat_map arc_value
 
 -- each page has 4,096 bytes
-abbrev pub ArePages : {A : Type 0} → List (Box (List ℕ) A) → Type 0
-ArePages = All (λ page. length page.value ≡ 4096)
+abbrev pub ArePages : {A : Type 0} → List (Arc (List ℕ) A) → Type 0
+ArePages = All (λ page. length (arc_value page) ≡ 4096)
 
 -- the pages hold that many bytes
-pub record IsRun {A : Type 0} (pages : List (Box (List ℕ) A)) (count : ℕ) : Type 0 where
+pub record IsRun {A : Type 0} (pages : List (Arc (List ℕ) A)) (count : ℕ) : Type 0 where
   pub even : ArePages pages
   pub room : count ≤ 4096 * length pages

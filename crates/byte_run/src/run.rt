@@ -1,17 +1,20 @@
 //! A run of bytes.
 
-ghost use Rattle.std.specs.Prelude.{◌≡◌, ℕ, ◌+◌, ◌-◌, ◌*◌, ◌%◌, ◌/◌, ◌^◌, ◌<◌, ◌≤◌, ◌++◌, [], length, min, take, OnOk, OnErr, IfOk};
+ghost use Rattle.std.specs.Prelude.{◌≡◌, ℕ, ◌+◌, ◌-◌, ◌*◌, ◌%◌, ◌/◌, ◌^◌, ◌<◌, ◌≤◌, ◌++◌, [], length, min, take, OnOk, OnErr, IfOk, IfSome, IsSome, IsFalse};
+ghost use Rattle.std.specs.Arc.{arc_value};
+ghost use Rattle.std.specs.Bool.{OnTrue};
 ghost use Rattle.rdma_types.specs.Memory.{cut, put};
 ghost use Rattle.byte_run.specs.Pages.{joined, ArePages, IsRun};
 
 use crate::PAGE;
 use std::alloc::{AllocError, Global};
 use std::marker::Model;
+use std::sync::Arc;
 
-/// A list of bytes in boxed pages of 4,096 bytes.
+/// A list of bytes in pages of 4,096 bytes. Copies share pages, and a page that is shared is not written.
 #[derive(Drop)]
 pub struct ByteRun {
-    pages: Vec<Box<[u8; 4096]>>,
+    pages: Vec<Arc<[u8; 4096]>>,
     len: usize,
 }
 
@@ -83,7 +86,34 @@ impl ByteRun {
         Ok(())
     }
 
-    /// A run of the same bytes. Errors: `AllocError` when out of memory.
+    /// The page of 4,096 bytes from `4096 * place` on, to be shared; None where the run ends before its end.
+    pub fn shared_page(&self, place: u64) -> Option<Arc<[u8; 4096]>>
+        ensures whole { IfSome result (λ page. length (arc_value page) ≡ 4096) }
+        ensures inside { IsSome result → 4096 * place + 4096 ≤ length self.now }
+        ensures bytes { IfSome result (λ page. arc_value page ≡ cut (4096 * place) 4096 self.now) }
+    {
+        let place = place as usize;
+        if self.len / PAGE <= place {
+            return None;
+        }
+        Arc::try_clone(&self.pages[place]).ok()
+    }
+
+    /// Puts a page at the end of whole pages, and shares it. Errors: `AllocError` when out of memory; the run is as it was.
+    pub fn append_page(&mut self, page: Arc<[u8; 4096]>) -> Result<(), AllocError>
+        requires whole { length (arc_value page) ≡ 4096 }
+        requires even { length self.old % 4096 ≡ 0 }
+        ensures ok { OnOk result (self.new ≡ self.old ++ arc_value page) }
+        ensures err { OnErr result (self.new ≡ self.old) }
+    {
+        let len = self.len.checked_add(PAGE).ok_or(AllocError)?;
+        self.pages.truncate(self.len / PAGE);
+        self.pages.push(page)?;
+        self.len = len;
+        Ok(())
+    }
+
+    /// A run of the same bytes, which shares the pages. Errors: `AllocError` when out of memory.
     pub fn copy(&self, alloc: Global) -> Result<ByteRun, AllocError>
         ensures { IfOk result (λ run. run ≡ self.now) }
     {
@@ -97,7 +127,7 @@ impl ByteRun {
 /// Puts bytes behind the first `at`, piece by piece.
 fn add_bytes(
     alloc: Global,
-    pages: &mut Vec<Box<[u8; 4096]>>,
+    pages: &mut Vec<Arc<[u8; 4096]>>,
     at: usize,
     bytes: &[u8],
 ) -> Result<(), AllocError>
@@ -121,7 +151,7 @@ fn add_bytes(
 /// Puts bytes behind the first `at`, where one page holds them: a page that is there, or a new one.
 fn add_piece(
     alloc: Global,
-    pages: &mut Vec<Box<[u8; 4096]>>,
+    pages: &mut Vec<Arc<[u8; 4096]>>,
     at: usize,
     bytes: &[u8],
 ) -> Result<(), AllocError>
@@ -132,7 +162,7 @@ fn add_piece(
     ensures bytes { OnOk result (take (at + length bytes.now) (joined pages.new.items) ≡ take at (joined pages.old.items) ++ bytes.now) }
 {
     if at / PAGE < pages.len() {
-        put_piece(pages, at, bytes);
+        put_page(alloc, &mut pages[at / PAGE], at % PAGE, bytes)?;
     } else {
         pages.push(page_of(alloc, bytes)?)?;
     }
@@ -140,35 +170,71 @@ fn add_piece(
 }
 
 /// A page that begins with these bytes.
-fn page_of(alloc: Global, bytes: &[u8]) -> Result<Box<[u8; 4096]>, AllocError>
+fn page_of(alloc: Global, bytes: &[u8]) -> Result<Arc<[u8; 4096]>, AllocError>
     requires { length bytes.now ≤ 4096 }
-    ensures even { IfOk result (λ page. length page.value ≡ 4096) }
-    ensures bytes { IfOk result (λ page. take (length bytes.now) page.value ≡ bytes.now) }
+    ensures even { IfOk result (λ page. length (arc_value page) ≡ 4096) }
+    ensures bytes { IfOk result (λ page. take (length bytes.now) (arc_value page) ≡ bytes.now) }
 {
     if let Some(whole) = bytes.first_chunk() {
-        return Ok(Box::new(alloc, *whole)?);
+        return Ok(Arc::new(alloc, *whole)?);
     }
     let mut page = [0; PAGE];
     page[..bytes.len()].copy_from_slice(bytes);
-    Ok(Box::new(alloc, page)?)
+    Ok(Arc::new(alloc, page)?)
 }
 
-/// Writes bytes into the one page that holds them.
-fn put_piece(pages: &mut Vec<Box<[u8; 4096]>>, at: usize, bytes: &[u8])
-    requires even { ArePages pages.old.items }
-    requires page { at / 4096 < length pages.old.items }
-    requires room { at % 4096 + length bytes.now ≤ 4096 }
-    ensures bytes { joined pages.new.items ≡ put (joined pages.old.items) at bytes.now }
-    ensures even { ArePages pages.new.items }
-    ensures count { length pages.new.items ≡ length pages.old.items }
+/// Writes bytes into a page, or into a copy of it where it is shared.
+fn put_page(
+    alloc: Global,
+    page: &mut Arc<[u8; 4096]>,
+    from: usize,
+    bytes: &[u8],
+) -> Result<(), AllocError>
+    requires even { length (arc_value page.old) ≡ 4096 }
+    requires room { from + length bytes.now ≤ 4096 }
+    ensures ok { OnOk result (arc_value page.new ≡ put (arc_value page.old) from bytes.now) }
+    ensures err { OnErr result (page.new ≡ page.old) }
 {
-    let from = at % PAGE;
-    let page = &mut pages[at / PAGE];
-    page[from..from + bytes.len()].copy_from_slice(bytes);
+    if !put_alone(page, from, bytes) {
+        *page = page_with(alloc, page, from, bytes)?;
+    }
+    Ok(())
 }
 
-/// Equal pages.
-fn copy_pages(alloc: Global, pages: &[Box<[u8; 4096]>]) -> Result<Vec<Box<[u8; 4096]>>, AllocError>
+/// Writes bytes into a page that nothing else shares; and whether that was so.
+pub fn put_alone(page: &mut Arc<[u8; 4096]>, from: usize, bytes: &[u8]) -> bool
+    requires even { length (arc_value page.old) ≡ 4096 }
+    requires room { from + length bytes.now ≤ 4096 }
+    ensures done { OnTrue result (arc_value page.new ≡ put (arc_value page.old) from bytes.now) }
+    ensures left { IsFalse result → page.new ≡ page.old }
+{
+    match Arc::get_mut(page) {
+        Some(page) => {
+            page[from..from + bytes.len()].copy_from_slice(bytes);
+            true
+        }
+        None => false,
+    }
+}
+
+/// A page with other bytes at a place.
+fn page_with(
+    alloc: Global,
+    page: &Arc<[u8; 4096]>,
+    from: usize,
+    bytes: &[u8],
+) -> Result<Arc<[u8; 4096]>, AllocError>
+    requires even { length (arc_value page.now) ≡ 4096 }
+    requires room { from + length bytes.now ≤ 4096 }
+    ensures { IfOk result (λ new. arc_value new ≡ put (arc_value page.now) from bytes.now) }
+{
+    let mut copy = **page;
+    copy[from..from + bytes.len()].copy_from_slice(bytes);
+    Ok(Arc::new(alloc, copy)?)
+}
+
+/// The same pages, shared.
+fn copy_pages(alloc: Global, pages: &[Arc<[u8; 4096]>]) -> Result<Vec<Arc<[u8; 4096]>>, AllocError>
     requires { ArePages pages.now }
     ensures bytes { IfOk result (λ copies. joined copies.items ≡ joined pages.now) }
     ensures even { IfOk result (λ copies. ArePages copies.items) }
@@ -176,7 +242,7 @@ fn copy_pages(alloc: Global, pages: &[Box<[u8; 4096]>]) -> Result<Vec<Box<[u8; 4
 {
     let mut copies = Vec::with_capacity(alloc, pages.len())?;
     for page in pages {
-        copies.push(Box::new(alloc, **page)?)?;
+        copies.push(Arc::try_clone(page)?)?;
     }
     Ok(copies)
 }

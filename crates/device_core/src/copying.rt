@@ -1,4 +1,4 @@
-//! Equal devices over memory of their own.
+//! Equal devices.
 
 ghost use Rattle.std.specs.Prelude.{◌≡◌, IfOk};
 
@@ -58,8 +58,8 @@ fn copy_index(
 }
 
 impl Device {
-    /// An equal device, over memory of its own. What is done to the one is not seen at the other. All its bytes are
-    /// copied. Errors: `AllocError` when out of memory.
+    /// An equal device. What is done to the one is not seen at the other. All its bytes are copied, but for pages that it
+    /// shares with images: these both devices share. Errors: `AllocError` when out of memory.
     pub fn copy(&self, alloc: Global) -> Result<Device, AllocError>
         ensures { IfOk result (λ d. d ≡ self.now) }
     {

@@ -4,6 +4,7 @@ use Rattle.std.specs.Prelude.{◌⊎◌, replicate}
 use Rattle.std.proofs.lemmas.Bool.{cases_lt, cases_eq}
 use Rattle.std.proofs.lemmas.List.{length-replicate, length-set, get_or-set_same, get_or-set_other}
 use Rattle.rdma_types.specs.Memory.{cut, put}
+use Rattle.page_pool.specs.Ledger.{page_at}
 use Rattle.page_pool.specs.Store.{Store, IsStock, IsMade, padded, later_pages, waiting, times, idle, idle_pages}
 use Rattle.byte_run.proofs.Cuts.{length-cut}
 use Rattle.page_pool.proofs.Steps.{inside}
@@ -96,6 +97,19 @@ seen_drawn bs hs st bs' bs'' hs' st' v w now pages page a e d new l same what =
 -- the bytes of a page that is made
 pub seen_cut : (bs : List ℕ) (now : Store) (hs : List ℕ) (n page a : ℕ) → store (padded n bs) hs ≡ now → a + 4096 ≤ length bs → a ≡ 4096 * page → cut a 4096 bs ≡ cut (4096 * page) 4096 now.bytes
 seen_cut bs now hs n page a e l same = sym (padded-cut n bs a 4096 l) ∙ (ap (cut a 4096) (ap (λ (s : Store). s.bytes) e) ∙ ap (λ k. cut k 4096 now.bytes) same)
+
+-- the bytes of a page that is held, where another has no holder any longer
+pub seen_kept : (bs bs' hs : List ℕ) (now : Store) (pages page left bytes_room holders_room : ℕ) → IsMade bs hs pages bytes_room holders_room → store (padded (4096 * pages) bs) (padded pages hs) ≡ now → page < length hs → left ≡ 0 → ((other : ℕ) → 4096 * other + 4096 ≤ length bs → other ≢ page → cut (4096 * other) 4096 bs' ≡ cut (4096 * other) 4096 bs) → length bs' ≡ length bs → (other : ℕ) → 0 < get_or (padded pages (set hs page left)) other 0 → page_at (padded (4096 * pages) bs') other ≡ page_at now.bytes other
+unfolding page_at
+seen_kept bs bs' hs now pages page left bytes_room holders_room m e l none same size other held =
+    let count : length (set hs page left) ≡ length hs = length-set hs page left in
+    let made : other < length (set hs page left) = in_front pages (set hs page left) other held in
+    let inside : 4096 * other + 4096 ≤ length bs = omega (arith, m.whole) in
+    let apart : other ≢ page = λ i. absurd (omega (arith, held, ap (λ p. get_or (padded pages (set hs page left)) p 0) i, padded-at pages (set hs page left) page 0 (omega arith), get_or-set_same hs page left 0 l)) in
+    padded-cut (4096 * pages) bs' (4096 * other) 4096 (omega arith)
+    ∙ (same other inside apart
+    ∙ (sym (padded-cut (4096 * pages) bs (4096 * other) 4096 inside)
+    ∙ ap (λ (s : Store). cut (4096 * other) 4096 s.bytes) e))
 
 -- ---- no page is made yet
 

@@ -1,11 +1,11 @@
 -- What a ledger says of its lists, and what a change of one list leaves.
-use Rattle.std.proofs.Common.{◌≡◌, ℕ, zero, suc, subst, ◌+◌, ◌-◌, ◌*◌, ◌/◌, ◌<◌, ◌≤◌, ◌≢◌, List, [], ◌∷◌, ◌++◌, length, take, get_or, map, sum, arith, refl, ap, sym, ◌∙◌, inl, inr}
+use Rattle.std.proofs.Common.{◌≡◌, ℕ, zero, suc, subst, ◌+◌, ◌*◌, ◌<◌, ◌≤◌, ◌≢◌, List, [], ◌∷◌, length, get_or, map, sum, arith, refl, ap, sym, ◌∙◌, inl, inr}
 use Rattle.std.specs.Prelude.{◌⊎◌, Option, Some, None, sum_by, IsSome, unwrap_or, Result, Ok, Err, IsErrOf, ◌↔◌}
 use Rattle.std.specs.Result.{IsErrAnd}
 use Rattle.std.specs.List.{flat_map}
 use Rattle.std.specs.declared.vec.Vec.{Vec}
 use Rattle.std.proofs.lemmas.Bool.{cases_lt}
-use Rattle.std.proofs.lemmas.List.{get_or_past, length-map}
+use Rattle.std.proofs.lemmas.List.{get_or_past}
 use Rattle.std.proofs.lemmas.List.Sums.{sum_by-cons, get_or-le-sum_by}
 use Rattle.byte_run.proofs.Joined.{AreEven, length-joined, joined-same}
 use Rattle.page_pool.specs.Store.{Store, IsSound, times}
@@ -196,9 +196,12 @@ module _ {A : Type 0} where
       (omega (arith, total, ap length e, ap (λ t. length (numbers t)) s, ap (λ t. length (numbers t)) gone))
 
   -- the pool after a list is given back
-  pub gone-out : (frames frames' : Store) (lists lists' : List (Option (Vec ℕ A))) (now : Pool) (k : ℕ) → pool_of frames lists ≡ now → length frames'.holders ≡ length frames.holders → frames'.bytes ≡ frames.bytes → get_or lists' k None ≡ None → ((j : ℕ) → j ≢ k → get_or lists' j None ≡ get_or lists j None) → Puts now (pool_of frames' lists') k None
-  gone-out frames frames' lists lists' now k e n b gone others =
-      puts-changed frames frames' lists lists' now k None e n others (λ j i ne l. ap (λ bs. page_at bs (get_or (numbers (get_or lists j None)) i 0)) b) (ap (shown frames'.bytes) gone)
+  pub gone-out : (frames frames' : Store) (lists lists' : List (Option (Vec ℕ A))) (now : Pool) (k : ℕ) → IsLedger frames' lists' → pool_of frames lists ≡ now → length frames'.holders ≡ length frames.holders → ((p : ℕ) → 0 < get_or frames'.holders p 0 → page_at frames'.bytes p ≡ page_at frames.bytes p) → get_or lists' k None ≡ None → ((j : ℕ) → j ≢ k → get_or lists' j None ≡ get_or lists j None) → Puts now (pool_of frames' lists') k None
+  gone-out frames frames' lists lists' now k g e n kept gone others =
+      puts-changed frames frames' lists lists' now k None e n others (λ j i ne l. kept (get_or (numbers (get_or lists j None)) i 0) (held j i ne l)) (ap (shown frames'.bytes) gone)
+    where
+      held : (j i : ℕ) → j ≢ k → i < length (numbers (get_or lists j None)) → 0 < get_or frames'.holders (get_or (numbers (get_or lists j None)) i 0) 0
+      held j i ne l = subst (λ t. 0 < get_or frames'.holders (get_or (numbers t) i 0) 0) (others j ne) (holder-there frames' lists' j i g (subst (λ t. i < length (numbers t)) (sym (others j ne)) l))
 
   -- the ledger after a list is put in
   pub put-in : (frames frames' : Store) (lists lists' : List (Option (Vec ℕ A))) (k : ℕ) (v : Vec ℕ A) (ns : List ℕ) → IsLedger frames lists → IsSound frames' → get_or lists k None ≡ None → ns ≡ v.items → get_or lists' k None ≡ Some v → ((j : ℕ) → j ≢ k → get_or lists' j None ≡ get_or lists j None) → ((p : ℕ) → get_or frames'.holders p 0 ≡ get_or frames.holders p 0 + times p ns) → sum frames'.holders ≡ sum frames.holders + length ns → IsLedger frames' lists'

@@ -1,7 +1,9 @@
 pub mod Counts
 pub mod Places
+pub mod Shown
 pub mod Padded
 pub mod Pages
+pub mod Shared
 pub mod Steps
 pub mod Ledgers
 pub mod Writes

@@ -28,6 +28,16 @@ pub page-put_same : (bytes w : List ℕ) (n q off : ℕ) → length bytes ≡ 40
 unfolding page_at
 page-put_same bytes w n q off e l k = cut-put_inside bytes off w (4096 * q) 4096 (omega arith) k
 
+-- a part of the bytes that are written
+pub cut-put_within : (bytes : List ℕ) (a : ℕ) (w : List ℕ) (k m : ℕ) → a + length w ≤ length bytes → k + m ≤ length w → cut (a + k) m (put bytes a w) ≡ cut k m w
+unfolding cut put
+cut-put_within bytes a w k m h l = same_lists _ _ (simp (length-append, length-take, length-drop) (omega arith)) (λ i d n. grind (arith, places))
+
+-- a part of zeros
+pub cut-blank : (n a m : ℕ) → a + m ≤ n → cut a m (blank n) ≡ blank m
+unfolding cut blank
+cut-blank n a m h = same_lists _ _ (simp (length-take, length-drop, length-replicate) (omega arith)) (λ i d l. grind (arith, places))
+
 -- all of a list written
 pub put-whole : (xs w : List ℕ) → length xs ≡ length w → put xs 0 w ≡ w
 unfolding put

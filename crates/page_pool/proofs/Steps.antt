@@ -68,6 +68,10 @@ sum-more hs hs' q v l e is = omega (arith, ap sum is, sum-set hs q v l)
 pub sum-less : (hs hs' : List ℕ) (q : ℕ) → 0 < get_or hs q 0 → hs' ≡ set hs q (get_or hs q 0 - 1) → sum hs' + 1 ≡ sum hs
 sum-less hs hs' q held is = omega (arith, ap sum is, sum-set hs q (get_or hs q 0 - 1) (inside hs q held))
 
+-- a page that is held was held
+pub held-before : (hs hs' : List ℕ) (q p : ℕ) → 0 < get_or hs q 0 → hs' ≡ set hs q (get_or hs q 0 - 1) → 0 < get_or hs' p 0 → 0 < get_or hs p 0
+held-before hs hs' q p held is h = omega (arith, ap (λ xs. get_or xs p 0) is, one_less-at hs q p held)
+
 pub length-changed : (hs hs' : List ℕ) (q v : ℕ) → hs' ≡ set hs q v → length hs' ≡ length hs
 length-changed hs hs' q v is = ap length is ∙ length-set hs q v
 

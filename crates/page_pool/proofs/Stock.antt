@@ -181,7 +181,7 @@ done_unless (Ok x) e n = refl
 done_unless (Err x) e n = absurd (n e)
 
 -- what a push that is done leaves
-pub pushed_items : {T E : Type 0} (r : Result T E) (x : T) (new old : List ℕ) (page : ℕ) → r ≡ Ok x → new ≡ (if is_ok r then old ++ page ∷ [] else old) → new ≡ old ++ page ∷ []
+pub pushed_items : {T E X : Type 0} (r : Result T E) (x : T) (new old : List X) (page : X) → r ≡ Ok x → new ≡ (if is_ok r then old ++ page ∷ [] else old) → new ≡ old ++ page ∷ []
 pushed_items r x new old page e h = h ∙ ap (λ s. if is_ok s then old ++ page ∷ [] else old) e
 
 -- what an append that is done leaves

@@ -1,5 +1,5 @@
 -- What a payload stands for.
-use Rattle.std.specs.Prelude.{ℕ, ◌+◌, ◌≤◌, ◌^◌, ◌<◌, List, length}
+use Rattle.std.specs.Prelude.{ℕ, ◌+◌, ◌≤◌, List, length}
 use Rattle.rdma_types.specs.Memory.{cut}
 use Rattle.page_pool.specs.Pool.{Pool, IsIn, bytes_in}
 use Rattle.page_pool.specs.declared.Payload.{Payload}

@@ -1,4 +1,5 @@
 pub mod Store
+pub mod Bytes
 pub mod Pool
 pub mod Ledger
 pub mod Held

@@ -1,7 +1,7 @@
 -- A pool of pages as its callers see it: lists of bytes by their numbers, and how many pages are free. This project's
 -- choice.
 use Rattle.std.specs.Int.{div_ceil}
-use Rattle.std.specs.Prelude.{ℕ, ◌≡◌, ◌≢◌, ◌+◌, ◌-◌, ◌/◌, List, [], length, Option, Some, None, IsSome, unwrap_or, sum_by, slice_index_or}
+use Rattle.std.specs.Prelude.{ℕ, ◌≡◌, ◌≢◌, ◌-◌, ◌/◌, List, [], length, Option, Some, None, IsSome, unwrap_or, sum_by, slice_index_or}
 
 -- how many pages there are, and the bytes of each list that lives, at its number
 pub record Pool : Type 0 where

@@ -1,6 +1,7 @@
 //! Many pages taken, held and given back.
 
-ghost use Rattle.std.specs.Prelude.{◌≡◌, ℕ, ◌+◌, ◌-◌, ◌*◌, ◌<◌, ◌≤◌, ◌++◌, [], length, min, sum, replicate, slice_index, vec_capacity};
+ghost use Rattle.std.specs.Prelude.{◌≡◌, ℕ, ◌+◌, ◌-◌, ◌*◌, ◌<◌, ◌≤◌, ◌++◌, [], length, min, sum, replicate, slice_index, slice_set, vec_capacity, IfSome};
+ghost use Rattle.std.specs.Arc.{arc_value};
 ghost use Rattle.rdma_types.specs.Memory.{cut, put};
 ghost use Rattle.page_pool.specs.Store.{IsSound, times, blank};
 ghost use Rattle.page_pool.specs.Ledger.{page_at};
@@ -8,6 +9,7 @@ ghost use Rattle.page_pool.specs.Ledger.{page_at};
 use crate::PAGE;
 use crate::frames::Frames;
 use byte_run::ByteRun;
+use std::sync::Arc;
 
 /// Writes what a page from byte `at` of a list on has: the bytes of a run, which begins at byte `first` of the list, and
 /// zeros elsewhere.
@@ -23,6 +25,53 @@ fn lay_page(bytes: &ByteRun, first: u64, at: u64, page: &mut [u8])
     let (held, rest) = rest.split_at_mut(count as usize);
     bytes.read(from, held);
     rest.fill(0);
+}
+
+/// The page to share that has what a page from byte `at` of a list on has; None where there is none.
+fn whole_page(frames: &Frames, bytes: &ByteRun, first: u64, at: u64) -> Option<Arc<[u8; 4096]>>
+    ensures whole { IfSome result (λ page. length (arc_value page) ≡ 4096) }
+    ensures bytes { IfSome result (λ page. (n : ℕ) → at + 4096 ≤ n → first + length bytes.now ≤ n → arc_value page ≡ cut at 4096 (put (blank n) first bytes.now)) }
+{
+    if at < first {
+        return None;
+    }
+    let from = at - first;
+    if from >= bytes.len() {
+        return frames.blank();
+    }
+    if from % 4096 != 0 {
+        return None;
+    }
+    bytes.shared_page(from / 4096)
+}
+
+/// Takes a new page, which has what a page from byte `at` of a list on has.
+fn take_page(frames: &mut Frames, bytes: &ByteRun, first: u64, at: u64) -> u32
+    requires room { sum frames.old.holders < length frames.old.holders }
+    ensures page { result < length frames.old.holders }
+    ensures idle { slice_index frames.old.holders result ≡ 0 }
+    ensures holders { frames.new.holders ≡ slice_set frames.old.holders result 1 }
+    ensures bytes { (n : ℕ) → at + 4096 ≤ n → first + length bytes.now ≤ n → frames.new.bytes ≡ put frames.old.bytes (4096 * result) (cut at 4096 (put (blank n) first bytes.now)) }
+    ensures sound { IsSound frames.new }
+{
+    match whole_page(frames, bytes, first, at) {
+        Some(page) => frames.fresh_shared(page),
+        None => take_copy(frames, bytes, first, at),
+    }
+}
+
+/// Takes a new page, and copies there what a page from byte `at` of a list on has.
+fn take_copy(frames: &mut Frames, bytes: &ByteRun, first: u64, at: u64) -> u32
+    requires room { sum frames.old.holders < length frames.old.holders }
+    ensures page { result < length frames.old.holders }
+    ensures idle { slice_index frames.old.holders result ≡ 0 }
+    ensures holders { frames.new.holders ≡ slice_set frames.old.holders result 1 }
+    ensures bytes { (n : ℕ) → at + 4096 ≤ n → first + length bytes.now ≤ n → frames.new.bytes ≡ put frames.old.bytes (4096 * result) (cut at 4096 (put (blank n) first bytes.now)) }
+    ensures sound { IsSound frames.new }
+{
+    let mut page = [0; PAGE];
+    lay_page(bytes, first, at, &mut page);
+    frames.fresh(&page)
 }
 
 /// Takes new pages, and lists their numbers. They have the bytes of a run from byte `first` of the first page on, and zeros
@@ -47,10 +96,8 @@ pub fn take_pages(
     ensures bytes { (i : ℕ) → i < count → page_at frames.new.bytes (slice_index numbers.new.items i) ≡ page_at (put (blank (4096 * count)) first bytes.now) i }
     ensures len { length numbers.new.items ≡ count }
 {
-    let mut page = [0; PAGE];
     for taken in 0..count {
-        lay_page(bytes, first, u64::from(taken) * 4096, &mut page);
-        let number = frames.fresh(&page);
+        let number = take_page(frames, bytes, first, u64::from(taken) * 4096);
         numbers.push(number).unwrap();
     }
 }
@@ -71,7 +118,7 @@ pub fn hold_pages(frames: &mut Frames, numbers: &[u32])
     }
 }
 
-/// One holder of each page less.
+/// One holder of each page less. The bytes of pages that nobody holds any longer are not told.
 pub fn give_pages(frames: &mut Frames, numbers: &[u32])
     requires sound { IsSound frames.old }
     requires held { (page : ℕ) → times page numbers.now ≤ slice_index frames.old.holders page }
@@ -79,7 +126,7 @@ pub fn give_pages(frames: &mut Frames, numbers: &[u32])
     ensures pages { length frames.new.holders ≡ length frames.old.holders }
     ensures counted { (page : ℕ) → slice_index frames.new.holders page + times page numbers.now ≡ slice_index frames.old.holders page }
     ensures total { sum frames.new.holders + length numbers.now ≡ sum frames.old.holders }
-    ensures bytes { frames.new.bytes ≡ frames.old.bytes }
+    ensures kept { (page : ℕ) → 0 < slice_index frames.new.holders page → page_at frames.new.bytes page ≡ page_at frames.old.bytes page }
 {
     for number in numbers {
         frames.release(*number);

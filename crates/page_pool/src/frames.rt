@@ -1,19 +1,22 @@
 //! Pages that several lists may hold, each with the count of its holders.
 
-ghost use Rattle.std.specs.Prelude.{◌≡◌, ℕ, ◌+◌, ◌-◌, ◌*◌, ◌<◌, ◌≤◌, ◌^◌, length, sum, nat_lt, replicate, slice_index, slice_set, IfOk};
+ghost use Rattle.std.specs.Prelude.{◌≡◌, ℕ, ◌+◌, ◌-◌, ◌*◌, ◌<◌, ◌≤◌, ◌^◌, length, sum, nat_lt, replicate, slice_index, slice_set, IfOk, IfSome};
+ghost use Rattle.std.specs.Arc.{arc_value};
 ghost use Rattle.rdma_types.specs.Memory.{cut, put};
-ghost use Rattle.page_pool.specs.Store.{IsSound};
+ghost use Rattle.page_pool.specs.Store.{IsSound, blank};
+ghost use Rattle.page_pool.specs.Ledger.{page_at};
 
-use crate::PAGE;
-use crate::parts::{copy_page, draw, put_at};
+use crate::page_bytes::PageBytes;
+use crate::parts::draw;
 use std::alloc::{AllocError, Global};
 use std::marker::Model;
+use std::sync::Arc;
 
-/// The pages of a pool. A page is made as it is first taken, in memory that was asked for before: until then contracts see
-/// its zeros, and no memory holds them. Pages that were held, and that nobody holds, wait in a stack.
+/// The pages of a pool. A page is made as it is first taken: until then contracts see its zeros, and no memory holds them.
+/// Pages that were held, and that nobody holds, wait in a stack.
 #[derive(Drop)]
 pub struct Frames {
-    bytes: Vec<u8>,
+    bytes: PageBytes,
     holders: Vec<u32>,
     stock: Vec<u32>,
     spare: u32,
@@ -28,7 +31,7 @@ impl Model for Frames {
 
     ghost view = { λ f. record { bytes = padded (4096 * f.pages) f.bytes.items; holders = padded f.pages f.holders.items } };
 
-    ghost invariant = { λ f. IsMade f.bytes.items f.holders.items f.pages (vec_capacity f.bytes) (vec_capacity f.holders) × IsStock (padded (4096 * f.pages) f.bytes.items) (padded f.pages f.holders.items) (waiting f.holders.items f.pages f.stock.items) f.spare (vec_capacity f.stock) };
+    ghost invariant = { λ f. IsMade f.bytes.items f.holders.items f.pages f.bytes.room (vec_capacity f.holders) × IsStock (padded (4096 * f.pages) f.bytes.items) (padded f.pages f.holders.items) (waiting f.holders.items f.pages f.stock.items) f.spare (vec_capacity f.stock) };
 }
 
 impl Frames {
@@ -38,7 +41,7 @@ impl Frames {
     {
         let count = pages as usize;
         Ok(Frames {
-            bytes: Vec::with_capacity(alloc, PAGE * count)?,
+            bytes: PageBytes::make(alloc, pages)?,
             holders: Vec::with_capacity(alloc, count)?,
             stock: Vec::with_capacity(alloc, count)?,
             spare: pages,
@@ -46,13 +49,13 @@ impl Frames {
         })
     }
 
-    /// Equal pages in memory of their own, with as much room. Errors: `AllocError` when out of memory.
+    /// Equal pages, with as much room. Those that runs of bytes share are shared with these too. Errors: `AllocError` when
+    /// out of memory.
     pub fn copy(&self, alloc: Global) -> Result<Frames, AllocError>
         ensures { IfOk result (λ f. f ≡ self.now) }
     {
         let count = self.pages as usize;
-        let mut bytes = Vec::with_capacity(alloc, PAGE * count)?;
-        bytes.extend_from_slice(&self.bytes)?;
+        let bytes = self.bytes.copy(alloc)?;
         let mut holders = Vec::with_capacity(alloc, count)?;
         holders.extend_from_slice(&self.holders)?;
         let mut stock = Vec::with_capacity(alloc, count)?;
@@ -87,8 +90,23 @@ impl Frames {
         requires { 0 < slice_index self.now.holders page }
         ensures { result.now ≡ cut (4096 * page) 4096 self.now.bytes }
     {
-        let from = page as usize * PAGE;
-        &self.bytes[from..from + PAGE]
+        self.bytes.page(page as usize)
+    }
+
+    /// A page to be shared with runs of bytes; None where it lies in memory of the pool's own.
+    pub fn shared(&self, page: u32) -> Option<Arc<[u8; 4096]>>
+        requires { 0 < slice_index self.now.holders page }
+        ensures whole { IfSome result (λ shared. length (arc_value shared) ≡ 4096) }
+        ensures bytes { IfSome result (λ shared. arc_value shared ≡ cut (4096 * page) 4096 self.now.bytes) }
+    {
+        self.bytes.shared(page as usize)
+    }
+
+    /// A page of zeros, to be shared; None where it is shared too often.
+    pub fn blank(&self) -> Option<Arc<[u8; 4096]>>
+        ensures { IfSome result (λ shared. arc_value shared ≡ blank 4096) }
+    {
+        self.bytes.blank()
     }
 
     /// Writes bytes into a page.
@@ -98,7 +116,7 @@ impl Frames {
         ensures new { self.new ≡ record self.old { bytes = put self.old.bytes (4096 * page + at) bytes.now } }
         ensures sound { IsSound self.new }
     {
-        put_at(&mut self.bytes, page as usize * PAGE + at, bytes);
+        self.bytes.put(page as usize, at, bytes);
     }
 
     /// One more holder of a page.
@@ -112,10 +130,11 @@ impl Frames {
         self.spare -= 1;
     }
 
-    /// One holder of a page less.
+    /// One holder of a page less. The bytes of a page that nobody holds any longer are not told.
     pub fn release(&mut self, page: u32)
         requires held { 0 < slice_index self.old.holders page }
-        ensures new { self.new ≡ record self.old { holders = slice_set self.old.holders page (slice_index self.old.holders page - 1) } }
+        ensures holders { self.new.holders ≡ slice_set self.old.holders page (slice_index self.old.holders page - 1) }
+        ensures kept { (other : ℕ) → 0 < slice_index self.new.holders other → page_at self.new.bytes other ≡ page_at self.old.bytes other }
         ensures sound { IsSound self.new }
     {
         let left = self.holders[page as usize] - 1;
@@ -123,6 +142,7 @@ impl Frames {
         self.spare += 1;
         if left == 0 {
             self.stock.push(page).unwrap();
+            self.bytes.forget(page as usize);
         }
     }
 
@@ -139,7 +159,26 @@ impl Frames {
         ensures sound { IsSound self.new }
     {
         let page = draw(&mut self.bytes, &mut self.holders, &mut self.stock);
-        put_at(&mut self.bytes, page as usize * PAGE, bytes);
+        self.bytes.write_page(page as usize, bytes);
+        self.holders[page as usize] = 1;
+        self.spare -= 1;
+        page
+    }
+
+    /// A page that nobody held, with the bytes of a page that runs of bytes may share.
+    pub fn fresh_shared(&mut self, bytes: Arc<[u8; 4096]>) -> u32
+        requires room { sum self.old.holders < length self.old.holders }
+        requires whole { length (arc_value bytes) ≡ 4096 }
+        ensures page { result < length self.old.holders }
+        ensures idle { slice_index self.old.holders result ≡ 0 }
+        ensures new { self.new ≡ record {
+          bytes = put self.old.bytes (4096 * result) (arc_value bytes);
+          holders = slice_set self.old.holders result 1;
+        } }
+        ensures sound { IsSound self.new }
+    {
+        let page = draw(&mut self.bytes, &mut self.holders, &mut self.stock);
+        self.bytes.share(page as usize, bytes);
         self.holders[page as usize] = 1;
         self.spare -= 1;
         page
@@ -159,7 +198,7 @@ impl Frames {
         self.holders[page as usize] -= 1;
         let copy = draw(&mut self.bytes, &mut self.holders, &mut self.stock);
         self.holders[copy as usize] = 1;
-        copy_page(&mut self.bytes, page as usize * PAGE, copy as usize * PAGE);
+        self.bytes.copy_page(page as usize, copy as usize);
         copy
     }
 }

@@ -1,6 +1,7 @@
 //! The pool and its lists.
 
-ghost use Rattle.std.specs.Prelude.{◌≡◌, ℕ, ◌+◌, ◌-◌, ◌*◌, ◌%◌, ◌<◌, ◌≤◌, ◌↔◌, [], length, sum, take, drop, slice_index, IsSome, Some, None, OnOk, OnErr, IfOk, IfErr, IsErrOf};
+ghost use Rattle.std.specs.Prelude.{◌≡◌, ℕ, ◌+◌, ◌-◌, ◌*◌, ◌%◌, ◌<◌, ◌≤◌, ◌↔◌, ◌++◌, [], length, sum, take, drop, slice_index, IsSome, Some, None, OnOk, OnErr, IfOk, IfErr, IfSome, IsErrOf};
+ghost use Rattle.std.specs.Arc.{arc_value};
 ghost use Rattle.rdma_types.specs.Memory.{cut, put};
 ghost use Rattle.page_pool.specs.Store.{blank};
 ghost use Rattle.page_pool.specs.Ledger.{IsLedger, numbers, slot, shown, pool_of};
@@ -13,6 +14,7 @@ use byte_run::ByteRun;
 use slab::Slab;
 use std::alloc::{AllocError, Global};
 use std::marker::Model;
+use std::sync::Arc;
 
 /// A list of pages of a pool, which stands for their bytes. Contracts see its number.
 #[derive(Drop)]
@@ -66,8 +68,9 @@ impl PagePool {
         })
     }
 
-    /// An equal pool, with pages of its own. The lists keep their numbers: a list of one pool has the same bytes in the
-    /// other, until it is written. Errors: `AllocError` when out of memory.
+    /// An equal pool. The lists keep their numbers: a list of one pool has the same bytes in the other, until it is
+    /// written. What is written in one pool is not seen in the other. Pages that runs of bytes share, both pools share.
+    /// Errors: `AllocError` when out of memory.
     pub fn copy(&self, alloc: Global) -> Result<PagePool, AllocError>
         ensures { IfOk result (λ p. p ≡ self.now) }
     {
@@ -247,7 +250,8 @@ impl PagePool {
         }
     }
 
-    /// A copy of `count` bytes of a list from `first` on. Errors: `AllocError` when out of memory.
+    /// A copy of `count` bytes of a list from `first` on, which shares whole pages where it can. Errors: `AllocError` when
+    /// out of memory.
     pub fn copy_out(
         &self,
         alloc: Global,
@@ -263,12 +267,53 @@ impl PagePool {
         let mut run = ByteRun::make(alloc);
         let mut done = 0;
         while done < count {
-            let piece = self.piece(list, first + done as u64);
-            let taken = piece.len().min(count - done);
-            run.append(alloc, &piece[..taken])?;
-            done += taken;
+            done += self.copy_piece(alloc, list, first + done as u64, count - done, &mut run)?;
         }
         Ok(run)
+    }
+
+    /// Puts the bytes of a list from `at` on at the end of a run, to the end of their page, or `most`; and how many. A whole
+    /// page is shared where it can be.
+    fn copy_piece(
+        &self,
+        alloc: Global,
+        list: &PageList,
+        at: u64,
+        most: usize,
+        run: &mut ByteRun,
+    ) -> Result<usize, AllocError>
+        requires held { IsIn self.now list.now }
+        requires inside { at < length (bytes_in self.now list.now) }
+        requires some { 0 < most }
+        ensures ok { IfOk result (λ taken. run.new ≡ run.old ++ cut at taken (bytes_in self.now list.now)) }
+        ensures taken { IfOk result (λ taken. 0 < taken) }
+        ensures most { IfOk result (λ taken. taken ≤ most) }
+    {
+        if let Some(page) = self.whole_page(list, at, most, run.len()) {
+            run.append_page(page)?;
+            return Ok(PAGE);
+        }
+        let piece = self.piece(list, at);
+        let taken = piece.len().min(most);
+        run.append(alloc, &piece[..taken])?;
+        Ok(taken)
+    }
+
+    /// The page of a list that begins at `at`, to be shared at the end of `len` bytes; None where they do not end with a
+    /// page, where fewer than a page are wanted, and where it cannot be shared.
+    fn whole_page(&self, list: &PageList, at: u64, most: usize, len: u64) -> Option<Arc<[u8; 4096]>>
+        requires held { IsIn self.now list.now }
+        requires inside { at < length (bytes_in self.now list.now) }
+        ensures whole { IfSome result (λ page. length (arc_value page) ≡ 4096) }
+        ensures bytes { IfSome result (λ page. arc_value page ≡ cut at 4096 (bytes_in self.now list.now)) }
+        ensures round { IsSome result → len % 4096 ≡ 0 }
+        ensures enough { IsSome result → 4096 ≤ most }
+    {
+        if at % 4096 != 0 || len % 4096 != 0 || most < PAGE {
+            return None;
+        }
+        let number = self.lists[list.list][at as usize / PAGE];
+        self.frames.shared(number)
     }
 
     /// A list of the fewest pages that hold `first` and the bytes: the bytes from `first` on, and zeros elsewhere.

@@ -1,4 +1,4 @@
-//! Equal events over memory of their own.
+//! Equal events. They share the bytes of an image.
 
 ghost use Rattle.std.specs.Prelude.{◌≡◌, IfOk};
 

@@ -10,4 +10,5 @@ mod outcomes;
 pub use copies::{copy_event, copy_sent};
 pub use events::event_difference;
 pub use images::same_image;
+pub use lists::same_completions;
 pub use outcomes::outcome_difference;

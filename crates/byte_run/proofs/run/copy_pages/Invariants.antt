@@ -1,4 +1,4 @@
-use Rattle.std.proofs.Common.{◌≡◌, ◌≤◌, length, take}
+use Rattle.std.proofs.Common.{◌≡◌, length, take}
 use Rattle.byte_run.specs.Pages.{ArePages, joined}
 use Rattle.byte_run.proofs.run.copy_pages.Given as goal
 

@@ -1,5 +1,5 @@
-use Rattle.std.proofs.Common.{◌≡◌, ◌<◌, ◌+◌, ◌∙◌, sym, ap, refl, arith, length, get_or, sum}
-use Rattle.page_pool.specs.Store.{Store, times}
+use Rattle.std.proofs.Common.{◌<◌, ◌∙◌, ap, refl, arith, get_or}
+use Rattle.page_pool.specs.Store.{Store}
 use Rattle.page_pool.proofs.Counts.{times-none}
 use Rattle.page_pool.proofs.Steps.{inside, hold-more, sum-more, length-changed}
 use Rattle.page_pool.proofs.claims.hold_pages.Goals as goal

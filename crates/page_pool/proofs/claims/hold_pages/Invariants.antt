@@ -1,4 +1,4 @@
-use Rattle.std.proofs.Common.{◌≡◌, ◌≤◌, ◌<◌, ◌+◌, ℕ, length, get_or, sum, take}
+use Rattle.std.proofs.Common.{◌≡◌, ◌+◌, ℕ, length, get_or, sum, take}
 use Rattle.page_pool.specs.Store.{IsSound, times}
 use Rattle.page_pool.proofs.claims.hold_pages.Given as goal
 

@@ -15,4 +15,3 @@ invariant-loop-taken l =
     × ((i : ℕ) → i < l.taken → page_at l.frames.bytes (get_or l.numbers.items i 0) ≡ page_at (put (blank (4096 * l.count)) l.first l.bytes) i)
     × (length l.numbers.items ≡ l.taken)
     × (l.count ≤ vec_capacity l.numbers)
-    × (length l.page ≡ 4096)

@@ -1,11 +1,9 @@
-use Rattle.std.proofs.Common.{◌≡◌, ℕ, ◌<◌, ◌≤◌, ◌*◌, ◌-◌, ◌≢◌, ◌∙◌, arith, ap, sym, length, get_or, refl, sum}
-use Rattle.std.specs.Prelude.{None, Some}
+use Rattle.std.proofs.Common.{◌≡◌, ◌<◌, ◌-◌, ◌∙◌, arith, ap, sym, length, get_or, refl}
 use Rattle.std.proofs.lemmas.Bool.Decides.{nat_tests}
 use Rattle.std.proofs.lemmas.List.{length-set, get_or-set_same}
-use Rattle.page_pool.specs.Ledger.{numbers, page_at, slot}
+use Rattle.page_pool.specs.Ledger.{numbers}
 use Rattle.page_pool.specs.Store.{Store}
-use Rattle.page_pool.proofs.Ledgers.{page-there, holder-there}
-use Rattle.page_pool.proofs.Writes.{own-read, puts-same, ledger-forked, puts-forked, slot-set, slot-within, sum-forked}
+use Rattle.page_pool.proofs.Writes.{own-read, ledger-forked, puts-forked, slot-set, sum-forked}
 use Rattle.page_pool.proofs.pool.own_page.Goals as goal
 
 pub is_shared-requires : goal.is_shared-requires

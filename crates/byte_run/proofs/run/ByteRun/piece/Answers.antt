@@ -1,5 +1,4 @@
-use Rattle.std.proofs.Common.{◌≡◌, ◌+◌, ◌-◌, ◌%◌, ◌/◌, ◌<◌, ◌≤◌, ℕ, min, sym, ap, ◌∙◌, length, get_or, arith}
-use Rattle.rdma_types.specs.Memory.{cut}
+use Rattle.std.proofs.Common.{ap, ◌∙◌, length, arith}
 use Rattle.byte_run.proofs.Runs.{length-run, piece_found}
 use Rattle.byte_run.proofs.run.ByteRun.piece.Goals as goal
 

@@ -1,4 +1,4 @@
-use Rattle.std.proofs.Common.{◌≡◌, ◌+◌, ◌-◌, ◌%◌, ◌/◌, ◌<◌, ◌≤◌, ℕ, min, sym, ap, ◌∙◌, length, take, refl, arith}
+use Rattle.std.proofs.Common.{refl, arith}
 use Rattle.rdma_types.specs.Memory.{cut}
 use Rattle.byte_run.proofs.Runs.{copied-more}
 use Rattle.byte_run.proofs.run.ByteRun.read.Goals as goal

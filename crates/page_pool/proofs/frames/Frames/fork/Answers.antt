@@ -19,7 +19,7 @@ draw-copy-requires c =
     let held : 0 < get_or c.args.self.now.holders c.args.page 0 = omega (arith, c.requires.shared) in
     let l : c.args.page < length c.self.inside.holders.items = front c.self.inside.holders.items c.args.self.now.holders c.self.inside.pages c.args.page e held in
     let x_is : get_or c.args.self.now.holders c.args.page 0 ≡ c.index_mut.result.now = read_now c.self.inside.holders.items c.args.self.now.holders c.self.inside.pages c.args.page c.index_mut.result.now e l c.index_mut.ensures.value in
-    let m = made_set c.self.inside.bytes.items c.self.inside.bytes.items c.self.inside.holders.items c.self.inside.pages c.args.page (c.index_mut.result.now - 1) _ (vec_capacity c.self.inside.bytes) _ (vec_capacity c.self.inside.holders) c.self.invariant.0 refl (omega arith) (omega arith) in
+    let m = made_set c.self.inside.bytes.items c.self.inside.bytes.items c.self.inside.holders.items c.self.inside.pages c.args.page (c.index_mut.result.now - 1) _ c.self.inside.bytes.room _ (vec_capacity c.self.inside.holders) c.self.invariant.0 refl (omega arith) (omega arith) in
     let k = holds_less _ c.self.inside.holders.items c.args.self.now.holders c.self.inside.stock.items c.self.inside.pages c.self.inside.spare _ c.args.page c.index_mut.result.now c.self.invariant.1 c.self.invariant.0.within e held (omega (arith, c.requires.shared, x_is)) c.index_mut.ensures.value in
     let some : 0 < c.self.inside.spare + 1 = omega arith in
     record { room = room_for c.self.inside.bytes.items (set c.self.inside.holders.items c.args.page (c.index_mut.result.now - 1)) c.self.inside.stock.items c.self.inside.pages (c.self.inside.spare + 1) _ _ _ m k some }
@@ -30,7 +30,7 @@ returns-clause-page c =
     let held : 0 < get_or c.args.self.now.holders c.args.page 0 = omega (arith, c.requires.shared) in
     let l : c.args.page < length c.self.inside.holders.items = front c.self.inside.holders.items c.args.self.now.holders c.self.inside.pages c.args.page e held in
     let x_is : get_or c.args.self.now.holders c.args.page 0 ≡ c.index_mut.result.now = read_now c.self.inside.holders.items c.args.self.now.holders c.self.inside.pages c.args.page c.index_mut.result.now e l c.index_mut.ensures.value in
-    let m = made_set c.self.inside.bytes.items c.self.inside.bytes.items c.self.inside.holders.items c.self.inside.pages c.args.page (c.index_mut.result.now - 1) _ (vec_capacity c.self.inside.bytes) _ (vec_capacity c.self.inside.holders) c.self.invariant.0 refl (omega arith) (omega arith) in
+    let m = made_set c.self.inside.bytes.items c.self.inside.bytes.items c.self.inside.holders.items c.self.inside.pages c.args.page (c.index_mut.result.now - 1) _ c.self.inside.bytes.room _ (vec_capacity c.self.inside.holders) c.self.invariant.0 refl (omega arith) (omega arith) in
     let k = holds_less _ c.self.inside.holders.items c.args.self.now.holders c.self.inside.stock.items c.self.inside.pages c.self.inside.spare _ c.args.page c.index_mut.result.now c.self.invariant.1 c.self.invariant.0.within e held (omega (arith, c.requires.shared, x_is)) c.index_mut.ensures.value in
     let some : 0 < c.self.inside.spare + 1 = omega arith in
     let d = drawn c.self.inside.bytes.items (set c.self.inside.holders.items c.args.page (c.index_mut.result.now - 1)) c.self.inside.stock.items c.draw-copy.new.bytes.items c.draw-copy.new.holders.items c.draw-copy.new.stock.items c.self.inside.pages (c.self.inside.spare + 1) _ _ _ c.draw-copy.result m k some c.draw-copy.ensures.drawn in
@@ -42,7 +42,7 @@ returns-clause-idle c =
     let held : 0 < get_or c.args.self.now.holders c.args.page 0 = omega (arith, c.requires.shared) in
     let l : c.args.page < length c.self.inside.holders.items = front c.self.inside.holders.items c.args.self.now.holders c.self.inside.pages c.args.page e held in
     let x_is : get_or c.args.self.now.holders c.args.page 0 ≡ c.index_mut.result.now = read_now c.self.inside.holders.items c.args.self.now.holders c.self.inside.pages c.args.page c.index_mut.result.now e l c.index_mut.ensures.value in
-    let m = made_set c.self.inside.bytes.items c.self.inside.bytes.items c.self.inside.holders.items c.self.inside.pages c.args.page (c.index_mut.result.now - 1) _ (vec_capacity c.self.inside.bytes) _ (vec_capacity c.self.inside.holders) c.self.invariant.0 refl (omega arith) (omega arith) in
+    let m = made_set c.self.inside.bytes.items c.self.inside.bytes.items c.self.inside.holders.items c.self.inside.pages c.args.page (c.index_mut.result.now - 1) _ c.self.inside.bytes.room _ (vec_capacity c.self.inside.holders) c.self.invariant.0 refl (omega arith) (omega arith) in
     let k = holds_less _ c.self.inside.holders.items c.args.self.now.holders c.self.inside.stock.items c.self.inside.pages c.self.inside.spare _ c.args.page c.index_mut.result.now c.self.invariant.1 c.self.invariant.0.within e held (omega (arith, c.requires.shared, x_is)) c.index_mut.ensures.value in
     let some : 0 < c.self.inside.spare + 1 = omega arith in
     let d = drawn c.self.inside.bytes.items (set c.self.inside.holders.items c.args.page (c.index_mut.result.now - 1)) c.self.inside.stock.items c.draw-copy.new.bytes.items c.draw-copy.new.holders.items c.draw-copy.new.stock.items c.self.inside.pages (c.self.inside.spare + 1) _ _ _ c.draw-copy.result m k some c.draw-copy.ensures.drawn in
@@ -54,7 +54,7 @@ index_mut-requires-2 c =
     let held : 0 < get_or c.args.self.now.holders c.args.page 0 = omega (arith, c.requires.shared) in
     let l : c.args.page < length c.self.inside.holders.items = front c.self.inside.holders.items c.args.self.now.holders c.self.inside.pages c.args.page e held in
     let x_is : get_or c.args.self.now.holders c.args.page 0 ≡ c.index_mut.result.now = read_now c.self.inside.holders.items c.args.self.now.holders c.self.inside.pages c.args.page c.index_mut.result.now e l c.index_mut.ensures.value in
-    let m = made_set c.self.inside.bytes.items c.self.inside.bytes.items c.self.inside.holders.items c.self.inside.pages c.args.page (c.index_mut.result.now - 1) _ (vec_capacity c.self.inside.bytes) _ (vec_capacity c.self.inside.holders) c.self.invariant.0 refl (omega arith) (omega arith) in
+    let m = made_set c.self.inside.bytes.items c.self.inside.bytes.items c.self.inside.holders.items c.self.inside.pages c.args.page (c.index_mut.result.now - 1) _ c.self.inside.bytes.room _ (vec_capacity c.self.inside.holders) c.self.invariant.0 refl (omega arith) (omega arith) in
     let k = holds_less _ c.self.inside.holders.items c.args.self.now.holders c.self.inside.stock.items c.self.inside.pages c.self.inside.spare _ c.args.page c.index_mut.result.now c.self.invariant.1 c.self.invariant.0.within e held (omega (arith, c.requires.shared, x_is)) c.index_mut.ensures.value in
     let some : 0 < c.self.inside.spare + 1 = omega arith in
     let d = drawn c.self.inside.bytes.items (set c.self.inside.holders.items c.args.page (c.index_mut.result.now - 1)) c.self.inside.stock.items c.draw-copy.new.bytes.items c.draw-copy.new.holders.items c.draw-copy.new.stock.items c.self.inside.pages (c.self.inside.spare + 1) _ _ _ c.draw-copy.result m k some c.draw-copy.ensures.drawn in
@@ -66,7 +66,7 @@ copy_page-requires-clause-from c =
     let held : 0 < get_or c.args.self.now.holders c.args.page 0 = omega (arith, c.requires.shared) in
     let l : c.args.page < length c.self.inside.holders.items = front c.self.inside.holders.items c.args.self.now.holders c.self.inside.pages c.args.page e held in
     let x_is : get_or c.args.self.now.holders c.args.page 0 ≡ c.index_mut.result.now = read_now c.self.inside.holders.items c.args.self.now.holders c.self.inside.pages c.args.page c.index_mut.result.now e l c.index_mut.ensures.value in
-    let m = made_set c.self.inside.bytes.items c.self.inside.bytes.items c.self.inside.holders.items c.self.inside.pages c.args.page (c.index_mut.result.now - 1) _ (vec_capacity c.self.inside.bytes) _ (vec_capacity c.self.inside.holders) c.self.invariant.0 refl (omega arith) (omega arith) in
+    let m = made_set c.self.inside.bytes.items c.self.inside.bytes.items c.self.inside.holders.items c.self.inside.pages c.args.page (c.index_mut.result.now - 1) _ c.self.inside.bytes.room _ (vec_capacity c.self.inside.holders) c.self.invariant.0 refl (omega arith) (omega arith) in
     let k = holds_less _ c.self.inside.holders.items c.args.self.now.holders c.self.inside.stock.items c.self.inside.pages c.self.inside.spare _ c.args.page c.index_mut.result.now c.self.invariant.1 c.self.invariant.0.within e held (omega (arith, c.requires.shared, x_is)) c.index_mut.ensures.value in
     let some : 0 < c.self.inside.spare + 1 = omega arith in
     let d = drawn c.self.inside.bytes.items (set c.self.inside.holders.items c.args.page (c.index_mut.result.now - 1)) c.self.inside.stock.items c.draw-copy.new.bytes.items c.draw-copy.new.holders.items c.draw-copy.new.stock.items c.self.inside.pages (c.self.inside.spare + 1) _ _ _ c.draw-copy.result m k some c.draw-copy.ensures.drawn in
@@ -78,7 +78,7 @@ copy_page-requires-clause-to c =
     let held : 0 < get_or c.args.self.now.holders c.args.page 0 = omega (arith, c.requires.shared) in
     let l : c.args.page < length c.self.inside.holders.items = front c.self.inside.holders.items c.args.self.now.holders c.self.inside.pages c.args.page e held in
     let x_is : get_or c.args.self.now.holders c.args.page 0 ≡ c.index_mut.result.now = read_now c.self.inside.holders.items c.args.self.now.holders c.self.inside.pages c.args.page c.index_mut.result.now e l c.index_mut.ensures.value in
-    let m = made_set c.self.inside.bytes.items c.self.inside.bytes.items c.self.inside.holders.items c.self.inside.pages c.args.page (c.index_mut.result.now - 1) _ (vec_capacity c.self.inside.bytes) _ (vec_capacity c.self.inside.holders) c.self.invariant.0 refl (omega arith) (omega arith) in
+    let m = made_set c.self.inside.bytes.items c.self.inside.bytes.items c.self.inside.holders.items c.self.inside.pages c.args.page (c.index_mut.result.now - 1) _ c.self.inside.bytes.room _ (vec_capacity c.self.inside.holders) c.self.invariant.0 refl (omega arith) (omega arith) in
     let k = holds_less _ c.self.inside.holders.items c.args.self.now.holders c.self.inside.stock.items c.self.inside.pages c.self.inside.spare _ c.args.page c.index_mut.result.now c.self.invariant.1 c.self.invariant.0.within e held (omega (arith, c.requires.shared, x_is)) c.index_mut.ensures.value in
     let some : 0 < c.self.inside.spare + 1 = omega arith in
     let d = drawn c.self.inside.bytes.items (set c.self.inside.holders.items c.args.page (c.index_mut.result.now - 1)) c.self.inside.stock.items c.draw-copy.new.bytes.items c.draw-copy.new.holders.items c.draw-copy.new.stock.items c.self.inside.pages (c.self.inside.spare + 1) _ _ _ c.draw-copy.result m k some c.draw-copy.ensures.drawn in
@@ -90,7 +90,7 @@ invariant_of-self c =
     let held : 0 < get_or c.args.self.now.holders c.args.page 0 = omega (arith, c.requires.shared) in
     let l : c.args.page < length c.self.inside.holders.items = front c.self.inside.holders.items c.args.self.now.holders c.self.inside.pages c.args.page e held in
     let x_is : get_or c.args.self.now.holders c.args.page 0 ≡ c.index_mut.result.now = read_now c.self.inside.holders.items c.args.self.now.holders c.self.inside.pages c.args.page c.index_mut.result.now e l c.index_mut.ensures.value in
-    let m = made_set c.self.inside.bytes.items c.self.inside.bytes.items c.self.inside.holders.items c.self.inside.pages c.args.page (c.index_mut.result.now - 1) _ (vec_capacity c.self.inside.bytes) _ (vec_capacity c.self.inside.holders) c.self.invariant.0 refl (omega arith) (omega arith) in
+    let m = made_set c.self.inside.bytes.items c.self.inside.bytes.items c.self.inside.holders.items c.self.inside.pages c.args.page (c.index_mut.result.now - 1) _ c.self.inside.bytes.room _ (vec_capacity c.self.inside.holders) c.self.invariant.0 refl (omega arith) (omega arith) in
     let k = holds_less _ c.self.inside.holders.items c.args.self.now.holders c.self.inside.stock.items c.self.inside.pages c.self.inside.spare _ c.args.page c.index_mut.result.now c.self.invariant.1 c.self.invariant.0.within e held (omega (arith, c.requires.shared, x_is)) c.index_mut.ensures.value in
     let some : 0 < c.self.inside.spare + 1 = omega arith in
     let d = drawn c.self.inside.bytes.items (set c.self.inside.holders.items c.args.page (c.index_mut.result.now - 1)) c.self.inside.stock.items c.draw-copy.new.bytes.items c.draw-copy.new.holders.items c.draw-copy.new.stock.items c.self.inside.pages (c.self.inside.spare + 1) _ _ _ c.draw-copy.result m k some c.draw-copy.ensures.drawn in
@@ -99,8 +99,8 @@ invariant_of-self c =
     let to : c.draw-copy.result * 4096 + 4096 ≤ length c.draw-copy.new.bytes.items = omega (arith, d.whole, d.made) in
     let part : length (cut (c.args.page * 4096) 4096 c.draw-copy.new.bytes.items) ≡ 4096 = length-cut (c.args.page * 4096) 4096 c.draw-copy.new.bytes.items from in
     let size = ap length c.copy_page.ensures.items ∙ length-put c.draw-copy.new.bytes.items (c.draw-copy.result * 4096) (cut (c.args.page * 4096) 4096 c.draw-copy.new.bytes.items) (omega arith) in (
-      made_anew c.self.inside.bytes.items (set c.self.inside.holders.items c.args.page (c.index_mut.result.now - 1)) c.self.inside.stock.items c.draw-copy.new.bytes.items c.copy_page.new.bytes.items c.draw-copy.new.holders.items c.draw-copy.new.stock.items c.self.inside.pages c.draw-copy.result _ _ _ _ m d size (omega (arith, c.draw-copy.ensures.bytes_room, c.copy_page.ensures.room)) (omega (arith, c.draw-copy.ensures.holders_room)),
-      held_anew c.self.inside.bytes.items (set c.self.inside.holders.items c.args.page (c.index_mut.result.now - 1)) c.self.inside.stock.items c.draw-copy.new.bytes.items c.copy_page.new.bytes.items c.draw-copy.new.holders.items c.draw-copy.new.stock.items c.self.inside.pages (c.self.inside.spare + 1) c.self.inside.spare _ _ c.draw-copy.result k d size some (omega arith) (omega (arith, c.draw-copy.ensures.stock_room)),
+      made_anew c.self.inside.bytes.items (set c.self.inside.holders.items c.args.page (c.index_mut.result.now - 1)) c.self.inside.stock.items c.draw-copy.new.bytes.items c.copy_page.new.self.items c.draw-copy.new.holders.items c.draw-copy.new.stock.items c.self.inside.pages c.draw-copy.result _ _ _ _ m d size (omega (arith, c.draw-copy.ensures.bytes_room, c.copy_page.ensures.room)) (omega (arith, c.draw-copy.ensures.holders_room)),
+      held_anew c.self.inside.bytes.items (set c.self.inside.holders.items c.args.page (c.index_mut.result.now - 1)) c.self.inside.stock.items c.draw-copy.new.bytes.items c.copy_page.new.self.items c.draw-copy.new.holders.items c.draw-copy.new.stock.items c.self.inside.pages (c.self.inside.spare + 1) c.self.inside.spare _ _ c.draw-copy.result k d size some (omega arith) (omega (arith, c.draw-copy.ensures.stock_room)),
     )
 
 pub returns-clause-new : goal.returns-clause-new
@@ -109,7 +109,7 @@ returns-clause-new c =
     let held : 0 < get_or c.args.self.now.holders c.args.page 0 = omega (arith, c.requires.shared) in
     let l : c.args.page < length c.self.inside.holders.items = front c.self.inside.holders.items c.args.self.now.holders c.self.inside.pages c.args.page e held in
     let x_is : get_or c.args.self.now.holders c.args.page 0 ≡ c.index_mut.result.now = read_now c.self.inside.holders.items c.args.self.now.holders c.self.inside.pages c.args.page c.index_mut.result.now e l c.index_mut.ensures.value in
-    let m = made_set c.self.inside.bytes.items c.self.inside.bytes.items c.self.inside.holders.items c.self.inside.pages c.args.page (c.index_mut.result.now - 1) _ (vec_capacity c.self.inside.bytes) _ (vec_capacity c.self.inside.holders) c.self.invariant.0 refl (omega arith) (omega arith) in
+    let m = made_set c.self.inside.bytes.items c.self.inside.bytes.items c.self.inside.holders.items c.self.inside.pages c.args.page (c.index_mut.result.now - 1) _ c.self.inside.bytes.room _ (vec_capacity c.self.inside.holders) c.self.invariant.0 refl (omega arith) (omega arith) in
     let k = holds_less _ c.self.inside.holders.items c.args.self.now.holders c.self.inside.stock.items c.self.inside.pages c.self.inside.spare _ c.args.page c.index_mut.result.now c.self.invariant.1 c.self.invariant.0.within e held (omega (arith, c.requires.shared, x_is)) c.index_mut.ensures.value in
     let some : 0 < c.self.inside.spare + 1 = omega arith in
     let d = drawn c.self.inside.bytes.items (set c.self.inside.holders.items c.args.page (c.index_mut.result.now - 1)) c.self.inside.stock.items c.draw-copy.new.bytes.items c.draw-copy.new.holders.items c.draw-copy.new.stock.items c.self.inside.pages (c.self.inside.spare + 1) _ _ _ c.draw-copy.result m k some c.draw-copy.ensures.drawn in
@@ -118,7 +118,7 @@ returns-clause-new c =
     let to : c.draw-copy.result * 4096 + 4096 ≤ length c.draw-copy.new.bytes.items = omega (arith, d.whole, d.made) in
     let part : length (cut (c.args.page * 4096) 4096 c.draw-copy.new.bytes.items) ≡ 4096 = length-cut (c.args.page * 4096) 4096 c.draw-copy.new.bytes.items from in
     let size = ap length c.copy_page.ensures.items ∙ length-put c.draw-copy.new.bytes.items (c.draw-copy.result * 4096) (cut (c.args.page * 4096) 4096 c.draw-copy.new.bytes.items) (omega arith) in
-    seen_copy c.self.inside.bytes.items c.self.inside.holders.items c.self.inside.stock.items c.draw-copy.new.bytes.items c.copy_page.new.bytes.items c.draw-copy.new.holders.items c.draw-copy.new.stock.items c.args.self.now c.self.inside.pages c.args.page c.draw-copy.result c.index_mut.result.now c.self.view_is l x_is d c.copy_page.ensures.items from to
+    seen_copy c.self.inside.bytes.items c.self.inside.holders.items c.self.inside.stock.items c.draw-copy.new.bytes.items c.copy_page.new.self.items c.draw-copy.new.holders.items c.draw-copy.new.stock.items c.args.self.now c.self.inside.pages c.args.page c.draw-copy.result c.index_mut.result.now c.self.view_is l x_is d c.copy_page.ensures.items from to
 
 pub returns-clause-sound : goal.returns-clause-sound
 returns-clause-sound c =
@@ -126,7 +126,7 @@ returns-clause-sound c =
     let held : 0 < get_or c.args.self.now.holders c.args.page 0 = omega (arith, c.requires.shared) in
     let l : c.args.page < length c.self.inside.holders.items = front c.self.inside.holders.items c.args.self.now.holders c.self.inside.pages c.args.page e held in
     let x_is : get_or c.args.self.now.holders c.args.page 0 ≡ c.index_mut.result.now = read_now c.self.inside.holders.items c.args.self.now.holders c.self.inside.pages c.args.page c.index_mut.result.now e l c.index_mut.ensures.value in
-    let m = made_set c.self.inside.bytes.items c.self.inside.bytes.items c.self.inside.holders.items c.self.inside.pages c.args.page (c.index_mut.result.now - 1) _ (vec_capacity c.self.inside.bytes) _ (vec_capacity c.self.inside.holders) c.self.invariant.0 refl (omega arith) (omega arith) in
+    let m = made_set c.self.inside.bytes.items c.self.inside.bytes.items c.self.inside.holders.items c.self.inside.pages c.args.page (c.index_mut.result.now - 1) _ c.self.inside.bytes.room _ (vec_capacity c.self.inside.holders) c.self.invariant.0 refl (omega arith) (omega arith) in
     let k = holds_less _ c.self.inside.holders.items c.args.self.now.holders c.self.inside.stock.items c.self.inside.pages c.self.inside.spare _ c.args.page c.index_mut.result.now c.self.invariant.1 c.self.invariant.0.within e held (omega (arith, c.requires.shared, x_is)) c.index_mut.ensures.value in
     let some : 0 < c.self.inside.spare + 1 = omega arith in
     let d = drawn c.self.inside.bytes.items (set c.self.inside.holders.items c.args.page (c.index_mut.result.now - 1)) c.self.inside.stock.items c.draw-copy.new.bytes.items c.draw-copy.new.holders.items c.draw-copy.new.stock.items c.self.inside.pages (c.self.inside.spare + 1) _ _ _ c.draw-copy.result m k some c.draw-copy.ensures.drawn in
@@ -135,7 +135,7 @@ returns-clause-sound c =
     let to : c.draw-copy.result * 4096 + 4096 ≤ length c.draw-copy.new.bytes.items = omega (arith, d.whole, d.made) in
     let part : length (cut (c.args.page * 4096) 4096 c.draw-copy.new.bytes.items) ≡ 4096 = length-cut (c.args.page * 4096) 4096 c.draw-copy.new.bytes.items from in
     let size = ap length c.copy_page.ensures.items ∙ length-put c.draw-copy.new.bytes.items (c.draw-copy.result * 4096) (cut (c.args.page * 4096) 4096 c.draw-copy.new.bytes.items) (omega arith) in
-    sound _ _ _ _ _ (held_anew c.self.inside.bytes.items (set c.self.inside.holders.items c.args.page (c.index_mut.result.now - 1)) c.self.inside.stock.items c.draw-copy.new.bytes.items c.copy_page.new.bytes.items c.draw-copy.new.holders.items c.draw-copy.new.stock.items c.self.inside.pages (c.self.inside.spare + 1) c.self.inside.spare _ (vec_capacity c.self.inside.stock) c.draw-copy.result k d size some (omega arith) (omega arith))
+    sound _ _ _ _ _ (held_anew c.self.inside.bytes.items (set c.self.inside.holders.items c.args.page (c.index_mut.result.now - 1)) c.self.inside.stock.items c.draw-copy.new.bytes.items c.copy_page.new.self.items c.draw-copy.new.holders.items c.draw-copy.new.stock.items c.self.inside.pages (c.self.inside.spare + 1) c.self.inside.spare _ (vec_capacity c.self.inside.stock) c.draw-copy.result k d size some (omega arith) (omega arith))
 
 pub overflow_sub-index_mut : goal.overflow_sub-index_mut
 overflow_sub-index_mut c =

@@ -13,8 +13,8 @@ draw-page-requires c =
     let e = ap (λ (s : Store). s.holders) c.self.view_is in
     record { room = room_for c.self.inside.bytes.items c.self.inside.holders.items c.self.inside.stock.items c.self.inside.pages c.self.inside.spare _ _ _ c.self.invariant.0 c.self.invariant.1 (omega (arith, c.requires.room, c.self.invariant.1.spared, ap sum e, ap length e)) }
 
-pub put_at-requires : goal.put_at-requires
-put_at-requires c =
+pub write_page-requires-clause-page : goal.write_page-requires-clause-page
+write_page-requires-clause-page c =
     let e = ap (λ (s : Store). s.holders) c.self.view_is in
     let some : 0 < c.self.inside.spare = omega (arith, c.requires.room, c.self.invariant.1.spared, ap sum e, ap length e) in
     let d = drawn c.self.inside.bytes.items c.self.inside.holders.items c.self.inside.stock.items c.draw-page.new.bytes.items c.draw-page.new.holders.items c.draw-page.new.stock.items c.self.inside.pages c.self.inside.spare _ _ _ c.draw-page.result c.self.invariant.0 c.self.invariant.1 some c.draw-page.ensures.drawn in
@@ -47,9 +47,9 @@ invariant_of-self c =
     let some : 0 < c.self.inside.spare = omega (arith, c.requires.room, c.self.invariant.1.spared, ap sum e, ap length e) in
     let d = drawn c.self.inside.bytes.items c.self.inside.holders.items c.self.inside.stock.items c.draw-page.new.bytes.items c.draw-page.new.holders.items c.draw-page.new.stock.items c.self.inside.pages c.self.inside.spare _ _ _ c.draw-page.result c.self.invariant.0 c.self.invariant.1 some c.draw-page.ensures.drawn in
     let inside : c.draw-page.result * 4096 + 4096 ≤ length c.draw-page.new.bytes.items = omega (arith, d.whole, d.made) in
-    let size = ap length c.put_at.ensures.items ∙ length-put c.draw-page.new.bytes.items (c.draw-page.result * 4096) c.args.bytes.now (omega (arith, c.requires.whole)) in (
-      made_anew c.self.inside.bytes.items c.self.inside.holders.items c.self.inside.stock.items c.draw-page.new.bytes.items c.put_at.new.bytes.items c.draw-page.new.holders.items c.draw-page.new.stock.items c.self.inside.pages c.draw-page.result _ _ _ _ c.self.invariant.0 d size (omega (arith, c.draw-page.ensures.bytes_room, c.put_at.ensures.room)) c.draw-page.ensures.holders_room,
-      held_anew c.self.inside.bytes.items c.self.inside.holders.items c.self.inside.stock.items c.draw-page.new.bytes.items c.put_at.new.bytes.items c.draw-page.new.holders.items c.draw-page.new.stock.items c.self.inside.pages c.self.inside.spare (c.self.inside.spare - 1) _ _ c.draw-page.result c.self.invariant.1 d size some refl (omega (arith, c.draw-page.ensures.stock_room)),
+    let size = ap length c.write_page.ensures.items ∙ length-put c.draw-page.new.bytes.items (c.draw-page.result * 4096) c.args.bytes.now (omega (arith, c.requires.whole)) in (
+      made_anew c.self.inside.bytes.items c.self.inside.holders.items c.self.inside.stock.items c.draw-page.new.bytes.items c.write_page.new.self.items c.draw-page.new.holders.items c.draw-page.new.stock.items c.self.inside.pages c.draw-page.result _ _ _ _ c.self.invariant.0 d size (omega (arith, c.draw-page.ensures.bytes_room, c.write_page.ensures.room)) c.draw-page.ensures.holders_room,
+      held_anew c.self.inside.bytes.items c.self.inside.holders.items c.self.inside.stock.items c.draw-page.new.bytes.items c.write_page.new.self.items c.draw-page.new.holders.items c.draw-page.new.stock.items c.self.inside.pages c.self.inside.spare (c.self.inside.spare - 1) _ _ c.draw-page.result c.self.invariant.1 d size some refl (omega (arith, c.draw-page.ensures.stock_room)),
     )
 
 pub returns-clause-new : goal.returns-clause-new
@@ -58,8 +58,8 @@ returns-clause-new c =
     let some : 0 < c.self.inside.spare = omega (arith, c.requires.room, c.self.invariant.1.spared, ap sum e, ap length e) in
     let d = drawn c.self.inside.bytes.items c.self.inside.holders.items c.self.inside.stock.items c.draw-page.new.bytes.items c.draw-page.new.holders.items c.draw-page.new.stock.items c.self.inside.pages c.self.inside.spare _ _ _ c.draw-page.result c.self.invariant.0 c.self.invariant.1 some c.draw-page.ensures.drawn in
     let inside : c.draw-page.result * 4096 + 4096 ≤ length c.draw-page.new.bytes.items = omega (arith, d.whole, d.made) in
-    let size = ap length c.put_at.ensures.items ∙ length-put c.draw-page.new.bytes.items (c.draw-page.result * 4096) c.args.bytes.now (omega (arith, c.requires.whole)) in
-    seen_drawn c.self.inside.bytes.items c.self.inside.holders.items c.self.inside.stock.items c.draw-page.new.bytes.items c.put_at.new.bytes.items c.draw-page.new.holders.items c.draw-page.new.stock.items c.args.bytes.now c.args.bytes.now c.args.self.now c.self.inside.pages c.draw-page.result (c.draw-page.result * 4096) c.self.view_is d c.put_at.ensures.items (omega (arith, c.requires.whole)) (omega arith) refl
+    let size = ap length c.write_page.ensures.items ∙ length-put c.draw-page.new.bytes.items (c.draw-page.result * 4096) c.args.bytes.now (omega (arith, c.requires.whole)) in
+    seen_drawn c.self.inside.bytes.items c.self.inside.holders.items c.self.inside.stock.items c.draw-page.new.bytes.items c.write_page.new.self.items c.draw-page.new.holders.items c.draw-page.new.stock.items c.args.bytes.now c.args.bytes.now c.args.self.now c.self.inside.pages c.draw-page.result (c.draw-page.result * 4096) c.self.view_is d c.write_page.ensures.items (omega (arith, c.requires.whole)) (omega arith) refl
 
 pub returns-clause-sound : goal.returns-clause-sound
 returns-clause-sound c =
@@ -67,5 +67,5 @@ returns-clause-sound c =
     let some : 0 < c.self.inside.spare = omega (arith, c.requires.room, c.self.invariant.1.spared, ap sum e, ap length e) in
     let d = drawn c.self.inside.bytes.items c.self.inside.holders.items c.self.inside.stock.items c.draw-page.new.bytes.items c.draw-page.new.holders.items c.draw-page.new.stock.items c.self.inside.pages c.self.inside.spare _ _ _ c.draw-page.result c.self.invariant.0 c.self.invariant.1 some c.draw-page.ensures.drawn in
     let inside : c.draw-page.result * 4096 + 4096 ≤ length c.draw-page.new.bytes.items = omega (arith, d.whole, d.made) in
-    let size = ap length c.put_at.ensures.items ∙ length-put c.draw-page.new.bytes.items (c.draw-page.result * 4096) c.args.bytes.now (omega (arith, c.requires.whole)) in
-    sound _ _ _ _ _ (held_anew c.self.inside.bytes.items c.self.inside.holders.items c.self.inside.stock.items c.draw-page.new.bytes.items c.put_at.new.bytes.items c.draw-page.new.holders.items c.draw-page.new.stock.items c.self.inside.pages c.self.inside.spare (c.self.inside.spare - 1) _ (vec_capacity c.self.inside.stock) c.draw-page.result c.self.invariant.1 d size some refl (omega arith))
+    let size = ap length c.write_page.ensures.items ∙ length-put c.draw-page.new.bytes.items (c.draw-page.result * 4096) c.args.bytes.now (omega (arith, c.requires.whole)) in
+    sound _ _ _ _ _ (held_anew c.self.inside.bytes.items c.self.inside.holders.items c.self.inside.stock.items c.draw-page.new.bytes.items c.write_page.new.self.items c.draw-page.new.holders.items c.draw-page.new.stock.items c.self.inside.pages c.self.inside.spare (c.self.inside.spare - 1) _ (vec_capacity c.self.inside.stock) c.draw-page.result c.self.invariant.1 d size some refl (omega arith))

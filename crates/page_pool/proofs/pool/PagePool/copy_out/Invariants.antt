@@ -1,4 +1,4 @@
-use Rattle.std.proofs.Common.{◌≡◌, ◌≤◌, ◌-◌, length, take}
+use Rattle.std.proofs.Common.{◌≡◌, ◌≤◌, ◌-◌}
 use Rattle.rdma_types.specs.Memory.{cut}
 use Rattle.page_pool.specs.Pool.{bytes_in}
 use Rattle.page_pool.proofs.pool.PagePool.copy_out.Given as goal

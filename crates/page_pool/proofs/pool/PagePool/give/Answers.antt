@@ -1,7 +1,4 @@
-use Rattle.std.proofs.Common.{◌≡◌, ℕ, ◌≤◌, ◌≢◌, ◌∙◌, arith, ap, sym, length, get_or, refl}
-use Rattle.std.specs.Prelude.{None, Some}
-use Rattle.page_pool.specs.Store.{times}
-use Rattle.page_pool.specs.Ledger.{numbers, page_at}
+use Rattle.std.proofs.Common.{◌∙◌, arith, ap, sym, length, refl}
 use Rattle.page_pool.specs.Ledger.{slot}
 use Rattle.page_pool.proofs.Ledgers.{size-is, free-is, taken-out, gone-out, held-part}
 use Rattle.page_pool.proofs.pool.PagePool.give.Goals as goal
@@ -14,7 +11,8 @@ invariant_of-self c = taken-out c.self.inside.frames c.give_pages.new.frames c.s
 
 pub returns-clause-puts : goal.returns-clause-puts
 returns-clause-puts c =
-    rw (← c.list.view_is) (gone-out c.self.inside.frames c.give_pages.new.frames c.self.inside.lists.slots c.remove-numbers.new.self.slots c.args.self.now c.list.inside.list c.self.view_is c.give_pages.ensures.pages c.give_pages.ensures.bytes c.remove-numbers.ensures.updates.changed c.remove-numbers.ensures.updates.others)
+    let ledger = taken-out c.self.inside.frames c.give_pages.new.frames c.self.inside.lists.slots c.remove-numbers.new.self.slots c.list.inside.list c.remove-numbers.result c.deref.result.now c.self.invariant c.give_pages.ensures.sound c.remove-numbers.ensures.value c.deref.ensures.value c.remove-numbers.ensures.updates.changed c.remove-numbers.ensures.updates.others c.give_pages.ensures.counted c.give_pages.ensures.total in
+    rw (← c.list.view_is) (gone-out c.self.inside.frames c.give_pages.new.frames c.self.inside.lists.slots c.remove-numbers.new.self.slots c.args.self.now c.list.inside.list ledger c.self.view_is c.give_pages.ensures.pages c.give_pages.ensures.kept c.remove-numbers.ensures.updates.changed c.remove-numbers.ensures.updates.others)
 
 pub returns-clause-free : goal.returns-clause-free
 returns-clause-free c =

@@ -1,6 +1,5 @@
-use Rattle.std.proofs.Common.{◌≡◌, ℕ, ◌<◌, ◌≤◌, ◌*◌, ◌+◌, ◌-◌, ◌/◌, ◌%◌, ◌≢◌, ◌∙◌, arith, ap, sym, length, get_or, refl, drop}
-use Rattle.std.specs.Prelude.{None, Some}
-use Rattle.page_pool.specs.Ledger.{numbers, slot}
+use Rattle.std.proofs.Common.{◌∙◌, arith, ap, sym, length}
+use Rattle.page_pool.specs.Ledger.{slot}
 use Rattle.page_pool.proofs.Ledgers.{size-is}
 use Rattle.page_pool.proofs.Writes.{read-place, read-bytes}
 use Rattle.page_pool.proofs.pool.PagePool.piece.Goals as goal

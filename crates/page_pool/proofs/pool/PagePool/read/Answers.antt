@@ -1,4 +1,4 @@
-use Rattle.std.proofs.Common.{◌≡◌, ◌+◌, ◌-◌, ◌%◌, ◌<◌, ◌≤◌, ℕ, sym, ap, ◌∙◌, length, take, refl, arith}
+use Rattle.std.proofs.Common.{refl, arith}
 use Rattle.rdma_types.specs.Memory.{cut}
 use Rattle.page_pool.specs.Pool.{bytes_in}
 use Rattle.byte_run.proofs.Runs.{copied-more}

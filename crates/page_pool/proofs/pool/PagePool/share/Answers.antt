@@ -1,7 +1,5 @@
-use Rattle.std.proofs.Common.{◌≡◌, ℕ, ◌≤◌, ◌*◌, ◌≢◌, ◌∙◌, arith, ap, sym, length, get_or, refl}
-use Rattle.std.specs.Prelude.{None, Some}
-use Rattle.page_pool.specs.Store.{times}
-use Rattle.page_pool.specs.Ledger.{numbers, page_at, slot}
+use Rattle.std.proofs.Common.{◌∙◌, arith, ap, sym, length, refl}
+use Rattle.page_pool.specs.Ledger.{page_at, slot}
 use Rattle.page_pool.proofs.Ledgers.{free-is, size-is, same-ledger, same-pool, put-in, new-in, not_no_page, done_no_page}
 use Rattle.page_pool.proofs.Writes.{part-held, part-bytes, part-length}
 use Rattle.page_pool.proofs.pool.PagePool.share.Goals as goal

@@ -1,5 +1,4 @@
-use Rattle.std.proofs.Common.{◌≡◌, ◌∙◌, arith, ap, sym, length, get_or}
-use Rattle.std.specs.Prelude.{None}
+use Rattle.std.proofs.Common.{◌∙◌, arith, ap, sym}
 use Rattle.page_pool.specs.Ledger.{slot}
 use Rattle.page_pool.proofs.Ledgers.{size-is, list-within}
 use Rattle.page_pool.proofs.pool.PagePool.size.Goals as goal

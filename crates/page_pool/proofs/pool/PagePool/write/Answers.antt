@@ -1,6 +1,4 @@
-use Rattle.std.proofs.Common.{◌≡◌, ◌+◌, ◌-◌, ◌%◌, ◌<◌, ◌≤◌, ℕ, sym, ap, ◌∙◌, length, take, refl, arith}
-use Rattle.rdma_types.specs.Memory.{put, cut}
-use Rattle.page_pool.specs.Pool.{bytes_in}
+use Rattle.std.proofs.Common.{◌∙◌, refl, arith}
 use Rattle.byte_run.proofs.Runs.{mid-cut}
 use Rattle.page_pool.proofs.Writes.{write-none, write-more, size-after}
 use Rattle.page_pool.proofs.pool.PagePool.write.Goals as goal

@@ -1,8 +1,6 @@
-use Rattle.std.proofs.Common.{◌≡◌, ℕ, ◌<◌, ◌≤◌, ◌*◌, ◌+◌, ◌∙◌, arith, ap, sym, length, get_or, refl, sum}
-use Rattle.std.specs.Prelude.{None, Some, IsSome}
-use Rattle.page_pool.specs.Ledger.{numbers, slot}
+use Rattle.std.proofs.Common.{arith, ap, length, refl, sum}
 use Rattle.page_pool.specs.Store.{Store}
-use Rattle.page_pool.proofs.Ledgers.{size-is, free-is}
+use Rattle.page_pool.proofs.Ledgers.{free-is}
 use Rattle.page_pool.proofs.Writes.{piece-there, piece-put-there, ledger-written}
 use Rattle.page_pool.proofs.pool.PagePool.write_piece.Goals as goal
 

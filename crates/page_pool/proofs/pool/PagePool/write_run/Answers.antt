@@ -1,6 +1,6 @@
-use Rattle.std.proofs.Common.{◌≡◌, ◌+◌, ◌-◌, ◌%◌, ◌<◌, ◌≤◌, ℕ, sym, ap, ◌∙◌, length, take, refl, arith, subst}
+use Rattle.std.proofs.Common.{◌+◌, ap, ◌∙◌, length, refl, arith, subst}
 use Rattle.std.specs.Prelude.{Some}
-use Rattle.rdma_types.specs.Memory.{put, cut}
+use Rattle.rdma_types.specs.Memory.{put}
 use Rattle.page_pool.specs.Pool.{bytes_in, Puts}
 use Rattle.page_pool.proofs.Writes.{write-none, write-more, size-after}
 use Rattle.page_pool.proofs.pool.PagePool.write_run.Goals as goal

@@ -1,0 +1,7 @@
+use Rattle.std.proofs.Common.{◌∙◌, ap, arith}
+use Rattle.rdma_types.specs.Memory.{put}
+use Rattle.byte_run.proofs.Runs.{put_mid-put}
+use Rattle.byte_run.proofs.run.page_with.Goals as goal
+
+pub returns : goal.returns
+returns c = c.in_ok-new.ensures.ok ∙ (put_mid-put _ _ c.args.bytes.now c.args.from _ c.copy_from_slice.ensures.after (omega arith) ∙ ap (λ page. put page c.args.from c.args.bytes.now) c.deref.ensures)
