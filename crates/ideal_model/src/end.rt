@@ -9,7 +9,9 @@ ghost use Rattle.ideal_model.specs.Steps.{may_add, lands_before, is_read_part, n
 ghost use Rattle.ideal_model.specs.Verbs.{in_use_names, request_names, receive_names, joined, with_request, with_receive};
 
 use crate::kinds::{is_read, is_send, lands};
+use crate::mark::Mark;
 use crate::named::Named;
+use crate::passed::Passed;
 use crate::posted::{IdealRequest, Offered};
 use crate::reply::Reply;
 use rdma_types::{Name, ObjName, Receive, Shape, Terms, Why};
@@ -44,6 +46,8 @@ pub struct End {
     pub(crate) unused: Vec<Receive>,
     pub(crate) in_use: Option<Receive>,
     pub(crate) ended: bool,
+    pub(crate) mark: Mark,
+    pub(crate) passed: Passed,
 }
 
 impl Model for End {
@@ -80,7 +84,7 @@ impl Model for End {
       ended = e.ended;
     } };
 
-    ghost invariant = { λ e. IsCounted e.retry e.rnr e.spent e.waits };
+    ghost invariant = { λ e. IsCounted e.retry e.rnr e.spent e.waits e.posted.items e.mtu e.mark.place e.mark.number e.offers.items e.passed.count e.passed.below };
 }
 
 /// One of these requests is a Read or atomic.
@@ -142,6 +146,11 @@ impl End {
             unused: Vec::new(alloc),
             in_use: None,
             ended: false,
+            mark: Mark {
+                place: 0,
+                number: 0,
+            },
+            passed: Passed { count: 0, below: 0 },
         }
     }
 
@@ -152,6 +161,10 @@ impl End {
         self.connected = true;
         self.peer = *peer;
         self.mtu = terms.mtu;
+        self.mark = Mark {
+            place: 0,
+            number: 0,
+        };
         self.retry = terms.retry;
         self.rnr = terms.rnr;
         self.spent = 0;
@@ -396,7 +409,9 @@ impl End {
         requires { self.old.told < length self.old.posted }
         ensures { self.new ≡ told_one self.old }
     {
+        self.mark = self.mark.after(&self.posted, self.mtu);
         self.told += 1;
+        self.passed = self.passed.on(&self.offers, self.told);
         self.know(0);
     }
 

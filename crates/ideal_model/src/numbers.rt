@@ -9,6 +9,7 @@ ghost use Rattle.ideal_model.specs.Numbers.{due, oldest, barrier};
 use crate::end::End;
 use crate::ideal::Ideal;
 use crate::kinds::{is_atomic, lands};
+use crate::mark::Mark;
 use crate::posted::IdealRequest;
 use rdma_types::ObjName;
 
@@ -63,6 +64,34 @@ fn next_landing(posted: &[IdealRequest], mtu: u32, n: u64) -> u64
     before + left
 }
 
+impl End {
+    /// The first number of request i.
+    fn number_at(&self, i: usize) -> u64
+        requires mtu { 0 < self.now.mtu }
+        requires fits { first_number self.now.posted self.now.mtu i < 2 ^ 64 }
+        ensures { result ≡ first_number self.now.posted self.now.mtu i }
+    {
+        let Mark { place, number } = self.mark;
+        if i < place {
+            return first_number(&self.posted, self.mtu, i);
+        }
+        number + first_number(&self.posted[place..], self.mtu, i - place)
+    }
+
+    /// The first number from n on that belongs to a Read or atomic, or the end of the numbers.
+    fn landing_from(&self, n: u64) -> u64
+        requires mtu { 0 < self.now.mtu }
+        requires fits { next_landing self.now.posted self.now.mtu n < 2 ^ 64 }
+        ensures { result ≡ next_landing self.now.posted self.now.mtu n }
+    {
+        let Mark { place, number } = self.mark;
+        if n < number {
+            return next_landing(&self.posted, self.mtu, n);
+        }
+        number + next_landing(&self.posted[place..], self.mtu, n - number)
+    }
+}
+
 impl Ideal {
     /// The end of that name, where it is connected.
     fn joined(&self, q: &ObjName) -> Option<&End>
@@ -81,7 +110,7 @@ impl Ideal {
         ensures { result ≡ (if (end_of self.now q).connected then Some (due (end_of self.now q)) else None) }
     {
         let end = self.joined(&q)?;
-        let first = first_number(&end.posted, end.mtu, end.acted);
+        let first = end.number_at(end.acted);
         Some(first + u64::from(end.into / end.mtu))
     }
 
@@ -93,7 +122,7 @@ impl Ideal {
         ensures { result ≡ (if (end_of self.now q).connected then Some (oldest (end_of self.now q)) else None) }
     {
         let end = self.joined(&q)?;
-        let first = first_number(&end.posted, end.mtu, end.told);
+        let first = end.number_at(end.told);
         Some(first + u64::from(end.known / end.mtu))
     }
 
@@ -106,8 +135,8 @@ impl Ideal {
         ensures { result ≡ (if (end_of self.now q).connected then Some (barrier (end_of self.now q)) else None) }
     {
         let end = self.joined(&q)?;
-        let first = first_number(&end.posted, end.mtu, end.told);
+        let first = end.number_at(end.told);
         let oldest = first + u64::from(end.known / end.mtu);
-        Some(next_landing(&end.posted, end.mtu, oldest))
+        Some(end.landing_from(oldest))
     }
 }

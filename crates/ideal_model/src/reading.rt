@@ -8,9 +8,12 @@ ghost use Rattle.ideal_model.specs.Machine.{end_of, posted_at};
 ghost use Rattle.ideal_model.specs.Reading.{is_offer_of};
 ghost use Rattle.ideal_model.specs.Tables.{place_where};
 
+use crate::end::End;
 use crate::ideal::Ideal;
 use crate::kinds::is_read;
+use crate::mark::Mark;
 use crate::numbers::span_of;
+use crate::passed::Passed;
 use crate::posted::{IdealRequest, Offered};
 use rdma_types::ObjName;
 
@@ -50,6 +53,36 @@ fn offer_in(offers: &[Offered], request: usize, offset: u32, bytes: &[u8]) -> us
         }
     }
     offers.len()
+}
+
+impl End {
+    /// The place of the request that packet number n belongs to, and which of its packets that is.
+    #[tactic(auto, using(crate::proofs::Marks::request_within))]
+    fn place_of(&self, n: u64) -> (usize, u64)
+        requires { 0 < self.now.mtu }
+        ensures request { result.0 ≡ request_of self.now.posted self.now.mtu n }
+        ensures piece { result.1 ≡ piece_of self.now.posted self.now.mtu n }
+    {
+        let Mark { place, number } = self.mark;
+        if n < number {
+            return place_in(&self.posted, self.mtu, n);
+        }
+        let (more, piece) = place_in(&self.posted[place..], self.mtu, n - number);
+        (place + more, piece)
+    }
+
+    /// The place of the first offer that is these bytes of request number i, from an offset on, or else the number of
+    /// its offers.
+    #[tactic(auto, using(crate::proofs::Passing::place_within))]
+    fn offer_place(&self, i: usize, offset: u32, bytes: &[u8]) -> usize
+        ensures { result ≡ place_where (is_offer_of i offset bytes.now) self.now.offers }
+    {
+        let Passed { count, below } = self.passed;
+        if i < below {
+            return offer_in(&self.offers, i, offset, bytes);
+        }
+        count + offer_in(&self.offers[count..], i, offset, bytes)
+    }
 }
 
 impl Ideal {
@@ -94,14 +127,15 @@ impl Ideal {
     }
 
     /// The place, from 0, of the request of an end that packet number n belongs to, and which of its packets that is,
-    /// from 0. It passes over the end's requests up to that one.
+    /// from 0. It passes over the end's requests up to that one, from the first that is not told on or else from the
+    /// first of all.
     pub fn place_of(&self, q: &ObjName, n: u64) -> (usize, u64)
         requires { 0 < (end_of self.now q.now).mtu }
         ensures request { result.0 ≡ request_of (end_of self.now q.now).posted (end_of self.now q.now).mtu n }
         ensures piece { result.1 ≡ piece_of (end_of self.now q.now).posted (end_of self.now q.now).mtu n }
     {
         match self.end(q) {
-            Some(end) => place_in(&end.posted, end.mtu, n),
+            Some(end) => end.place_of(n),
             None => (0, n),
         }
     }
@@ -149,7 +183,7 @@ impl Ideal {
         ensures { result ≡ place_where (is_offer_of i offset bytes.now) (end_of self.now q.now).offers }
     {
         match self.end(q) {
-            Some(end) => offer_in(&end.offers, i, offset, bytes),
+            Some(end) => end.offer_place(i, offset, bytes),
             None => 0,
         }
     }

@@ -11,4 +11,6 @@ pub invariant_of-self : goal.invariant_of-self
 invariant_of-self c = record {
   expiries = one_more _ _ c.self.invariant.expiries (rw (← c.self.view_is) at c.requires);
   receives = c.self.invariant.receives;
+  mark = c.self.invariant.mark;
+  passed = c.self.invariant.passed;
 }

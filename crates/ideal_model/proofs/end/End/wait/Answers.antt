@@ -11,4 +11,6 @@ pub invariant_of-self : goal.invariant_of-self
 invariant_of-self c = record {
   expiries = c.self.invariant.expiries;
   receives = one_more _ _ c.self.invariant.receives (rw (← c.self.view_is) at c.requires);
+  mark = c.self.invariant.mark;
+  passed = c.self.invariant.passed;
 }
