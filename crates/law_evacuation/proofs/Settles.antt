@@ -31,7 +31,7 @@ use Rattle.ideal_model.specs.Legal.{after}
 use Rattle.ideal_model.specs.Machine.{Machine}
 use Rattle.law_simulation.specs.Law.{FollowsRun, joined_steps}
 use Rattle.law_simulation.specs.Stands.{Stands}
-use Rattle.law_simulation.proofs.relation.Refusing.{first_no, later_no, not_lacking}
+use Rattle.law_simulation.proofs.relation.Refusing.{context_is_there, first_no, later_no, name_at, not_lacking}
 use Rattle.law_simulation.proofs.relation.Tables.{map-store_found, name-named_there}
 use Rattle.law_simulation.proofs.relation.Worlds.{holds_it, home_found, ids_once, shape_of, shapes_of}
 use Rattle.law_settling.specs.Settling.{ComesOf, IsSettling, IsTurn, SettlingFollows, SettlingIsEvents}
@@ -46,18 +46,6 @@ use Rattle.law_settling.proofs.sending_stops.Arrivals.{IsQuietStep, Lands, deliv
 record Keeps (d : Device) (s : device.Step) : Type 0 where
   shape : shape_of s.device ≡ shape_of d
   none : s.outcome.image ≡ None
-
-there : (d : Device) (n : Name) (more : List Cause) → first_cause (within d n (λ c. more)) ≡ None → has_context d n ≡ true
-unfolding first_cause
-there d n more h = by (has_context d n) (has_husk d n) h
-  where
-    by : (a b : Bool) → first_cause (cause refusal.NoSuch (not a && not b) ∷ cause refusal.Stopped (not a) ∷ more) ≡ None → a ≡ true
-    by true b h = refl
-    by false true h = absurd (cc)
-    by false false h = absurd (cc)
-
-name_at : (d : Device) (n : Name) → has_context d n ≡ true → (context_at d n).name ≡ n
-name_at d n is = name-named_there (λ x. x.name) no_context n d.contexts is
 
 linked_named : (c : Context) (e : End) (l : Link) → (linked c e l).name ≡ c.name
 unfolding with_end
@@ -112,9 +100,9 @@ module _ (d : Device) where
   turned : (e : Event) → IsTurn e → (r : Option Refusal) → refusal_of d e ≡ r → Keeps d (device.by_refusal d e r)
   unfolding refusal_of device.transmits device.expires device.rnr_over
   turned e is (Some r) h = same _ _
-  turned (event.Transmit o) is None h = transmitted o.context _ _ (there d o.context _ h)
-  turned (event.Expire o) is None h = expired_at o.context _ _ (there d o.context _ h)
-  turned (event.RnrOver o) is None h = over o.context _ _ (there d o.context _ h)
+  turned (event.Transmit o) is None h = transmitted o.context _ _ (context_is_there d o.context _ h)
+  turned (event.Expire o) is None h = expired_at o.context _ _ (context_is_there d o.context _ h)
+  turned (event.RnrOver o) is None h = over o.context _ _ (context_is_there d o.context _ h)
   turned other is None h = absurd is
 
   turn_keeps : (e : Event) → IsTurn e → Keeps d (device_step d e)

@@ -39,7 +39,7 @@ impl Orders {
         }
     }
 
-    /// Enters a step, and wakes all who wait.
+    /// Enters a step, and where it changed something wakes all who wait.
     fn enter<R: Wait>(
         &self,
         rt: &R,
@@ -50,8 +50,11 @@ impl Orders {
         outcome: &Outcome,
     ) -> Result<(), AllocError> {
         let mut desk = self.desk.lock(rt);
+        let seen = desk.book.changed();
         desk.book.enter(alloc, device, place, from, outcome)?;
-        self.changes.notify_all();
+        if desk.book.changed() > seen {
+            self.changes.notify_all();
+        }
         Ok(())
     }
 

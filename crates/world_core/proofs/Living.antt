@@ -12,7 +12,8 @@ use Rattle.rdma_types.specs.declared.requests.Request.{Request}
 use Rattle.rdma_types.specs.Causes.{Cause, cause, first_cause}
 use Rattle.rdma_types.specs.Lists.{has_name, without}
 use Rattle.rdma_types.proofs.Tables.{has_name-store, name_is, same_name}
-use Rattle.law_simulation.proofs.relation.Tables.{has_name-push, name-named_there}
+use Rattle.law_simulation.proofs.relation.Refusing.{context_is_there, name_at}
+use Rattle.law_simulation.proofs.relation.Tables.{has_name-push}
 use Rattle.protocol.specs.declared.events.Event.{Event}
 use Rattle.protocol.specs.declared.events.Event.TheVariants as event
 use Rattle.protocol.specs.DeviceStep as device
@@ -60,20 +61,6 @@ with-stays d d0 n c m same there name =
     ∙ (ap (λ cs. bytes_eq c.name m || has_name (λ x. x.name) m cs) same
     ∙ or_same (bytes_eq c.name m) (has_context d m) (λ is. ap (λ k. has_context d k) (sym (name_is c.name m is) ∙ name) ∙ there))
 
--- ---- a context that is there
-
-there : (d : Device) (n : Name) (more : List Cause) → first_cause (within d n (λ c. more)) ≡ None → has_context d n ≡ true
-unfolding first_cause
-there d n more h = by (has_context d n) (has_husk d n) h
-  where
-    by : (a b : Bool) → first_cause (cause refusal.NoSuch (not a && not b) ∷ cause refusal.Stopped (not a) ∷ more) ≡ None → a ≡ true
-    by true b h = refl
-    by false true h = absurd (cc)
-    by false false h = absurd (cc)
-
-name_at : (d : Device) (n : Name) → has_context d n ≡ true → (context_at d n).name ≡ n
-name_at d n is = name-named_there (λ x. x.name) no_context n d.contexts is
-
 -- ---- the ends that are found
 
 abbrev IsThere : List Context → Found → Type 0
@@ -109,7 +96,7 @@ founds-there all n (c ∷ cs) among =
 module _ (d : Device) (m : Name) where
   stored : (d0 : Device) (n : Name) (c : Context) (more : List Cause) → d0.contexts ≡ d.contexts → first_cause (within d n (λ x. more)) ≡ None → c.name ≡ (context_at d n).name → has_context (with_context d0 c) m ≡ has_context d m
   stored d0 n c more same none name =
-      let is : has_context d n ≡ true = there d n more none in
+      let is : has_context d n ≡ true = context_is_there d n more none in
       with-stays d d0 n c m same is (name ∙ name_at d n is)
 
   posted : (n : Name) (e : End) (l : Option Link) (r : Request) → has_context d n ≡ true → has_context (device.posts_at d (context_at d n) e l r).device m ≡ has_context d m
@@ -178,15 +165,15 @@ module _ (d : Device) (m : Name) where
   done (event.DropRegion o) other h = stored d o.context _ _ refl h refl
   done (event.Store o at bytes) other h = stored d o.context _ _ refl h refl
   done (event.Load o at length) other h = refl
-  done (event.PostSend o r) other h = posted o.context _ _ r (there d o.context _ h)
-  done (event.PostRecv o r) other h = received o.context _ r (there d o.context _ h)
+  done (event.PostSend o r) other h = posted o.context _ _ r (context_is_there d o.context _ h)
+  done (event.PostRecv o r) other h = received o.context _ r (context_is_there d o.context _ h)
   done (event.Poll o most) other h = stored d o.context _ _ refl h refl
-  done (event.Transmit o) other h = transmitted o.context _ _ (there d o.context _ h)
+  done (event.Transmit o) other h = transmitted o.context _ _ (context_is_there d o.context _ h)
   done (event.Arrive from bytes) other h = arrived from (packet_of bytes)
-  done (event.Expire o) other h = expired_at o.context _ _ (there d o.context _ h)
-  done (event.RnrOver o) other h = over o.context _ _ (there d o.context _ h)
+  done (event.Expire o) other h = expired_at o.context _ _ (context_is_there d o.context _ h)
+  done (event.RnrOver o) other h = over o.context _ _ (context_is_there d o.context _ h)
   done (event.Stop n alone) other h =
-      let name : (context_at d n).name ≡ n = name_at d n (there d n _ h) in
+      let name : (context_at d n).name ≡ n = name_at d n (context_is_there d n _ h) in
       ap (λ k. has_name (λ x. x.name) m (without (λ x. x.name) k d.contexts)) name ∙ has-without n m d.contexts other
   done (event.Restore image) other h = has_name-push (λ x. x.name) m d.contexts (moved (context_of image)) ∙ or_false (has_context d m) (bytes_eq image.name m) other
   done (event.Release n) other h = refl

@@ -1,9 +1,14 @@
 -- The machine refuses what the protocol refuses, but for the reasons that it does not know.
 use Rattle.std.proofs.Common.{◌≡◌, List, [], ◌∷◌, true, false, Bool, refl, sym, ap, ◌∙◌}
-use Rattle.std.specs.Prelude.{Option, Some, None, not, ◌||◌, if◌then◌else◌}
+use Rattle.std.specs.Prelude.{Option, Some, None, not, ◌||◌, ◌&&◌, if◌then◌else◌}
 use Rattle.rdma_types.specs.declared.answers.Refusal.{Refusal}
+use Rattle.rdma_types.specs.declared.answers.Refusal.TheVariants as refusal
+use Rattle.rdma_types.specs.declared.names.Name.{Name}
 use Rattle.rdma_types.specs.Causes.{Cause, cause, first_cause}
+use Rattle.protocol.specs.Refusals.{has_context, has_husk, within}
+use Rattle.protocol.specs.State.{Device, context_at, no_context}
 use Rattle.law_simulation.specs.Kept.{is_unmade_by}
+use Rattle.law_simulation.proofs.relation.Tables.{name-named_there}
 
 -- a refusal that the machine knows, or none
 unfoldable pub is_known : Option Refusal → Bool
@@ -64,3 +69,16 @@ first_yes r b xs h = rw h refl
 pub not_lacking : (b : Bool) → not b ≡ false → b ≡ true
 not_lacking true h = refl
 not_lacking false h = absurd (cc)
+
+-- a context that an event names is there, where nothing refuses it
+pub context_is_there : (d : Device) (n : Name) (more : List Cause) → first_cause (within d n (λ c. more)) ≡ None → has_context d n ≡ true
+unfolding first_cause
+context_is_there d n more h = by (has_context d n) (has_husk d n) h
+  where
+    by : (a b : Bool) → first_cause (cause refusal.NoSuch (not a && not b) ∷ cause refusal.Stopped (not a) ∷ more) ≡ None → a ≡ true
+    by true b h = refl
+    by false true h = absurd (cc)
+    by false false h = absurd (cc)
+
+pub name_at : (d : Device) (n : Name) → has_context d n ≡ true → (context_at d n).name ≡ n
+name_at d n is = name-named_there (λ x. x.name) no_context n d.contexts is
