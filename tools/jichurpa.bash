@@ -4,7 +4,7 @@
 _jichurpa_words() {
     local dump LC_ALL=C
     if [ "$COMP_CWORD" = 1 ]; then
-        printf '%s\n' play bulk show-dump evacuate audit record node threads --help -h --version
+        printf '%s\n' play bulk show-dump evacuate audit record node threads fanout mail --help -h --version
         return
     fi
     if [ "$COMP_CWORD" = 2 ] && [[ ${COMP_WORDS[2]} = -* ]]; then
@@ -16,10 +16,11 @@ _jichurpa_words() {
         return
     fi
     case "${COMP_WORDS[1]} $COMP_CWORD" in
-    'bulk 3' | 'threads 2') seq 1 8 ;;
+    'bulk 3' | 'threads 2' | 'mail 3') seq 1 8 ;;
     'threads 4') seq 0 8 ;;
+    'fanout 2') seq 1 4 ;;
     'node 2') seq 1 255 ;;
-    'bulk 5') seq 0 16 ;;
+    'bulk 5' | 'mail 5') seq 0 16 ;;
     'show-dump 2')
         for dump in depot/*; do
             [ -f "$dump" ] && [[ ${dump#depot/} =~ ^[a-z][a-z0-9_]{0,15}$ ]] && echo "${dump#depot/}"

@@ -10,3 +10,4 @@ mod rule;
 mod splitting;
 
 pub use command::Command;
+pub use rule::{number, small};

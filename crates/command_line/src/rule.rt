@@ -31,8 +31,8 @@ fn is_spelled_out(word: &[u8]) -> bool
     }
 }
 
-/// The number of a word, from `low` to `high`.
-fn number(word: &str, low: u64, high: u64) -> Option<u64>
+/// The number of a word, from `low` to `high`: decimal digits without a sign or a leading zero.
+pub fn number(word: &str, low: u64, high: u64) -> Option<u64>
     ensures value { result ≡ number_in low high word.now }
     ensures within { IfSome result (λ n. (low ≤ n) × (n ≤ high)) }
 {
@@ -43,8 +43,8 @@ fn number(word: &str, low: u64, high: u64) -> Option<u64>
     if low <= n && n <= high { Some(n) } else { None }
 }
 
-/// A number that fits 32 bits.
-pub(crate) fn small(word: &str, low: u32, high: u32) -> Option<u32>
+/// The same of a number that fits 32 bits.
+pub fn small(word: &str, low: u32, high: u32) -> Option<u32>
     ensures value { result ≡ number_in low high word.now }
     ensures within { IfSome result (λ n. (low ≤ n) × (n ≤ high)) }
 {

@@ -3,6 +3,7 @@
 use fan_queue::PopGate;
 use std::sync::atomic::{AtomicBool, AtomicU64, Ordering};
 use std::thread;
+use thread_work::Gate;
 
 /// How long consumer 101 is held at most.
 const TURNS: u32 = 1 << 22;
@@ -44,10 +45,8 @@ impl Holding {
         }
         self.gave_up.store(true, Ordering::SeqCst);
     }
-}
 
-impl PopGate for Holding {
-    fn pass(&self, consumer: u32) {
+    fn note(&self, consumer: u32) {
         let passes = match consumer {
             101 => &self.passes[0],
             102 => &self.passes[1],
@@ -58,5 +57,17 @@ impl PopGate for Holding {
         if consumer == 101 && before == 0 {
             self.wait_for_second();
         }
+    }
+}
+
+impl PopGate for Holding {
+    fn pass(&self, consumer: u32) {
+        self.note(consumer);
+    }
+}
+
+impl Gate for Holding {
+    fn pass(&self, worker: u32) {
+        self.note(worker);
     }
 }

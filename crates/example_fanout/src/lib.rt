@@ -2,6 +2,10 @@
 #![tactic(auto)]
 
 #[cfg(test)]
+mod counts;
+#[cfg(test)]
 mod holding;
 #[cfg(test)]
 mod numbered;
+#[cfg(test)]
+mod runs;

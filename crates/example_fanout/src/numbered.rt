@@ -2,8 +2,8 @@
 
 ghost use Rattle.std.specs.Prelude.{◌≤◌};
 
-use crate::holding::Holding;
-use fan_queue::{FanEntry, HandedOut, OpenGate, PopGate, Source, hand_out};
+use crate::counts::{Counts, all};
+use fan_queue::{FanEntry, OpenGate, Source, hand_out};
 use rdma_types::{Completion, Items, WcKind, WcStatus};
 use std::alloc::Global;
 use std::sync::Wait;
@@ -43,14 +43,6 @@ impl Source for Numbered {
     }
 }
 
-/// How many completions the source gave, how many entries were taken with the id of their place, and how many are left.
-#[derive(Clone, Copy, Debug, PartialEq, Eq)]
-struct Counts {
-    given: usize,
-    taken: usize,
-    left: usize,
-}
-
 /// How many of a consumer's entries have the id of their place.
 fn placed(list: &Items<FanEntry>) -> usize {
     list.as_slice()
@@ -59,15 +51,16 @@ fn placed(list: &Items<FanEntry>) -> usize {
         .count()
 }
 
-/// That many completions, handed out.
-fn handed<R: Threads + Wait + Sync, G: PopGate + Sync>(
+/// That many completions, handed out over a queue with so many places, to consumers with room for so many entries. Those are
+/// counted as taken that have the id of their place.
+fn handed_with<R: Threads + Wait + Sync>(
     rt: &R,
     alloc: Global,
     consumers: u32,
     until: usize,
     capacity: usize,
-    gate: &G,
-) -> Option<(HandedOut, Numbered)>
+    room: usize,
+) -> Option<Counts>
     requires { (1 ≤ consumers) × (consumers ≤ 4) × (1 ≤ capacity) }
 {
     let source = Numbered {
@@ -79,25 +72,12 @@ fn handed<R: Threads + Wait + Sync, G: PopGate + Sync>(
         alloc,
         consumers,
         capacity,
-        until,
-        gate,
+        room,
+        &OpenGate,
         source,
         || (),
-    ).ok()?;
-    Some((out, source))
-}
-
-/// The counts of that many completions that were handed out through the open gate.
-fn counted<R: Threads + Wait + Sync>(
-    rt: &R,
-    alloc: Global,
-    consumers: u32,
-    until: usize,
-    capacity: usize,
-) -> Option<Counts>
-    requires { (1 ≤ consumers) × (consumers ≤ 4) × (1 ≤ capacity) }
-{
-    let (out, source) = handed(rt, alloc, consumers, until, capacity, &OpenGate)?;
+    )
+    .ok()?;
     let mut taken = 0usize;
     for list in out.taken.as_slice() {
         taken = taken.saturating_add(placed(list));
@@ -109,45 +89,35 @@ fn counted<R: Threads + Wait + Sync>(
     })
 }
 
-/// All of so many completions.
-fn all(until: usize) -> Option<Counts> {
-    Some(Counts {
-        given: until,
-        taken: until,
-        left: 0,
-    })
+/// The same to consumers with room for all.
+fn handed<R: Threads + Wait + Sync>(
+    rt: &R,
+    alloc: Global,
+    consumers: u32,
+    until: usize,
+    capacity: usize,
+) -> Option<Counts>
+    requires { (1 ≤ consumers) × (consumers ≤ 4) × (1 ≤ capacity) }
+{
+    handed_with(rt, alloc, consumers, until, capacity, until)
 }
 
 #[test]
 fn three_take_five_hundred(rt: HostRuntime) {
-    assert_eq!(rt; counted(&rt, rt.alloc(), 3, 500, 16), all(500));
+    assert_eq!(rt; handed(&rt, rt.alloc(), 3, 500, 16), all(500));
 }
 
 #[test]
 fn one_place_is_enough(rt: HostRuntime) {
-    assert_eq!(rt; counted(&rt, rt.alloc(), 4, 2_000, 1), all(2_000));
+    assert_eq!(rt; handed(&rt, rt.alloc(), 4, 2_000, 1), all(2_000));
 }
 
 #[test]
 fn nothing_is_handed_out(rt: HostRuntime) {
-    assert_eq!(rt; counted(&rt, rt.alloc(), 1, 0, 1), all(0));
-}
-
-/// How many completions were given while consumer 101 was held; and whether no list is longer than its consumer's passes.
-fn held<R: Threads + Wait + Sync>(rt: &R, alloc: Global) -> Option<(usize, bool)> {
-    let gate = Holding::new();
-    let (out, source) = handed(rt, alloc, 3, 500, 16, &gate)?;
-    let passed = gate.passed()?;
-    let within = out
-        .taken
-        .as_slice()
-        .iter()
-        .zip(passed.iter())
-        .all(|(list, most)| list.len() as u64 <= *most);
-    Some((source.given.len(), within))
+    assert_eq!(rt; handed(&rt, rt.alloc(), 1, 0, 1), all(0));
 }
 
 #[test]
-fn consumers_run_beside_each_other(rt: HostRuntime) {
-    assert_eq!(rt; held(&rt, rt.alloc()), Some((500, true)));
+fn lists_grow(rt: HostRuntime) {
+    assert_eq!(rt; handed_with(&rt, rt.alloc(), 2, 500, 16, 0), all(500));
 }

@@ -1,4 +1,4 @@
--- Work meets want of memory when the receiver was polled, and the receiver is stopped before the message is copied: it is copied
+-- Work runs out of memory when the receiver was polled, and the receiver is stopped before the message is copied: it is copied
 -- once the receiver lives again.
 use Rattle.std.specs.Prelude.{List, [], ◌∷◌, None}
 use Rattle.rdma_types.specs.declared.answers.Answer.TheVariants as answer

@@ -34,7 +34,7 @@ pub data Call : Type 0 where
   Network : (event : WorldEvent) → Call
   Settle : Call
 
--- what it answers, where it meets no want of memory
+-- what it answers, where it does not run out of memory
 pub data Reply : Type 0 where
   IsSent : Reply  -- the letter is sent
   Gives : (letter : Option Letter) → Reply  -- a letter, or none

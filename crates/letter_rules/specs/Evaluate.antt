@@ -43,7 +43,7 @@ unfoldable pub calls_made : MailPlan → List Call
 unfolding line_written
 calls_made plan = mail_calls plan
 
--- what calls answer after others and a call to work that met want of memory after so many steps
+-- what calls answer after others and a call to work that ran out of memory after so many steps
 unfoldable pub answered_after_cut : ℕ → ℕ → List Call → ℕ → List Call → List Reply
 unfolding answered
 answered_after_cut slot peers before steps cs = replies_of (in_working.worked steps (in_working.begun (in_calls.after (made_with slot peers) before))).mail cs

@@ -11,7 +11,7 @@ pub record Turn : Type 0 where
   pub call : Call
   pub reply : Reply
 
--- the calls with their answers, where none meets want of memory
+-- the calls with their answers, where none runs out of memory
 unfoldable pub turns_of : Mail → List Call → List Turn
 turns_of m [] = []
 turns_of m (c ∷ cs) = record { call = c; reply = (calls m c).reply } ∷ turns_of (calls m c).mail cs

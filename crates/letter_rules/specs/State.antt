@@ -23,7 +23,7 @@ pub record Channel : Type 0 where
 pub record Mail : Type 0 where
   pub world : World
   pub channels : List Channel  -- of sender 1, sender 2, and so on
-  pub owed : List Due  -- in order; none for a context that lives, unless a call met want of memory
+  pub owed : List Due  -- in order; none for a context that lives, unless a call ran out of memory
 
 -- a connection before the first letter
 abbrev pub fresh_channel : Channel

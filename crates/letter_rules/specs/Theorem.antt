@@ -24,7 +24,7 @@ MayBeCalled Work = Unit {0}
 MayBeCalled (Network e) = Unit {0}
 MayBeCalled Settle = Unit {0}
 
--- calls lead from a beginning to what is held: those that were answered are the turns, and others met want of memory
+-- calls lead from a beginning to what is held: those that were answered are the turns, and others ran out of memory
 pub data IsReached (begin : Mail) : List Turn → Mail → Type 0 where
   Begins : IsReached begin [] begin
   Replied : {ts : List Turn} {m : Mail} (c : Call) → MayBeCalled c → IsReached begin ts m → IsReached begin (ts ++ record { call = c; reply = (calls m c).reply } ∷ []) (calls m c).mail

@@ -1,4 +1,4 @@
--- Calls that meet want of memory: they are cut off after some of their steps, and any later call goes on from there.
+-- Calls that run out of memory: they are cut off after some of their steps, and any later call goes on from there.
 use Rattle.std.specs.Prelude.{ℕ, ◌≡◌, true, List, ◌++◌, Option, None}
 use Rattle.protocol.specs.declared.events.WorldEvent.{WorldEvent}
 use Rattle.protocol.specs.WorldStep.{world_after}
@@ -33,7 +33,7 @@ pub record IsSettlingCut (m m' : Mail) : Type 0 where
   pub are : settling_events m.world ≡ made ++ rest
   pub after : m' ≡ with_world m (world_after m.world made)
 
--- what a call may leave that met want of memory: no letter is lost, sent or taken
+-- what a call may leave that ran out of memory: no letter is lost, sent or taken
 pub data IsCut (m : Mail) : Call → Mail → Type 0 where
   SendWorkCut : {from tag : ℕ} {body : List ℕ} {m' : Mail} → IsWorkCut m m' → IsCut m (Send from tag body) m'
   SendCut : {from tag : ℕ} {body : List ℕ} {m' : Mail} → IsSendCut m from (record { tag = tag; body = body }) m' → IsCut m (Send from tag body) m'

@@ -1,24 +1,26 @@
-//! What the program tells of itself.
+//! What the program says of itself.
 
 const HELP: &str = "\
 jichurpa COMMAND
 
   play                                    answers the lines of a script from standard input
   bulk SEED CONNECTIONS MESSAGES MOVES    plays a generated script, and sums it up in one line
-  show-dump NAME                          tells what the dump in the file depot/NAME holds
+  show-dump NAME                          lists what the dump in the file depot/NAME holds
   evacuate FROM TARGET..                  answers the lines of a script, and then empties a device
-  audit                                   tells whether a recorded run is one of the packetless machine
+  audit                                   says whether a recorded run is one of the packetless machine
   record                                  writes the trace of a script, which audit finds legal
   node ID ADDRESS                         does the lines of a script on one device, over UDP
   threads WORKERS ADDS MOVES              adds by threads that share devices, while one context moves
-  COMMAND --help                          tells the words, the limits and the statuses of a command
+  fanout CONSUMERS ADDS CAPACITY          hands the completions of a shared device to several threads
+  mail SEED PEERS LETTERS MOVES           sends tagged letters, while the receiver moves, and takes them
+  COMMAND --help                          lists the words, the limits and the statuses of a command
   --help, -h                              writes this text
   --version                               writes the version
 
-The status is 0 where all is done, 2 for other words, 3 for a bad line or dump, 4, 5, 6 and 7 where
-the input, the output, the link and the depot fail, 8 where memory runs out, 9 for an input of more
-than 1048576 bytes, 10 where a run of threads is not as planned, 12 for a name of which the depot
-holds no dump, 13 for a trace that is no run of the packetless machine, and 14 where a device is not
+The status is 0 if all is done, 2 for words that are no command, 3 for a bad line or dump, 4, 5, 6
+and 7 if the input, the output, the link or the depot fails, 8 if memory runs out, 9 for an input of
+more than 1048576 bytes, 10 if a run of threads is not as planned, 12 if the depot has no dump of
+the name, 13 for a trace that is no run of the packetless machine, and 14 if a device is not
 emptied.
 ";
 
@@ -63,10 +65,10 @@ Example: jichurpa bulk 7 4 1000 5
 const SHOW_DUMP: &str = "\
 jichurpa show-dump NAME
 
-Tells what the dump in the file depot/NAME holds, one thing a line. A name has 1 to 16 letters a to
+Lists what the dump in the file depot/NAME holds, one thing a line. A name has 1 to 16 letters a to
 z, digits and underscores, and begins with a letter.
 
-  0   the dump is told
+  0   the dump is listed
   2   the word is no name
   3   the file holds no dump: the last line names the first wrong byte
   5   the output cannot be written
@@ -93,7 +95,7 @@ is written for each context that moved, and a last line.
   5   the output cannot be written
   8   memory runs out
   9   the input is too long: nothing is answered
-  14  the device or a target is not there, or a context stays: the last line tells which and why
+  14  the device or a target does not exist, or a context stays: the last line says which and why
 
 Example: jichurpa evacuate 2 3 4 < evacuate.script
 ";
@@ -101,7 +103,7 @@ Example: jichurpa evacuate 2 3 4 < evacuate.script
 const AUDIT: &str = "\
 jichurpa audit
 
-Reads a trace from standard input, the record of a run as text, and tells in one line whether it is
+Reads a trace from standard input, the record of a run as text, and says in one line whether it is
 a run of the packetless machine. The input is read to its end, and has at most 1048576 bytes.
 
   0   it is: `legal`, and how many verbs and inner steps it has
@@ -119,11 +121,11 @@ const RECORD: &str = "\
 jichurpa record
 
 Plays a script from standard input, and writes its trace: its verbs with their answers, the inner
-steps of the packetless machine where they happen, and `end`. The script has no line that settles.
+steps of the packetless machine where they happen, and `end`. The script has no line `settle`.
 The input is read to its end, and has at most 1048576 bytes.
 
   0   the trace is written
-  3   a line is bad, or settles: nothing but the last line is written, which names it
+  3   a line is bad, or is `settle`: nothing but the last line is written, which names it
   4   the input cannot be read
   5   the output cannot be written
   8   memory runs out: nothing but the last line is written
@@ -136,11 +138,11 @@ const NODE: &str = "\
 jichurpa node ID ADDRESS
 
 Does the lines of a script from standard input on one device, whose datagrams come and go over UDP.
-Each line is answered before the next one is read. The input is read to its end first, and has at
+Each line is answered before the next one is done. The input is read to its end first, and has at
 most 1048576 bytes.
 
   ID        1 to 255
-  ADDRESS   where the device is reached: an IPv4 address, and perhaps a colon and a port; else 4791
+  ADDRESS   where the device is reached: an IPv4 address, and optionally a colon and a port (4791)
 
   0   every line is answered
   3   a line is bad, or a file that is restored is no dump: the last line names the place
@@ -161,7 +163,7 @@ jichurpa threads WORKERS ADDS MOVES
 Runs workers in threads of their own, which share three devices. Each adds 1 to one word ADDS times,
 over its own queue pair, while another thread moves the context of that word from device to device.
 Then the whole run is checked, and summed up in one line: `by threads`, or `by caller` where the
-threads' run did not pass the check, and was made anew without threads.
+threads' run did not pass the check, and was made again without threads.
 
   WORKERS   1 to 8
   ADDS      1 to 2000, of each worker
@@ -176,6 +178,52 @@ Numbers are decimal digits, without a sign or a leading zero.
   10  neither run is as planned: the last line is `not as planned`
 
 Example: jichurpa threads 4 1000 3
+";
+
+const FANOUT: &str = "\
+jichurpa fanout CONSUMERS ADDS CAPACITY
+
+One thread adds 1 to a word ADDS times, over a device that is shared. Another polls the completions,
+numbers them, and puts them into one queue, from which consumers in threads of their own take them.
+Each completion is taken by one consumer. The run is checked as that of threads is, and summed up in
+one line: how many completions were drained, taken and left, and `by threads`, or `by caller` where
+the threads' run did not pass the check, and was made again without threads.
+
+  CONSUMERS   1 to 4
+  ADDS        1 to 10000
+  CAPACITY    1 to 1024 places in the queue
+
+Numbers are decimal digits, without a sign or a leading zero.
+
+  0   the run is as planned: ADDS completions are drained and taken, and none is left
+  2   a number is out of its range
+  5   the output cannot be written
+  8   memory runs out
+  10  neither run is as planned: the last line is `not as planned`
+
+Example: jichurpa fanout 3 500 16
+";
+
+const MAIL: &str = "\
+jichurpa mail SEED PEERS LETTERS MOVES
+
+Sends the letters of a seed to one receiver, which moves between two devices meanwhile, and takes
+all of them. Letters of over 4080 bytes are fetched by READs. The run is summed up in one line: how
+many letters were sent, how many moves there were, and how many letters were taken.
+
+  SEED     0 to 18446744073709551615
+  PEERS    1 to 8 senders
+  LETTERS  1 to 500
+  MOVES    0 to 16
+
+Numbers are decimal digits, without a sign or a leading zero.
+
+  0   the run is summed up
+  2   a number is out of its range
+  5   the output cannot be written
+  8   memory runs out
+
+Example: jichurpa mail 7 4 200 3
 ";
 
 const VERSION: &str = "jichurpa 0.1.0\n";
@@ -196,11 +244,13 @@ fn help_of(command: &String) -> Option<&'static str> {
         b"record" => Some(RECORD),
         b"node" => Some(NODE),
         b"threads" => Some(THREADS),
+        b"fanout" => Some(FANOUT),
+        b"mail" => Some(MAIL),
         _ => None,
     }
 }
 
-/// What the words ask to be told of the program, or of a command.
+/// What the words ask of the program, or of a command.
 pub(crate) fn about(words: &[String]) -> Option<&'static str> {
     match words {
         [word] if asks_for_help(word) => Some(HELP),

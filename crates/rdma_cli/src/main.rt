@@ -33,7 +33,7 @@ fn is_node(words: &[String]) -> bool {
 }
 
 /// Does what the words ask for, and gives the status. No socket is opened but by a node, and no thread is started but by
-/// `threads`.
+/// `threads` and `fanout`.
 fn run<R: Threads + Wait + Sync>(rt: &HostRuntime, threads: &R) -> io::Result<u8> {
     let words = words_of(rt)?;
     let writer = BufWriter::new(rt.alloc(), io::writer(rt))?;

@@ -1,1 +1,4 @@
+pub mod Apart
+pub mod Counting
 pub mod Ending
+pub mod Joined

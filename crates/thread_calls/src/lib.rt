@@ -1,9 +1,10 @@
-//! The command `threads`: its words, its run and its line.
+//! The commands that run threads, `threads` and `fanout`: their words, their runs and their lines.
 #![tactic(auto)]
 
+mod fan_line;
 mod line;
 mod running;
 mod words;
 
-pub use running::run_plan;
-pub use words::threads_of;
+pub use running::{run_fan_plan, run_plan};
+pub use words::{fanout_of, threads_of};

@@ -1,25 +1,14 @@
 //! The line of a run.
 
-ghost use Rattle.std.specs.Prelude.{◌≡◌, ◌++◌, codes, IfOk, OnOk};
-ghost use Rattle.std.specs.Fmt.{decimal};
+ghost use Rattle.std.specs.Prelude.{◌≡◌, IfOk};
 ghost use Rattle.thread_calls.specs.Threads.{threads_line, whose};
 
-use itoa::Buffer;
+use command_endings::put;
 use std::alloc::{AllocError, Global};
 use thread_work::{Run, ThreadPlan};
 
-/// Puts a word and a number.
-#[tactic(auto, using(std::proofs::lemmas::List::append_assoc))]
-fn put(out: &mut Vec<u8>, word: &[u8], n: u64) -> Result<(), AllocError>
-    ensures { OnOk result (out.new.items ≡ out.old.items ++ word.now ++ decimal n) }
-{
-    let mut digits = Buffer::new();
-    out.extend_from_slice(word)?;
-    out.extend_from_slice(digits.format(n).as_bytes())
-}
-
 /// Whose run it is.
-fn whose_word(alone: bool) -> &'static [u8]
+pub fn whose_word(alone: bool) -> &'static [u8]
     ensures { result.now ≡ whose alone }
 {
     if alone { b"caller\n" } else { b"threads\n" }

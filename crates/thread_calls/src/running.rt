@@ -1,39 +1,71 @@
-//! The run of a plan, and its line.
+//! Runs by threads, and their lines.
 
-ghost use Rattle.std.specs.Prelude.{◌≡◌, ◌≢◌, ◌⊎◌, IfOk};
+ghost use Rattle.std.specs.Prelude.{IfOk};
+ghost use Rattle.command_endings.specs.Endings.{IsWritten};
+ghost use Rattle.cq_fanout.specs.HandedOut.{IsFanPlan};
 ghost use Rattle.thread_plan.specs.Planned.{IsPlan};
-ghost use Rattle.thread_calls.specs.Threads.{EndsThreads, IsThreadsText, WritesAll, WritesPart};
+ghost use Rattle.thread_calls.specs.Endings.{fault_status, fault_text, status_of, text_of as told_text};
+ghost use Rattle.thread_calls.specs.Fanout.{EndsFanout, IsFanoutText};
+ghost use Rattle.thread_calls.specs.Threads.{EndsThreads, IsThreadsText};
 
+use crate::fan_line::fan_line_of;
 use crate::line::line_of;
-use mig_ports::{Sink, WriteFault, write_all_of};
+use command_endings::end_with;
+use cq_fanout::{FanPlan, run_fan_out};
+use mig_ports::Sink;
+use rdma_types::Items;
 use std::alloc::Global;
 use std::sync::Wait;
 use std::thread::Threads;
 use thread_work::{Gate, PlanFault, ThreadPlan, run_threads};
 
-/// Makes the run, and gives its line.
+/// Makes the run of a plan, and gives its line.
 fn text_of<R: Threads + Wait + Sync, G: Gate + Sync>(
     rt: &R,
     alloc: Global,
     plan: &ThreadPlan,
     gate: &G,
-) -> Result<Vec<u8>, PlanFault>
+) -> Result<Items<u8>, PlanFault>
     requires { IsPlan plan.now }
-    ensures { IfOk result (λ text. IsThreadsText plan.now text.items) }
+    ensures { IfOk result (λ text. IsThreadsText plan.now text) }
 {
     let run = run_threads(rt, alloc, plan, gate)?;
     let text = line_of(alloc, plan, &run)?;
-    Ok(text)
+    Ok(Items::new(text))
 }
 
-/// Writes a text; the answer is that status, and 5 where it could not be written.
-fn end<K: Sink>(text: &[u8], status: u8, output: &mut K) -> u8
-    requires { status ≢ 5 }
-    ensures { ((result ≡ status) × WritesAll (K.held output.old) (K.held output.new) (K.faults output.old) (K.faults output.new) text.now) ⊎ ((result ≡ 5) × WritesPart (K.held output.old) (K.held output.new) (K.faults output.old) (K.faults output.new) text.now) }
+/// Hands completions out as planned, and gives the line that tells of it.
+fn fan_text_of<R: Threads + Wait + Sync, G: Gate + Sync>(
+    rt: &R,
+    alloc: Global,
+    plan: &FanPlan,
+    gate: &G,
+) -> Result<Items<u8>, PlanFault>
+    requires { IsFanPlan plan.now }
+    ensures { IfOk result (λ text. IsFanoutText plan.now text) }
 {
-    match write_all_of(output, text) {
-        Ok(()) => status,
-        Err(WriteFault) => 5,
+    let fanned = run_fan_out(rt, alloc, plan, gate)?;
+    let text = fan_line_of(alloc, plan, &fanned)?;
+    Ok(Items::new(text))
+}
+
+/// Writes why there is no line, and gives the status.
+fn tell_fault<K: Sink>(fault: PlanFault, output: &mut K) -> u8
+    ensures { IsWritten (K.held output.old) (K.held output.new) (K.faults output.old) (K.faults output.new) (fault_text fault) (fault_status fault) result }
+{
+    match fault {
+        PlanFault::OutOfMemory => end_with(b"out of memory\n", 8, output),
+        PlanFault::NotAsPlanned => end_with(b"not as planned\n", 10, output),
+    }
+}
+
+/// Writes a line, or why there is none, and gives the status.
+fn tell<K: Sink>(told: Result<Items<u8>, PlanFault>, output: &mut K) -> u8
+    ensures { IsWritten (K.held output.old) (K.held output.new) (K.faults output.old) (K.faults output.new) (told_text told) (status_of told) result }
+{
+    match told {
+        Ok(text) => end_with(text.as_slice(), 0, output),
+        Err(fault) => tell_fault(fault, output),
     }
 }
 
@@ -42,7 +74,6 @@ fn end<K: Sink>(text: &[u8], status: u8, output: &mut K) -> u8
 ///
 /// Where memory runs out the status is 8 and the line `out of memory`. Where neither the threads' run nor the caller's own
 /// is as planned, the status is 10 and the line `not as planned`.
-#[tactic(auto, using(crate::proofs::Ending::ended_done, crate::proofs::Ending::ended_without_memory, crate::proofs::Ending::ended_unplanned))]
 pub fn run_plan<K: Sink, G: Gate + Sync, R: Threads + Wait + Sync>(
     rt: &R,
     alloc: Global,
@@ -53,9 +84,22 @@ pub fn run_plan<K: Sink, G: Gate + Sync, R: Threads + Wait + Sync>(
     requires { IsPlan plan.now }
     ensures { EndsThreads plan.now (K.held output.old) (K.held output.new) (K.faults output.old) (K.faults output.new) result }
 {
-    match text_of(rt, alloc, plan, gate) {
-        Ok(text) => end(text.as_slice(), 0, output),
-        Err(PlanFault::OutOfMemory) => end(b"out of memory\n", 8, output),
-        Err(PlanFault::NotAsPlanned) => end(b"not as planned\n", 10, output),
-    }
+    let told = text_of(rt, alloc, plan, gate);
+    tell(told, output)
+}
+
+/// Hands the completions of a shared device to consumers in threads, as planned; writes the line that tells of it, and gives
+/// the status. All else is as for `run_plan`.
+pub fn run_fan_plan<K: Sink, G: Gate + Sync, R: Threads + Wait + Sync>(
+    rt: &R,
+    alloc: Global,
+    plan: &FanPlan,
+    output: &mut K,
+    gate: &G,
+) -> u8
+    requires { IsFanPlan plan.now }
+    ensures { EndsFanout plan.now (K.held output.old) (K.held output.new) (K.faults output.old) (K.faults output.new) result }
+{
+    let told = fan_text_of(rt, alloc, plan, gate);
+    tell(told, output)
 }

@@ -1,50 +1,15 @@
-//! The words of `threads`.
+//! The words of `threads` and `fanout`.
 
-ghost use Rattle.std.specs.Prelude.{◌≡◌, ◌≤◌, bytes_eq, codes, map, IfSome};
-ghost use Rattle.std.specs.List.{list_all};
+ghost use Rattle.std.specs.Prelude.{◌≡◌, bytes_eq, codes, map, IfSome};
 ghost use Rattle.std.specs.String.{string_bytes};
-ghost use Rattle.script_lang.specs.Texts.{is_decimal, is_digit, number_in};
+ghost use Rattle.cq_fanout.specs.HandedOut.{IsFanPlan};
 ghost use Rattle.thread_plan.specs.Planned.{IsPlan};
+ghost use Rattle.thread_calls.specs.Fanout as fan;
 ghost use Rattle.thread_calls.specs.Threads as spec;
 
+use command_line::small;
+use cq_fanout::FanPlan;
 use thread_work::ThreadPlan;
-
-fn all_digits(word: &[u8]) -> bool
-    ensures { result ≡ list_all is_digit word.now }
-{
-    word.iter().all(|b| b.is_ascii_digit())
-}
-
-/// Whether a word is decimal digits without sign or leading zero.
-fn is_spelled_out(word: &[u8]) -> bool
-    ensures { result ≡ is_decimal word.now }
-{
-    match word {
-        [] => false,
-        [first, rest @ ..] => all_digits(word) && (*first != b'0' || rest.is_empty()),
-    }
-}
-
-/// The number of a word, from `low` to `high`.
-fn number(word: &str, low: u64, high: u64) -> Option<u64>
-    ensures value { result ≡ number_in low high word.now }
-    ensures within { IfSome result (λ n. (low ≤ n) × (n ≤ high)) }
-{
-    if !is_spelled_out(word.as_bytes()) {
-        return None;
-    }
-    let n = word.parse::<u64>().ok()?;
-    if low <= n && n <= high { Some(n) } else { None }
-}
-
-/// A number that fits 32 bits.
-fn small(word: &str, low: u32, high: u32) -> Option<u32>
-    ensures value { result ≡ number_in low high word.now }
-    ensures within { IfSome result (λ n. (low ≤ n) × (n ≤ high)) }
-{
-    let n = number(word, u64::from(low), u64::from(high))?;
-    Some(n as u32)
-}
 
 /// 1 to 8 workers, 1 to 2,000 additions of each and at most 8 moves.
 fn plan_of(workers: &str, adds: &str, moves: &str) -> Option<ThreadPlan>
@@ -74,6 +39,39 @@ pub fn threads_of(words: &[String]) -> Option<ThreadPlan>
     match words {
         [word, workers, adds, moves] if is_threads(word.as_bytes()) => plan_of(
             workers, adds, moves,
+        ),
+        _ => None,
+    }
+}
+
+/// 1 to 4 consumers, 1 to 10,000 additions and a queue of 1 to 1,024 places.
+fn fan_plan_of(consumers: &str, adds: &str, capacity: &str) -> Option<FanPlan>
+    ensures value { result ≡ fan.fan_plan_of consumers.now adds.now capacity.now }
+    ensures within { IfSome result (λ plan. IsFanPlan plan) }
+{
+    Some(FanPlan {
+        consumers: small(consumers, 1, 4)?,
+        adds: small(adds, 1, 10_000)?,
+        capacity: small(capacity, 1, 1024)?,
+    })
+}
+
+/// Whether a word is `fanout`.
+fn is_fanout(word: &[u8]) -> bool
+    ensures { result ≡ bytes_eq word.now (codes "fanout") }
+{
+    word == b"fanout".as_slice()
+}
+
+/// The plan of the words `fanout` consumers adds capacity, without the program's name; None exactly where the words are not
+/// those of `fanout`.
+pub fn fanout_of(words: &[String]) -> Option<FanPlan>
+    ensures value { result ≡ fan.fanout_of (map string_bytes words.now) }
+    ensures within { IfSome result (λ plan. IsFanPlan plan) }
+{
+    match words {
+        [word, consumers, adds, capacity] if is_fanout(word.as_bytes()) => fan_plan_of(
+            consumers, adds, capacity,
         ),
         _ => None,
     }

@@ -75,7 +75,8 @@ pub fn planned_run(
     receipts: Vec<Items<Receipt>>,
 ) -> Result<Run, PlanFault>
     requires { IsPlan plan.now }
-    ensures { IfOk result (IsPlanned plan.now last alone) }
+    ensures planned { IfOk result (IsPlanned plan.now last alone) }
+    ensures receipts { IfOk result (λ run. run.receipts ≡ receipts.items) }
 {
     work_is_fair();
     fair_orders_are_legal();

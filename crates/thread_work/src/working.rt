@@ -10,7 +10,7 @@ use std::sync::Wait;
 use thread_plan::{PlanFault, addition};
 
 /// The id of the device of a.
-const OF_A: u8 = 1;
+pub const OF_A: u8 = 1;
 
 /// Whether a worker whose end told so at its expiry is through: it is in Error, or nothing is in flight and nothing is to be
 /// sent.
@@ -33,19 +33,18 @@ fn is_through<R: Wait, G: Gate>(
     }
 }
 
-/// A turn: posts the next addition where one is left, sends, delivers what is pending, or else lets the own end expire; and
-/// polls. The answer is whether the worker is through.
-fn turn<R: Wait, G: Gate>(
+/// Posts the next addition where one is left, sends, delivers what is pending, or else lets the own end expire. The answer is
+/// whether something was pending; None where the worker is through.
+fn push_on<R: Wait, G: Gate>(
     rt: &R,
     alloc: Global,
     hand: &mut Hand<'_, G>,
     worker: u32,
     adds: u32,
     posted: &mut u32,
-) -> Result<bool, PlanFault>
+) -> Result<Option<bool>, PlanFault>
     requires { (1 ≤ worker) × (worker ≤ 8) × (adds ≤ 10000) }
 {
-    let seen = hand.begin(rt);
     if *posted < adds
         && hand.call(rt, alloc, OF_A, addition(worker, *posted + 1))? == Told::Accepted
     {
@@ -56,14 +55,41 @@ fn turn<R: Wait, G: Gate>(
     if !was_pending {
         let told = hand.call(rt, alloc, OF_A, expires(worker))?;
         if *posted >= adds && is_through(rt, alloc, hand, worker, told)? {
-            return Ok(true);
+            return Ok(None);
         }
     }
-    hand.call(rt, alloc, OF_A, polls())?;
-    Ok(!hand.rest(rt, seen, was_pending))
+    Ok(Some(was_pending))
 }
 
-/// All turns of a worker: it ends when all its additions are posted and none is in flight, or where all was halted.
+/// All turns of a worker, who polls at the end of each if `does_poll`: it ends when all its additions are posted and none is in
+/// flight, or where all was halted.
+fn take_turns<R: Wait, G: Gate>(
+    rt: &R,
+    alloc: Global,
+    hand: &mut Hand<'_, G>,
+    worker: u32,
+    adds: u32,
+    does_poll: bool,
+) -> Result<(), PlanFault>
+    requires { (1 ≤ worker) × (worker ≤ 8) × (adds ≤ 10000) }
+{
+    let mut posted = 0;
+    for _ in rt.forever() {
+        let seen = hand.begin(rt);
+        let Some(was_pending) = push_on(rt, alloc, hand, worker, adds, &mut posted)? else {
+            break;
+        };
+        if does_poll {
+            hand.call(rt, alloc, OF_A, polls())?;
+        }
+        if !hand.rest(rt, seen, was_pending) {
+            break;
+        }
+    }
+    Ok(())
+}
+
+/// All turns of a worker who polls: it ends when all its additions are posted and none is in flight, or where all was halted.
 pub fn work<R: Wait, G: Gate>(
     rt: &R,
     alloc: Global,
@@ -73,13 +99,20 @@ pub fn work<R: Wait, G: Gate>(
 ) -> Result<(), PlanFault>
     requires { (1 ≤ worker) × (worker ≤ 8) × (adds ≤ 10000) }
 {
-    let mut posted = 0;
-    for _ in rt.forever() {
-        if turn(rt, alloc, hand, worker, adds, &mut posted)? {
-            break;
-        }
-    }
-    Ok(())
+    take_turns(rt, alloc, hand, worker, adds, true)
+}
+
+/// The same of a worker who leaves it to another to poll.
+pub fn pump<R: Wait, G: Gate>(
+    rt: &R,
+    alloc: Global,
+    hand: &mut Hand<'_, G>,
+    worker: u32,
+    adds: u32,
+) -> Result<(), PlanFault>
+    requires { (1 ≤ worker) × (worker ≤ 8) × (adds ≤ 10000) }
+{
+    take_turns(rt, alloc, hand, worker, adds, false)
 }
 
 /// Polls the queue until it is empty.

@@ -1,29 +1,40 @@
 //! All commands, by their words.
 
-ghost use Rattle.std.specs.Prelude.{◌≡◌, None, Some, map};
+ghost use Rattle.std.specs.Prelude.{◌≡◌, Some, map};
 ghost use Rattle.std.specs.String.{string_bytes};
 ghost use Rattle.dump_writer.specs.Text.{text_of};
 ghost use Rattle.law_program.specs.Commands.{command_of};
 ghost use Rattle.law_program.specs.Ends.{Ends};
 ghost use Rattle.law_program.specs.Runs.{ReadsInput, UsesDepot, UsesLink};
 ghost use Rattle.rdma_cli_calls.specs.Stopping.{run_of};
+ghost use Rattle.cq_fanout.specs.declared.plan.FanPlan.{FanPlan};
+ghost use Rattle.letter_rules.specs.declared.plans.MailPlan.{MailPlan};
+ghost use Rattle.mail_calls.specs.Mails as mail;
+ghost use Rattle.mail_calls.specs.Mails.{EndsMail};
 ghost use Rattle.thread_plan.specs.declared.plan.ThreadPlan.{ThreadPlan};
+ghost use Rattle.thread_calls.specs.Fanout as fan;
+ghost use Rattle.thread_calls.specs.Fanout.{EndsFanout};
 ghost use Rattle.thread_calls.specs.Threads as threads;
 ghost use Rattle.thread_calls.specs.Threads.{EndsThreads};
+ghost use Rattle.tool_calls.specs.Serial.{AreSerial};
 
+use mail_calls::{mail_of, run_mail_plan};
 use mig_ports::{Depot, Link, Sink, Source, Ticks};
 use node_engine::NodePorts;
 use rdma_cli_calls::run_serial;
 use std::alloc::Global;
 use std::sync::Wait;
 use std::thread::Threads;
-use thread_calls::{run_plan, threads_of};
+use thread_calls::{fanout_of, run_fan_plan, run_plan, threads_of};
 use thread_work::{FreeGate, Gate};
 
 /// Does the command that the words spell, without the program's name, and gives the status that the process ends with.
 ///
-/// `threads` makes a run of workers in threads of their own, and writes one line; it may wait. Workers pass the gate before
-/// each step of a device. All other words are those of `run_serial`, which waits for nobody.
+/// `threads` makes a run of workers in threads of their own, and `fanout` hands the completions of a shared device to consumers
+/// in threads; each writes one line, and may wait. Workers pass the gate before each step of a device, and consumers before
+/// each pop. `mail` sends and takes the letters of a plan, and writes one line; it waits for nobody. All other words are those
+/// of `run_serial`, which waits for nobody either.
+#[tactic(auto, using(thread_calls::proofs::Apart::no_fanout, crate::proofs::Apart::no_threads, crate::proofs::Apart::no_fanout_of_mail))]
 pub fn run_tool<
     S: Source,
     L: Link,
@@ -45,23 +56,39 @@ pub fn run_tool<
     ensures threads { (plan : ThreadPlan) → threads.threads_of (map string_bytes words.now) ≡ Some plan → EndsThreads plan (K.held ports.old.output) (K.held ports.new.output) (K.faults ports.old.output) (K.faults ports.new.output) result }
     ensures threads_keep { (plan : ThreadPlan) → threads.threads_of (map string_bytes words.now) ≡ Some plan → (input.new ≡ input.old) × (ports.new ≡ record ports.old { output = ports.new.output }) }
 
+    // `fanout`: the same of the line of completions that were handed out, in a run that is as planned.
+    ensures fanout { (plan : FanPlan) → fan.fanout_of (map string_bytes words.now) ≡ Some plan → EndsFanout plan (K.held ports.old.output) (K.held ports.new.output) (K.faults ports.old.output) (K.faults ports.new.output) result }
+    ensures fanout_keep { (plan : FanPlan) → fan.fanout_of (map string_bytes words.now) ≡ Some plan → (input.new ≡ input.old) × (ports.new ≡ record ports.old { output = ports.new.output }) }
+
+    // `mail`: the line of the plan, by the rules of letters, was written, or that memory ran out, or a part of it. What the command
+    // does not use is the same object as before.
+    ensures mail { (plan : MailPlan) → mail.mail_of (map string_bytes words.now) ≡ Some plan → EndsMail plan (K.held ports.old.output) (K.held ports.new.output) (K.faults ports.old.output) (K.faults ports.new.output) result }
+    ensures mail_keep { (plan : MailPlan) → mail.mail_of (map string_bytes words.now) ≡ Some plan → (input.new ≡ input.old) × (ports.new ≡ record ports.old { output = ports.new.output }) }
+
     // All other words: the status says how the run ended, as for `run_serial`.
-    ensures ends { threads.threads_of (map string_bytes words.now) ≡ None → Ends text_of (run_of words.now (S.left input.old) (S.left input.new) (S.faults input.old) (S.faults input.new)
+    ensures ends { AreSerial (map string_bytes words.now) → Ends text_of (run_of words.now (S.left input.old) (S.left input.new) (S.faults input.old) (S.faults input.new)
         (record { waiting = L.waiting ports.old.link; sent = L.sent ports.old.link; to_come = C.to_come ports.old.ticks; held = D.held ports.old.depot; written = K.held ports.old.output; faults = record { link = L.faults ports.old.link; depot = D.faults ports.old.depot; output = K.faults ports.old.output } })
         (record { waiting = L.waiting ports.new.link; sent = L.sent ports.new.link; to_come = C.to_come ports.new.ticks; held = D.held ports.new.depot; written = K.held ports.new.output; faults = record { link = L.faults ports.new.link; depot = D.faults ports.new.depot; output = K.faults ports.new.output } }))
         result }
-    ensures kept_input { threads.threads_of (map string_bytes words.now) ≡ None → (ReadsInput (command_of (map string_bytes words.now)) → ⊥) → input.new ≡ input.old }
-    ensures kept_link { threads.threads_of (map string_bytes words.now) ≡ None → (UsesLink (command_of (map string_bytes words.now)) → ⊥) → (ports.new.link ≡ ports.old.link) × (ports.new.ticks ≡ ports.old.ticks) }
-    ensures kept_depot { threads.threads_of (map string_bytes words.now) ≡ None → (UsesDepot (command_of (map string_bytes words.now)) → ⊥) → ports.new.depot ≡ ports.old.depot }
+    ensures kept_input { AreSerial (map string_bytes words.now) → (ReadsInput (command_of (map string_bytes words.now)) → ⊥) → input.new ≡ input.old }
+    ensures kept_link { AreSerial (map string_bytes words.now) → (UsesLink (command_of (map string_bytes words.now)) → ⊥) → (ports.new.link ≡ ports.old.link) × (ports.new.ticks ≡ ports.old.ticks) }
+    ensures kept_depot { AreSerial (map string_bytes words.now) → (UsesDepot (command_of (map string_bytes words.now)) → ⊥) → ports.new.depot ≡ ports.old.depot }
 {
-    match threads_of(words) {
-        Some(plan) => run_plan(rt, alloc, &plan, &mut ports.output, gate),
-        None => run_serial(alloc, words, input, ports),
+    if let Some(plan) = threads_of(words) {
+        return run_plan(rt, alloc, &plan, &mut ports.output, gate);
     }
+    if let Some(plan) = fanout_of(words) {
+        return run_fan_plan(rt, alloc, &plan, &mut ports.output, gate);
+    }
+    if let Some(plan) = mail_of(words) {
+        return run_mail_plan(alloc, &plan, &mut ports.output);
+    }
+    run_serial(alloc, words, input, ports)
 }
 
-/// The same for a program, which asks for the status alone; its workers pass the gate that is always open. What it does is
-/// what `run_tool` promises: the clauses stand there alone, since a check of a caller works them out for each of its types.
+/// The same for a program, which asks for the status alone; its workers and consumers pass the gate that is always open. What it
+/// does is what `run_tool` promises: the clauses stand there alone, since a check of a caller works them out for each of its
+/// types.
 pub fn run_words<S: Source, L: Link, K: Sink, D: Depot, C: Ticks, R: Threads + Wait + Sync>(
     rt: &R,
     alloc: Global,

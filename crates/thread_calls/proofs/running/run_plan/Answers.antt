@@ -1,7 +1,6 @@
-use Rattle.std.proofs.Common.{subst}
-use Rattle.thread_calls.proofs.Ending.{IsWritten, ended_done}
+use Rattle.thread_calls.specs.Threads.{IsThreadsText}
+use Rattle.thread_calls.proofs.Ending.{ended}
 use Rattle.thread_calls.proofs.running.run_plan.Goals as goal
 
-pub returns-in-Ok : goal.returns-in-Ok
-returns-in-Ok g c = ended_done c.args.plan.now (g.K.Sink.held c.args.output.now) (g.K.Sink.held c.end.new.output) (g.K.Sink.faults c.args.output.now) (g.K.Sink.faults c.end.new.output) c.in-Ok.text.items c.end.result c.in-Ok.ensures
-    (subst (λ t. IsWritten (g.K.Sink.held c.args.output.now) (g.K.Sink.held c.end.new.output) (g.K.Sink.faults c.args.output.now) (g.K.Sink.faults c.end.new.output) t 0 c.end.result) c.as_slice.ensures.value c.end.ensures)
+pub returns : goal.returns
+returns g c = ended (IsThreadsText c.args.plan.now) (g.K.Sink.held c.args.output.now) (g.K.Sink.held c.tell.new.output) (g.K.Sink.faults c.args.output.now) (g.K.Sink.faults c.tell.new.output) c.text_of-told.result c.tell.result c.text_of-told.ensures c.tell.ensures

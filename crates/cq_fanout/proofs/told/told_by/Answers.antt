@@ -1,0 +1,9 @@
+use Rattle.std.proofs.Common.{arith, ◌∙◌}
+use Rattle.cq_fanout.proofs.Counting.{told_more, told_none}
+use Rattle.cq_fanout.proofs.told.told_by.Goals as goal
+
+pub loop-receipt-init : goal.loop-receipt-init
+loop-receipt-init c = c.new-completions.ensures.items ∙ told_none
+
+pub loop-receipt-preserved : goal.loop-receipt-preserved
+loop-receipt-preserved c = told_more c.args.held.now c.loop-receipt.receipt-index c.receipt-item.result _ _ (omega arith) c.receipt-item.is c.loop-receipt.invariant c.in_ok-put_polled.ensures

@@ -1,0 +1,15 @@
+pub mod Shown
+pub mod Places
+pub mod Posting
+pub mod Filling
+pub mod Polled
+pub mod Made
+pub mod Worked
+pub mod Calling
+pub mod Giving
+pub mod Advancing
+pub mod Sent
+pub mod Noting
+pub mod Landing
+pub mod Refusals
+pub mod Running

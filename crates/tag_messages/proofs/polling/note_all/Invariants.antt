@@ -1,0 +1,8 @@
+use Rattle.std.proofs.Common.{◌≡◌, ◌+◌, ◌-◌, ◌≤◌, length, drop, vec_len, vec_capacity}
+use Rattle.protocol.specs.State.{World}
+use Rattle.letter_rules.specs.Working.{noting_all}
+use Rattle.tag_messages.proofs.Noting.{IsNoting}
+use Rattle.tag_messages.proofs.polling.note_all.Given as goal
+
+abbrev pub invariant-loop-entry : goal.invariant-loop-entry
+invariant-loop-entry l = IsNoting l.n l.entries l.entry-index l.fn.channels.items l.fn.owed.items l.channels.items l.owed.items × (vec_len l.owed + (length l.entries - l.entry-index) ≤ vec_capacity l.owed)
