@@ -1,0 +1,373 @@
+-- What is held stays held through calls, where each kind of thing that happens keeps it.
+use Rattle.std.proofs.Common.{arith, ◌≡◌, ◌≢◌, ℕ, ◌<◌, ◌≤◌, List, [], ◌∷◌, ◌++◌, length, true, false, Bool, refl, sym, subst, ap, ◌∙◌, Some, None, Option, ◌⊎◌, inl, inr, append-nil, eqb-true, eq-eqb}
+use Rattle.std.specs.Prelude.{if◌then◌else◌, ◌==◌, All, nat_le, ◌&&◌}
+use Rattle.std.proofs.lemmas.List.Elements.{All-head, All-tail, All-weaker}
+use Rattle.std.proofs.lemmas.Option.{same_Some}
+use Rattle.rdma_types.specs.declared.answers.Answer.{Answer}
+use Rattle.protocol.specs.declared.events.Event.{Event}
+use Rattle.protocol.specs.declared.events.Event.TheVariants as event
+use Rattle.protocol.specs.declared.events.WorldEvent.{WorldEvent}
+use Rattle.protocol.specs.declared.events.WorldEvent.TheVariants as world_event
+use Rattle.protocol.specs.Settle.{settled}
+use Rattle.protocol.specs.State.{World}
+use Rattle.protocol.specs.WorldStep.{world_after, world_step}
+use Rattle.ideal_model.specs.declared.steps.IdealStep.{IdealStep}
+use Rattle.ideal_model.specs.declared.steps.IdealStep.TheVariants as steps
+use Rattle.ideal_model.specs.Legal.{IsRun, after, effect, seen, seen_of}
+use Rattle.ideal_model.specs.Machine.{Machine}
+use Rattle.law_simulation.specs.Kept.{kept_of, kept_verb, verb_in, verb_of}
+use Rattle.law_simulation.specs.Law.{AlwaysFollows, Follows, IsEventInRange, IsInRange}
+use Rattle.law_settling.specs.Events.{settling_events}
+use Rattle.law_settling.specs.Settling.{IsSettling, IsTurn, SettlingHasEvents}
+use Rattle.letter_rules.specs.declared.faults.MailFault.{MailFault}
+use Rattle.letter_rules.specs.declared.faults.MailFault.TheVariants as fault
+use Rattle.letter_rules.specs.declared.letters.Letter.{Letter}
+use Rattle.letter_rules.specs.Calls.{After, Answers, Call, Gives, IsWorked, Network, Refused, Reply, Send, Settle, Take, Work, answers_by, by_fault, calls, is_of_network, is_turn, networks, posts_letter, quiet_by, replies, send_fault, sends, settles, takes, taking}
+use Rattle.letter_rules.specs.Histories.{Placed, Turn, fetched_before, first_wanted, is_wanted, opened_by, placed_letters, sent_by, sent_letters, without_first}
+use Rattle.letter_rules.specs.Letters.{is_rendezvous}
+use Rattle.letter_rules.specs.State.{Channel, Mail, channel, is_sender, made, with_channel, with_world}
+use Rattle.letter_rules.specs.Theorem.{IsFirstOpen, IsLanded, IsReached, Begins, Replied, WasCut, MayBeCalled, NoneExactlyWhere, TakesFirstWhole}
+use Rattle.letter_rules.specs.Wanting.{IsCut, IsWorkCut, SendWorkCut, SendCut, TakeCut, WorkCut, NetworkCut, SettleCut}
+use Rattle.letter_rules.specs.Working.{begun, most_steps, worked, working}
+use Rattle.law_letters.specs.Arrived.{HasArrived, IsTaken}
+use Rattle.law_letters.specs.Held.{AreAllKept, IsAllKept, IsHeld, IsInner, KeepingIsEnough, MayBeSent}
+use Rattle.law_letters.specs.Kept.{Has, IsKept, Sight, sight_of}
+use Rattle.law_letters.proofs.Channels.{IsSender, changed_elsewhere, changed_long, changed_there, sender_is}
+use Rattle.law_letters.proofs.Places.{all_front}
+use Rattle.law_letters.proofs.Opened.{placed_more, sent_more, were_sent}
+use Rattle.law_letters.proofs.Taking.{IsGivenAt, IsNotGiven, is_taken, outcome}
+
+-- ---- steps of the machine
+
+no_parts : {X : Type 0} (xs ys : List X) → xs ++ ys ≡ [] → (xs ≡ []) × (ys ≡ [])
+no_parts [] ys h = (refl, h)
+no_parts (x ∷ xs) ys h = cc
+
+is_inner : (machine : Machine) (s : IdealStep) → seen_of machine s ≡ [] → IsInner s
+is_inner machine (steps.Verb verb given) h = cc
+is_inner machine s h = tt
+
+module _ (peers : ℕ) (keep : IsAllKept peers) where
+  run_keeps : (ts : List Turn) (m : Mail) (machine : Machine) (ss : List IdealStep) → IsRun machine ss → seen machine ss ≡ [] → AreAllKept peers ts m machine → AreAllKept peers ts m (after machine ss)
+  run_keeps ts m machine [] run unheard all = all
+  run_keeps ts m machine (s ∷ ss) run unheard all =
+      let quiet : (seen_of machine s ≡ []) × (seen (effect machine s) ss ≡ []) = no_parts (seen_of machine s) (seen (effect machine s) ss) unheard in
+      run_keeps ts m (effect machine s) ss run.1 quiet.1 (keep.steps ts m machine s (is_inner machine s quiet.0) run.0 all)
+
+-- ---- events of the network
+
+unheard_turn : (w : World) (e : Event) (a : Answer) → is_turn e ≡ true → kept_of w (world_event.At e) a ≡ []
+unfolding kept_verb verb_in verb_of
+unheard_turn w (event.Transmit o) a h = refl
+unheard_turn w (event.Expire o) a h = refl
+unheard_turn w (event.RnrOver o) a h = refl
+unheard_turn w e a h = cc
+
+unheard : (w : World) (e : WorldEvent) (a : Answer) → is_of_network e ≡ true → kept_of w e a ≡ []
+unfolding kept_verb verb_of
+unheard w (world_event.Deliver k) a h = refl
+unheard w (world_event.Lose k) a h = refl
+unheard w (world_event.Wire k) a h = refl
+unheard w (world_event.Stop n) a h = refl
+unheard w (world_event.Restore n k) a h = refl
+unheard w (world_event.Release n k) a h = refl
+unheard w (world_event.At e) a h = unheard_turn w e a h
+unheard w e a h = cc
+
+turn_in_range : (e : Event) → is_turn e ≡ true → IsEventInRange e
+turn_in_range (event.Transmit o) h = tt
+turn_in_range (event.Expire o) h = tt
+turn_in_range (event.RnrOver o) h = tt
+turn_in_range e h = cc
+
+in_range : (e : WorldEvent) → is_of_network e ≡ true → IsInRange e
+in_range (world_event.Deliver k) h = tt
+in_range (world_event.Lose k) h = tt
+in_range (world_event.Wire k) h = tt
+in_range (world_event.Stop n) h = tt
+in_range (world_event.Restore n k) h = tt
+in_range (world_event.Release n k) h = tt
+in_range (world_event.At e) h = turn_in_range e h
+in_range e h = cc
+
+turn_of_network : (e : Event) → IsTurn e → is_turn e ≡ true
+turn_of_network (event.Transmit o) h = refl
+turn_of_network (event.Expire o) h = refl
+turn_of_network (event.RnrOver o) h = refl
+turn_of_network e h = absurd h
+
+settling_of_network : (e : WorldEvent) → IsSettling e → is_of_network e ≡ true
+settling_of_network (world_event.Deliver k) h = refl
+settling_of_network (world_event.At e) h = turn_of_network e h
+settling_of_network e h = absurd h
+
+module _ (peers : ℕ) (keep : IsAllKept peers) (follow : (e : WorldEvent) → AlwaysFollows e) where
+  event_held : (ts : List Turn) (m : Mail) (e : WorldEvent) → is_of_network e ≡ true → IsHeld peers ts m → IsHeld peers ts (with_world m (world_step m.world e).world)
+  event_held ts m e net h =
+      let f : Follows m.world h.machine e = follow e m.world h.machine (in_range e net) h.stands in
+      let quiet : seen h.machine f.steps ≡ [] = f.heard ∙ unheard m.world e (world_step m.world e).answer net in
+      let all : AreAllKept peers ts m (after h.machine f.steps) = run_keeps peers keep ts m h.machine f.steps f.is_run quiet h.all in
+      record { machine = after h.machine f.steps; stands = f.stands; senders = h.senders; all = record { opened = all.opened; joined = all.joined; kept = all.kept } }
+
+  events_held : (ts : List Turn) (m : Mail) (es : List WorldEvent) → All (λ e. is_of_network e ≡ true) es → IsHeld peers ts m → IsHeld peers ts (with_world m (world_after m.world es))
+  unfolding world_after
+  events_held ts m [] net h = h
+  events_held ts m (e ∷ es) net h =
+      events_held ts (with_world m (world_step m.world e).world) es (All-tail (λ e. is_of_network e ≡ true) e es net)
+      (event_held ts m e (All-head (λ e. is_of_network e ≡ true) e es net) h)
+
+-- ---- turns that send and give no letter
+
+record IsIdle (c : Call) (r : Reply) : Type 0 where
+  none : (i : ℕ) → sent_by i c r ≡ []
+  same : (i count : ℕ) (open' : List Placed) → opened_by i c r count open' ≡ open'
+
+refused_idle : (c : Call) (f : MailFault) → IsIdle c (Refused f)
+refused_idle (Send from tag body) f = record { none = λ i. refl; same = λ i count open'. refl }
+refused_idle (Take from tag) f = record { none = λ i. refl; same = λ i count open'. refl }
+refused_idle Work f = record { none = λ i. refl; same = λ i count open'. refl }
+refused_idle (Network e) f = record { none = λ i. refl; same = λ i count open'. refl }
+refused_idle Settle f = record { none = λ i. refl; same = λ i count open'. refl }
+
+none_idle : (from : ℕ) (tag : Option ℕ) → IsIdle (Take from tag) (Gives None)
+none_idle from tag = record { none = λ i. refl; same = λ i count open'. refl }
+
+work_idle : (r : Reply) → IsIdle Work r
+work_idle r = record { none = λ i. refl; same = λ i count open'. refl }
+
+network_idle : (e : WorldEvent) (r : Reply) → IsIdle (Network e) r
+network_idle e r = record { none = λ i. refl; same = λ i count open'. refl }
+
+settle_idle : (r : Reply) → IsIdle Settle r
+settle_idle r = record { none = λ i. refl; same = λ i count open'. refl }
+
+-- what is kept, of other letters that are the same
+kept_as : (i : ℕ) (s : Sight) (c : Channel) (sent sent' : List Letter) (open' opened' : List Placed) → sent' ≡ sent → opened' ≡ open' → IsKept i s c sent open' → IsKept i s c sent' opened'
+kept_as i s c sent sent' open' opened' e f h =
+    subst (λ (x : List Letter). IsKept i s c x opened') (sym e) (subst (λ (y : List Placed). IsKept i s c sent y) (sym f) h)
+
+idle_held : (peers : ℕ) (ts : List Turn) (m : Mail) (c : Call) (r : Reply) → IsIdle c r → IsHeld peers ts m → IsHeld peers (ts ++ record { call = c; reply = r } ∷ []) m
+idle_held peers ts m c r idle h = record {
+  machine = h.machine;
+  stands = h.stands;
+  senders = h.senders;
+  all = record {
+    opened = h.all.opened;
+    joined = h.all.joined;
+    kept = λ i a b.
+        let t : Turn = record { call = c; reply = r } in
+        kept_as i (sight_of h.machine m.owed i) (channel m i) (sent_letters i ts) (sent_letters i (ts ++ t ∷ [])) (placed_letters i ts) (placed_letters i (ts ++ t ∷ []))
+        (sent_more i ts t ∙ ap (λ (s : List Letter). sent_letters i ts ++ s) (idle.none i) ∙ append-nil (sent_letters i ts))
+        (placed_more i ts t ∙ idle.same i (length (sent_letters i ts)) (placed_letters i ts))
+        (h.all.kept i a b);
+  };
+}
+
+-- ---- a letter is taken
+
+has_without : (tag : Option ℕ) (xs : List Placed) (x y : Placed) → Has xs y → first_wanted tag xs ≡ Some x → (x ≡ y → ⊥) → Has (without_first tag xs) y
+unfolding without_first
+has_without tag [] x y h first other = absurd h
+has_without tag (z ∷ zs) x y (inl e) first other = by (is_wanted tag z) first
+  where
+    by : (w : Bool) → (if w then Some z else first_wanted tag zs) ≡ Some x → Has (if w then zs else z ∷ without_first tag zs) y
+    by true f = absurd (other (sym (same_Some z x f) ∙ e))
+    by false f = inl e
+has_without tag (z ∷ zs) x y (inr r) first other = by (λ f. has_without tag zs x y r f other) (is_wanted tag z) first
+  where
+    by : (first_wanted tag zs ≡ Some x → Has (without_first tag zs) y) → (w : Bool) → (if w then Some z else first_wanted tag zs) ≡ Some x → Has (if w then zs else z ∷ without_first tag zs) y
+    by rest true f = r
+    by rest false f = inr (rest f)
+
+take_kept : (i : ℕ) (s : Sight) (c : Channel) (sent : List Letter) (open' : List Placed) (tag : Option ℕ) (k : ℕ) (x : Placed) → IsKept i s c sent open' → first_wanted tag open' ≡ Some x →
+    IsLanded c sent x → HasArrived (taking k c) sent (without_first tag open') → IsKept i s (taking k c) sent (without_first tag open')
+take_kept i s c sent open' tag k x h first landed left = record {
+  letters = h.letters;
+  number = h.number;
+  plain = h.plain;
+  sends = h.sends;
+  messages = h.messages;
+  places = h.places;
+  queue = h.queue;
+  counts = h.counts;
+  slot = h.slot;
+  offers = h.offers;
+  landing = h.landing;
+  arrived = left;
+  waits_open = λ j l at waiting. has_without tag open' x (record { place = j; letter = l }) (h.waits_open j l at waiting) first (other j l waiting);
+}
+  where
+    other : (j : ℕ) (l : Letter) → (c.receives ≤ j) ⊎ ((is_rendezvous l.body ≡ true) × (c.reads ≤ fetched_before j sent)) → x ≡ record { place = j; letter = l } → ⊥
+    other j l (inl past) same = let below : j < c.receives = subst (λ (z : Placed). z.place < c.receives) same landed.received in omega arith
+    other j l (inr waits) same =
+        let below : fetched_before j sent < c.reads =
+        subst (λ (z : Placed). is_rendezvous z.letter.body ≡ true → fetched_before z.place sent < c.reads) same landed.fetched waits.0 in
+        let unread : c.reads ≤ fetched_before j sent = waits.1 in
+        omega arith
+
+eq_is : (a b : ℕ) → (b' : Bool) → (a == b) ≡ b' → (a ≡ b) ⊎ (((a == b) ≡ false) × (a ≢ b))
+eq_is a b true e = inl (eqb-true a b e)
+eq_is a b false e = inr (e, λ same. let t : (a == b) ≡ true = eq-eqb a b same in let f : true ≡ false = sym t ∙ e in cc)
+
+module _ (peers : ℕ) (ts : List Turn) (m : Mail) (from : ℕ) (tag : Option ℕ) (h : IsHeld peers ts m) where
+  is_among : is_sender m from ≡ true → (1 ≤ from) × (from ≤ peers)
+  is_among there = let s : IsSender m from = sender_is m from there in (s.from_one, subst (λ (n : ℕ). from ≤ n) h.senders s.within)
+
+  module _ (there : is_sender m from ≡ true) (g : IsGivenAt m from (sent_letters from ts) (placed_letters from ts) tag) where
+    kept_there : IsKept from (sight_of h.machine m.owed from) (channel (with_channel m from (taking g.k)) from)
+        (sent_letters from (ts ++ record { call = Take from tag; reply = Gives (Some g.x.letter) } ∷ [])) (placed_letters from (ts ++ record { call = Take from tag; reply = Gives (Some g.x.letter) } ∷ []))
+    kept_there =
+        let t : Turn = record { call = Take from tag; reply = Gives (Some g.x.letter) } in
+        let s : Sight = sight_of h.machine m.owed from in
+        let among : (1 ≤ from) × (from ≤ peers) = is_among there in
+        let kept : IsKept from s (taking g.k (channel m from)) (sent_letters from ts) (without_first tag (placed_letters from ts)) =
+        take_kept from s (channel m from) (sent_letters from ts) (placed_letters from ts) tag g.k g.x (h.all.kept from among.0 among.1) g.first g.landed g.left in
+        subst (λ (c : Channel). IsKept from s c (sent_letters from (ts ++ t ∷ [])) (placed_letters from (ts ++ t ∷ []))) (sym (changed_there m from there (taking g.k)))
+        (kept_as from s (taking g.k (channel m from)) (sent_letters from ts) (sent_letters from (ts ++ t ∷ [])) (without_first tag (placed_letters from ts)) (placed_letters from (ts ++ t ∷ []))
+        (sent_more from ts t ∙ append-nil (sent_letters from ts))
+        (placed_more from ts t ∙ ap (λ (b : Bool). if b then without_first tag (placed_letters from ts) else placed_letters from ts) (eq-eqb from from refl))
+        kept)
+
+    kept_elsewhere : (i : ℕ) → 1 ≤ i → i ≤ peers → (from == i) ≡ false → (from ≢ i) → IsKept i (sight_of h.machine m.owed i) (channel (with_channel m from (taking g.k)) i)
+        (sent_letters i (ts ++ record { call = Take from tag; reply = Gives (Some g.x.letter) } ∷ [])) (placed_letters i (ts ++ record { call = Take from tag; reply = Gives (Some g.x.letter) } ∷ []))
+    kept_elsewhere i a b apart other =
+        let t : Turn = record { call = Take from tag; reply = Gives (Some g.x.letter) } in
+        let s : Sight = sight_of h.machine m.owed i in
+        subst (λ (c : Channel). IsKept i s c (sent_letters i (ts ++ t ∷ [])) (placed_letters i (ts ++ t ∷ []))) (sym (changed_elsewhere m from there (taking g.k) i a other))
+        (kept_as i s (channel m i) (sent_letters i ts) (sent_letters i (ts ++ t ∷ [])) (placed_letters i ts) (placed_letters i (ts ++ t ∷ []))
+        (sent_more i ts t ∙ append-nil (sent_letters i ts))
+        (placed_more i ts t ∙ ap (λ (b : Bool). if b then without_first tag (placed_letters i ts) else placed_letters i ts) apart)
+        (h.all.kept i a b))
+
+    kept_each : (i : ℕ) → 1 ≤ i → i ≤ peers → (from ≡ i) ⊎ (((from == i) ≡ false) × (from ≢ i)) → IsKept i (sight_of h.machine m.owed i) (channel (with_channel m from (taking g.k)) i)
+        (sent_letters i (ts ++ record { call = Take from tag; reply = Gives (Some g.x.letter) } ∷ [])) (placed_letters i (ts ++ record { call = Take from tag; reply = Gives (Some g.x.letter) } ∷ []))
+    kept_each i a b (inl e) =
+        let t : Turn = record { call = Take from tag; reply = Gives (Some g.x.letter) } in
+        subst (λ (j : ℕ). IsKept j (sight_of h.machine m.owed j) (channel (with_channel m from (taking g.k)) j) (sent_letters j (ts ++ t ∷ [])) (placed_letters j (ts ++ t ∷ []))) e kept_there
+    kept_each i a b (inr o) = kept_elsewhere i a b o.0 o.1
+
+    given_held : IsHeld peers (ts ++ record { call = Take from tag; reply = Gives (Some g.x.letter) } ∷ []) (with_channel m from (taking g.k))
+    given_held = record {
+      machine = h.machine;
+      stands = h.stands;
+      senders = changed_long m from there (taking g.k) ∙ h.senders;
+      all = record { opened = h.all.opened; joined = h.all.joined; kept = λ i a b. kept_each i a b (eq_is from i (from == i) refl) };
+    }
+
+  -- ---- what `take` answers, and what it leaves
+
+  not_there : is_sender m from ≡ false → takes m from tag ≡ replies m (Refused fault.NoSender)
+  unfolding takes
+  not_there e = rw e refl
+
+  take_held : IsHeld peers (ts ++ record { call = Take from tag; reply = (takes m from tag).reply } ∷ []) (takes m from tag).mail
+  take_held = by (is_sender m from) refl
+    where
+      told : (there : is_sender m from ≡ true) → IsGivenAt m from (sent_letters from ts) (placed_letters from ts) tag ⊎ IsNotGiven m from (sent_letters from ts) (placed_letters from ts) tag →
+          IsHeld peers (ts ++ record { call = Take from tag; reply = (takes m from tag).reply } ∷ []) (takes m from tag).mail
+      told there (inl g) = subst (λ (a : After). IsHeld peers (ts ++ record { call = Take from tag; reply = a.reply } ∷ []) a.mail) (sym g.answer) (given_held there g)
+      told there (inr g) = subst (λ (a : After). IsHeld peers (ts ++ record { call = Take from tag; reply = a.reply } ∷ []) a.mail) (sym g.answer) (idle_held peers ts m (Take from tag) (Gives None) (none_idle from tag) h)
+
+      by : (b : Bool) → is_sender m from ≡ b → IsHeld peers (ts ++ record { call = Take from tag; reply = (takes m from tag).reply } ∷ []) (takes m from tag).mail
+      by true there =
+          let among : (1 ≤ from) × (from ≤ peers) = is_among there in
+          told there (outcome m from (sent_letters from ts) (placed_letters from ts) tag there (were_sent from ts) (h.all.kept from among.0 among.1).arrived)
+      by false e = subst (λ (a : After). IsHeld peers (ts ++ record { call = Take from tag; reply = a.reply } ∷ []) a.mail) (sym (not_there e)) (idle_held peers ts m (Take from tag) (Refused fault.NoSender) (refused_idle (Take from tag) fault.NoSender) h)
+
+-- ---- each call
+
+is_worked : (m : Mail) → working m ≡ (worked most_steps (begun m)).mail
+unfolding working
+is_worked m = refl
+
+module _ (peers : ℕ) (keep : IsAllKept peers) (follow : (e : WorldEvent) → AlwaysFollows e) (named : SettlingHasEvents) where
+  worked_held : (ts : List Turn) (m : Mail) → IsHeld peers ts m → IsHeld peers ts (working m)
+  worked_held ts m h = subst (λ (n : Mail). IsHeld peers ts n) (sym (is_worked m)) (keep.works ts m most_steps h)
+
+  send_held : (ts : List Turn) (m : Mail) (i : ℕ) (l : Letter) → MayBeSent l → IsHeld peers ts m → (o : Option MailFault) → send_fault (working m) i l.body ≡ o →
+      IsHeld peers (ts ++ record { call = Send i l.tag l.body; reply = (by_fault (working m) o (posts_letter (working m) i l)).reply } ∷ []) (by_fault (working m) o (posts_letter (working m) i l)).mail
+  send_held ts m i l may h (Some f) e = idle_held peers ts (working m) (Send i l.tag l.body) (Refused f) (refused_idle (Send i l.tag l.body) f) (worked_held ts m h)
+  send_held ts m i l may h None e = keep.sends ts m i l may h e
+
+  network_held : (ts : List Turn) (m : Mail) (e : WorldEvent) → IsHeld peers ts m → (b : Bool) → is_of_network e ≡ b →
+      IsHeld peers (ts ++ record { call = Network e; reply = (by_fault m (if b then None else Some fault.NotNetwork) (answers_by m (world_step m.world e))).reply } ∷ [])
+      (by_fault m (if b then None else Some fault.NotNetwork) (answers_by m (world_step m.world e))).mail
+  network_held ts m e h true net =
+      idle_held peers ts (with_world m (world_step m.world e).world) (Network e) (Answers (world_step m.world e).answer) (network_idle e (Answers (world_step m.world e).answer)) (event_held peers keep follow ts m e net h)
+  network_held ts m e h false net = idle_held peers ts m (Network e) (Refused fault.NotNetwork) (refused_idle (Network e) fault.NotNetwork) h
+
+  settled_held : (ts : List Turn) (m : Mail) (es rest : List WorldEvent) → settling_events m.world ≡ es ++ rest → IsHeld peers ts m → IsHeld peers ts (with_world m (world_after m.world es))
+  settled_held ts m es rest are h =
+      let each : All IsSettling (es ++ rest) = subst (λ (xs : List WorldEvent). All IsSettling xs) are (named m.world).each in
+      events_held peers keep follow ts m es (All-weaker IsSettling (λ e. is_of_network e ≡ true) settling_of_network es (all_front IsSettling es rest each)) h
+
+  settle_held : (ts : List Turn) (m : Mail) → IsHeld peers ts m → IsHeld peers ts (with_world m (settled m.world).world)
+  settle_held ts m h =
+      subst (λ (w : World). IsHeld peers ts (with_world m w)) (named m.world).after
+      (settled_held ts m (settling_events m.world) [] (sym (append-nil (settling_events m.world))) h)
+
+  called_held : (ts : List Turn) (m : Mail) (c : Call) → MayBeCalled c → IsHeld peers ts m → IsHeld peers (ts ++ record { call = c; reply = (calls m c).reply } ∷ []) (calls m c).mail
+  unfolding calls networks sends settles
+  called_held ts m (Send from tag body) may h =
+      let l : Letter = record { tag = tag; body = body } in
+      send_held ts m from l (record { tag_fits = may.0; bytes = may.1 }) h (send_fault (working m) from body) refl
+  called_held ts m (Take from tag) may h = take_held peers ts (working m) from tag (worked_held ts m h)
+  called_held ts m Work may h = idle_held peers ts (working m) Work IsWorked (work_idle IsWorked) (worked_held ts m h)
+  called_held ts m (Network e) may h = network_held ts m e h (is_of_network e) refl
+  called_held ts m Settle may h =
+      idle_held peers ts (with_world m (settled m.world).world) Settle (quiet_by m (settled m.world)).reply (settle_idle (quiet_by m (settled m.world)).reply) (settle_held ts m h)
+
+  -- ---- calls that met want of memory
+
+  work_cut_held : (ts : List Turn) (m m' : Mail) → IsWorkCut m m' → IsHeld peers ts m → IsHeld peers ts m'
+  work_cut_held ts m m' cut h = subst (λ (n : Mail). IsHeld peers ts n) (sym cut.after) (keep.works ts m cut.steps h)
+
+  cut_held : (ts : List Turn) (m : Mail) {c : Call} {m' : Mail} → IsCut m c m' → MayBeCalled c → IsHeld peers ts m → IsHeld peers ts m'
+  cut_held ts m {m' = m'} (SendWorkCut cut) may h = work_cut_held ts m m' cut h
+  cut_held ts m {m' = m'} (SendCut {from = from} {tag = tag} {body = body} cut) may h =
+      keep.stores ts m from (record { tag = tag; body = body }) m' (record { tag_fits = may.0; bytes = may.1 }) h cut.may cut.stored
+  cut_held ts m {m' = m'} (TakeCut cut) may h = work_cut_held ts m m' cut h
+  cut_held ts m {m' = m'} (WorkCut cut) may h = work_cut_held ts m m' cut h
+  cut_held ts m NetworkCut may h = h
+  cut_held ts m {m' = m'} (SettleCut cut) may h = subst (λ (n : Mail). IsHeld peers ts n) (sym cut.after) (settled_held ts m cut.made cut.rest cut.are h)
+
+  -- ---- any calls
+
+  reached_held : {ts : List Turn} {m : Mail} → IsReached (made peers) ts m → IsHeld peers ts m
+  reached_held Begins = keep.begins
+  reached_held (Replied {ts = ts} {m = m} c may r) = called_held ts m c may (reached_held r)
+  reached_held (WasCut {ts = ts} {m = m} c may r cut) = cut_held ts m cut may (reached_held r)
+
+  -- ---- what is taken
+
+  took : (m : Mail) (i : ℕ) (tag : Option ℕ) → calls m (Take i tag) ≡ takes (working m) i tag
+  unfolding calls
+  took m i tag = refl
+
+  taken_where : (ts : List Turn) (m : Mail) (i : ℕ) (tag : Option ℕ) → IsHeld peers ts (working m) → is_sender (working m) i ≡ true → IsTaken (working m) i (sent_letters i ts) (placed_letters i ts) tag
+  taken_where ts m i tag h there =
+      let among : (1 ≤ i) × (i ≤ peers) = is_among peers ts (working m) i tag h there in
+      is_taken (working m) i (sent_letters i ts) (placed_letters i ts) tag there (were_sent i ts) (h.all.kept i among.0 among.1).arrived
+
+  whole : (ts : List Turn) (m : Mail) → IsHeld peers ts m → TakesFirstWhole m ts
+  whole ts m h i tag l given = by (is_sender (working m) i) refl
+    where
+      by : (b : Bool) → is_sender (working m) i ≡ b → IsFirstOpen l (first_wanted tag (placed_letters i ts))
+      by true there = (taken_where ts m i tag (worked_held ts m h) there).whole l (ap (λ (a : After). a.reply) (sym (took m i tag)) ∙ given)
+      by false e =
+          let refused : Refused fault.NoSender ≡ Gives (Some l) = ap (λ (a : After). a.reply) (sym (not_there peers ts (working m) i tag (worked_held ts m h) e)) ∙ (ap (λ (a : After). a.reply) (sym (took m i tag)) ∙ given) in
+          cc
+
+  none : (ts : List Turn) (m : Mail) → IsHeld peers ts m → NoneExactlyWhere m ts
+  none ts m h i tag there =
+      let w : IsHeld peers ts (working m) = worked_held ts m h in
+      let long : length m.channels ≡ length (working m).channels = h.senders ∙ sym w.senders in
+      let there' : is_sender (working m) i ≡ true = ap (λ (n : ℕ). nat_le 1 i && nat_le i n) (sym long) ∙ there in
+      let taken : IsTaken (working m) i (sent_letters i ts) (placed_letters i ts) tag = taken_where ts m i tag w there' in
+      let same : (calls m (Take i tag)).reply ≡ (takes (working m) i tag).reply = ap (λ (a : After). a.reply) (took m i tag) in
+      (λ e. taken.none.0 (sym same ∙ e), λ awaited. same ∙ taken.none.1 awaited)
+
+pub enough : SettlingHasEvents → ((e : WorldEvent) → AlwaysFollows e) → KeepingIsEnough
+enough named follow peers keep ts m reached =
+    let h : IsHeld peers ts m = reached_held peers keep follow named reached in
+    record { held = h; whole = whole peers keep follow named ts m h; none = none peers keep follow named ts m h }
