@@ -3,6 +3,9 @@
 //! The functions do nothing. Each promises the equation that it names, which the prover evaluates on the definitions.
 #![tactic(auto)]
 
+#[cfg(test)]
+mod sending;
+
 ghost use Rattle.std.specs.Prelude.{◌≡◌, codes};
 ghost use Rattle.rdma_types.specs.Limits.{most_bytes};
 ghost use Rattle.letter_rules.specs.Evaluate.{answered, answered_after_cut, line_written, open_after};

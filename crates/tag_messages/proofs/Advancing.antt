@@ -1,5 +1,5 @@
 -- What is due is done.
-use Rattle.std.proofs.Common.{◌≡◌, ℕ, List, [], ◌∷◌, true, false, Bool, refl, sym, ap, ◌∙◌, subst, ◌+◌, ◌<◌, ◌≤◌, length, rules, tests, arith, Option, Some, None, slice_get, nat_lt}
+use Rattle.std.proofs.Common.{◌≡◌, ℕ, List, [], ◌∷◌, true, false, refl, sym, ap, ◌∙◌, subst, ◌+◌, ◌<◌, ◌≤◌, length, rules, tests, arith, Option, Some, None, slice_get, nat_lt}
 use Rattle.std.specs.List.{position}
 use Rattle.rdma_types.specs.declared.answers.Answer.{Answer}
 use Rattle.rdma_types.specs.declared.requests.Completion.{Completion}
@@ -14,7 +14,7 @@ use Rattle.letter_rules.specs.declared.due.Side.{Side}
 use Rattle.letter_rules.specs.declared.due.Side.TheVariants.{AtReceiver, AtSender}
 use Rattle.letter_rules.specs.Opening.{receiver_receives, sender_receives}
 use Rattle.letter_rules.specs.State.{Channel, Mail, with_channel}
-use Rattle.letter_rules.specs.Working.{Asked, Working, asking, doing, due_next, entries_in, free_event, freeing, going_on, heard_of, may_be_done, noting_all, poll_event, polled, polling, posting, read_due, read_event, stepping, work_step}
+use Rattle.letter_rules.specs.Working.{Asked, asking, doing, due_next, entries_in, free_event, freeing, going_on, heard_of, may_be_done, noting_all, poll_event, polled, posting, read_due, read_event, work_step}
 use Rattle.tag_messages.specs.Steps.{Advanced, Advances, IsAdvanced, IsAsked, IsStep, Polls, Shows, advanced, changed}
 use Rattle.tag_messages.proofs.Worked.{at_next}
 

@@ -1,15 +1,15 @@
 -- What calls leave and answer, of each state that is shown.
-use Rattle.std.proofs.Common.{◌≡◌, ℕ, Bool, true, false, List, [], refl, sym, ap, ◌∙◌, subst, Option, Some, None}
+use Rattle.std.proofs.Common.{◌≡◌, ℕ, true, false, List, [], refl, sym, ap, ◌∙◌}
 use Rattle.rdma_types.specs.declared.answers.Answer.{Answer}
 use Rattle.rdma_types.specs.declared.answers.Answer.TheVariants as answer
 use Rattle.rdma_types.specs.declared.answers.LeftWhy.{LeftWhy}
 use Rattle.rdma_types.specs.declared.names.ObjName.{ObjName}
 use Rattle.protocol.specs.declared.events.WorldEvent.{WorldEvent}
-use Rattle.protocol.specs.Script.{Happening, Settles, happens, settles}
-use Rattle.protocol.specs.Settle.{settled, unfinished}
+use Rattle.protocol.specs.Script.{Settles, happens, settles}
+use Rattle.protocol.specs.Settle.{settled}
 use Rattle.protocol.specs.State.{World}
-use Rattle.protocol.specs.WorldStep.{Step, world_after, world_step}
-use Rattle.law_kept_datagrams.specs.Alike.{AreAlike, StepAlike, with_kept_datagrams}
+use Rattle.protocol.specs.WorldStep.{world_after, world_step}
+use Rattle.law_kept_datagrams.specs.Alike.{AreAlike, StepAlike}
 use Rattle.law_kept_datagrams.proofs.Rounds.{line_alike}
 use Rattle.law_kept_datagrams.proofs.Steps.{step_alike}
 use Rattle.law_settling.specs.Events.{settling_events}

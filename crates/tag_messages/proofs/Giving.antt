@@ -1,5 +1,5 @@
 -- Letters that are given.
-use Rattle.std.proofs.Common.{◌≡◌, ◌-◌, ◌<◌, ◌≤◌, nat_le, rules, tests, arith, subst, ℕ, Bool, true, false, List, length, get_or, refl, sym, ap, ◌∙◌, Option, Some, None, slice_get}
+use Rattle.std.proofs.Common.{◌≡◌, ◌-◌, ◌<◌, ◌≤◌, nat_le, rules, tests, arith, subst, ℕ, true, false, List, length, get_or, refl, sym, ap, ◌∙◌, Option, Some, None, slice_get}
 use Rattle.std.specs.Prelude.{slice_set}
 use Rattle.std.specs.List.{position}
 use Rattle.std.proofs.lemmas.Bool.{and_parts}
@@ -10,8 +10,8 @@ use Rattle.letter_rules.specs.declared.letters.Arrival.{Arrival}
 use Rattle.letter_rules.specs.declared.letters.Letter.{Letter}
 use Rattle.letter_rules.specs.State.{Channel, Mail, channel, is_sender, with_channel}
 use Rattle.letter_rules.specs.Working.{working}
-use Rattle.letter_rules.specs.Calls.{After, Gives, Refused, Take, calls, first_asked, gives, gives_at, gives_body, is_asked, replies, taking, takes}
-use Rattle.tag_messages.specs.Steps.{Given, Replies, Shows, given, given_at, given_body, given_by}
+use Rattle.letter_rules.specs.Calls.{Gives, Refused, Take, calls, first_asked, gives, gives_at, gives_body, is_asked, replies, taking, takes}
+use Rattle.tag_messages.specs.Steps.{Replies, Shows, given, given_at, given_body, given_by}
 
 module _ (m : Mail) (i : ℕ) (c : Channel) (is : slice_get m.channels (i - 1) ≡ Some c) where
   unchanged : with_channel m i (λ x. c) ≡ m

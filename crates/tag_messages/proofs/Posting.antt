@@ -2,9 +2,8 @@
 use Rattle.std.proofs.Common.{◌≡◌, ◌-◌, ℕ, Bool, true, false, refl, sym, ap, ◌∙◌, subst, slice_get, List, if◌then◌else◌}
 use Rattle.rdma_types.specs.declared.answers.Answer.{Answer}
 use Rattle.protocol.specs.declared.events.Event.{Event}
-use Rattle.protocol.specs.declared.events.WorldEvent.TheVariants as world_event
 use Rattle.protocol.specs.State.{World}
-use Rattle.protocol.specs.WorldStep.{carried_image, live_context, home, world_step}
+use Rattle.protocol.specs.WorldStep.{carried_image, live_context, home}
 use Rattle.protocol.specs.Readers.{world_end_view}
 use Rattle.law_kept_datagrams.specs.Alike.{with_kept_datagrams}
 use Rattle.rdma_types.specs.declared.names.Name.{Name}

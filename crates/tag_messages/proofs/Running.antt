@@ -6,16 +6,15 @@ use Rattle.std.proofs.lemmas.List.Sums.{sum_by-append}
 use Rattle.rdma_types.specs.declared.answers.LeftWhy.{LeftWhy}
 use Rattle.rdma_types.specs.declared.names.ObjName.{ObjName}
 use Rattle.letter_rules.specs.declared.faults.MailFault.{MailFault}
-use Rattle.letter_rules.specs.declared.faults.MailFault.TheVariants as fault
 use Rattle.letter_rules.specs.State.{Mail, made}
-use Rattle.letter_rules.specs.Calls.{After, Answers, Call, Gives, Network, IsSent, Refused, Reply, Send, Settle, Take, Work, after, calls, replies_of, settled_thrice, settles}
+use Rattle.letter_rules.specs.Calls.{Call, Network, Reply, Send, Settle, Take, Work, after, calls, replies_of, settled_thrice, settles}
 use Rattle.letter_rules.specs.declared.plans.MailPlan.{MailPlan}
 use Rattle.workload_gen.specs.Plan.{word_at}
 use Rattle.letter_rules.specs.Working.{working}
 use Rattle.letter_rules.specs.Opening.{receiver}
 use Rattle.rdma_types.specs.declared.names.Name.{Name}
 use Rattle.protocol.specs.declared.events.WorldEvent.TheVariants as world_event
-use Rattle.letter_rules.specs.Command.{all_taking_calls, counting_bytes, is_given, is_refused_full, is_sent, letter_calls, letters_calls, letters_sent, letters_taken, mail_calls, mail_replies, move_calls, moves_after, place_of, sending_calls, taking_calls, send_of, transfer}
+use Rattle.letter_rules.specs.Command.{all_taking_calls, counting_bytes, is_given, is_refused_full, is_sent, letter_calls, letters_calls, letters_sent, letters_taken, mail_calls, move_calls, moves_after, place_of, sending_calls, taking_calls, send_of, transfer}
 use Rattle.tag_messages.specs.Steps.{Goes, Replies, SettlesTo, Shows}
 use Rattle.tag_messages.specs.Runs.{IsGivenOrNot, IsRun, Runs, count_of, send_reply}
 

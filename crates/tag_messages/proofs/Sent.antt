@@ -1,5 +1,5 @@
 -- Letters that are sent.
-use Rattle.std.proofs.Common.{◌≡◌, ℕ, List, [], ◌++◌, length, ◌≤◌, arith, lit≤, Bool, true, false, ◌||◌, refl, sym, ap, ◌∙◌, subst, Option, Some, None, if◌then◌else◌}
+use Rattle.std.proofs.Common.{◌≡◌, ℕ, List, [], ◌++◌, length, ◌≤◌, arith, lit≤, Bool, true, false, ◌||◌, refl, sym, ap, ◌∙◌, subst, Some, None, if◌then◌else◌}
 use Rattle.rdma_types.specs.declared.answers.Answer.{Answer}
 use Rattle.protocol.specs.Bytes.{big_bytes}
 use Rattle.protocol.specs.State.{World}
@@ -11,11 +11,11 @@ use Rattle.letter_rules.specs.declared.letters.Header.{Header}
 use Rattle.letter_rules.specs.declared.letters.Letter.{Letter}
 use Rattle.letter_rules.specs.Letters.{header_bytes, is_rendezvous}
 use Rattle.letter_rules.specs.Opening.{slot_address, staging_address}
-use Rattle.letter_rules.specs.State.{Channel, Mail, ending, with_channel}
+use Rattle.letter_rules.specs.State.{Mail, ending, with_channel}
 use Rattle.letter_rules.specs.Working.{Asked, asking, begun, is_too_many, posted, worked, working}
-use Rattle.letter_rules.specs.Calls.{After, IsSent, Refused, Reply, Send, by_fault, calls, header_for, message_of, posts_letter, replies, send_event, send_fault, sends, slotted, staged, storing}
-use Rattle.letter_rules.specs.Wanting.{AllStored, BodyStored, IsPartlyStored, NotStored, SendCut, SendWorkCut}
-use Rattle.tag_messages.specs.Steps.{ByFault, Goes, IsAsked, IsPartOfSend, IsPartOfWork, IsStoredOnly, Replies, Shows, changed, message_with, sent_after, sent_with}
+use Rattle.letter_rules.specs.Calls.{After, IsSent, Refused, Reply, Send, calls, header_for, message_of, posts_letter, replies, send_event, send_fault, sends, slotted, staged, storing}
+use Rattle.letter_rules.specs.Wanting.{AllStored, BodyStored, NotStored, SendCut, SendWorkCut}
+use Rattle.tag_messages.specs.Steps.{Goes, IsAsked, IsPartOfSend, IsPartOfWork, IsStoredOnly, Replies, Shows, changed, message_with, sent_with}
 use Rattle.tag_messages.proofs.Posting.{asked_answer, badly_posted, shows_same, well_posted}
 
 -- a refusal is the same of what is shown

@@ -10,7 +10,7 @@ use Rattle.protocol.specs.declared.events.WorldEvent.{WorldEvent}
 use Rattle.protocol.specs.declared.events.WorldEvent.TheVariants as world_event
 use Rattle.protocol.specs.Settle.{settled, unfinished}
 use Rattle.protocol.specs.State.{World}
-use Rattle.protocol.specs.WorldStep.{Step, world_after, world_step}
+use Rattle.protocol.specs.WorldStep.{world_after, world_step}
 use Rattle.law_kept_datagrams.specs.Alike.{with_kept_datagrams}
 use Rattle.letter_rules.specs.declared.due.Due.{Due}
 use Rattle.letter_rules.specs.declared.due.Due.TheVariants as due
@@ -22,7 +22,7 @@ use Rattle.letter_rules.specs.declared.letters.Header.{Header}
 use Rattle.letter_rules.specs.Letters.{header_bytes, header_of}
 use Rattle.letter_rules.specs.Opening.{connection_of, landing_address, place_address, receiver_receives, sender_receives}
 use Rattle.letter_rules.specs.State.{Channel, Mail, ending, with_channel, with_there}
-use Rattle.letter_rules.specs.Working.{Asked, Working, arriving, begun, bytes_in, fetch_of, asking, filling, free_event, freeing, is_too_many, loads, posted, posting, read_due, read_event, work_step, worked}
+use Rattle.letter_rules.specs.Working.{Asked, Working, arriving, begun, bytes_in, fetch_of, asking, filling, free_event, freeing, is_too_many, loads, posted, posting, read_due, read_event, worked}
 use Rattle.letter_rules.specs.Calls.{After, IsSent, calls, Refused, Reply, Send, Settle, is_asked, replies, send_event, taking}
 use Rattle.letter_rules.specs.Wanting.{IsCut, IsPartlyStored}
 use Rattle.letter_rules.specs.declared.faults.MailFault.{MailFault}

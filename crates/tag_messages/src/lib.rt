@@ -16,8 +16,6 @@ mod plans;
 mod polling;
 mod sending;
 mod taking;
-#[cfg(test)]
-mod tests;
 mod working;
 
 pub use letter_rules::{Letter, MailFault, MailPlan};

@@ -1,6 +1,4 @@
-use Rattle.std.proofs.Common.{◌≡◌, ◌+◌, ◌-◌, ◌≤◌, length, drop, vec_len, vec_capacity}
-use Rattle.protocol.specs.State.{World}
-use Rattle.letter_rules.specs.Working.{noting_all}
+use Rattle.std.proofs.Common.{◌≡◌, ◌+◌, ◌-◌, ◌≤◌, length, vec_len, vec_capacity}
 use Rattle.tag_messages.proofs.Noting.{IsNoting}
 use Rattle.tag_messages.proofs.polling.note_all.Given as goal
 

@@ -1,5 +1,5 @@
 use Rattle.std.proofs.Common.{refl, sym, subst, [], ◌∷◌}
-use Rattle.std.specs.Prelude.{OnOk, Result}
+use Rattle.std.specs.Prelude.{OnOk}
 use Rattle.std.proofs.lemmas.Result.{on_ok_weaker}
 use Rattle.letter_rules.specs.Calls.{Network, Refused}
 use Rattle.tag_messages.specs.Runs.{IsRun}

@@ -1,7 +1,6 @@
 use Rattle.std.proofs.Common.{sym, ◌∙◌}
 use Rattle.std.proofs.lemmas.Result.{on_ok_weaker}
 use Rattle.letter_rules.specs.declared.faults.MailFault.TheVariants as fault
-use Rattle.letter_rules.specs.declared.letters.Letter.{Letter}
 use Rattle.letter_rules.specs.Calls.{IsSent, Refused}
 use Rattle.tag_messages.proofs.Refusals.{by_fault_weaker, by_refusal, if_err_is, if_err_weaker, never_out, no_sender_fault}
 use Rattle.tag_messages.proofs.Sent.{cut_at, refused_at, refused_call, sent_ok, work_cut}

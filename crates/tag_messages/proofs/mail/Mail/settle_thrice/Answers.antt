@@ -1,5 +1,4 @@
 use Rattle.std.proofs.lemmas.Result.{on_ok_weaker}
-use Rattle.letter_rules.specs.Calls.{Settle, Work}
 use Rattle.tag_messages.proofs.Running.{run_thrice}
 use Rattle.tag_messages.proofs.mail.Mail.settle_thrice.Goals as goal
 

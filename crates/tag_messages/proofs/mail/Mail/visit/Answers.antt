@@ -1,7 +1,6 @@
 use Rattle.std.proofs.Common.{◌≡◌, ◌<◌, ◌≤◌, [], length, sym, ap, ◌∙◌, subst, arith}
 use Rattle.protocol.specs.declared.events.Event.{Event}
 use Rattle.letter_rules.specs.State as state
-use Rattle.letter_rules.specs.Working.{entries_in}
 use Rattle.tag_messages.specs.Steps.{IsAsked, Shows}
 use Rattle.tag_messages.proofs.Advancing.{polled_none, polled_some}
 use Rattle.tag_messages.proofs.Polled.{few_answered, none_left}

@@ -1,9 +1,9 @@
-//! Tests of whole runs.
+//! Letters that are sent by code, and taken: out of order, and by a receiver that moves in between.
 
-use crate::names::receiver;
-use crate::{Mail, MailFault, MailPlan, run_mail};
+use rdma_types::Name;
 use settle_core::Rounds;
 use std::alloc::Global;
+use tag_messages::{Mail, MailFault, MailPlan, run_mail};
 use world_core::WorldEvent;
 
 /// The tag and the first byte of a letter that is taken; None where there is none.
@@ -41,7 +41,9 @@ fn to_a_moving_receiver(
     alloc: Global,
     mail: &mut Mail,
 ) -> Result<[Option<(u32, u8)>; 4], MailFault> {
-    let context = receiver();
+    let Some(context) = Name::read(b"r") else {
+        return Err(MailFault::NoSender);
+    };
     let long = Vec::from_elem(alloc, 0xcc, 5000)?;
     mail.send(alloc, 1, 5, long.as_slice())?;
     mail.network(alloc, &WorldEvent::Stop { context })?;
