@@ -1,5 +1,5 @@
 -- Work keeps what is true of a connection: bodies that are fetched and copied, slots, and letters that are sent.
-use Rattle.std.proofs.Common.{arith, ◌≡◌, ℕ, ◌+◌, ◌-◌, ◌*◌, ◌/◌, ◌%◌, ◌<◌, ◌≤◌, List, [], ◌∷◌, ◌++◌, length, take, map, get_or, true, false, Bool, refl, sym, ap, ◌∙◌, Some, ◌⊎◌, inl, inr, length-append, ltb-false, ltb-true}
+use Rattle.std.proofs.Common.{arith, ◌≡◌, ℕ, ◌+◌, ◌-◌, ◌*◌, ◌/◌, ◌%◌, ◌<◌, ◌≤◌, List, [], ◌∷◌, ◌++◌, length, take, map, get_or, true, false, Bool, refl, sym, ap, ◌∙◌, subst, Some, ◌⊎◌, inl, inr, length-append, ltb-false, ltb-true}
 use Rattle.std.specs.Prelude.{All, if◌then◌else◌, nat_lt, slice_get}
 use Rattle.std.proofs.lemmas.List.{take_more}
 use Rattle.std.proofs.lemmas.List.Elements.{All-append, All-head, All-nil, All-same, All-tail}
@@ -14,8 +14,8 @@ use Rattle.letter_rules.specs.Histories.{Placed, fetched_before}
 use Rattle.letter_rules.specs.Opening.{landing_address, receiver_key, sender_remote_key, slot_address}
 use Rattle.letter_rules.specs.State.{Channel}
 use Rattle.letter_rules.specs.Working.{filled, filling, freeing, request}
-use Rattle.law_letters.specs.Arrived.{AreOpen, arrival_at, in_front}
-use Rattle.law_letters.specs.Kept.{IsKeptWith, IsQueueOfReceiver, freed_as, landing_offset, last_long, long_letters, read_as, requests_for, slot_offset}
+use Rattle.law_letters.specs.Arrived.{AreOpen, HasArrived, arrival_at, in_front}
+use Rattle.law_letters.specs.Kept.{AreCountsKept, AreMessagesKept, ArePlacesKept, IsKeptWith, IsLandingKept, IsQueueOfReceiver, IsSlotKept, Pending, WaitsOpen, freed_as, landing_offset, last_long, long_letters, read_as, requests_for, slot_offset}
 use Rattle.law_letters.specs.Works.{read_for}
 use Rattle.law_letters.proofs.Long.{fetched_rises, filled_next, front_all, front_has, front_rising}
 use Rattle.law_letters.proofs.Places.{all_back, all_front, copied_long, nil_of}
@@ -37,6 +37,30 @@ one_more i posted q sent queue within is =
 read_is : (i : ℕ) (f : Fetch) (l : Letter) → f.length ≡ length l.body → f.rkey ≡ sender_remote_key i → read_for i f ≡ read_as i l
 read_is i f l a b = λ k. record { request = request kind.Read (receiver_key i) (landing_address i) (a k) slot_address (b k); payload = [] }
 
+-- what is due for bodies and slots changes, which letters are open, and what the channel has beside the messages that were copied
+pub due_changes : {i : ℕ} {sender receiver : End} {stored landed : List ℕ} {due due' : Pending} {c c' : Channel} {sent : List Letter} {open' open'' : List Placed} →
+    IsKeptWith i sender receiver stored landed due c sent open' → due'.copied ≡ due.copied → due'.reposted ≡ due.reposted → c'.receives ≡ c.receives →
+    AreCountsKept (length receiver.posted) receiver.acted receiver.told receiver.ended (length due'.fetched) (length due'.bodies) due'.frees due'.slots c'.receives c'.reads c'.slot_in_use sent →
+    IsSlotKept i due'.fetched c'.slot_in_use stored sent → IsLandingKept landed (length receiver.posted) receiver.told receiver.known receiver.ended due'.bodies c'.reads sent →
+    HasArrived c' sent open'' → WaitsOpen c'.receives c'.reads sent open'' → IsKeptWith i sender receiver stored landed due' c' sent open''
+due_changes {i} {sender} {receiver} {stored} {landed} {due} {due'} {c} {c'} {sent} {open'} {open''} h copied reposted receives counts slot landing arrived waits_open = record {
+  letters = h.letters;
+  number = h.number;
+  plain = h.plain;
+  sends = h.sends;
+  messages = subst (λ n. AreMessagesKept i landed sender.acted sender.into receiver.ended receiver.in_use due'.copied n sent) (sym receives)
+      (subst (λ (l : List (ℕ × ℕ)). AreMessagesKept i landed sender.acted sender.into receiver.ended receiver.in_use l c.receives sent) (sym copied) h.messages);
+  places = subst (λ (l : List ℕ). ArePlacesKept i receiver.ended receiver.unused receiver.in_use due'.copied l) (sym reposted)
+      (subst (λ (l : List (ℕ × ℕ)). ArePlacesKept i receiver.ended receiver.unused receiver.in_use l due.reposted) (sym copied) h.places);
+  queue = h.queue;
+  counts = counts;
+  slot = slot;
+  offers = h.offers;
+  landing = landing;
+  arrived = arrived;
+  waits_open = waits_open;
+}
+
 -- ---- a Read is posted, or not
 
 module _ (i : ℕ) (sender receiver : End) (stored landed : List ℕ) (c : Channel) (sent : List Letter) (open' : List Placed) (copied : List (ℕ × ℕ)) (reposted : List ℕ) (front behind : List Fetch) (f : Fetch) (bodies : List ℕ) (frees slots : ℕ)
@@ -49,31 +73,21 @@ module _ (i : ℕ) (sender receiver : End) (stored landed : List ℕ) (c : Chann
   others P a = All-append P front behind (all_front P front (f ∷ behind) a) (All-tail P f behind (all_back P front (f ∷ behind) a))
 
   pub fetches_not : IsKeptWith i sender receiver stored landed (record { copied = copied; reposted = reposted; fetched = front ++ behind; bodies = bodies; frees = frees; slots = slots }) c sent open'
-  fetches_not = record {
-    letters = h.letters;
-    number = h.number;
-    plain = h.plain;
-    sends = h.sends;
-    messages = h.messages;
-    places = h.places;
-    queue = h.queue;
-    counts = record {
-      acted_within = h.counts.acted_within;
-      told_within = h.counts.told_within;
-      told_acted = h.counts.told_acted;
-      over = h.counts.over;
-      reads_posted = let a = h.counts.reads_posted in omega (arith, a, fewer);
-      frees_posted = h.counts.frees_posted;
-      bodies_posted = h.counts.bodies_posted;
-      bodies_told = h.counts.bodies_told;
-      slot_freed = h.counts.slot_freed;
-    };
-    slot = record { fetches_true = λ l last. others (λ g. (g.length ≡ length l.body) × (g.rkey ≡ sender_remote_key i)) (h.slot.fetches_true l last); slot_holds = h.slot.slot_holds };
-    offers = h.offers;
-    landing = h.landing;
-    arrived = h.arrived;
-    waits_open = h.waits_open;
-  }
+  fetches_not = due_changes h refl refl refl (record {
+    acted_within = h.counts.acted_within;
+    told_within = h.counts.told_within;
+    told_acted = h.counts.told_acted;
+    over = h.counts.over;
+    reads_posted = let a = h.counts.reads_posted in omega (arith, a, fewer);
+    frees_posted = h.counts.frees_posted;
+    bodies_posted = h.counts.bodies_posted;
+    bodies_told = h.counts.bodies_told;
+    slot_freed = h.counts.slot_freed;
+  })
+      (record { fetches_true = λ l last. others (λ g. (g.length ≡ length l.body) × (g.rkey ≡ sender_remote_key i)) (h.slot.fetches_true l last); slot_holds = h.slot.slot_holds })
+      h.landing
+      h.arrived
+      h.waits_open
 
   -- where a Read is due, all before it was posted, and it is the one of the last long letter
   record IsDue : Type 0 where
@@ -195,35 +209,25 @@ module _ (i : ℕ) (sender receiver : End) (stored landed : List ℕ) (c : Chann
       (front_has c.receives open' waiting opened.rising (h.waits_open place.place l place.at (inr (place.long, let d = place.counted in omega (arith, d)))) in_copied)
 
   pub body_copies : IsKeptWith i sender receiver stored landed (record { copied = copied; reposted = reposted; fetched = fetched; bodies = front ++ behind; frees = frees + 1; slots = slots }) (filling (cut landing_offset size landed) c) sent open'
-  body_copies = record {
-    letters = h.letters;
-    number = h.number;
-    plain = h.plain;
-    sends = h.sends;
-    messages = h.messages;
-    places = h.places;
-    queue = h.queue;
-    counts = record {
-      acted_within = h.counts.acted_within;
-      told_within = h.counts.told_within;
-      told_acted = h.counts.told_acted;
-      over = h.counts.over;
-      reads_posted = h.counts.reads_posted;
-      frees_posted = let a = h.counts.frees_posted in omega (arith, a);
-      bodies_posted = let a = h.counts.bodies_posted in omega (arith, a, one_body);
-      bodies_told = λ live. let a = h.counts.bodies_told live in omega (arith, a, one_body);
-      slot_freed = h.counts.slot_freed;
-    };
-    slot = h.slot;
-    offers = h.offers;
-    landing = record {
-      nothing_known = h.landing.nothing_known;
-      landing = h.landing.landing;
-      bodies_hold = λ l' at'. All-same (λ n. (n ≡ length l'.body) × (cut landing_offset n landed ≡ l'.body)) (front ++ behind) [] no_other (All-nil (λ n. (n ≡ length l'.body) × (cut landing_offset n landed ≡ l'.body)));
-    };
-    arrived = arrived_now;
-    waits_open = λ k l' there waits. h.waits_open k l' there (earlier k waits);
-  }
+  body_copies = due_changes h refl refl refl (record {
+    acted_within = h.counts.acted_within;
+    told_within = h.counts.told_within;
+    told_acted = h.counts.told_acted;
+    over = h.counts.over;
+    reads_posted = h.counts.reads_posted;
+    frees_posted = let a = h.counts.frees_posted in omega (arith, a);
+    bodies_posted = let a = h.counts.bodies_posted in omega (arith, a, one_body);
+    bodies_told = λ live. let a = h.counts.bodies_told live in omega (arith, a, one_body);
+    slot_freed = h.counts.slot_freed;
+  })
+      h.slot
+      (record {
+        nothing_known = h.landing.nothing_known;
+        landing = h.landing.landing;
+        bodies_hold = λ l' at'. All-same (λ n. (n ≡ length l'.body) × (cut landing_offset n landed ≡ l'.body)) (front ++ behind) [] no_other (All-nil (λ n. (n ≡ length l'.body) × (cut landing_offset n landed ≡ l'.body)));
+      })
+      arrived_now
+      (λ k l' there waits. h.waits_open k l' there (earlier k waits))
     where
       earlier : (k : ℕ) {A B : Type 0} → A ⊎ (B × (c.reads + 1 ≤ fetched_before k sent)) → A ⊎ (B × (c.reads ≤ fetched_before k sent))
       earlier k (inl past) = inl past
@@ -234,31 +238,21 @@ module _ (i : ℕ) (sender receiver : End) (stored landed : List ℕ) (c : Chann
 module _ (i : ℕ) (sender receiver : End) (stored landed : List ℕ) (c : Channel) (sent : List Letter) (open' : List Placed) (copied : List (ℕ × ℕ)) (reposted : List ℕ) (fetched : List Fetch) (bodies : List ℕ) (frees slots : ℕ)
     (h : IsKeptWith i sender receiver stored landed (record { copied = copied; reposted = reposted; fetched = fetched; bodies = bodies; frees = frees + 1; slots = slots }) c sent open') where
   pub free_posts_not : IsKeptWith i sender receiver stored landed (record { copied = copied; reposted = reposted; fetched = fetched; bodies = bodies; frees = frees; slots = slots }) c sent open'
-  free_posts_not = record {
-    letters = h.letters;
-    number = h.number;
-    plain = h.plain;
-    sends = h.sends;
-    messages = h.messages;
-    places = h.places;
-    queue = h.queue;
-    counts = record {
-      acted_within = h.counts.acted_within;
-      told_within = h.counts.told_within;
-      told_acted = h.counts.told_acted;
-      over = h.counts.over;
-      reads_posted = h.counts.reads_posted;
-      frees_posted = let a = h.counts.frees_posted in omega (arith, a);
-      bodies_posted = h.counts.bodies_posted;
-      bodies_told = h.counts.bodies_told;
-      slot_freed = h.counts.slot_freed;
-    };
-    slot = h.slot;
-    offers = h.offers;
-    landing = h.landing;
-    arrived = h.arrived;
-    waits_open = h.waits_open;
-  }
+  free_posts_not = due_changes h refl refl refl (record {
+    acted_within = h.counts.acted_within;
+    told_within = h.counts.told_within;
+    told_acted = h.counts.told_acted;
+    over = h.counts.over;
+    reads_posted = h.counts.reads_posted;
+    frees_posted = let a = h.counts.frees_posted in omega (arith, a);
+    bodies_posted = h.counts.bodies_posted;
+    bodies_told = h.counts.bodies_told;
+    slot_freed = h.counts.slot_freed;
+  })
+      h.slot
+      h.landing
+      h.arrived
+      h.waits_open
 
   odd : length receiver.posted % 2 ≡ 1
   odd = let a = h.counts.frees_posted in let b = h.counts.bodies_posted in omega (arith, a, b)
@@ -306,39 +300,29 @@ module _ (i : ℕ) (sender receiver : End) (stored landed : List ℕ) (c : Chann
 module _ (i : ℕ) (sender receiver : End) (stored landed : List ℕ) (c : Channel) (sent : List Letter) (open' : List Placed) (copied : List (ℕ × ℕ)) (reposted : List ℕ) (fetched : List Fetch) (bodies : List ℕ) (frees slots : ℕ) where
   pub slot_frees : IsKeptWith i sender receiver stored landed (record { copied = copied; reposted = reposted; fetched = fetched; bodies = bodies; frees = frees; slots = slots + 1 }) c sent open' →
       IsKeptWith i sender receiver stored landed (record { copied = copied; reposted = reposted; fetched = fetched; bodies = bodies; frees = frees; slots = slots }) (freeing c) sent open'
-  slot_frees h = record {
-    letters = h.letters;
-    number = h.number;
-    plain = h.plain;
-    sends = h.sends;
-    messages = h.messages;
-    places = h.places;
-    queue = h.queue;
-    counts = record {
-      acted_within = h.counts.acted_within;
-      told_within = h.counts.told_within;
-      told_acted = h.counts.told_acted;
-      over = h.counts.over;
-      reads_posted = h.counts.reads_posted;
-      frees_posted = h.counts.frees_posted;
-      bodies_posted = h.counts.bodies_posted;
-      bodies_told = h.counts.bodies_told;
-      slot_freed =
-          let a = h.counts.bodies_posted in
-          let b = h.counts.reads_posted in
-          let d = h.counts.frees_posted in
-          let e = h.counts.slot_freed in
-          let g = h.counts.acted_within in
-          let most = copied_long c.receives sent in
-          let u : (if c.slot_in_use then 1 else 0) ≤ 1 = at_most c.slot_in_use in
-          omega (arith, a, b, d, e, g, most, u);
-    };
-    slot = record { fetches_true = h.slot.fetches_true; slot_holds = λ used. let no_end : false ≡ true = used in cc };
-    offers = h.offers;
-    landing = h.landing;
-    arrived = h.arrived;
-    waits_open = h.waits_open;
-  }
+  slot_frees h = due_changes h refl refl refl (record {
+    acted_within = h.counts.acted_within;
+    told_within = h.counts.told_within;
+    told_acted = h.counts.told_acted;
+    over = h.counts.over;
+    reads_posted = h.counts.reads_posted;
+    frees_posted = h.counts.frees_posted;
+    bodies_posted = h.counts.bodies_posted;
+    bodies_told = h.counts.bodies_told;
+    slot_freed =
+        let a = h.counts.bodies_posted in
+        let b = h.counts.reads_posted in
+        let d = h.counts.frees_posted in
+        let e = h.counts.slot_freed in
+        let g = h.counts.acted_within in
+        let most = copied_long c.receives sent in
+        let u : (if c.slot_in_use then 1 else 0) ≤ 1 = at_most c.slot_in_use in
+        omega (arith, a, b, d, e, g, most, u);
+  })
+      (record { fetches_true = h.slot.fetches_true; slot_holds = λ used. let no_end : false ≡ true = used in cc })
+      h.landing
+      h.arrived
+      h.waits_open
 
   pub stores : (stored' : List ℕ) → (c.slot_in_use ≡ true → (n : ℕ) → cut slot_offset n stored' ≡ cut slot_offset n stored) →
       IsKeptWith i sender receiver stored landed (record { copied = copied; reposted = reposted; fetched = fetched; bodies = bodies; frees = frees; slots = slots }) c sent open' →

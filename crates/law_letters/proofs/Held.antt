@@ -32,6 +32,7 @@ use Rattle.letter_rules.specs.Working.{begun, most_steps, worked, working}
 use Rattle.law_letters.specs.Arrived.{HasArrived, IsTaken}
 use Rattle.law_letters.specs.Held.{AreAllKept, IsAllKept, IsHeld, IsInner, KeepingIsEnough, MayBeSent}
 use Rattle.law_letters.specs.Kept.{Has, IsKept, Sight, sight_of}
+use Rattle.law_letters.proofs.Fetching.{due_changes}
 use Rattle.law_letters.proofs.Channels.{IsSender, changed_elsewhere, changed_long, changed_there, sender_is}
 use Rattle.law_letters.proofs.Places.{all_front}
 use Rattle.law_letters.proofs.Opened.{placed_more, sent_more, were_sent}
@@ -181,21 +182,9 @@ has_without tag (z ∷ zs) x y (inr r) first other = by (λ f. has_without tag z
 
 take_kept : (i : ℕ) (s : Sight) (c : Channel) (sent : List Letter) (open' : List Placed) (tag : Option ℕ) (k : ℕ) (x : Placed) → IsKept i s c sent open' → first_wanted tag open' ≡ Some x →
     IsLanded c sent x → HasArrived (taking k c) sent (without_first tag open') → IsKept i s (taking k c) sent (without_first tag open')
-take_kept i s c sent open' tag k x h first landed left = record {
-  letters = h.letters;
-  number = h.number;
-  plain = h.plain;
-  sends = h.sends;
-  messages = h.messages;
-  places = h.places;
-  queue = h.queue;
-  counts = h.counts;
-  slot = h.slot;
-  offers = h.offers;
-  landing = h.landing;
-  arrived = left;
-  waits_open = λ j l at waiting. has_without tag open' x (record { place = j; letter = l }) (h.waits_open j l at waiting) first (other j l waiting);
-}
+take_kept i s c sent open' tag k x h first landed left =
+    due_changes h refl refl refl h.counts h.slot h.landing left
+    (λ j l at waiting. has_without tag open' x (record { place = j; letter = l }) (h.waits_open j l at waiting) first (other j l waiting))
   where
     other : (j : ℕ) (l : Letter) → (c.receives ≤ j) ⊎ ((is_rendezvous l.body ≡ true) × (c.reads ≤ fetched_before j sent)) → x ≡ record { place = j; letter = l } → ⊥
     other j l (inl past) same = let below : j < c.receives = subst (λ (z : Placed). z.place < c.receives) same landed.received in omega arith
