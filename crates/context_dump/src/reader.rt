@@ -178,7 +178,7 @@ impl DumpReader {
     }
 
     /// Takes more bytes. Errors: `BadDump` with the fault that the bytes have whatever bytes follow, which is answered
-    /// ever after; or `OutOfMemory`, and the reader is then as before.
+    /// from then on; or `OutOfMemory`, and the reader is then as before.
     pub fn feed(&mut self, piece: &[u8]) -> Result<(), DumpFault>
         ensures { Feeds self.old piece.now self.new result }
     {

@@ -251,7 +251,7 @@ fn answers_of_changed(alloc: Global, at: usize, value: u8) -> Result<[Option<Dum
     Ok(answers_of(alloc, &bytes))
 }
 
-/// A reader that found a fault in the bytes of a dump answers it ever after.
+/// A reader that found a fault in the bytes of a dump answers it from then on.
 #[test]
 fn faults_are_kept(rt: HostRuntime) -> Result<(), Fail> {
     for (at, value, place, why) in [

@@ -27,7 +27,7 @@ if_err_is P (Err y) e h p = subst P (sym h) p
 -- nothing was done
 pub cut_here : (s s' : Evacuation) (w : World) → Shows w s → Leads s s' → IsCut s s' w
 unfolding world_after
-cut_here s s' w shows l = record { front = []; back = l.done; splits = l.steps; events = []; under_way = tt; world = shows.world }
+cut_here s s' w shows l = record { prefix = []; back = l.done; splits = l.steps; events = []; under_way = tt; world = shows.world }
 
 -- a settling stopped on its way
 under_settling : (w : World) (es rest : List WorldEvent) → settling_events w ≡ es ++ rest → AreUnderWay w es (Settles ∷ [])
@@ -37,7 +37,7 @@ under_settling w (e ∷ es) rest are = record { rest = rest; are = are }
 pub cut_settling : (s : Evacuation) (w new : World) → Shows w s → IsLeft w new → IsCut s (doing s Settles) new
 cut_settling s w new shows l =
     let c : settled.IsCut s.world (settling_events s.world) new = l s.world (sym (alike_kept w s.world (kept_alike w s.world shows.world))) in
-    record { front = []; back = Settles ∷ []; splits = refl; events = c.made; under_way = under_settling s.world c.made c.rest c.are; world = c.world }
+    record { prefix = []; back = Settles ∷ []; splits = refl; events = c.made; under_way = under_settling s.world c.made c.rest c.are; world = c.world }
 
 -- more steps would follow
 under_on : (w : World) (es : List WorldEvent) (back more : List Happening) → AreUnderWay w es back → AreUnderWay w es (back ++ more)
@@ -49,20 +49,20 @@ under_on w (e ∷ es) (Settles ∷ back) more h = h
 
 pub cut_before : (s mid s' : Evacuation) (w : World) → IsCut s mid w → Leads mid s' → IsCut s s' w
 cut_before s mid s' w c l = record {
-  front = c.front;
+  prefix = c.prefix;
   back = c.back ++ l.done;
-  splits = l.steps ∙ (ap (λ hs. hs ++ l.done) c.splits ∙ (append_assoc s.steps (c.front ++ c.back) l.done ∙ ap (λ hs. s.steps ++ hs) (append_assoc c.front c.back l.done)));
+  splits = l.steps ∙ (ap (λ hs. hs ++ l.done) c.splits ∙ (append_assoc s.steps (c.prefix ++ c.back) l.done ∙ ap (λ hs. s.steps ++ hs) (append_assoc c.prefix c.back l.done)));
   events = c.events;
-  under_way = under_on (world_left s.world c.front) c.events c.back l.done c.under_way;
+  under_way = under_on (world_left s.world c.prefix) c.events c.back l.done c.under_way;
   world = c.world;
 }
 
 -- other steps were made before
 pub cut_after : (s mid s' : Evacuation) (w : World) → Leads s mid → IsCut mid s' w → IsCut s s' w
-cut_after s mid s' w l c = let on : world_left mid.world c.front ≡ world_left s.world (l.done ++ c.front) = ap (λ v. world_left v c.front) l.world ∙ sym (left_on s.world l.done c.front) in record {
-  front = l.done ++ c.front;
+cut_after s mid s' w l c = let on : world_left mid.world c.prefix ≡ world_left s.world (l.done ++ c.prefix) = ap (λ v. world_left v c.prefix) l.world ∙ sym (left_on s.world l.done c.prefix) in record {
+  prefix = l.done ++ c.prefix;
   back = c.back;
-  splits = c.splits ∙ (ap (λ hs. hs ++ (c.front ++ c.back)) l.steps ∙ (append_assoc s.steps l.done (c.front ++ c.back) ∙ ap (λ hs. s.steps ++ hs) (sym (append_assoc l.done c.front c.back))));
+  splits = c.splits ∙ (ap (λ hs. hs ++ (c.prefix ++ c.back)) l.steps ∙ (append_assoc s.steps l.done (c.prefix ++ c.back) ∙ ap (λ hs. s.steps ++ hs) (sym (append_assoc l.done c.prefix c.back))));
   events = c.events;
   under_way = subst (λ (v : World). AreUnderWay v c.events c.back) on c.under_way;
   world = c.world ∙ ap (λ v. with_kept_datagrams (world_after v c.events)) on;
@@ -70,4 +70,4 @@ cut_after s mid s' w l c = let on : world_left mid.world c.front ≡ world_left 
 
 -- it is of evacuations with the same steps
 pub cut_as : (s a b : Evacuation) (w : World) → b.steps ≡ a.steps → IsCut s a w → IsCut s b w
-cut_as s a b w same c = record { front = c.front; back = c.back; splits = same ∙ c.splits; events = c.events; under_way = c.under_way; world = c.world }
+cut_as s a b w same c = record { prefix = c.prefix; back = c.back; splits = same ∙ c.splits; events = c.events; under_way = c.under_way; world = c.world }

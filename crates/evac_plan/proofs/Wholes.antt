@@ -91,20 +91,20 @@ module _ (old : World) (from : ℕ) (targets : List ℕ) (w : World) (kept : old
 
 -- ---- what the laws say
 
-front_each : (es rest : List WorldEvent) → All IsSettling (es ++ rest) → All IsSettling es
-front_each [] rest h = All-nil IsSettling
-front_each (e ∷ es) rest h = All-cons IsSettling e es (All-head IsSettling e (es ++ rest) h) (front_each es rest (All-tail IsSettling e (es ++ rest) h))
+prefix_each : (es rest : List WorldEvent) → All IsSettling (es ++ rest) → All IsSettling es
+prefix_each [] rest h = All-nil IsSettling
+prefix_each (e ∷ es) rest h = All-cons IsSettling e es (All-head IsSettling e (es ++ rest) h) (prefix_each es rest (All-tail IsSettling e (es ++ rest) h))
 
 under_all : SettlingHasEvents → (w : World) (es : List WorldEvent) (back : List Happening) → AreUnderWay w es back → All IsSettling es
 under_all made w [] back h = All-nil IsSettling
 under_all made w (e ∷ es) [] h = absurd h
 under_all made w (e ∷ es) (Event x ∷ back) h = absurd h
 under_all made w (e ∷ es) (Dump n ∷ back) h = absurd h
-under_all made w (e ∷ es) (Settles ∷ back) h = front_each (e ∷ es) h.rest (subst (All IsSettling) h.are (made w).each)
+under_all made w (e ∷ es) (Settles ∷ back) h = prefix_each (e ∷ es) h.rest (subst (All IsSettling) h.are (made w).each)
 
-front_follows : (w : World) (m : Machine) (front back : List Happening) → Stands w m → FollowsAll w m (front ++ back) → FollowsAll w m front
-front_follows w m [] back stands h = stands
-front_follows w m (x ∷ front) back stands h = (h.0, front_follows (happens w x).world (after m (line_steps w m x)) front back h.0.stands h.1)
+prefix_follows : (w : World) (m : Machine) (prefix back : List Happening) → Stands w m → FollowsAll w m (prefix ++ back) → FollowsAll w m prefix
+prefix_follows w m [] back stands h = stands
+prefix_follows w m (x ∷ prefix) back stands h = (h.0, prefix_follows (happens w x).world (after m (line_steps w m x)) prefix back h.0.stands h.1)
 
 module _ (w : World) (m : Machine) (from : ℕ) (targets : List ℕ) (stands : Stands w m) (new : World) where
   abbrev ev : Evacuation
@@ -117,7 +117,7 @@ module _ (w : World) (m : Machine) (from : ℕ) (targets : List ℕ) (stands : S
     ended : (moved : List Shifted) (stays : Option Fault) → Ends ev moved stays new → IsFollowed w m from targets new
     unfolding world_after
     ended moved stays e = record {
-      front = ev.steps;
+      prefix = ev.steps;
       back = [];
       splits = sym (append-nil ev.steps);
       events = [];
@@ -129,13 +129,13 @@ module _ (w : World) (m : Machine) (from : ℕ) (targets : List ℕ) (stands : S
 
     cut_off : IsCut (begun w) ev new → IsFollowed w m from targets new
     cut_off c = record {
-      front = c.front;
+      prefix = c.prefix;
       back = c.back;
       splits = c.splits;
       events = c.events;
       under_way = c.under_way;
-      follows = front_follows w m c.front c.back stands (subst (FollowsAll w m) c.splits (follows w m from targets stands));
-      goes_on = λ m' s'. settling (world_left w c.front) m' c.events (under_all made (world_left w c.front) c.events c.back c.under_way) s';
+      follows = prefix_follows w m c.prefix c.back stands (subst (FollowsAll w m) c.splits (follows w m from targets stands));
+      goes_on = λ m' s'. settling (world_left w c.prefix) m' c.events (under_all made (world_left w c.prefix) c.events c.back c.under_way) s';
       left = c.world;
     }
 
@@ -152,7 +152,7 @@ module _ (w : World) (m : Machine) (from : ℕ) (targets : List ℕ) (stands : S
   pub call_loses_nothing : NothingIsLost → SettlingHasEvents → (n : Name) → has_word n (names_of w) ≡ true → IsFollowed w m from targets new → IsSomewhere new n
   unfolding contexts_of
   call_loses_nothing lost made n there f =
-      subst (λ z. IsSomewhere z n) (sym f.left) (lost w m from targets f.front f.back f.events n stands f.splits (under_all made (world_left w f.front) f.events f.back f.under_way) there)
+      subst (λ z. IsSomewhere z n) (sym f.left) (lost w m from targets f.prefix f.back f.events n stands f.splits (under_all made (world_left w f.prefix) f.events f.back f.under_way) there)
 
   module _ (are : AreTargets from targets) where
     pub call_empties : DevicesAreEmptied → (moved : List Shifted) → Ends ev moved None new → IsEvacuated w from targets ev.steps new moved

@@ -43,11 +43,11 @@ IsKept fault.OutOfMemory w from targets new = Unit {0}
 -- the machine comes from m by the steps that were made, all of the evacuation's or a prefix of them, and by the first
 -- events of a settling under way
 pub record IsFollowed (w : World) (m : Machine) (from : ℕ) (targets : List ℕ) (new : World) : Type 0 where
-  pub front : List Happening
+  pub prefix : List Happening
   pub back : List Happening
-  pub splits : (evacuation w from targets).steps ≡ front ++ back
+  pub splits : (evacuation w from targets).steps ≡ prefix ++ back
   pub events : List WorldEvent
-  pub under_way : AreUnderWay (world_left w front) events back
-  pub follows : FollowsAll w m front
-  pub goes_on : (m' : Machine) → Stands (world_left w front) m' → FollowsRun (world_left w front) m' events
-  pub left : new ≡ with_kept_datagrams (world_after (world_left w front) events)
+  pub under_way : AreUnderWay (world_left w prefix) events back
+  pub follows : FollowsAll w m prefix
+  pub goes_on : (m' : Machine) → Stands (world_left w prefix) m' → FollowsRun (world_left w prefix) m' events
+  pub left : new ≡ with_kept_datagrams (world_after (world_left w prefix) events)

@@ -33,12 +33,12 @@ AreUnderWay w (e ∷ es) (Settles ∷ back) = AreFirstEvents w (e ∷ es)
 -- an evacuation stopped on its way from s to s': the first of the steps between them were made, and maybe the first
 -- events of a settling
 pub record IsCut (s s' : Evacuation) (w : World) : Type 0 where
-  pub front : List Happening
+  pub prefix : List Happening
   pub back : List Happening
-  pub splits : s'.steps ≡ s.steps ++ (front ++ back)
+  pub splits : s'.steps ≡ s.steps ++ (prefix ++ back)
   pub events : List WorldEvent
-  pub under_way : AreUnderWay (world_left s.world front) events back
-  pub world : w ≡ with_kept_datagrams (world_after (world_left s.world front) events)
+  pub under_way : AreUnderWay (world_left s.world prefix) events back
+  pub world : w ≡ with_kept_datagrams (world_after (world_left s.world prefix) events)
 
 -- s' comes of s by what became of one context, which is told by a place
 abbrev pub Becomes : Place → Name → Evacuation → Evacuation → Type 0

@@ -45,7 +45,7 @@ pub(crate) fn send(length: u32) -> Shape
     }
 }
 
-/// A Read of the begin of the region of `b`.
+/// A Read of the beginning of the region of `b`.
 pub(crate) fn read(length: u32) -> Shape
     ensures { IsLawfulShape result }
 {
@@ -76,7 +76,7 @@ pub(crate) fn post(net: &mut Net, id: u64, local: u64, shape: Shape) -> Option<S
     net.ask(1, Event::PostSend { end, request })
 }
 
-/// Bytes of the owner, at the begin of the region of `a`.
+/// Bytes of the owner, at the beginning of the region of `a`.
 pub(crate) fn store(net: &mut Net, bytes: Vec<u8>) -> Option<Said> {
     let region = object(b"a", b"m")?;
     let bytes = Items::new(bytes);

@@ -163,10 +163,10 @@ still_on from targets are w w' grows xs all =
 shifted_on : (w : World) (steps more steps' : List Happening) → steps' ≡ steps ++ more → (xs : List Shifted) → All (IsShifted w steps) xs → All (IsShifted w steps') xs
 shifted_on w steps more steps' is xs all =
     All-weaker (IsShifted w steps) (IsShifted w steps') (λ x h. record {
-      front = h.front;
+      prefix = h.prefix;
       refused = h.refused;
       back = h.back ++ more;
-      splits = is ∙ (ap (λ hs. hs ++ more) h.splits ∙ append_assoc (h.front ++ shift x.context h.refused x.target) h.back more);
+      splits = is ∙ (ap (λ hs. hs ++ more) h.splits ∙ append_assoc (h.prefix ++ shift x.context h.refused x.target) h.back more);
       moved = h.moved;
     }) xs all
 
@@ -301,7 +301,7 @@ module _ (laws : AreLaws) (w0 : World) (from : ℕ) (targets : List ℕ) (are : 
           (subst (IsMoved i) (sym is_here.context) (laws.moved i)))
 
       is_shifted : IsShifted w0 s3.steps y
-      is_shifted = record { front = s.steps; refused = p.refused; back = Settles ∷ []; splits = ap (λ hs. hs ++ Settles ∷ []) steps_are; moved = is_moved }
+      is_shifted = record { prefix = s.steps; refused = p.refused; back = Settles ∷ []; splits = ap (λ hs. hs ++ Settles ∷ []) steps_are; moved = is_moved }
 
       moved_are : s3.moved ≡ s.moved ++ y ∷ []
       moved_are = ap (λ xs. xs ++ y ∷ []) p.tale.moved

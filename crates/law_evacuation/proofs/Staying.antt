@@ -211,10 +211,10 @@ is_named : (w : World) (c : Name) → has_word c (names_of w) ≡ (is_live w c |
 is_named w c = has_name-names c (contexts_of w) ∙ has_context_is w c
 
 pub nothing_lost : AreLaws → NothingIsLost
-nothing_lost laws w m from targets front back es n s splits each there =
-    let steps : All IsStep front = all_before IsStep front back (subst (All IsStep) splits (all_steps w from targets)) in
-    let first : IsStayed w (world_left w front) = steps_stay laws w front steps (m, s) in
-    let v : World = world_left w front in
+nothing_lost laws w m from targets prefix back es n s splits each there =
+    let steps : All IsStep prefix = all_before IsStep prefix back (subst (All IsStep) splits (all_steps w from targets)) in
+    let first : IsStayed w (world_left w prefix) = steps_stay laws w prefix steps (m, s) in
+    let v : World = world_left w prefix in
     let m1 : Machine = first.stands.0 in
     let run : FollowsRun v m1 es = laws.settling.follows v m1 es each first.stands.1 in
     let last : Stays v (world_after v es) = kept_stays v (world_after v es) m1 (after m1 (joined_steps run.steps)) first.stands.1 run.stands (events_keep laws.settling v m1 es first.stands.1 each) in

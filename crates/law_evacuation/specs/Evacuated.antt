@@ -25,11 +25,11 @@ shift n refused t = stop n ∷ map (restore n) refused ++ restore n t ∷ []
 
 -- that is done among the steps; and the context, as it is restored, is the image that its stop gave but for what a move changes
 pub record IsShifted (w : World) (steps : List Happening) (x : Shifted) : Type 0 where
-  pub front : List Happening
+  pub prefix : List Happening
   pub refused : List ℕ
   pub back : List Happening
-  pub splits : steps ≡ front ++ shift x.context refused x.target ++ back
-  pub moved : IsMoved (image_of (live_context (world_left w front) x.context)) (live_context (world_left w (front ++ shift x.context refused x.target)) x.context)
+  pub splits : steps ≡ prefix ++ shift x.context refused x.target ++ back
+  pub moved : IsMoved (image_of (live_context (world_left w prefix) x.context)) (live_context (world_left w (prefix ++ shift x.context refused x.target)) x.context)
 
 -- a context lives on a device
 abbrev pub LivesOn : World → ℕ → Name → Type 0
@@ -89,6 +89,6 @@ IsSomewhere w n = count_by (λ k. bytes_eq k n) (names_of w) ≡ 1
 -- some steps and then some events of a settling lose no context
 abbrev pub NothingIsLost : Type 0
 NothingIsLost =
-    (w : World) (m : Machine) (from : ℕ) (targets : List ℕ) (front back : List Happening) (events : List WorldEvent) (n : Name) → Stands w m →
-    (evacuation w from targets).steps ≡ front ++ back → All IsSettling events → has_word n (names_of w) ≡ true →
-    IsSomewhere (world_after (world_left w front) events) n
+    (w : World) (m : Machine) (from : ℕ) (targets : List ℕ) (prefix back : List Happening) (events : List WorldEvent) (n : Name) → Stands w m →
+    (evacuation w from targets).steps ≡ prefix ++ back → All IsSettling events → has_word n (names_of w) ≡ true →
+    IsSomewhere (world_after (world_left w prefix) events) n

@@ -146,8 +146,8 @@ all_reached w m (h ∷ hs) f =
 pub all_legal : (w : World) (m : Machine) (hs : List Happening) → FollowsAll w m hs → IsLegalFrom m (heard_from w hs)
 all_legal w m hs f = let r : ReachesAll w m hs = all_reached w m hs f in record { run = lines_steps w m hs; is_run = r.is_run; heard_all = r.heard_all }
 
--- ---- fronts
+-- ---- prefixes
 
-pub front_followed : (w : World) (m : Machine) (front rest : List Happening) → Stands w m → FollowsAll w m (front ++ rest) → FollowsAll w m front
-front_followed w m [] rest s f = s
-front_followed w m (h ∷ hs) rest s f = (f.0, front_followed (happens w h).world (after m (line_steps w m h)) hs rest f.0.stands f.1)
+pub prefix_followed : (w : World) (m : Machine) (prefix rest : List Happening) → Stands w m → FollowsAll w m (prefix ++ rest) → FollowsAll w m prefix
+prefix_followed w m [] rest s f = s
+prefix_followed w m (h ∷ hs) rest s f = (f.0, prefix_followed (happens w h).world (after m (line_steps w m h)) hs rest f.0.stands f.1)

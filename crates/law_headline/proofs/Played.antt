@@ -30,18 +30,18 @@ says_lines first (bs ∷ more) = by (reading_of bs) refl (script_from (first + 1
     on : (l : Line) (ls : List Line) → reading_of bs ≡ Ok l → (o : Option BadLine) → MatchOption o (AreRead more ls) (λ bad. IsFirstBad (first + 1) more ls bad) → MatchOption o (AreRead (bs ∷ more) (l ∷ ls)) (λ bad. IsFirstBad first (bs ∷ more) (l ∷ ls) bad)
     on l ls e None h = (e, h)
     on l ls e (Some bad) h = record {
-      front = bs ∷ h.front;
+      prefix = bs ∷ h.prefix;
       line = h.line;
       rest = h.rest;
       splits = ap (λ x. bs ∷ x) h.splits;
       are_read = (e, h.are_read);
-      number = let n : bad.number ≡ (first + 1) + length h.front = h.number in omega arith;
+      number = let n : bad.number ≡ (first + 1) + length h.prefix = h.number in omega arith;
       offends = h.offends;
     }
 
     by : (r : Result Line Offence) → reading_of bs ≡ r → (s : Script) → SaysLines (first + 1) more s → SaysLines first (bs ∷ more) (begins_with r first s)
     by (Ok l) e s h = on l s.lines e s.bad h
-    by (Err o) e s h = record { front = []; line = bs; rest = more; splits = refl; are_read = tt; number = omega arith; offends = e }
+    by (Err o) e s h = record { prefix = []; line = bs; rest = more; splits = refl; are_read = tt; number = omega arith; offends = e }
 
 -- ---- answers and their text
 
@@ -50,7 +50,7 @@ unfolding answers_in
 one_each w [] = refl
 one_each w (h ∷ hs) = ap suc (one_each (happens w h).world hs)
 
-pub text_on : (w : World) (front rest : List Happening) → text_from w (front ++ rest) ≡ text_from w front ++ text_from (world_left w front) rest
+pub text_on : (w : World) (prefix rest : List Happening) → text_from w (prefix ++ rest) ≡ text_from w prefix ++ text_from (world_left w prefix) rest
 unfolding answers_in
 text_on w [] rest = refl
 text_on w (h ∷ hs) rest =

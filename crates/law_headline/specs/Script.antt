@@ -57,12 +57,12 @@ AreRead (bs ∷ more) (l ∷ ls) = (reading_of bs ≡ Ok l) × AreRead more ls
 
 -- that line is bad, and those before it are read so; the first line has the number `first`
 pub record IsFirstBad (first : ℕ) (lines : List (List ℕ)) (ls : List Line) (bad : BadLine) : Type 0 where
-  pub front : List (List ℕ)
+  pub prefix : List (List ℕ)
   pub line : List ℕ
   pub rest : List (List ℕ)
-  pub splits : lines ≡ front ++ line ∷ rest
-  pub are_read : AreRead front ls
-  pub number : bad.number ≡ first + length front
+  pub splits : lines ≡ prefix ++ line ∷ rest
+  pub are_read : AreRead prefix ls
+  pub number : bad.number ≡ first + length prefix
   pub offends : reading_of line ≡ Err bad.offence
 
 -- a script says what its lines say: all of them, or those before the first bad one

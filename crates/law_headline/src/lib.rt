@@ -54,8 +54,8 @@ pub fn lines_are_followed()
 /// comes to.
 pub fn scripts_are_followed()
     ensures whole { (text : List ℕ) → IsFollowed text }
-    ensures follows_front { (text : List ℕ) (front rest : List Happening) → happenings text ≡ front ++ rest → FollowsAll empty_world empty front }
-    ensures legal_front { (text : List ℕ) (front rest : List Happening) → happenings text ≡ front ++ rest → IsLegal (heard_from empty_world front) }
+    ensures follows_prefix { (text : List ℕ) (prefix rest : List Happening) → happenings text ≡ prefix ++ rest → FollowsAll empty_world empty prefix }
+    ensures legal_prefix { (text : List ℕ) (prefix rest : List Happening) → happenings text ≡ prefix ++ rest → IsLegal (heard_from empty_world prefix) }
     ensures reached { (text : List ℕ) → ReachesAll empty_world empty (happenings text) }
 {
     lines_are_in_range();

@@ -20,7 +20,7 @@ pub fn scripts_say_their_lines()
 /// for the others from the world that the prefix leaves.
 pub fn answers_stand_in_order()
     ensures count { (text : List ℕ) (w : World) → length (answers_in w (happenings text)) ≡ count_by is_answered (script_of text).lines }
-    ensures text { (w : World) (front rest : List Happening) → text_from w (front ++ rest) ≡ text_from w front ++ text_from (world_left w front) rest }
+    ensures text { (w : World) (prefix rest : List Happening) → text_from w (prefix ++ rest) ≡ text_from w prefix ++ text_from (world_left w prefix) rest }
 {}
 
 /// A loop that reads line after line, answers each and writes the text has written the answers to the whole text where it comes to

@@ -6,14 +6,14 @@ use Rattle.law_node.specs.Stops.{StopsAt}
 use Rattle.law_node.specs.Told.{Contents, TellsAll}
 
 -- calls after calls
-pub leads_on : (front back : List Call) (plan between left : Plan) → Leads plan front between → Leads between back left → Leads plan (front ++ back) left
+pub leads_on : (prefix back : List Call) (plan between left : Plan) → Leads plan prefix between → Leads between back left → Leads plan (prefix ++ back) left
 leads_on [] back plan between left a b = subst (λ p. Leads p back left) (sym a) b
-leads_on (call ∷ front) back plan between left a b = (a.0, a.1, leads_on front back a.0 between left a.2 b)
+leads_on (call ∷ prefix) back plan between left a b = (a.0, a.1, leads_on prefix back a.0 between left a.2 b)
 
 -- what they told
-pub tells_on : (front back : List Call) (before between after : Contents) → TellsAll before front between → TellsAll between back after → TellsAll before (front ++ back) after
+pub tells_on : (prefix back : List Call) (before between after : Contents) → TellsAll before prefix between → TellsAll between back after → TellsAll before (prefix ++ back) after
 tells_on [] back before between after a b = subst (λ t. TellsAll t back after) a b
-tells_on (call ∷ front) back before between after a b = (a.0, a.1, tells_on front back a.0 between after a.2 b)
+tells_on (call ∷ prefix) back before between after a b = (a.0, a.1, tells_on prefix back a.0 between after a.2 b)
 
 -- nothing was called yet
 pub comes_nowhere : {A : Type 0} (part : (A → Plan) → Plan) (t : Contents) → Comes part part t t

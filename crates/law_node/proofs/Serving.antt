@@ -21,7 +21,7 @@ use Rattle.law_node.specs.Laws.{IsOfTurn, TurnsAreEvents}
 
 -- a plan that is made to its end comes by another on its way
 abbrev pub Passes : List Call → Plan → Ending → Type 0
-Passes calls left e = (front : List Call) × (back : List Call) × (calls ≡ front ++ back) × Leads left back (Ends e)
+Passes calls left e = (prefix : List Call) × (back : List Call) × (calls ≡ prefix ++ back) × Leads left back (Ends e)
 
 -- events of a turn lead from one device to another
 abbrev pub ByEvents : Device → Device → Type 0
@@ -90,11 +90,11 @@ stands v more calls e h = (v, no_event v.device, at_once calls (more v) e h)
 -- an event, and then what leads on
 pub an_event_first : (v : Node) (ev : Event) (next : Node → Outcome → (Node → Plan) → Plan) (x : Node) → IsOfTurn ev → x.device ≡ (node_after v ev).device → Steps x (next (node_after v ev) (node_outcome v ev)) → Steps v (λ more. stepping v ev λ n o. next n o more)
 an_event_first v ev next x of_turn same steps more calls e h =
-    let front : Passes calls (next (node_after v ev) (node_outcome v ev) more) e = stepping_passes v ev (λ n o. next n o more) calls e h in
-    let k : (w : Node) × ByEvents x.device w.device × Passes front.1 (more w) e = steps more front.1 e front.3 in (
+    let prefix : Passes calls (next (node_after v ev) (node_outcome v ev) more) e = stepping_passes v ev (λ n o. next n o more) calls e h in
+    let k : (w : Node) × ByEvents x.device w.device × Passes prefix.1 (more w) e = steps more prefix.1 e prefix.3 in (
       k.0,
       an_event v ev k.0.device of_turn (subst (λ d. ByEvents d k.0.device) same k.1),
-      passing_on calls (next (node_after v ev) (node_outcome v ev) more) (more k.0) e front k.2,
+      passing_on calls (next (node_after v ev) (node_outcome v ev) more) (more k.0) e prefix k.2,
     )
 
 -- one part after another

@@ -43,6 +43,6 @@ abbrev pub TurnsAreEvents : Type 0
 TurnsAreEvents =
     (count : ℕ) (v : Node) (more : Node → Plan) (calls : List Call) (ending : Ending) →
     Leads (turns count v more) calls (Ends ending) →
-    (es : List Event) × (w : Node) × (front : List Call) × (back : List Call) ×
-    (calls ≡ front ++ back) × Leads (more w) back (Ends ending) ×
+    (es : List Event) × (w : Node) × (prefix : List Call) × (back : List Call) ×
+    (calls ≡ prefix ++ back) × Leads (more w) back (Ends ending) ×
     All IsOfTurn es × (w.device ≡ replay v.device es)

@@ -53,11 +53,11 @@ DepotFailed left reached after = IsOfDepot left × KeepsHeld left reached after 
 
 -- bytes of a text were written, but not all of them
 pub record IsCut (text : List ℕ) (before after : Contents) : Type 0 where
-  pub front : List ℕ
+  pub prefix : List ℕ
   pub rest : List ℕ
-  pub splits : text ≡ front ++ rest
+  pub splits : text ≡ prefix ++ rest
   pub lacks : rest ≢ []
-  pub written : PutsText before.written after.written front
+  pub written : PutsText before.written after.written prefix
 
 -- the next call writes a text, and that was cut
 abbrev pub CutsAnswer : Plan → Contents → Contents → Type 0

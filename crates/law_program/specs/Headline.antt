@@ -287,10 +287,10 @@ IsToWrite said r text = IsToWriteBy said r (command r) text
 -- no more was taken of the input than the limit, and what was written is a prefix of what the command writes, and the last line
 pub record IsCutShort (said : ImageText) (r : Run) : Type 0 where
   pub few : TakesFew r
-  pub front : List ℕ
+  pub prefix : List ℕ
   pub rest : List ℕ
-  pub to_write : IsToWrite said r (front ++ rest)
-  pub written : Writes r (front ++ memory_line)
+  pub to_write : IsToWrite said r (prefix ++ rest)
+  pub written : Writes r (prefix ++ memory_line)
 
 -- status 8: memory ran out
 abbrev pub IsShortOfMemoryBy : ImageText → Run → Option Command → Type 0

@@ -61,16 +61,16 @@ module _ (step : (w : World) (m : Machine) (e : WorldEvent) → Stands w m → I
   line_sound w m (script.Dump name) stands may s = s
   line_sound w m Settles stands may s = settling w s
 
-  front_sound : (w : World) (m : Machine) (front rest : List Happening) → Stands w m → FollowsAll w m (front ++ rest) → All MayBeSaid (front ++ rest) → IsSoundWorld w → IsSoundWorld (world_left w front)
-  front_sound w m [] rest stands follows may s = s
-  front_sound w m (h ∷ hs) rest stands follows may s =
-      front_sound (happens w h).world (after m (line_steps w m h)) hs rest follows.0.stands follows.1 (All-tail MayBeSaid h (hs ++ rest) may)
+  prefix_sound : (w : World) (m : Machine) (prefix rest : List Happening) → Stands w m → FollowsAll w m (prefix ++ rest) → All MayBeSaid (prefix ++ rest) → IsSoundWorld w → IsSoundWorld (world_left w prefix)
+  prefix_sound w m [] rest stands follows may s = s
+  prefix_sound w m (h ∷ hs) rest stands follows may s =
+      prefix_sound (happens w h).world (after m (line_steps w m h)) hs rest follows.0.stands follows.1 (All-tail MayBeSaid h (hs ++ rest) may)
       (line_sound w m h stands (All-head MayBeSaid h (hs ++ rest) may) s)
 
   pub text_sound : ((bs : List ℕ) (l : Line) → reading_of bs ≡ Ok l → MayBeSaidOf (happening_of l)) → IsSoundWorld empty_world → Stands empty_world empty → (text : List ℕ) → FollowsAll empty_world empty (happenings text) →
-      (front rest : List Happening) → happenings text ≡ front ++ rest → IsSoundWorld (world_left empty_world front)
-  text_sound read start stands text follows front rest splits =
-      front_sound empty_world empty front rest stands
+      (prefix rest : List Happening) → happenings text ≡ prefix ++ rest → IsSoundWorld (world_left empty_world prefix)
+  text_sound read start stands text follows prefix rest splits =
+      prefix_sound empty_world empty prefix rest stands
       (subst (λ (hs : List Happening). FollowsAll empty_world empty hs) splits follows)
       (subst (All MayBeSaid) splits (all_said read 1 (lines_of text)))
       start
@@ -89,19 +89,19 @@ listed_by : (w : World) → (happens w Settles).answer ≡ answer.Quiet (unfinis
 unfolding happens settles
 listed_by w = refl
 
-pub quiet_scripts : SettlingLeaves → ((text : List ℕ) (front rest : List Happening) → happenings text ≡ front ++ rest → IsSoundWorld (world_left empty_world front)) →
-    ((text : List ℕ) (front rest : List Happening) → happenings text ≡ front ++ rest → FollowsAll empty_world empty front) → SettledScriptsAreQuiet
-quiet_scripts leaves sound follows text front rest splits =
-    let w : World = world_left empty_world front in
-    let through : happenings text ≡ (front ++ Settles ∷ []) ++ rest = splits ∙ sym (append_assoc front (Settles ∷ []) rest) in
-    let before' : ReachesAll empty_world empty front = all_reached empty_world empty front (follows text front (Settles ∷ rest) splits) in
-    let same : settled_after front ≡ (settled w).world = left_on empty_world front Settles ∙ settles_to w in
+pub quiet_scripts : SettlingLeaves → ((text : List ℕ) (prefix rest : List Happening) → happenings text ≡ prefix ++ rest → IsSoundWorld (world_left empty_world prefix)) →
+    ((text : List ℕ) (prefix rest : List Happening) → happenings text ≡ prefix ++ rest → FollowsAll empty_world empty prefix) → SettledScriptsAreQuiet
+quiet_scripts leaves sound follows text prefix rest splits =
+    let w : World = world_left empty_world prefix in
+    let through : happenings text ≡ (prefix ++ Settles ∷ []) ++ rest = splits ∙ sym (append_assoc prefix (Settles ∷ []) rest) in
+    let before' : ReachesAll empty_world empty prefix = all_reached empty_world empty prefix (follows text prefix (Settles ∷ rest) splits) in
+    let same : settled_after prefix ≡ (settled w).world = left_on empty_world prefix Settles ∙ settles_to w in
     record {
       listed = unfinished (settled w).world;
       answered = listed_by w;
-      reached = all_reached empty_world empty (front ++ Settles ∷ []) (follows text (front ++ Settles ∷ []) rest through);
+      reached = all_reached empty_world empty (prefix ++ Settles ∷ []) (follows text (prefix ++ Settles ∷ []) rest through);
       quiet = λ m stands.
           subst (λ (v : World). IsQuiet v m (unfinished (settled w).world)) (sym same)
-          (leaves w (after empty (lines_steps empty_world empty front)) m (sound text front (Settles ∷ rest) splits).carried before'.stands
+          (leaves w (after empty (lines_steps empty_world empty prefix)) m (sound text prefix (Settles ∷ rest) splits).carried before'.stands
           (subst (λ (v : World). Stands v m) same stands));
     }

@@ -39,7 +39,7 @@ pub fn worlds_stay_sound()
 /// rules.
 pub fn scripts_keep_worlds_sound()
     ensures read { (line : List ℕ) (says : Line) → reading_of line ≡ Ok says → MayBeSaidOf (happening_of says) }
-    ensures sound { (text : List ℕ) (front rest : List Happening) → happenings text ≡ front ++ rest → IsSoundWorld (world_left empty_world front) }
+    ensures sound { (text : List ℕ) (prefix rest : List Happening) → happenings text ≡ prefix ++ rest → IsSoundWorld (world_left empty_world prefix) }
 {
     worlds_stay_sound();
     lines_are_in_range();

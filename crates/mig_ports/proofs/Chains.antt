@@ -66,14 +66,14 @@ Puts-then (Some held) b c xs ys h k =
     let then : Puts (Some (held ++ xs)) c ys = subst (λ o. Puts o c ys) h k in
     then ∙ ap Some (append_assoc held xs ys)
 
--- a front of a piece after the pieces before it is a front of the text that they begin
+-- a prefix of a piece after the pieces before it is a prefix of the text that they begin
 pub Puts-part : (a b c : Option (List ℕ)) (xs ys zs : List ℕ) (n : ℕ) → n ≤ length ys → Puts a b xs → Puts b c (take n ys) → Puts a c (take (length xs + n) (xs ++ ys ++ zs))
 Puts-part a b c xs ys zs n h p k =
     let seam : take (length xs + n) (xs ++ ys ++ zs) ≡ xs ++ take n ys =
     rw (append_assoc, take-add, take-append_seam, drop-append_seam) (ap (λ l. xs ++ l) (take-append-le n ys zs h)) in
     rw seam (Puts-then a b c xs (take n ys) p k)
 
--- what was read is the front of what was left
+-- what was read is a prefix of what was left
 pub read_piece : (left xs out : List ℕ) (n : ℕ) → n ≤ length left → xs ≡ take n left → left ≡ take n (xs ++ out) ++ drop n left
 read_piece left xs out n h e =
     let long : length xs ≡ n = ap length e ∙ length-take-le n left h in

@@ -111,7 +111,7 @@ module _ (w s : Option (List Addressed)) (c : Option (List ℕ)) (h : Option Hol
   output_cut text n less puts le counted = λ more.
       stops_here OutputFailed (plan.Writes text (more tt)) (telling w s c h k f d o) (telling w s c h k' f d o') (
         record {
-          front = take n text;
+          prefix = take n text;
           rest = drop n text;
           splits = sym (take-append-drop n text);
           lacks = λ none. absurd (omega (arith, ap length none, length-drop n text));

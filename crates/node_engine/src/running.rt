@@ -70,7 +70,7 @@ fn run<P: Ports>(
 }
 
 /// Runs a script of a node on a new device with this id and address, over a link that is started first: each line is answered
-/// before the next one is read, in one write.
+/// before the next one is done, in one write.
 ///
 /// # Errors
 ///

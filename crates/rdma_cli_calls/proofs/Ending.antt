@@ -1,4 +1,4 @@
--- What a run that stops leaves, once its last line is written, or a front of it.
+-- What a run that stops leaves, once its last line is written, or a prefix of it.
 use Rattle.std.proofs.Common.{arith, ◌≡◌, ◌≢◌, ◌≤◌, ◌⊎◌, ◌+◌, ℕ, List, [], ◌∷◌, ◌++◌, Option, Some, None, Result, Ok, Err, refl, ap, ap₂, subst, sym, ◌∙◌, inl, inr, append-nil, append_assoc}
 use Rattle.rdma_types.specs.declared.names.Name.{Name}
 use Rattle.rdma_types.specs.declared.requests.Address.{Address}
@@ -20,13 +20,13 @@ use Rattle.law_program.specs.Headline.{AreAnswersRead, ImageText, IsAnswerCutBy,
 use Rattle.law_program.specs.Nodes.{ComesTo, EndsBeforeReading, EndsThere}
 use Rattle.law_program.specs.Runs.{KeepsInput, KeepsOutside, KeepsUnused, ReadsInput, Run, TakesFew, WritesLine, command, input_limit}
 use Rattle.law_program.specs.Texts.{bad_dump_line, bad_line_line, depot_line, evacuation_text, long_line, memory_line, missing_line, usage_line, verdict_line}
-use Rattle.script_runner.specs.Playing.{PutsFront}
+use Rattle.script_runner.specs.Playing.{PutsPrefix}
 use Rattle.rdma_cli_calls.specs.declared.stop.Stop.{Stop}
 use Rattle.rdma_cli_calls.specs.declared.stop.Stop.TheVariants as stop
-use Rattle.rdma_cli_calls.specs.Stopping.{AuditStops, BulkStops, Counted, EvacuateStops, IsEvacuationCut, IsJudgedInPart, IsRecordedInPart, IsSilent, IsSummedUpInPart, IsToldInPart, MovesAreFollowed, NodeStops, Performs, PlayStops, RecordStops, ShowStops, StopsBy, StopsFor, WritesFront}
+use Rattle.rdma_cli_calls.specs.Stopping.{AuditStops, BulkStops, Counted, EvacuateStops, IsEvacuationCut, IsJudgedInPart, IsRecordedInPart, IsSilent, IsSummedUpInPart, IsToldInPart, MovesAreFollowed, NodeStops, Performs, PlayStops, RecordStops, ShowStops, StopsBy, StopsFor, WritesPrefix}
 use Rattle.rdma_cli_calls.specs.Writing.{last_line, status}
 
--- ---- a last line alone, and one behind a front
+-- ---- a last line alone, and one behind a prefix
 
 -- where nothing is put, all is as it was
 nothing_put : (a b : Option (List ℕ)) → Puts a b [] → b ≡ a
@@ -83,19 +83,19 @@ to_write_later said r t (Some rules.Audit) text h = h
 to_write_later said r t (Some rules.Record) text h = h
 to_write_later said r t (Some (rules.Node id own)) text h = h
 
--- memory was wanting, where a front was written of what a command writes
-short : (said : ImageText) (r : Run) (w : Option (List ℕ)) (c : Option rules.Command) → command r ≡ c → TakesFew r → WritesFront (IsToWriteBy said r c) r → Puts r.after.written w memory_line → IsCutShort said (with_written r w)
+-- memory ran out, where a prefix was written of what a command writes
+short : (said : ImageText) (r : Run) (w : Option (List ℕ)) (c : Option rules.Command) → command r ≡ c → TakesFew r → WritesPrefix (IsToWriteBy said r c) r → Puts r.after.written w memory_line → IsCutShort said (with_written r w)
 short said r w c e few f p = record {
   few = few_later r (record r.after { written = w }) few;
-  front = f.front;
+  prefix = f.prefix;
   rest = f.rest;
-  to_write = subst (λ k. IsToWriteBy said (with_written r w) k (f.front ++ f.rest)) (sym e) (to_write_later said r (record r.after { written = w }) c (f.front ++ f.rest) f.holds);
-  written = Puts-then r.before.written r.after.written w f.front memory_line f.written p;
+  to_write = subst (λ k. IsToWriteBy said (with_written r w) k (f.prefix ++ f.rest)) (sym e) (to_write_later said r (record r.after { written = w }) c (f.prefix ++ f.rest) f.holds);
+  written = Puts-then r.before.written r.after.written w f.prefix memory_line f.written p;
 }
 
 -- nothing was written
-silent_front : (said : ImageText) (r : Run) (c : Option rules.Command) → IsToWriteBy said r c [] → IsSilent r → WritesFront (IsToWriteBy said r c) r
-silent_front said r c n s = record { front = []; rest = []; holds = n; written = subst (λ h. Puts r.before.written h []) (sym s) (Puts-none r.before.written) }
+silent_prefix : (said : ImageText) (r : Run) (c : Option rules.Command) → IsToWriteBy said r c [] → IsSilent r → WritesPrefix (IsToWriteBy said r c) r
+silent_prefix said r c n s = record { prefix = []; rest = []; holds = n; written = subst (λ h. Puts r.before.written h []) (sym s) (Puts-none r.before.written) }
 
 -- ---- where a write failed: the rest is put behind what was written
 
@@ -109,8 +109,8 @@ puts_more None rest = refl
 puts_more (Some held) rest = refl
 
 -- a text is whole with its rest
-put_whole : (a b : Option (List ℕ)) (front rest text : List ℕ) → Puts a b front → front ++ rest ≡ text → Puts a (with_more b rest) text
-put_whole a b front rest text p whole = subst (λ t. Puts a (with_more b rest) t) whole (Puts-then a b (with_more b rest) front rest p (puts_more b rest))
+put_whole : (a b : Option (List ℕ)) (prefix rest text : List ℕ) → Puts a b prefix → prefix ++ rest ≡ text → Puts a (with_more b rest) text
+put_whole a b prefix rest text p whole = subst (λ t. Puts a (with_more b rest) t) whole (Puts-then a b (with_more b rest) prefix rest p (puts_more b rest))
 
 -- the count of the output is taken back
 abbrev IsCountedBack : Run → Type 0
@@ -132,7 +132,7 @@ zero_few = omega arith
 module _ (said : ImageText) (r : Run) (k : IsCountedBack r) where
   -- the answers to the lines before a bad one were written in part: with what is left of them, and the last line, it is a run that
   -- stopped there
-  bad_line_cut : (c : rules.Command) → command r ≡ Some c → ((x : Run) → IsStoppedAtBadLine x → IsStoppedBy x (Some c)) → (s : WritesFront (AreAnswersRead r) r) → (bad : BadLine) → bad_line s.holds.text ≡ Some bad → IsCutOff said r
+  bad_line_cut : (c : rules.Command) → command r ≡ Some c → ((x : Run) → IsStoppedAtBadLine x → IsStoppedBy x (Some c)) → (s : WritesPrefix (AreAnswersRead r) r) → (bad : BadLine) → bad_line s.holds.text ≡ Some bad → IsCutOff said r
   bad_line_cut c e stops s bad first = record {
     rest = s.rest ++ bad_line_line bad;
     whole = with_more r.after.written (s.rest ++ bad_line_line bad);
@@ -144,14 +144,14 @@ module _ (said : ImageText) (r : Run) (k : IsCountedBack r) where
       short = s.holds.short;
       bad = bad;
       first = first;
-      written = put_whole r.before.written r.after.written s.front (s.rest ++ bad_line_line bad) (answers_text s.holds.text ++ bad_line_line bad) s.written (sym (append_assoc s.front s.rest (bad_line_line bad)) ∙ ap (λ xs. xs ++ bad_line_line bad) s.holds.are);
+      written = put_whole r.before.written r.after.written s.prefix (s.rest ++ bad_line_line bad) (answers_text s.holds.text ++ bad_line_line bad) s.written (sym (append_assoc s.prefix s.rest (bad_line_line bad)) ∙ ap (λ xs. xs ++ bad_line_line bad) s.holds.are);
       followed = s.holds.followed;
     }));
     counts = k;
   }
 
   -- the answers were written in part
-  answers_cut : command r ≡ Some rules.Play → WritesFront (AreAnswersRead r) r → IsCutOff said r
+  answers_cut : command r ≡ Some rules.Play → WritesPrefix (AreAnswersRead r) r → IsCutOff said r
   answers_cut e s = by_line (bad_line s.holds.text) refl
     where
       by_line : (b : Option BadLine) → bad_line s.holds.text ≡ b → IsCutOff said r
@@ -165,7 +165,7 @@ module _ (said : ImageText) (r : Run) (k : IsCountedBack r) where
           read = s.holds.read;
           short = s.holds.short;
           good = good;
-          written = put_whole r.before.written r.after.written s.front s.rest (answers_text s.holds.text) s.written s.holds.are;
+          written = put_whole r.before.written r.after.written s.prefix s.rest (answers_text s.holds.text) s.written s.holds.are;
           followed = s.holds.followed;
         });
         counts = k;
@@ -175,20 +175,20 @@ module _ (said : ImageText) (r : Run) (k : IsCountedBack r) where
   -- the summary was
   summary_cut : (seed : ℕ) (mix : Mix) → command r ≡ Some (rules.Bulk seed mix) → IsSummedUpInPart r seed mix → IsCutOff said r
   summary_cut seed mix e s = record {
-    rest = s.front.rest;
-    whole = with_more r.after.written s.front.rest;
-    missing = puts_more r.after.written s.front.rest;
+    rest = s.prefix.rest;
+    whole = with_more r.after.written s.prefix.rest;
+    missing = puts_more r.after.written s.prefix.rest;
     status = ends.Done;
-    is = subst (IsDoneBy said (uncut r (with_more r.after.written s.front.rest))) (sym e) (record {
+    is = subst (IsDoneBy said (uncut r (with_more r.after.written s.prefix.rest))) (sym e) (record {
       good = s.good;
-      written = put_whole r.before.written r.after.written s.front.front s.front.rest (bulk_text seed mix) s.front.written s.front.holds;
+      written = put_whole r.before.written r.after.written s.prefix.prefix s.prefix.rest (bulk_text seed mix) s.prefix.written s.prefix.holds;
       followed = s.followed;
     });
     counts = k;
   }
 
   -- the text of a dump was
-  text_cut : (own : Name) → command r ≡ Some (rules.ShowDump own) → WritesFront (IsDumpRead said r own) r → IsCutOff said r
+  text_cut : (own : Name) → command r ≡ Some (rules.ShowDump own) → WritesPrefix (IsDumpRead said r own) r → IsCutOff said r
   text_cut own e s = record {
     rest = s.rest;
     whole = with_more r.after.written s.rest;
@@ -201,7 +201,7 @@ module _ (said : ImageText) (r : Run) (k : IsCountedBack r) where
       place = s.holds.place;
       rest = s.holds.rest;
       reads = s.holds.reads;
-      written = put_whole r.before.written r.after.written s.front s.rest (said s.holds.image) s.written s.holds.is;
+      written = put_whole r.before.written r.after.written s.prefix s.rest (said s.holds.image) s.written s.holds.is;
     });
     counts = k;
   }
@@ -209,15 +209,15 @@ module _ (said : ImageText) (r : Run) (k : IsCountedBack r) where
   -- the verdict on a run of the machine was
   verdict_cut : command r ≡ Some rules.Audit → IsJudgedInPart r → IsCutOff said r
   verdict_cut e s = record {
-    rest = s.front.rest;
-    whole = with_more r.after.written s.front.rest;
-    missing = puts_more r.after.written s.front.rest;
+    rest = s.prefix.rest;
+    whole = with_more r.after.written s.prefix.rest;
+    missing = puts_more r.after.written s.prefix.rest;
     status = ends.Done;
-    is = subst (IsDoneBy said (uncut r (with_more r.after.written s.front.rest))) (sym e) (record {
+    is = subst (IsDoneBy said (uncut r (with_more r.after.written s.prefix.rest))) (sym e) (record {
       verbs = s.verbs;
       inner = s.inner;
-      audited = audited_later r (uncut r (with_more r.after.written s.front.rest)).after (Legal s.verbs s.inner) s.audited;
-      written = put_whole r.before.written r.after.written s.front.front s.front.rest (verdict_line (Legal s.verbs s.inner)) s.front.written s.front.holds;
+      audited = audited_later r (uncut r (with_more r.after.written s.prefix.rest)).after (Legal s.verbs s.inner) s.audited;
+      written = put_whole r.before.written r.after.written s.prefix.prefix s.prefix.rest (verdict_line (Legal s.verbs s.inner)) s.prefix.written s.prefix.holds;
     });
     counts = k;
   }
@@ -225,11 +225,11 @@ module _ (said : ImageText) (r : Run) (k : IsCountedBack r) where
   -- the trace of a script was
   trace_cut : command r ≡ Some rules.Record → IsRecordedInPart r → IsCutOff said r
   trace_cut e s = record {
-    rest = s.front.rest;
-    whole = with_more r.after.written s.front.rest;
-    missing = puts_more r.after.written s.front.rest;
+    rest = s.prefix.rest;
+    whole = with_more r.after.written s.prefix.rest;
+    missing = puts_more r.after.written s.prefix.rest;
     status = ends.Done;
-    is = subst (IsDoneBy said (uncut r (with_more r.after.written s.front.rest))) (sym e) (record {
+    is = subst (IsDoneBy said (uncut r (with_more r.after.written s.prefix.rest))) (sym e) (record {
       text = s.text;
       read = s.read;
       short = s.short;
@@ -238,7 +238,7 @@ module _ (said : ImageText) (r : Run) (k : IsCountedBack r) where
       steps = s.steps;
       says = s.says;
       run = s.run;
-      written = put_whole r.before.written r.after.written s.front.front s.front.rest s.trace s.front.written s.front.holds;
+      written = put_whole r.before.written r.after.written s.prefix.prefix s.prefix.rest s.trace s.prefix.written s.prefix.holds;
     });
     counts = k;
   }
@@ -271,7 +271,7 @@ module _ (said : ImageText) (r : Run) (k : IsCountedBack r) where
         }
 
     -- the answers were written in part
-    evacuation_answers_cut : ((text : List ℕ) → MovesAreFollowed from targets text) → WritesFront (AreAnswersRead r) r → IsCutOff said r
+    evacuation_answers_cut : ((text : List ℕ) → MovesAreFollowed from targets text) → WritesPrefix (AreAnswersRead r) r → IsCutOff said r
     evacuation_answers_cut moves s = by_line (bad_line s.holds.text) refl
       where
         by_line : (b : Option BadLine) → bad_line s.holds.text ≡ b → IsCutOff said r
@@ -281,8 +281,8 @@ module _ (said : ImageText) (r : Run) (k : IsCountedBack r) where
           short = s.holds.short;
           good = good;
           ended = is;
-          written = put_whole r.before.written r.after.written s.front (s.rest ++ evacuation_text (evacuation (world_of s.holds.text) from targets)) (answers_text s.holds.text ++ evacuation_text (evacuation (world_of s.holds.text) from targets)) s.written
-              (sym (append_assoc s.front s.rest (evacuation_text (evacuation (world_of s.holds.text) from targets))) ∙ ap (λ xs. xs ++ evacuation_text (evacuation (world_of s.holds.text) from targets)) s.holds.are);
+          written = put_whole r.before.written r.after.written s.prefix (s.rest ++ evacuation_text (evacuation (world_of s.holds.text) from targets)) (answers_text s.holds.text ++ evacuation_text (evacuation (world_of s.holds.text) from targets)) s.written
+              (sym (append_assoc s.prefix s.rest (evacuation_text (evacuation (world_of s.holds.text) from targets))) ∙ ap (λ xs. xs ++ evacuation_text (evacuation (world_of s.holds.text) from targets)) s.holds.are);
           followed = s.holds.followed;
           moves = moves s.holds.text;
         })
@@ -296,14 +296,14 @@ module _ (said : ImageText) (r : Run) (k : IsCountedBack r) where
       short = s.short;
       good = s.good;
       ended = is;
-      written = put_whole r.before.written r.after.written (answers_text s.text ++ s.front) s.rest (answers_text s.text ++ evacuation_text (evacuation (world_of s.text) from targets)) s.written
-          (append_assoc (answers_text s.text) s.front s.rest ∙ ap (λ xs. answers_text s.text ++ xs) (sym s.splits));
+      written = put_whole r.before.written r.after.written (answers_text s.text ++ s.prefix) s.rest (answers_text s.text ++ evacuation_text (evacuation (world_of s.text) from targets)) s.written
+          (append_assoc (answers_text s.text) s.prefix s.rest ∙ ap (λ xs. answers_text s.text ++ xs) (sym s.splits));
       followed = s.followed;
       moves = moves s.text;
     })
 
     evacuation_cut : IsEvacuationCut r from targets → IsCutOff said r
-    evacuation_cut s = elim s.front [ inl a ↦ evacuation_answers_cut s.moves a | inr t ↦ tale_cut s.moves t ]
+    evacuation_cut s = elim s.prefix [ inl a ↦ evacuation_answers_cut s.moves a | inr t ↦ tale_cut s.moves t ]
 
 -- what is claimed of the run as it is, where no last line was written
 no_line : (said : ImageText) (r : Run) (w : Option (List ℕ)) → Puts r.after.written w [] → Claims said r ends.Unwritten → Claims said (with_written r w) ends.Unwritten
@@ -389,7 +389,7 @@ module _ (said : ImageText) (r : Run) (w : Option (List ℕ)) where
   bulk_end seed mix e few stop.WriteFault s c p = no_line said r w p (inl (summary_cut said r (counted_back r c) seed mix e s))
   bulk_end seed mix e few stop.LinkFault s c p = absurd s
   bulk_end seed mix e few stop.DepotFault s c p = absurd s
-  bulk_end seed mix e few stop.OutOfMemory s c p = subst (IsShortOfMemoryBy said (with_written r w)) (sym e) (short said r w (Some (rules.Bulk seed mix)) e few (silent_front said r (Some (rules.Bulk seed mix)) (inl refl) s) p)
+  bulk_end seed mix e few stop.OutOfMemory s c p = subst (IsShortOfMemoryBy said (with_written r w)) (sym e) (short said r w (Some (rules.Bulk seed mix)) e few (silent_prefix said r (Some (rules.Bulk seed mix)) (inl refl) s) p)
   bulk_end seed mix e few stop.TooLong s c p = absurd s
   bulk_end seed mix e few (stop.Missing name) s c p = absurd s
   bulk_end seed mix e few (stop.Illegal line why) s c p = absurd s
@@ -411,7 +411,7 @@ module _ (said : ImageText) (r : Run) (w : Option (List ℕ)) where
   show_end own e few stop.WriteFault s c p = no_line said r w p (inl (text_cut said r (counted_back r c) own e s))
   show_end own e few stop.LinkFault s c p = absurd s
   show_end own e few stop.DepotFault s c p = subst (IsWithoutDepotBy (with_written r w)) (sym e) (behind_nothing r w depot_line s p)
-  show_end own e few stop.OutOfMemory s c p = subst (IsShortOfMemoryBy said (with_written r w)) (sym e) (short said r w (Some (rules.ShowDump own)) e few (silent_front said r (Some (rules.ShowDump own)) (inl refl) s) p)
+  show_end own e few stop.OutOfMemory s c p = subst (IsShortOfMemoryBy said (with_written r w)) (sym e) (short said r w (Some (rules.ShowDump own)) e few (silent_prefix said r (Some (rules.ShowDump own)) (inl refl) s) p)
   show_end own e few stop.TooLong s c p = absurd s
   show_end own e few (stop.Missing name) s c p = subst (IsMissingBy (with_written r w)) (sym e) (s.2, subst (λ n. Puts r.before.written w (missing_line n)) s.1 (behind_nothing r w (missing_line name) s.0 p))
   show_end own e few (stop.Illegal line why) s c p = absurd s
@@ -433,7 +433,7 @@ module _ (said : ImageText) (r : Run) (w : Option (List ℕ)) where
   audit_end e o stop.WriteFault s c p = no_line said r w p (inl (verdict_cut said r (counted_back r c) e s))
   audit_end e o stop.LinkFault s c p = absurd s
   audit_end e o stop.DepotFault s c p = absurd s
-  audit_end e o stop.OutOfMemory s c p = subst (IsShortOfMemoryBy said (with_written r w)) (sym e) (short said r w (Some rules.Audit) e s.1 (silent_front said r (Some rules.Audit) refl s.0) p)
+  audit_end e o stop.OutOfMemory s c p = subst (IsShortOfMemoryBy said (with_written r w)) (sym e) (short said r w (Some rules.Audit) e s.1 (silent_prefix said r (Some rules.Audit) refl s.0) p)
   audit_end e o stop.TooLong s c p = too_long rules.Audit e tt o c.1 s.0 s.1 p
   audit_end e o (stop.Missing name) s c p = absurd s
   audit_end e o (stop.Illegal line why) s c p = subst (IsNotLegalBy (with_written r w)) (sym e) (record {
@@ -460,7 +460,7 @@ module _ (said : ImageText) (r : Run) (w : Option (List ℕ)) where
   record_end e o stop.WriteFault s c p = no_line said r w p (inl (trace_cut said r (counted_back r c) e s))
   record_end e o stop.LinkFault s c p = absurd s
   record_end e o stop.DepotFault s c p = absurd s
-  record_end e o stop.OutOfMemory s c p = subst (IsShortOfMemoryBy said (with_written r w)) (sym e) (short said r w (Some rules.Record) e s.1 (silent_front said r (Some rules.Record) refl s.0) p)
+  record_end e o stop.OutOfMemory s c p = subst (IsShortOfMemoryBy said (with_written r w)) (sym e) (short said r w (Some rules.Record) e s.1 (silent_prefix said r (Some rules.Record) refl s.0) p)
   record_end e o stop.TooLong s c p = too_long rules.Record e tt o c.1 s.0 s.1 p
   record_end e o (stop.Missing name) s c p = absurd s
   record_end e o (stop.Illegal line why) s c p = absurd s
@@ -676,19 +676,19 @@ module _ (said : ImageText) (r : Run) (x : Stop) (p : Performs {U = Unit {0}} sa
     unused = keeps_unused r w r.after.faults.output p.unused;
   })
 
-  -- or a front of it
-  pub cut_ends : x ≢ stop.ReadFault → x ≢ stop.WriteFault → (w : Option (List ℕ)) (n : ℕ) → PutsFront r.after.written w (last_line x) → Rises r.after.faults.output n → Ends said (with_output r w n) 5
-  cut_ends not_read not_written w n front rises =
-      let whole = with_more w front.rest in
-      let line : Puts r.after.written whole (last_line x) = put_whole r.after.written w front.front front.rest (last_line x) front.put (sym front.splits) in
+  -- or a prefix of it
+  pub cut_ends : x ≢ stop.ReadFault → x ≢ stop.WriteFault → (w : Option (List ℕ)) (n : ℕ) → PutsPrefix r.after.written w (last_line x) → Rises r.after.faults.output n → Ends said (with_output r w n) 5
+  cut_ends not_read not_written w n prefix rises =
+      let whole = with_more w prefix.rest in
+      let line : Puts r.after.written whole (last_line x) = put_whole r.after.written w prefix.prefix prefix.rest (last_line x) prefix.put (sym prefix.splits) in
       let output = output_kept r x not_written p.counts in
       record {
         status = ends.Unwritten;
         is = refl;
         claims = inl (record {
-          rest = front.rest;
+          rest = prefix.rest;
           whole = whole;
-          missing = puts_more w front.rest;
+          missing = puts_more w prefix.rest;
           status = status x;
           is = subst (λ m. IsWritten said (with_output r whole m) (status x)) output (written_by said (with_written r whole) x not_read not_written (stopped said r whole x p.comes p.counts p.unused line));
           counts = cut_counts r w whole n x not_read not_written p.counts;

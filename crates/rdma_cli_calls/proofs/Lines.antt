@@ -4,10 +4,10 @@ use Rattle.std.proofs.lemmas.List.{drop_all}
 use Rattle.mig_ports.specs.Streams.{Puts}
 use Rattle.mig_ports.proofs.Chains.{Puts-then}
 use Rattle.script_lang.specs.Printed.{ended}
-use Rattle.script_runner.specs.Playing.{PutsFront}
-use Rattle.script_runner.proofs.Fronts.{front_behind, front_longer}
+use Rattle.script_runner.specs.Playing.{PutsPrefix}
+use Rattle.script_runner.proofs.Prefixes.{prefix_behind, prefix_longer}
 
--- a front of a text is written, and that is to come
+-- a prefix of a text is written, and that is to come
 pub record IsWritten (held h : Option (List ℕ)) (whole rest : List ℕ) : Type 0 where
   pub done : List ℕ
   pub written : Puts held h done
@@ -21,14 +21,14 @@ more_written held h h' whole xs rest w p = record {
   splits = w.splits ∙ sym (append_assoc w.done xs rest);
 }
 
--- a front of it
-cut_off : (held h h' : Option (List ℕ)) (whole xs rest : List ℕ) → IsWritten held h whole (xs ++ rest) → PutsFront h h' xs → PutsFront held h' whole
+-- a prefix of it
+cut_off : (held h h' : Option (List ℕ)) (whole xs rest : List ℕ) → IsWritten held h whole (xs ++ rest) → PutsPrefix h h' xs → PutsPrefix held h' whole
 cut_off held h h' whole xs rest w p =
-    subst (PutsFront held h') (sym w.splits) (front_behind held h h' w.done (xs ++ rest) w.written (front_longer h h' xs rest p))
+    subst (PutsPrefix held h') (sym w.splits) (prefix_behind held h h' w.done (xs ++ rest) w.written (prefix_longer h h' xs rest p))
 
--- a front of the last piece
-last_cut_off : (held h h' : Option (List ℕ)) (whole xs : List ℕ) → IsWritten held h whole xs → PutsFront h h' xs → PutsFront held h' whole
-last_cut_off held h h' whole xs w p = subst (PutsFront held h') (sym w.splits) (front_behind held h h' w.done xs w.written p)
+-- a prefix of the last piece
+last_cut_off : (held h h' : Option (List ℕ)) (whole xs : List ℕ) → IsWritten held h whole xs → PutsPrefix h h' xs → PutsPrefix held h' whole
+last_cut_off held h h' whole xs w p = subst (PutsPrefix held h') (sym w.splits) (prefix_behind held h h' w.done xs w.written p)
 
 -- ---- the words of a line
 
@@ -46,7 +46,7 @@ end_left ws i l = ap (λ (k : List (Bor (List ℕ))). ended (texts k)) (drop_all
 
 module _ (held h h1 : Option (List ℕ)) (whole : List ℕ) (ws : List (Bor (List ℕ))) (i : ℕ) (w : IsWritten held h whole (ended (texts (drop i ws)))) where
   -- the newline is cut off
-  pub end_cut_off : length ws ≤ i → PutsFront h h1 (10 ∷ []) → PutsFront held h1 whole
+  pub end_cut_off : length ws ≤ i → PutsPrefix h h1 (10 ∷ []) → PutsPrefix held h1 whole
   end_cut_off l p = last_cut_off held h h1 whole (10 ∷ []) (subst (IsWritten held h whole) (end_left ws i l) w) p
 
   module _ (d : Bor (List ℕ)) (l : i < length ws) where
@@ -54,7 +54,7 @@ module _ (held h h1 : Option (List ℕ)) (whole : List ℕ) (ws : List (Bor (Lis
     next = subst (IsWritten held h whole) (ended_at ws i d l) w
 
     -- the space is cut off
-    pub space_cut_off : PutsFront h h1 (32 ∷ []) → PutsFront held h1 whole
+    pub space_cut_off : PutsPrefix h h1 (32 ∷ []) → PutsPrefix held h1 whole
     space_cut_off p = cut_off held h h1 whole (32 ∷ []) ((get_or ws i d).now ++ ended (texts (drop (i + 1) ws))) next p
 
     module _ (h2 : Option (List ℕ)) (p : Puts h h1 (32 ∷ [])) where
@@ -62,7 +62,7 @@ module _ (held h h1 : Option (List ℕ)) (whole : List ℕ) (ws : List (Bor (Lis
       spaced = more_written held h h1 whole (32 ∷ []) ((get_or ws i d).now ++ ended (texts (drop (i + 1) ws))) next p
 
       -- the word is cut off
-      pub word_cut_off : PutsFront h1 h2 (get_or ws i d).now → PutsFront held h2 whole
+      pub word_cut_off : PutsPrefix h1 h2 (get_or ws i d).now → PutsPrefix held h2 whole
       word_cut_off q = cut_off held h1 h2 whole (get_or ws i d).now (ended (texts (drop (i + 1) ws))) spaced q
 
       -- it is written

@@ -41,12 +41,12 @@ use Rattle.law_headline.specs.Script.{answers_text, bad_line}
 use Rattle.law_program.specs.Texts.{evacuation_text, verdict_line}
 use Rattle.evac_rules.specs.Evacuation.{Fault, evacuation}
 use Rattle.law_evacuation.specs.Evacuated.{EvacuationsAreFollowed}
-use Rattle.script_runner.specs.Playing.{IfBadLine, IsStoppedAt, PutsFront}
+use Rattle.script_runner.specs.Playing.{IfBadLine, IsStoppedAt, PutsPrefix}
 use Rattle.script_runner.specs.declared.fault.PlayFault.{PlayFault}
 use Rattle.script_runner.specs.declared.fault.PlayFault.TheVariants as play
 use Rattle.rdma_cli_calls.specs.declared.stop.Stop.{Stop}
 use Rattle.rdma_cli_calls.specs.declared.stop.Stop.TheVariants as stop
-use Rattle.rdma_cli_calls.specs.Stopping.{AnswersStop, AuditStops, BulkStops, Counted, EvacuateStops, IsNotAsked, IsSilent, IsSummedUpInPart, LookStops, MovesAreFollowed, NodeEnds, NodeStops, Performs, PlayStops, RecordStops, ShowStops, StopsBy, WritesFront, counts_of, is_empty, stop_of_audit, stop_of_dump, stop_of_node, stop_of_play, stop_of_read}
+use Rattle.rdma_cli_calls.specs.Stopping.{AnswersStop, AuditStops, BulkStops, Counted, EvacuateStops, IsNotAsked, IsSilent, IsSummedUpInPart, LookStops, MovesAreFollowed, NodeEnds, NodeStops, Performs, PlayStops, RecordStops, ShowStops, StopsBy, WritesPrefix, counts_of, is_empty, stop_of_audit, stop_of_dump, stop_of_node, stop_of_play, stop_of_read}
 
 -- no more was taken than a text within the limit
 pub all_is_few : (r : Run) (text : List ℕ) → TakesAll r.left r.left_after text → length text ≤ input_limit → TakesFew r
@@ -58,9 +58,9 @@ all_is_few r text t short = record { count = length text; short = short; read = 
         let same : length text ≡ length l = ap length t.0 in
         (omega (arith, same), t.1 ∙ ap Some (sym (drop_all (length text) l (omega (arith, same)))))
 
--- nothing is a front of nothing
-pub nothing_written : (P : List ℕ → Type 0) (r : Run) → P [] → IsSilent r → WritesFront P r
-nothing_written P r p s = record { front = []; rest = []; holds = p; written = subst (λ h. Puts r.before.written h []) (sym s) (Puts-none r.before.written) }
+-- nothing is a prefix of nothing
+pub nothing_written : (P : List ℕ → Type 0) (r : Run) → P [] → IsSilent r → WritesPrefix P r
+nothing_written P r p s = record { prefix = []; rest = []; holds = p; written = subst (λ h. Puts r.before.written h []) (sym s) (Puts-none r.before.written) }
 
 -- ---- play
 
@@ -71,14 +71,14 @@ read_stopped r read.TooLong long part short s = (s, long refl)
 read_stopped r read.OutOfMemory long part short s = (short refl, nothing_written (λ text. (text ≡ []) ⊎ AreAnswersRead r text) r (inl refl) s)
 
 module _ (r : Run) (text : List ℕ) (t : TakesAll r.left r.left_after text) (short : length text ≤ input_limit) (followed : IsFollowed text) where
-  answers_in_part : PutsFront r.before.written r.after.written (answers_text text) → WritesFront (AreAnswersRead r) r
-  answers_in_part p = record { front = p.front; rest = p.rest; holds = record { text = text; read = t; short = short; are = sym p.splits; followed = followed }; written = p.put }
+  answers_in_part : PutsPrefix r.before.written r.after.written (answers_text text) → WritesPrefix (AreAnswersRead r) r
+  answers_in_part p = record { prefix = p.prefix; rest = p.rest; holds = record { text = text; read = t; short = short; are = sym p.splits; followed = followed }; written = p.put }
 
   -- it is not played to its end
-  pub play_stopped : (f : PlayFault) → IfBadLine (IsStoppedAt r.before.written r.after.written text) f → PutsFront r.before.written r.after.written (answers_text text) → PlayStops r (stop_of_play f)
+  pub play_stopped : (f : PlayFault) → IfBadLine (IsStoppedAt r.before.written r.after.written text) f → PutsPrefix r.before.written r.after.written (answers_text text) → PlayStops r (stop_of_play f)
   play_stopped (play.BadLine line column why) b p = record { text = text; read = t; short = short; first = b.first; written = b.written; followed = followed }
   play_stopped play.WriteFault b p = answers_in_part p
-  play_stopped play.OutOfMemory b p = let a = answers_in_part p in (all_is_few r text t short, record { front = a.front; rest = a.rest; holds = inr a.holds; written = a.written })
+  play_stopped play.OutOfMemory b p = let a = answers_in_part p in (all_is_few r text t short, record { prefix = a.prefix; rest = a.rest; holds = inr a.holds; written = a.written })
 
   -- it is
   pub played : bad_line text ≡ None → Puts r.before.written r.after.written (answers_text text) → IsAnswered r
@@ -98,9 +98,9 @@ module _ (from : ℕ) (targets : List ℕ) (r : Run) where
     moves_are text' m stands = law (world_of text') m from targets stands
 
     -- it is not played to its end
-    pub evacuate_stopped : (f : PlayFault) → IfBadLine (IsStoppedAt r.before.written r.after.written text) f → PutsFront r.before.written r.after.written (answers_text text) → EvacuateStops from targets r (stop_of_play f)
+    pub evacuate_stopped : (f : PlayFault) → IfBadLine (IsStoppedAt r.before.written r.after.written text) f → PutsPrefix r.before.written r.after.written (answers_text text) → EvacuateStops from targets r (stop_of_play f)
     evacuate_stopped (play.BadLine line column why) b p = play_stopped r text t short followed (play.BadLine line column why) b p
-    evacuate_stopped play.WriteFault b p = record { front = inl (answers_in_part r text t short followed p); moves = moves_are }
+    evacuate_stopped play.WriteFault b p = record { prefix = inl (answers_in_part r text t short followed p); moves = moves_are }
     evacuate_stopped play.OutOfMemory b p = play_stopped r text t short followed play.OutOfMemory b p
 
     -- it is, and memory is wanted then
@@ -108,7 +108,7 @@ module _ (from : ℕ) (targets : List ℕ) (r : Run) where
     nothing_told p = (
       all_is_few r text t short,
       record {
-        front = answers_text text;
+        prefix = answers_text text;
         rest = [];
         holds = inr (record { text = text; read = t; short = short; are = append-nil (answers_text text); followed = followed });
         written = p;
@@ -117,18 +117,18 @@ module _ (from : ℕ) (targets : List ℕ) (r : Run) where
 
     module _ (good : bad_line text ≡ None) (h : Option (List ℕ)) (answered : Puts r.before.written h (answers_text text)) (tale : List ℕ) (is : tale ≡ evacuation_text (evacuation (world_of text) from targets)) where
       -- what becomes of the contexts is written in part
-      pub told_in_part : PutsFront h r.after.written tale → EvacuateStops from targets r stop.WriteFault
+      pub told_in_part : PutsPrefix h r.after.written tale → EvacuateStops from targets r stop.WriteFault
       told_in_part p = record {
-        front = inr (record {
+        prefix = inr (record {
           text = text;
           read = t;
           short = short;
           good = good;
           followed = followed;
-          front = p.front;
+          prefix = p.prefix;
           rest = p.rest;
           splits = sym is ∙ p.splits;
-          written = Puts-then r.before.written h r.after.written (answers_text text) p.front answered p.put;
+          written = Puts-then r.before.written h r.after.written (answers_text text) p.prefix answered p.put;
         });
         moves = moves_are;
       }
@@ -187,8 +187,8 @@ module _ (seed : ℕ) (mix : Mix) (r : Run) where
   bulk_stopped stop.NotEmptied a s = absurd a
 
   -- the summary is written in part
-  pub bulk_cut_off : bad_line (plan seed mix) ≡ None → IsFollowed (plan seed mix) → PutsFront r.before.written r.after.written (bulk_text seed mix) → IsSummedUpInPart r seed mix
-  bulk_cut_off good followed p = record { good = good; front = record { front = p.front; rest = p.rest; holds = sym p.splits; written = p.put }; followed = followed }
+  pub bulk_cut_off : bad_line (plan seed mix) ≡ None → IsFollowed (plan seed mix) → PutsPrefix r.before.written r.after.written (bulk_text seed mix) → IsSummedUpInPart r seed mix
+  bulk_cut_off good followed p = record { good = good; prefix = record { prefix = p.prefix; rest = p.rest; holds = sym p.splits; written = p.put }; followed = followed }
 
 -- ---- show-dump
 
@@ -215,8 +215,8 @@ module _ (said : ImageText) (name : Name) (r : Run) where
     decode_stopped dump.OutOfMemory b s = s
 
     -- what it says is written in part
-    pub show_cut_off : (image : ContextImage) (place : ℕ) (rest : List ℕ) → read_dump bytes ≡ Good image place rest → PutsFront r.before.written r.after.written (said image) → ShowStops said name r stop.WriteFault
-    show_cut_off image place rest g p = record { front = p.front; rest = p.rest; holds = record { bytes = bytes; found = found; image = image; place = place; rest = rest; reads = g; is = sym p.splits }; written = p.put }
+    pub show_cut_off : (image : ContextImage) (place : ℕ) (rest : List ℕ) → read_dump bytes ≡ Good image place rest → PutsPrefix r.before.written r.after.written (said image) → ShowStops said name r stop.WriteFault
+    show_cut_off image place rest g p = record { prefix = p.prefix; rest = p.rest; holds = record { bytes = bytes; found = found; image = image; place = place; rest = rest; reads = g; is = sym p.splits }; written = p.put }
 
     -- or whole
     pub shown : (image : ContextImage) (place : ℕ) (rest : List ℕ) → read_dump bytes ≡ Good image place rest → Puts r.before.written r.after.written (said image) → IsShown said r name
@@ -242,8 +242,8 @@ module _ (r : Run) (text : List ℕ) (t : TakesAll r.left r.left_after text) (sh
 
   module _ (law : VerdictsAreRight) (verbs inner : ℕ) (a : Audits text (Ok (Legal verbs inner))) where
     -- the verdict is written in part
-    pub judged_in_part : PutsFront r.before.written r.after.written (verdict_line (Legal verbs inner)) → AuditStops r stop.WriteFault
-    judged_in_part p = record { verbs = verbs; inner = inner; audited = audited law (Legal verbs inner) a; front = record { front = p.front; rest = p.rest; holds = sym p.splits; written = p.put } }
+    pub judged_in_part : PutsPrefix r.before.written r.after.written (verdict_line (Legal verbs inner)) → AuditStops r stop.WriteFault
+    judged_in_part p = record { verbs = verbs; inner = inner; audited = audited law (Legal verbs inner) a; prefix = record { prefix = p.prefix; rest = p.rest; holds = sym p.splits; written = p.put } }
 
     -- or whole
     pub judged : Puts r.before.written r.after.written (verdict_line (Legal verbs inner)) → IsLegalTrace r
@@ -268,8 +268,8 @@ module _ (r : Run) (text : List ℕ) (t : TakesAll r.left r.left_after text) (sh
     run_is = ((law legal.steps).legal legal.verbs legal.inner legal.finds).0
 
     -- the trace is written in part
-    pub recorded_in_part : PutsFront r.before.written r.after.written trace → RecordStops r stop.WriteFault
-    recorded_in_part p = record { text = text; read = t; short = short; trace = trace; is = is; steps = legal.steps; says = legal.says; run = run_is; front = record { front = p.front; rest = p.rest; holds = sym p.splits; written = p.put } }
+    pub recorded_in_part : PutsPrefix r.before.written r.after.written trace → RecordStops r stop.WriteFault
+    recorded_in_part p = record { text = text; read = t; short = short; trace = trace; is = is; steps = legal.steps; says = legal.says; run = run_is; prefix = record { prefix = p.prefix; rest = p.rest; holds = sym p.splits; written = p.put } }
 
     -- or whole
     pub recorded : Puts r.before.written r.after.written trace → IsRecorded r

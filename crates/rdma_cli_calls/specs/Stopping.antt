@@ -116,11 +116,11 @@ abbrev pub IsSilent : Run → Type 0
 IsSilent r = r.after.written ≡ r.before.written
 
 -- a prefix was written of a text for which that holds
-pub record WritesFront (P : List ℕ → Type 0) (r : Run) : Type 0 where
-  pub front : List ℕ
+pub record WritesPrefix (P : List ℕ → Type 0) (r : Run) : Type 0 where
+  pub prefix : List ℕ
   pub rest : List ℕ
-  pub holds : P (front ++ rest)
-  pub written : Writes r front
+  pub holds : P (prefix ++ rest)
+  pub written : Writes r prefix
 
 -- the answers to the lines before a bad one were written
 pub record IsBadScript (r : Run) (bad : BadLine) : Type 0 where
@@ -135,8 +135,8 @@ pub record IsBadScript (r : Run) (bad : BadLine) : Type 0 where
 abbrev pub PlayStops : Run → Stop → Type 0
 PlayStops r (stop.BadLine line column why) = IsBadScript r (record { number = line; offence = record { column = column; why = why } })
 PlayStops r stop.ReadFault = IsSilent r × TakesFew r
-PlayStops r stop.WriteFault = WritesFront (AreAnswersRead r) r
-PlayStops r stop.OutOfMemory = TakesFew r × WritesFront (λ text. (text ≡ []) ⊎ AreAnswersRead r text) r
+PlayStops r stop.WriteFault = WritesPrefix (AreAnswersRead r) r
+PlayStops r stop.OutOfMemory = TakesFew r × WritesPrefix (λ text. (text ≡ []) ⊎ AreAnswersRead r text) r
 PlayStops r stop.TooLong = IsSilent r × TakesCount r.left r.left_after (input_limit + 1)
 PlayStops r other = ⊥
 
@@ -156,14 +156,14 @@ pub record IsToldInPart (r : Run) (from : ℕ) (targets : List ℕ) : Type 0 whe
   pub short : length text ≤ input_limit
   pub good : bad_line text ≡ None
   pub followed : IsFollowed text
-  pub front : List ℕ
+  pub prefix : List ℕ
   pub rest : List ℕ
-  pub splits : evacuation_text (evacuation (world_of text) from targets) ≡ front ++ rest
-  pub written : Writes r (answers_text text ++ front)
+  pub splits : evacuation_text (evacuation (world_of text) from targets) ≡ prefix ++ rest
+  pub written : Writes r (answers_text text ++ prefix)
 
 -- .. or a prefix of the answers
 pub record IsEvacuationCut (r : Run) (from : ℕ) (targets : List ℕ) : Type 0 where
-  pub front : WritesFront (AreAnswersRead r) r ⊎ IsToldInPart r from targets
+  pub prefix : WritesPrefix (AreAnswersRead r) r ⊎ IsToldInPart r from targets
   pub moves : (text : List ℕ) → MovesAreFollowed from targets text
 
 -- `evacuate` stops
@@ -184,7 +184,7 @@ pub record IsJudgedInPart (r : Run) : Type 0 where
   pub verbs : ℕ
   pub inner : ℕ
   pub audited : IsAudited r (Legal verbs inner)
-  pub front : WritesFront (λ text. text ≡ verdict_line (Legal verbs inner)) r
+  pub prefix : WritesPrefix (λ text. text ≡ verdict_line (Legal verbs inner)) r
 
 -- `audit` stops
 abbrev pub AuditStops : Run → Stop → Type 0
@@ -213,7 +213,7 @@ pub record IsRecordedInPart (r : Run) : Type 0 where
   pub steps : List Traced
   pub says : trace_of trace ≡ Ok steps
   pub run : AreRun steps
-  pub front : WritesFront (λ front. front ≡ trace) r
+  pub prefix : WritesPrefix (λ prefix. prefix ≡ trace) r
 
 -- `record` stops
 abbrev pub RecordStops : Run → Stop → Type 0
@@ -251,7 +251,7 @@ AnswersStop script other = ⊥
 -- a prefix of the line that sums a generated script up was written
 pub record IsSummedUpInPart (r : Run) (seed : ℕ) (mix : Mix) : Type 0 where
   pub good : bad_line (plan seed mix) ≡ None
-  pub front : WritesFront (λ text. text ≡ bulk_text seed mix) r
+  pub prefix : WritesPrefix (λ text. text ≡ bulk_text seed mix) r
   pub followed : IsFollowed (plan seed mix)
 
 -- `bulk` stops
@@ -277,7 +277,7 @@ LookStops stored name other = ⊥
 -- `show-dump` stops
 abbrev pub ShowStops : ImageText → Name → Run → Stop → Type 0
 ShowStops said name r (stop.BadDump place why) = IsSilent r × HasBadDump r name place why
-ShowStops said name r stop.WriteFault = WritesFront (IsDumpRead said r name) r
+ShowStops said name r stop.WriteFault = WritesPrefix (IsDumpRead said r name) r
 ShowStops said name r stop.DepotFault = IsSilent r
 ShowStops said name r stop.OutOfMemory = IsSilent r
 ShowStops said name r (stop.Missing other) = IsSilent r × (other ≡ name) × Has r.before.held name None

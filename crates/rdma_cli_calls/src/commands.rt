@@ -9,7 +9,7 @@ ghost use Rattle.law_headline.specs.Script.{answers_text, bad_line};
 ghost use Rattle.law_program.specs.Headline.{IsAnswered, IsEvacuated, IsLegalTrace, IsRecorded, IsShown, IsSummedUp};
 ghost use Rattle.law_program.specs.Runs.{Run, input_limit};
 ghost use Rattle.law_program.specs.Texts.{verdict_line};
-ghost use Rattle.script_runner.specs.Playing.{PutsFront};
+ghost use Rattle.script_runner.specs.Playing.{PutsPrefix};
 ghost use Rattle.trace_audit.specs.declared.verdicts.Verdict.TheVariants.{Legal};
 ghost use Rattle.rdma_cli_calls.specs.Stopping.{AnswersStop, AuditStops, BulkStops, Counted, EvacuateStops, LookStops, NodeEnds, PlayStops, RecordStops, ShowStops, counts_of, over, over_depot, over_output};
 
@@ -149,7 +149,7 @@ pub(crate) fn show_dump<K: Sink, D: Depot>(
 /// Writes the verdict on a run of the machine. It takes no memory.
 fn write_legal<K: Sink>(verbs: u64, inner: u64, output: &mut K) -> Result<(), WriteFault>
     ensures whole { OnOk result (Puts (K.held output.old) (K.held output.new) (verdict_line (Legal verbs inner))) }
-    ensures part { OnErr result (PutsFront (K.held output.old) (K.held output.new) (verdict_line (Legal verbs inner))) }
+    ensures part { OnErr result (PutsPrefix (K.held output.old) (K.held output.new) (verdict_line (Legal verbs inner))) }
     ensures faults_unchanged { OnOk result (K.faults output.new ≡ K.faults output.old) }
     ensures faults_counted { OnErr result (FaultsCounted (K.faults output.old) (K.faults output.new)) }
     ensures faults_monotone { K.faults output.old ≤ K.faults output.new }

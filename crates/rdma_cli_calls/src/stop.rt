@@ -4,7 +4,7 @@ ghost use Rattle.std.specs.Prelude.{◌≡◌, ◌≤◌, OnOk, OnErr};
 ghost use Rattle.mig_ports.specs.Streams.{FaultsCounted, Puts};
 ghost use Rattle.law_program.specs.Ends.{code};
 ghost use Rattle.law_program.specs.Texts.{audit_why_text, dump_why_text, line_why_text};
-ghost use Rattle.script_runner.specs.Playing.{PutsFront};
+ghost use Rattle.script_runner.specs.Playing.{PutsPrefix};
 ghost use Rattle.rdma_cli_calls.specs.Stopping.{stop_of_audit, stop_of_dump, stop_of_node, stop_of_play, stop_of_read};
 ghost use Rattle.rdma_cli_calls.specs.Writing as writing;
 ghost use Rattle.rdma_cli_calls.specs.declared.stop.Stop.TheVariants.{OutOfMemory, WriteFault};
@@ -206,7 +206,7 @@ impl Stop {
     /// Writes the last line of a run that ends so, where it has one. It takes no memory.
     pub(crate) fn write_last_line<K: Sink>(&self, output: &mut K) -> Result<(), WriteFault>
         ensures whole { OnOk result (Puts (K.held output.old) (K.held output.new) (writing.last_line self.now)) }
-        ensures part { OnErr result (PutsFront (K.held output.old) (K.held output.new) (writing.last_line self.now)) }
+        ensures part { OnErr result (PutsPrefix (K.held output.old) (K.held output.new) (writing.last_line self.now)) }
         ensures speaks { OnErr result (writing.HasLastLine self.now) }
         ensures faults_unchanged { OnOk result (K.faults output.new ≡ K.faults output.old) }
         ensures faults_counted { OnErr result (FaultsCounted (K.faults output.old) (K.faults output.new)) }
@@ -235,7 +235,7 @@ fn write_bad_line<K: Sink>(
     output: &mut K,
 ) -> Result<(), WriteFault>
     ensures whole { OnOk result (Puts (K.held output.old) (K.held output.new) (writing.last_line (Stop.BadLine line column why))) }
-    ensures part { OnErr result (PutsFront (K.held output.old) (K.held output.new) (writing.last_line (Stop.BadLine line column why))) }
+    ensures part { OnErr result (PutsPrefix (K.held output.old) (K.held output.new) (writing.last_line (Stop.BadLine line column why))) }
     ensures faults_unchanged { OnOk result (K.faults output.new ≡ K.faults output.old) }
     ensures faults_counted { OnErr result (FaultsCounted (K.faults output.old) (K.faults output.new)) }
     ensures faults_monotone { K.faults output.old ≤ K.faults output.new }
@@ -251,7 +251,7 @@ fn write_bad_line<K: Sink>(
 /// Writes the last line of a run that stops at a bad dump.
 fn write_bad_dump<K: Sink>(place: usize, why: DumpWhy, output: &mut K) -> Result<(), WriteFault>
     ensures whole { OnOk result (Puts (K.held output.old) (K.held output.new) (writing.last_line (Stop.BadDump place why))) }
-    ensures part { OnErr result (PutsFront (K.held output.old) (K.held output.new) (writing.last_line (Stop.BadDump place why))) }
+    ensures part { OnErr result (PutsPrefix (K.held output.old) (K.held output.new) (writing.last_line (Stop.BadDump place why))) }
     ensures faults_unchanged { OnOk result (K.faults output.new ≡ K.faults output.old) }
     ensures faults_counted { OnErr result (FaultsCounted (K.faults output.old) (K.faults output.new)) }
     ensures faults_monotone { K.faults output.old ≤ K.faults output.new }
@@ -264,7 +264,7 @@ fn write_bad_dump<K: Sink>(place: usize, why: DumpWhy, output: &mut K) -> Result
 /// Writes the last line of an audit that finds no run of the machine.
 fn write_illegal<K: Sink>(line: u64, why: AuditWhy, output: &mut K) -> Result<(), WriteFault>
     ensures whole { OnOk result (Puts (K.held output.old) (K.held output.new) (writing.last_line (Stop.Illegal line why))) }
-    ensures part { OnErr result (PutsFront (K.held output.old) (K.held output.new) (writing.last_line (Stop.Illegal line why))) }
+    ensures part { OnErr result (PutsPrefix (K.held output.old) (K.held output.new) (writing.last_line (Stop.Illegal line why))) }
     ensures faults_unchanged { OnOk result (K.faults output.new ≡ K.faults output.old) }
     ensures faults_counted { OnErr result (FaultsCounted (K.faults output.old) (K.faults output.new)) }
     ensures faults_monotone { K.faults output.old ≤ K.faults output.new }

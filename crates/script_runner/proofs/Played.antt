@@ -17,8 +17,8 @@ use Rattle.law_headline.specs.Does.{before, happening_of, happenings_of}
 use Rattle.law_headline.specs.Left.{IsWorldAfter, ReachesAll, world_of}
 use Rattle.law_headline.specs.Playing.{IsPlayed, PlayingBegins, PlayingEnds, PlayingForgets, PlayingGoesOn, line_text, world_past}
 use Rattle.law_headline.specs.Script.{answers_text, bad_line, happenings, script_from, text_from, world_left}
-use Rattle.script_runner.specs.Playing.{IsOnTheWay, IsPlayedTo, Leaves, PutsFront}
-use Rattle.script_runner.proofs.Fronts.{front_behind, front_longer}
+use Rattle.script_runner.specs.Playing.{IsOnTheWay, IsPlayedTo, Leaves, PutsPrefix}
+use Rattle.script_runner.proofs.Prefixes.{prefix_behind, prefix_longer}
 
 -- ---- worlds that are alike
 
@@ -89,10 +89,10 @@ module _ (on : PlayingGoesOn) (held h h' : Option (List ℕ)) (script : List ℕ
   }
 
   -- it is answered in part
-  pub line_cut_off : PutsFront h h' (line_text w (happening_of l)) → PutsFront held h' (answers_text script)
+  pub line_cut_off : PutsPrefix h h' (line_text w (happening_of l)) → PutsPrefix held h' (answers_text script)
   line_cut_off f =
-      let behind : PutsFront held h' (p.done ++ line_text w (happening_of l)) = front_behind held h h' p.done (line_text w (happening_of l)) p.written f in
-      subst (PutsFront held h') (sym next.whole) (front_longer held h' (p.done ++ line_text w (happening_of l)) (text_from (world_past w (happening_of l)) (happenings_of (script_from (number + 1) rest).lines)) behind)
+      let behind : PutsPrefix held h' (p.done ++ line_text w (happening_of l)) = prefix_behind held h h' p.done (line_text w (happening_of l)) p.written f in
+      subst (PutsPrefix held h') (sym next.whole) (prefix_longer held h' (p.done ++ line_text w (happening_of l)) (text_from (world_past w (happening_of l)) (happenings_of (script_from (number + 1) rest).lines)) behind)
 
 -- ---- all lines
 

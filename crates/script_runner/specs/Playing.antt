@@ -26,11 +26,11 @@ pub record Answers (old : World) (h : Happening) (answer : Answer) (new : World)
   pub left : Leaves old (Some h) new
 
 -- a prefix of a text was put behind what was held
-pub record PutsFront (held held' : Option (List ℕ)) (text : List ℕ) : Type 0 where
-  pub front : List ℕ
+pub record PutsPrefix (held held' : Option (List ℕ)) (text : List ℕ) : Type 0 where
+  pub prefix : List ℕ
   pub rest : List ℕ
-  pub splits : text ≡ front ++ rest
-  pub put : Puts held held' front
+  pub splits : text ≡ prefix ++ rest
+  pub put : Puts held held' prefix
 
 -- what holds of a bad line, if it is that fault
 abbrev pub IfBadLine : (BadLine → Type 0) → PlayFault → Type 0

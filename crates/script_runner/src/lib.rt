@@ -1,4 +1,4 @@
-//! A script is played in a world: its lines are read one after the other, and each is answered before the next one is read.
+//! A script is played in a world: its lines are read one after the other, and each is answered before the next one is done.
 #![tactic(auto)]
 
 mod actions;

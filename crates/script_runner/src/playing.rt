@@ -7,7 +7,7 @@ ghost use Rattle.law_headline.specs.Follows.{IsFollowed};
 ghost use Rattle.law_headline.specs.Left.{IsWorldAfter};
 ghost use Rattle.law_headline.specs.Playing.{line_text};
 ghost use Rattle.law_headline.specs.Script.{answers_text, bad_line};
-ghost use Rattle.script_runner.specs.Playing.{IfBadLine, IsOneLineFault, IsPlayedTo, IsStoppedAt, Leaves, PutsFront};
+ghost use Rattle.script_runner.specs.Playing.{IfBadLine, IsOneLineFault, IsPlayedTo, IsStoppedAt, Leaves, PutsPrefix};
 
 use crate::PlayFault;
 use crate::actions::action_of;
@@ -22,7 +22,7 @@ use world_core::{Settler, World};
 /// Writes a text; after an error a prefix of it is written.
 fn write_text<K: Sink>(text: &[u8], output: &mut K) -> Result<(), WriteFault>
     ensures whole { OnOk result (Puts (K.held output.old) (K.held output.new) text.now) }
-    ensures part { OnErr result (PutsFront (K.held output.old) (K.held output.new) text.now) }
+    ensures part { OnErr result (PutsPrefix (K.held output.old) (K.held output.new) text.now) }
     ensures faults_unchanged { OnOk result (K.faults output.new ≡ K.faults output.old) }
     ensures faults_counted { OnErr result (FaultsCounted (K.faults output.old) (K.faults output.new)) }
     ensures faults_monotone { K.faults output.old ≤ K.faults output.new }
@@ -42,7 +42,7 @@ fn answer<T: Settler, K: Sink>(
     requires { MayBeAskedOf (happening_of line) }
     ensures world { OnOk result (Leaves world.old (happening_of line) world.new) }
     ensures whole { OnOk result (Puts (K.held output.old) (K.held output.new) (line_text world.old (happening_of line))) }
-    ensures part { OnErr result (PutsFront (K.held output.old) (K.held output.new) (line_text world.old (happening_of line))) }
+    ensures part { OnErr result (PutsPrefix (K.held output.old) (K.held output.new) (line_text world.old (happening_of line))) }
     ensures faults { IfErr result IsOneLineFault }
     ensures faults_unchanged { (result ≡ Err PlayFault.WriteFault) ⊎ (K.faults output.new ≡ K.faults output.old) }
     ensures faults_counted { result ≡ Err PlayFault.WriteFault → FaultsCounted (K.faults output.old) (K.faults output.new) }
@@ -76,7 +76,7 @@ fn play_line<T: Settler, K: Sink>(
         → IfErr result (IfBadLine (IsStoppedAt held (K.held output.new) script)) }
     ensures part { (held : Option (List ℕ)) (script : List ℕ) (n : ℕ) (rest : List (List ℕ)) → n + 1 ≡ number
         → IsPlayedTo held (K.held output.old) script world.old n (line.now ∷ rest)
-        → OnErr result (PutsFront held (K.held output.new) (answers_text script)) }
+        → OnErr result (PutsPrefix held (K.held output.new) (answers_text script)) }
     ensures faults_unchanged { (result ≡ Err PlayFault.WriteFault) ⊎ (K.faults output.new ≡ K.faults output.old) }
     ensures faults_counted { result ≡ Err PlayFault.WriteFault → FaultsCounted (K.faults output.old) (K.faults output.new) }
     ensures faults_monotone { K.faults output.old ≤ K.faults output.new }
@@ -95,7 +95,7 @@ fn play_line<T: Settler, K: Sink>(
     }
 }
 
-/// Plays a script, and hands out the world after its last line: each line is answered before the next one is read, in one write.
+/// Plays a script, and hands out the world after its last line: each line is answered before the next one is done, in one write.
 ///
 /// # Errors
 ///
@@ -111,7 +111,7 @@ pub fn play_world<T: Settler, K: Sink>(
     ensures good { OnOk result (bad_line input.now ≡ None) }
     ensures whole { OnOk result (Puts (K.held output.old) (K.held output.new) (answers_text input.now)) }
     ensures bad { IfErr result (IfBadLine (IsStoppedAt (K.held output.old) (K.held output.new) input.now)) }
-    ensures part { OnErr result (PutsFront (K.held output.old) (K.held output.new) (answers_text input.now)) }
+    ensures part { OnErr result (PutsPrefix (K.held output.old) (K.held output.new) (answers_text input.now)) }
     ensures followed { IsFollowed input.now }
 
     // The count of faults rises exactly at `WriteFault`.
@@ -132,7 +132,7 @@ pub fn play_world<T: Settler, K: Sink>(
     Ok(world)
 }
 
-/// Plays a script: each line is answered before the next one is read, in one write.
+/// Plays a script: each line is answered before the next one is done, in one write.
 ///
 /// # Errors
 ///
@@ -146,7 +146,7 @@ pub fn play<T: Settler, K: Sink>(
     ensures good { OnOk result (bad_line input.now ≡ None) }
     ensures whole { OnOk result (Puts (K.held output.old) (K.held output.new) (answers_text input.now)) }
     ensures bad { IfErr result (IfBadLine (IsStoppedAt (K.held output.old) (K.held output.new) input.now)) }
-    ensures part { OnErr result (PutsFront (K.held output.old) (K.held output.new) (answers_text input.now)) }
+    ensures part { OnErr result (PutsPrefix (K.held output.old) (K.held output.new) (answers_text input.now)) }
     ensures followed { IsFollowed input.now }
 
     // The count of faults rises exactly at `WriteFault`.

@@ -207,26 +207,26 @@ unmarked-back v done l xs n g = elim (first-spoken v done g.steps l (xs ++ g.mor
 -- ---- the first bad line
 
 record IsBad (p : Place) (ps : List (List ℕ)) (k n : ℕ) : Type 0 where
-  front : List (List ℕ)
+  prefix : List (List ℕ)
   here : List ℕ
   rest : List (List ℕ)
-  are : ps ≡ front ++ here ∷ rest
-  number : n ≡ k + length front
-  goes : GoesOn p front
-  stops : 1 ≤ length rest → GoesOn p (front ++ here ∷ []) → ⊥
+  are : ps ≡ prefix ++ here ∷ rest
+  number : n ≡ k + length prefix
+  goes : GoesOn p prefix
+  stops : 1 ≤ length rest → GoesOn p (prefix ++ here ∷ []) → ⊥
 
 bad-here : (p : Place) (l : List ℕ) (behind : List (List ℕ)) (k n : ℕ) → k ≡ n → (GoesOn p (l ∷ []) → ⊥) → IsBad p (l ∷ behind) k n
-bad-here p l behind k n e h = record { front = []; here = l; rest = behind; are = refl; number = omega arith; goes = can-end p; stops = λ s g. h g }
+bad-here p l behind k n e h = record { prefix = []; here = l; rest = behind; are = refl; number = omega arith; goes = can-end p; stops = λ s g. h g }
 
 bad-later : (p q : Place) (l : List ℕ) (behind : List (List ℕ)) (k n : ℕ) → ((xs : List (List ℕ)) → GoesOn q xs → GoesOn p (l ∷ xs)) → ((xs : List (List ℕ)) → GoesOn p (l ∷ xs) → GoesOn q xs) → IsBad q behind (k + 1) n → IsBad p (l ∷ behind) k n
 bad-later p q l behind k n on back b = record {
-  front = l ∷ b.front;
+  prefix = l ∷ b.prefix;
   here = b.here;
   rest = b.rest;
   are = ap (λ (xs : List (List ℕ)). l ∷ xs) b.are;
   number = omega (arith, b.number);
-  goes = on b.front b.goes;
-  stops = λ s g. b.stops s (back (b.front ++ b.here ∷ []) g);
+  goes = on b.prefix b.goes;
+  stops = λ s g. b.stops s (back (b.prefix ++ b.here ∷ []) g);
 }
 
 abbrev err-at : ℕ → Offence → Reading
@@ -244,7 +244,7 @@ bad-line k l behind n e ih (Ok (line.Step s)) r some h = by (trace_from behind F
     by (Err o) q g = let is : o ≡ (n, e) = cc in bad-later Free Free l behind k n (λ xs. step-goes s l xs r) (λ xs. step-back s l xs r) (ih Free n e (q ∙ ap Err is))
 bad-line k l [] n e ih (Ok line.End) r some h = absurd (omega arith)
 bad-line k l (next ∷ more) n e ih (Ok line.End) r some h = record {
-  front = l ∷ [];
+  prefix = l ∷ [];
   here = next;
   rest = more;
   are = refl;
@@ -279,9 +279,9 @@ bad-next (Owed v) k l behind n e ih some h = by (answer_text l) refl h
 bad-next (Answered v done) k l behind n e ih some h = by (answer_text l) refl h
   where
     over : answer_text l ≡ None → IsBad Free (l ∷ behind) k n → IsBad (Answered v done) (l ∷ behind) k n
-    over m b = record { front = b.front; here = b.here; rest = b.rest; are = b.are; number = b.number; goes = free-goes v done b.front b.goes; stops = λ s g. b.stops s (back b.front b.are g) }
+    over m b = record { prefix = b.prefix; here = b.here; rest = b.rest; are = b.are; number = b.number; goes = free-goes v done b.prefix b.goes; stops = λ s g. b.stops s (back b.prefix b.are g) }
       where
-        back : (front : List (List ℕ)) → l ∷ behind ≡ front ++ b.here ∷ b.rest → GoesOn (Answered v done) (front ++ b.here ∷ []) → GoesOn Free (front ++ b.here ∷ [])
+        back : (prefix : List (List ℕ)) → l ∷ behind ≡ prefix ++ b.here ∷ b.rest → GoesOn (Answered v done) (prefix ++ b.here ∷ []) → GoesOn Free (prefix ++ b.here ∷ [])
         back [] q g = let i : l ≡ b.here = cc in unmarked-back v done b.here [] (ap answer_text (sym i) ∙ m) g
         back (x ∷ xs) q g = let i : l ≡ x = cc in unmarked-back v done x (xs ++ b.here ∷ []) (ap answer_text (sym i) ∙ m) g
 
@@ -313,7 +313,7 @@ bad-from [] p k n e some h = absurd (omega arith)
 bad-from (last ∷ []) p k n e some h =
     let q : unfinished (is_owed p) k last ≡ (n, e) = cc in
     let m : k ≡ n = sym (last-number (is_owed p) k last) ∙ ap (λ (x : ℕ × Offence). x.0) q in
-    record { front = []; here = last; rest = []; are = refl; number = omega arith; goes = can-end p; stops = λ s g. absurd (omega arith) }
+    record { prefix = []; here = last; rest = []; are = refl; number = omega arith; goes = can-end p; stops = λ s g. absurd (omega arith) }
 bad-from (l ∷ next ∷ more) p k n e some h = bad-next p k l (next ∷ more) n e (λ q m o g. bad-from (next ∷ more) q (k + 1) m o (omega arith) g) (omega arith) h
 
 pub first-is-named : (bs : List ℕ) (k : ℕ) (e : Offence) → trace_of bs ≡ Err (k, e) → IsFirstBad bs k
@@ -321,7 +321,7 @@ unfolding trace_of
 first-is-named bs k e h =
     let b = bad-from (slice_split is_newline bs) Free 1 k e (omega (arith, length-slice_split is_newline bs)) h in
     record {
-      front = b.front;
+      prefix = b.prefix;
       here = b.here;
       rest = b.rest;
       cut = b.are;

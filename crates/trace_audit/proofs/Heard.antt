@@ -16,22 +16,22 @@ is_same a b e = (bytes_eq-Decides a b).0 e
 ended_line : List ℕ → List ℕ
 ended_line l = l ++ 10 ∷ []
 
-whole_front : (l t : List ℕ) → l ++ 10 ∷ t ≡ (l ++ 10 ∷ []) ++ t
-whole_front l t = sym (append_assoc l (10 ∷ []) t)
+whole_prefix : (l t : List ℕ) → l ++ 10 ∷ t ≡ (l ++ 10 ∷ []) ++ t
+whole_prefix l t = sym (append_assoc l (10 ∷ []) t)
 
-front_length : (l : List ℕ) → length l + 1 ≡ length (l ++ 10 ∷ [])
-front_length l = omega (arith, length-append l (10 ∷ []))
+prefix_length : (l : List ℕ) → length l + 1 ≡ length (l ++ 10 ∷ [])
+prefix_length l = omega (arith, length-append l (10 ∷ []))
 
 -- a text that begins with a line goes on behind it
 pub behind_line : (l t : List ℕ) → behind l (l ++ 10 ∷ t) ≡ Some t
 unfolding behind
 behind_line l t =
-    let front : List ℕ = l ++ 10 ∷ [] in
-    let n : length l + 1 ≡ length front = front_length l in
-    let e : l ++ 10 ∷ t ≡ front ++ t = whole_front l t in
-    let taken : take (length l + 1) (l ++ 10 ∷ t) ≡ front = ap (λ (k : ℕ). take k (l ++ 10 ∷ t)) n ∙ ap (take (length front)) e ∙ take-append_seam front t in
-    let dropped : drop (length l + 1) (l ++ 10 ∷ t) ≡ t = ap (λ (k : ℕ). drop k (l ++ 10 ∷ t)) n ∙ ap (drop (length front)) e ∙ drop-append_seam front t in
-    rw (same (take (length l + 1) (l ++ 10 ∷ t)) front taken) (ap Some dropped)
+    let prefix : List ℕ = l ++ 10 ∷ [] in
+    let n : length l + 1 ≡ length prefix = prefix_length l in
+    let e : l ++ 10 ∷ t ≡ prefix ++ t = whole_prefix l t in
+    let taken : take (length l + 1) (l ++ 10 ∷ t) ≡ prefix = ap (λ (k : ℕ). take k (l ++ 10 ∷ t)) n ∙ ap (take (length prefix)) e ∙ take-append_seam prefix t in
+    let dropped : drop (length l + 1) (l ++ 10 ∷ t) ≡ t = ap (λ (k : ℕ). drop k (l ++ 10 ∷ t)) n ∙ ap (drop (length prefix)) e ∙ drop-append_seam prefix t in
+    rw (same (take (length l + 1) (l ++ 10 ∷ t)) prefix taken) (ap Some dropped)
 
 -- .. and a text that goes on behind a line begins with it
 pub behind_is : (l t more : List ℕ) → behind l t ≡ Some more → t ≡ l ++ 10 ∷ more
@@ -43,7 +43,7 @@ behind_is l t more h = by (bytes_eq (take (length l + 1) t) (l ++ 10 ∷ [])) re
         let q : Some (drop (length l + 1) t) ≡ Some more = rw e at h in
         let d : drop (length l + 1) t ≡ more = cc in
         let f : take (length l + 1) t ≡ l ++ 10 ∷ [] = is_same _ _ e in
-        sym (take-append-drop (length l + 1) t) ∙ ap (λ (xs : List ℕ). xs ++ drop (length l + 1) t) f ∙ ap (λ (xs : List ℕ). (l ++ 10 ∷ []) ++ xs) d ∙ sym (whole_front l more)
+        sym (take-append-drop (length l + 1) t) ∙ ap (λ (xs : List ℕ). xs ++ drop (length l + 1) t) f ∙ ap (λ (xs : List ℕ). (l ++ 10 ∷ []) ++ xs) d ∙ sym (whole_prefix l more)
     by false e = let q : None ≡ Some more = rw e at h in cc
 
 -- the text of more lines
@@ -106,30 +106,30 @@ tests_same false true f g = g refl
 tests_same false false f g = refl
 
 record SameEnds (xs ys : List ℕ) (a b : ℕ) : Type 0 where
-  fronts : xs ≡ ys
+  prefixes : xs ≡ ys
   lasts : a ≡ b
 
 same_ends : (xs ys : List ℕ) (a b : ℕ) → xs ++ a ∷ [] ≡ ys ++ b ∷ [] → SameEnds xs ys a b
-same_ends [] [] a b e = record { fronts = refl; lasts = cc }
+same_ends [] [] a b e = record { prefixes = refl; lasts = cc }
 same_ends [] (y ∷ ys) a b e = let q = ap length e in absurd (omega (arith, q, length-append ys (b ∷ [])))
 same_ends (x ∷ xs) [] a b e = let q = ap length e in absurd (omega (arith, q, length-append xs (a ∷ [])))
 same_ends (x ∷ xs) (y ∷ ys) a b e =
     let tails : xs ++ a ∷ [] ≡ ys ++ b ∷ [] = cc in
     let heads : x ≡ y = cc in
     let r = same_ends xs ys a b tails in
-    record { fronts = ap (λ (z : ℕ). z ∷ xs) heads ∙ ap (λ (zs : List ℕ). y ∷ zs) r.fronts; lasts = r.lasts }
+    record { prefixes = ap (λ (z : ℕ). z ∷ xs) heads ∙ ap (λ (zs : List ℕ). y ∷ zs) r.prefixes; lasts = r.lasts }
 
 -- bytes that end with a newline are a line by their other bytes
-pub ended-same : (bs front l : List ℕ) (last : ℕ) → bs ≡ front ++ last ∷ [] → last ≡ 10 → bytes_eq front l ≡ bytes_eq bs (l ++ 10 ∷ [])
-ended-same bs front l last e n =
-    tests_same (bytes_eq front l) (bytes_eq bs (l ++ 10 ∷ []))
-    (λ h. same bs (l ++ 10 ∷ []) (e ∙ ap (λ (b : ℕ). front ++ b ∷ []) n ∙ ap (λ (xs : List ℕ). xs ++ 10 ∷ []) (is_same front l h)))
-    (λ h. same front l (same_ends front l last 10 (sym e ∙ is_same bs (l ++ 10 ∷ []) h)).fronts)
+pub ended-same : (bs prefix l : List ℕ) (last : ℕ) → bs ≡ prefix ++ last ∷ [] → last ≡ 10 → bytes_eq prefix l ≡ bytes_eq bs (l ++ 10 ∷ [])
+ended-same bs prefix l last e n =
+    tests_same (bytes_eq prefix l) (bytes_eq bs (l ++ 10 ∷ []))
+    (λ h. same bs (l ++ 10 ∷ []) (e ∙ ap (λ (b : ℕ). prefix ++ b ∷ []) n ∙ ap (λ (xs : List ℕ). xs ++ 10 ∷ []) (is_same prefix l h)))
+    (λ h. same prefix l (same_ends prefix l last 10 (sym e ∙ is_same bs (l ++ 10 ∷ []) h)).prefixes)
 
 -- .. and bytes that do not are no line
-pub ended-other : (bs front l : List ℕ) (last : ℕ) → bs ≡ front ++ last ∷ [] → (last ≡ 10 → ⊥) → false ≡ bytes_eq bs (l ++ 10 ∷ [])
-ended-other bs front l last e n =
-    tests_same false (bytes_eq bs (l ++ 10 ∷ [])) (λ h. cc) (λ h. absurd (n (same_ends front l last 10 (sym e ∙ is_same bs (l ++ 10 ∷ []) h)).lasts))
+pub ended-other : (bs prefix l : List ℕ) (last : ℕ) → bs ≡ prefix ++ last ∷ [] → (last ≡ 10 → ⊥) → false ≡ bytes_eq bs (l ++ 10 ∷ [])
+ended-other bs prefix l last e n =
+    tests_same false (bytes_eq bs (l ++ 10 ∷ [])) (λ h. cc) (λ h. absurd (n (same_ends prefix l last 10 (sym e ∙ is_same bs (l ++ 10 ∷ []) h)).lasts))
 
 pub ended-none : (bs l : List ℕ) → length bs ≡ 0 → false ≡ bytes_eq bs (l ++ 10 ∷ [])
 ended-none bs l e = tests_same false (bytes_eq bs (l ++ 10 ∷ [])) (λ h. cc) (λ h. let q = ap length (is_same bs (l ++ 10 ∷ []) h) in absurd (omega (arith, q, length-append l (10 ∷ []))))

@@ -209,7 +209,7 @@ unfolding first_wrong
 differs [] [] n h = cc
 differs [] (b ∷ bs) n h =
     let z : 0 ≡ n = cc in
-    record { front = []; here = []; there = b ∷ bs; are = refl; others = refl; place = sym z; differ = refl }
+    record { prefix = []; here = []; there = b ∷ bs; are = refl; others = refl; place = sym z; differ = refl }
 differs (l ∷ ls) t n h = by (behind l t) refl (λ more k. differs ls more k)
   where
     later : (o : Option ℕ) → one_later o ≡ Some n → (k : ℕ) × (o ≡ Some k) × (n ≡ suc k)
@@ -220,17 +220,17 @@ differs (l ∷ ls) t n h = by (behind l t) refl (λ more k. differs ls more k)
     by None e ih =
         let q : Some 0 ≡ Some n = rw e at h in
         let z : 0 ≡ n = cc in
-        record { front = []; here = l ∷ ls; there = t; are = refl; others = refl; place = sym z; differ = rw e refl }
+        record { prefix = []; here = l ∷ ls; there = t; are = refl; others = refl; place = sym z; differ = rw e refl }
     by (Some more) e ih =
         let q : one_later (first_wrong ls more) ≡ Some n = rw e at h in
         let k = later (first_wrong ls more) q in
         let d = ih more k.0 k.1 in
         record {
-          front = l ∷ d.front;
+          prefix = l ∷ d.prefix;
           here = d.here;
           there = d.there;
           are = ap (λ (xs : List (List ℕ)). l ∷ xs) d.are;
-          others = behind_is l t more e ∙ ap (λ (xs : List ℕ). l ++ 10 ∷ xs) d.others ∙ sym (append_assoc l (10 ∷ text_of_lines d.front) d.there);
+          others = behind_is l t more e ∙ ap (λ (xs : List ℕ). l ++ 10 ∷ xs) d.others ∙ sym (append_assoc l (10 ∷ text_of_lines d.prefix) d.there);
           place = k.2 ∙ ap suc d.place;
           differ = d.differ;
         }
@@ -282,14 +282,14 @@ fault-is m v lines f h = by (wrong_given m v (given_by v lines)) (first_wrong li
 
 -- the steps before some step are a run from m on, and that one is wrong
 record StopsFrom (m : Machine) (ts : List Traced) (k line : ℕ) (because : AuditWhy) : Type 0 where
-  front : List Traced
+  prefix : List Traced
   wrong : Traced
   rest : List Traced
-  are : ts ≡ front ++ wrong ∷ rest
-  run : AreRunFrom m front
+  are : ts ≡ prefix ++ wrong ∷ rest
+  run : AreRunFrom m prefix
   place : ℕ
-  is_wrong : IsWrong (after m (steps_of front)) wrong place because
-  at : line ≡ k + lines_in front + place
+  is_wrong : IsWrong (after m (steps_of prefix)) wrong place because
+  at : line ≡ k + lines_in prefix + place
 
 same-place : (k : ℕ) (f : ℕ × AuditWhy) (line : ℕ) (because : AuditWhy) → Illegal (k + f.0) f.1 ≡ Illegal line because → (line ≡ k + f.0) × (f.1 ≡ because)
 same-place k f line because e =
@@ -306,7 +306,7 @@ illegal-from (Made s ∷ ts) m k v i line because h = by (is_enabled m s) refl h
     by true e q ih =
         let r = ih q in
         record {
-          front = Made s ∷ r.front;
+          prefix = Made s ∷ r.prefix;
           wrong = r.wrong;
           rest = r.rest;
           are = ap (λ (xs : List Traced). Made s ∷ xs) r.are;
@@ -318,7 +318,7 @@ illegal-from (Made s ∷ ts) m k v i line because h = by (is_enabled m s) refl h
     by false e q ih =
         let a : k ≡ line = cc in
         let b : Step ≡ because = cc in
-        record { front = []; wrong = Made s; rest = ts; are = refl; run = record { is_run = tt; answered = tt }; place = 0; is_wrong = (e, sym b, refl); at = omega arith }
+        record { prefix = []; wrong = Made s; rest = ts; are = refl; run = record { is_run = tt; answered = tt }; place = 0; is_wrong = (e, sym b, refl); at = omega arith }
 illegal-from (Spoken w lines ∷ ts) m k v i line because h = by (fault_of m w lines) refl h (illegal-from ts (machine_after m w (given_by w lines)) (k + 1 + length lines) (v + 1) i line because)
   where
     by : (f : Fault) → fault_of m w lines ≡ f → unless_at k f (verdict_from ts (machine_after m w (given_by w lines)) (k + 1 + length lines) (v + 1) i) ≡ Illegal line because → (verdict_from ts (machine_after m w (given_by w lines)) (k + 1 + length lines) (v + 1) i ≡ Illegal line because → StopsFrom (machine_after m w (given_by w lines)) ts (k + 1 + length lines) line because) → StopsFrom m (Spoken w lines ∷ ts) k line because
@@ -326,7 +326,7 @@ illegal-from (Spoken w lines ∷ ts) m k v i line because h = by (fault_of m w l
         let r = ih q in
         let ok = right m w lines e in
         record {
-          front = Spoken w lines ∷ r.front;
+          prefix = Spoken w lines ∷ r.prefix;
           wrong = r.wrong;
           rest = r.rest;
           are = ap (λ (xs : List Traced). Spoken w lines ∷ xs) r.are;
@@ -337,7 +337,7 @@ illegal-from (Spoken w lines ∷ ts) m k v i line because h = by (fault_of m w l
         }
     by (Some f) e q ih =
         let p = same-place k f line because q in
-        record { front = []; wrong = Spoken w lines; rest = ts; are = refl; run = record { is_run = tt; answered = tt }; place = f.0; is_wrong = subst (IsWrongAnswer m w lines f.0) p.1 (fault-is m w lines f e); at = omega (arith, p.0) }
+        record { prefix = []; wrong = Spoken w lines; rest = ts; are = refl; run = record { is_run = tt; answered = tt }; place = f.0; is_wrong = subst (IsWrongAnswer m w lines f.0) p.1 (fault-is m w lines f e); at = omega (arith, p.0) }
 
 -- ---- the law
 
@@ -352,6 +352,6 @@ verdicts-are-right ts = record {
   all = λ r. all-from ts empty 1 0 0 r ∙ same-legal (0 + verbs_in ts) (verbs_in ts) (0 + inner_in ts) (inner_in ts) (omega arith) (omega arith);
   illegal = λ line because h.
       let s = illegal-from ts empty 1 0 0 line because h in
-      record { front = s.front; wrong = s.wrong; rest = s.rest; are = s.are; run = s.run; place = s.place; is_wrong = s.is_wrong; at = omega (arith, s.at) };
+      record { prefix = s.prefix; wrong = s.wrong; rest = s.rest; are = s.are; run = s.run; place = s.place; is_wrong = s.is_wrong; at = omega (arith, s.at) };
   heard = λ r. record { run = steps_of ts; is_run = r.is_run; heard_all = refl };
 }

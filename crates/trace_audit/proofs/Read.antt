@@ -32,10 +32,10 @@ text-marked l t h = by (bytes_eq (take 2 l) (codes "= ")) refl
   where
     by : (b : Bool) → bytes_eq (take 2 l) (codes "= ") ≡ b → l ≡ marked t
     by true e =
-        let front : take 2 l ≡ codes "= " = (bytes_eq-Decides (take 2 l) (codes "= ")).0 e in
+        let prefix : take 2 l ≡ codes "= " = (bytes_eq-Decides (take 2 l) (codes "= ")).0 e in
         let q : Some (drop 2 l) ≡ Some t = rw e at h in
         let back : drop 2 l ≡ t = cc in
-        sym (take-append-drop 2 l) ∙ ap (λ (xs : List ℕ). xs ++ drop 2 l) front ∙ ap (λ (xs : List ℕ). codes "= " ++ xs) back
+        sym (take-append-drop 2 l) ∙ ap (λ (xs : List ℕ). xs ++ drop 2 l) prefix ∙ ap (λ (xs : List ℕ). codes "= " ++ xs) back
     by false e = let q : None ≡ Some t = rw e at h in cc
 
 -- no line is both marked and another

@@ -38,18 +38,18 @@ TracesAreRead = (bs : List ℕ) (ts : List Traced) → (trace_of bs ≡ Ok ts) �
 
 -- the lines can go on to those of a trace
 abbrev pub CanGoOn : List (List ℕ) → Type 0
-CanGoOn front = (more : List (List ℕ)) × (ts : List Traced) × AreLinesOf ts (front ++ more)
+CanGoOn prefix = (more : List (List ℕ)) × (ts : List Traced) × AreLinesOf ts (prefix ++ more)
 
 -- the law of bad lines: line number k is the first with which a text can not go on to a trace, or it is its last and lacks
 -- what must follow
 pub record IsFirstBad (bs : List ℕ) (k : ℕ) : Type 0 where
-  pub front : List (List ℕ)
+  pub prefix : List (List ℕ)
   pub here : List ℕ
   pub rest : List (List ℕ)
-  pub cut : slice_split is_newline bs ≡ front ++ here ∷ rest
-  pub number : k ≡ length front + 1
-  pub goes_on : CanGoOn front
-  pub stops : 1 ≤ length rest → CanGoOn (front ++ here ∷ []) → ⊥
+  pub cut : slice_split is_newline bs ≡ prefix ++ here ∷ rest
+  pub number : k ≡ length prefix + 1
+  pub goes_on : CanGoOn prefix
+  pub stops : 1 ≤ length rest → CanGoOn (prefix ++ here ∷ []) → ⊥
 
 -- of every text
 abbrev pub FirstIsNamed : Type 0

@@ -147,12 +147,12 @@ verdict_of ts = verdict_from ts empty 1 0 0
 
 -- the lines are the text's up to that place, and the next line is another, or one of both ends there
 pub record DiffersAt (k : ℕ) (lines : List (List ℕ)) (text : List ℕ) : Type 0 where
-  pub front : List (List ℕ)
+  pub prefix : List (List ℕ)
   pub here : List (List ℕ)
   pub there : List ℕ
-  pub are : lines ≡ front ++ here
-  pub others : text ≡ text_of_lines front ++ there
-  pub place : k ≡ length front
+  pub are : lines ≡ prefix ++ here
+  pub others : text ≡ text_of_lines prefix ++ there
+  pub place : k ≡ length prefix
   pub differ : first_wrong here there ≡ Some 0
 
 -- the lines are not the machine's answer with what they give, from that place on; or they give nothing where the machine
@@ -177,14 +177,14 @@ IsWrong m (Spoken v lines) k because = IsWrongAnswer m v lines k because
 
 -- the steps before some step are a run, and that one is wrong at that line
 pub record StopsAt (ts : List Traced) (line : ℕ) (because : AuditWhy) : Type 0 where
-  pub front : List Traced
+  pub prefix : List Traced
   pub wrong : Traced
   pub rest : List Traced
-  pub are : ts ≡ front ++ wrong ∷ rest
-  pub run : AreRun front
+  pub are : ts ≡ prefix ++ wrong ∷ rest
+  pub run : AreRun prefix
   pub place : ℕ
-  pub is_wrong : IsWrong (after empty (steps_of front)) wrong place because
-  pub at : line ≡ lines_in front + 1 + place
+  pub is_wrong : IsWrong (after empty (steps_of prefix)) wrong place because
+  pub at : line ≡ lines_in prefix + 1 + place
 
 -- the law of audits: the verdict is Legal exactly where the steps are a run of the machine from the empty one with these
 -- answers, and then counts them; and Illegal at the first line that can not be of a run. So what was heard is legal

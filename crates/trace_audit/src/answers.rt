@@ -123,7 +123,7 @@ pub fn is_line(bytes: &[u8], line: &[u8]) -> bool
     ensures { result ≡ bytes_eq bytes.now (line.now ++ 10 ∷ []) }
 {
     match bytes.split_last() {
-        Some((last, front)) => *last == b'\n' && front == line,
+        Some((last, prefix)) => *last == b'\n' && prefix == line,
         None => false,
     }
 }

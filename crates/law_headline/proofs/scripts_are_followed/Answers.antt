@@ -7,7 +7,7 @@ use Rattle.ideal_model.specs.Machine.{empty}
 use Rattle.script_lang.specs.Scripts.{lines_of}
 use Rattle.law_headline.specs.Follows.{FollowsAll}
 use Rattle.law_headline.specs.Script.{happenings, script_of}
-use Rattle.law_headline.proofs.Following.{all_legal, all_reached, front_followed}
+use Rattle.law_headline.proofs.Following.{all_legal, all_reached, prefix_followed}
 use Rattle.law_headline.proofs.Reading.{lines_in_range}
 use Rattle.law_headline.proofs.scripts_are_followed.Goals as goal
 
@@ -17,14 +17,14 @@ returns-clause-whole c text = record {
   legal = c.lines_are_followed.ensures.legal (script_of text).lines (lines_in_range 1 (lines_of text));
 }
 
-pub returns-clause-follows_front : goal.returns-clause-follows_front
-returns-clause-follows_front c text front rest e =
-    front_followed empty_world empty front rest (c.lines_are_followed.ensures.follows [] (All-nil IsLineInRange))
+pub returns-clause-follows_prefix : goal.returns-clause-follows_prefix
+returns-clause-follows_prefix c text prefix rest e =
+    prefix_followed empty_world empty prefix rest (c.lines_are_followed.ensures.follows [] (All-nil IsLineInRange))
     (subst (λ (hs : List Happening). FollowsAll empty_world empty hs) e (c.lines_are_followed.ensures.follows (script_of text).lines (lines_in_range 1 (lines_of text))))
 
-pub returns-clause-legal_front : goal.returns-clause-legal_front
-returns-clause-legal_front c text front rest e =
-    all_legal empty_world empty front (front_followed empty_world empty front rest (c.lines_are_followed.ensures.follows [] (All-nil IsLineInRange))
+pub returns-clause-legal_prefix : goal.returns-clause-legal_prefix
+returns-clause-legal_prefix c text prefix rest e =
+    all_legal empty_world empty prefix (prefix_followed empty_world empty prefix rest (c.lines_are_followed.ensures.follows [] (All-nil IsLineInRange))
     (subst (λ (hs : List Happening). FollowsAll empty_world empty hs) e (c.lines_are_followed.ensures.follows (script_of text).lines (lines_in_range 1 (lines_of text)))))
 
 pub returns-clause-reached : goal.returns-clause-reached

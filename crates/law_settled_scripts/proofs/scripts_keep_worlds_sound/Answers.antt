@@ -10,6 +10,6 @@ returns-clause-read c line says h =
     (read_named line says h)
 
 pub returns-clause-sound : goal.returns-clause-sound
-returns-clause-sound c text front rest splits =
+returns-clause-sound c text prefix rest splits =
     text_sound c.worlds_stay_sound.ensures.step c.worlds_stay_sound.ensures.settling (returns-clause-read c) c.worlds_stay_sound.ensures.empty
-    c.law_holds.ensures.start text (c.scripts_are_followed.ensures.whole text).follows front rest splits
+    c.law_holds.ensures.start text (c.scripts_are_followed.ensures.whole text).follows prefix rest splits

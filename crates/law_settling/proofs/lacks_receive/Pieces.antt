@@ -146,7 +146,7 @@ rnr_bytes : (l : Link) (n : ℕ) → (byte_at 0 (responder.acknowledge l n Rnr).
 unfolding responder.acknowledge wire_of big_bytes
 rnr_bytes l n = (refl, refl, psn_written (responder.response l 0x11 n Rnr) (wire_number_bits l.terms.peer_start n))
 
--- what a responder writes for want of a receive
+-- what a responder writes where no receive is posted
 pub rnr_read : (l : Link) (n : ℕ) (p : Packet) → packet_of (responder.acknowledge l n Rnr).bytes ≡ Some p → IsRnrOf l.terms.peer_start n p
 rnr_read l n p read =
     let bs : List ℕ = (responder.acknowledge l n Rnr).bytes in

@@ -44,7 +44,7 @@ module _ (c : Context) (e : End) (l : Link) (d : Packet) (n : ℕ) where
   abbrev pub AnswersOf : Type 0 → EndStep → Type 0
   AnswersOf Back s = All (λ (z : Sent). IsAnswerTo l.peer Back z.bytes) s.sent
 
-  -- nothing changes, by a repeat, ahead of a number that was asked for already, or for want of a receive
+  -- nothing changes, by a repeat, ahead of a number that was asked for already, or where no receive is posted
   pub record IsIdle (s : EndStep) : Type 0 where
     pub context : s.context ≡ c
     pub answers : AnswersOf ⊥ s

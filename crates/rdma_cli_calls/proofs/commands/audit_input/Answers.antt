@@ -1,7 +1,7 @@
 use Rattle.std.proofs.Common.{Err, Ok, ap, refl, subst, sym}
 use Rattle.mig_ports.specs.declared.reading.ReadAllFault.TheVariants as read
 use Rattle.script_runner.specs.declared.fault.PlayFault.TheVariants as play
-use Rattle.script_runner.proofs.Fronts.{if_err_is}
+use Rattle.script_runner.proofs.Prefixes.{if_err_is}
 use Rattle.rdma_cli_calls.specs.declared.stop.Stop.TheVariants as stop
 use Rattle.trace_audit.specs.Verdicts.{Audits}
 use Rattle.trace_audit.specs.declared.verdicts.Verdict.TheVariants.{Illegal, Legal}

@@ -6,8 +6,8 @@ use Rattle.law_kept_datagrams.specs.Alike.{with_kept_datagrams}
 use Rattle.law_headline.specs.Left.{world_of}
 use Rattle.law_headline.specs.Script.{answers_text, bad_line}
 use Rattle.law_headline.specs.Follows.{IsFollowed}
-use Rattle.script_runner.specs.Playing.{PutsFront}
-use Rattle.script_runner.proofs.Fronts.{if_err_is}
+use Rattle.script_runner.specs.Playing.{PutsPrefix}
+use Rattle.script_runner.proofs.Prefixes.{if_err_is}
 use Rattle.rdma_cli_calls.specs.Stopping.{EvacuateStops, counts_of, over, stop_of_play, stop_of_read}
 use Rattle.law_node.specs.Stops.{Rises}
 use Rattle.rdma_cli_calls.specs.declared.stop.Stop.TheVariants as stop
@@ -31,7 +31,7 @@ pub returns-in_err-write_text-clause-stops : goal.returns-in_err-write_text-clau
 returns-in_err-write_text-clause-stops g c r =
     let run = (over r (g.S.Source.left c.args.input.now) (g.S.Source.left c.read_all.new.source) (g.K.Sink.held c.args.output.now) (g.K.Sink.held c.write_text.new.output)) in
     if_err_is c.from_residual-in_err-write_text.result (EvacuateStops c.args.from c.args.targets.now run) stop.WriteFault c.from_residual-in_err-write_text.ensures.1
-    (told_in_part c.args.from c.args.targets.now run c.evacuations_are_followed.ensures c.in_ok-text.text.items c.in_ok-text.ensures.all c.in_ok-text.ensures.short (subst IsFollowed c.as_slice.ensures.value c.in_ok-world.ensures.followed) (subst (λ xs. bad_line xs ≡ None) c.as_slice.ensures.value c.in_ok-world.ensures.good) (g.K.Sink.held c.play_world.new.output) (subst (λ xs. Puts (g.K.Sink.held c.args.output.now) (g.K.Sink.held c.play_world.new.output) (answers_text xs)) c.as_slice.ensures.value c.in_ok-world.ensures.whole) c.in_ok-tale.tale.text.items (c.in_ok-tale.ensures (world_of c.in_ok-text.text.items) (subst (λ xs. c.in_ok-world.world ≡ with_kept_datagrams (world_of xs)) c.as_slice.ensures.value c.in_ok-world.ensures.left.left)).0 (subst (PutsFront (g.K.Sink.held c.play_world.new.output) (g.K.Sink.held c.write_text.new.output)) c.as_slice-2.ensures.value c.in_err-write_text.ensures.part))
+    (told_in_part c.args.from c.args.targets.now run c.evacuations_are_followed.ensures c.in_ok-text.text.items c.in_ok-text.ensures.all c.in_ok-text.ensures.short (subst IsFollowed c.as_slice.ensures.value c.in_ok-world.ensures.followed) (subst (λ xs. bad_line xs ≡ None) c.as_slice.ensures.value c.in_ok-world.ensures.good) (g.K.Sink.held c.play_world.new.output) (subst (λ xs. Puts (g.K.Sink.held c.args.output.now) (g.K.Sink.held c.play_world.new.output) (answers_text xs)) c.as_slice.ensures.value c.in_ok-world.ensures.whole) c.in_ok-tale.tale.text.items (c.in_ok-tale.ensures (world_of c.in_ok-text.text.items) (subst (λ xs. c.in_ok-world.world ≡ with_kept_datagrams (world_of xs)) c.as_slice.ensures.value c.in_ok-world.ensures.left.left)).0 (subst (PutsPrefix (g.K.Sink.held c.play_world.new.output) (g.K.Sink.held c.write_text.new.output)) c.as_slice-2.ensures.value c.in_err-write_text.ensures.part))
 
 pub returns-then-not-tale-clause-stops : goal.returns-then-not-tale-clause-stops
 returns-then-not-tale-clause-stops g c r =

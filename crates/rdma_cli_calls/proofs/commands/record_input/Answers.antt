@@ -2,8 +2,8 @@ use Rattle.std.proofs.Common.{Err, Ok, ap, refl, subst, sym}
 use Rattle.mig_ports.specs.declared.reading.ReadAllFault.TheVariants as read
 use Rattle.mig_ports.specs.Streams.{Puts}
 use Rattle.law_traces.specs.Recording.{IsFaultOf, IsTraceOf}
-use Rattle.script_runner.specs.Playing.{PutsFront}
-use Rattle.script_runner.proofs.Fronts.{if_err_is}
+use Rattle.script_runner.specs.Playing.{PutsPrefix}
+use Rattle.script_runner.proofs.Prefixes.{if_err_is}
 use Rattle.rdma_cli_calls.specs.declared.stop.Stop.TheVariants as stop
 use Rattle.rdma_cli_calls.specs.Stopping.{RecordStops, counts_of, over, stop_of_audit, stop_of_read}
 use Rattle.rdma_cli_calls.proofs.Stops.{audited_counts, counted_err, ok_or, output_counts, record_stopped, record_unread, recorded, recorded_in_part, same_err, unread_counts}
@@ -31,7 +31,7 @@ pub returns-in_err-write_text-clause-stops : goal.returns-in_err-write_text-clau
 returns-in_err-write_text-clause-stops g c r =
     let run = over r (g.S.Source.left c.args.input.now) (g.S.Source.left c.read_all.new.source) (g.K.Sink.held c.args.output.now) (g.K.Sink.held c.write_text.new.output) in
     if_err_is c.from_residual-in_err-write_text.result (RecordStops run) stop.WriteFault c.from_residual-in_err-write_text.ensures.1
-    (recorded_in_part run c.in_ok-script.script.items c.in_ok-script.ensures.all c.in_ok-script.ensures.short c.audits_are_right.ensures.verdicts c.in_ok-trace.trace.items (subst (λ xs. IsTraceOf xs c.in_ok-trace.trace.items) c.as_slice.ensures.value c.in_ok-trace.ensures.trace) c.in_ok-trace.ensures.legal (subst (PutsFront (g.K.Sink.held c.args.output.now) (g.K.Sink.held c.write_text.new.output)) c.as_slice-2.ensures.value c.in_err-write_text.ensures.part))
+    (recorded_in_part run c.in_ok-script.script.items c.in_ok-script.ensures.all c.in_ok-script.ensures.short c.audits_are_right.ensures.verdicts c.in_ok-trace.trace.items (subst (λ xs. IsTraceOf xs c.in_ok-trace.trace.items) c.as_slice.ensures.value c.in_ok-trace.ensures.trace) c.in_ok-trace.ensures.legal (subst (PutsPrefix (g.K.Sink.held c.args.output.now) (g.K.Sink.held c.write_text.new.output)) c.as_slice-2.ensures.value c.in_err-write_text.ensures.part))
 
 pub returns-in_err-write_text-clause-counts : goal.returns-in_err-write_text-clause-counts
 returns-in_err-write_text-clause-counts g c link depot = counted_err c.from_residual-in_err-write_text.result stop.WriteFault (g.S.Source.faults c.args.input.now) (g.S.Source.faults c.read_all.new.source) (counts_of link depot (g.K.Sink.faults c.args.output.now)) (counts_of link depot (g.K.Sink.faults c.write_text.new.output)) c.from_residual-in_err-write_text.ensures.1 ((ok_or (Ok c.in_ok-script.script) c.in_ok-script.script read.ReadFault refl c.in_ok-script.ensures.faults_unchanged), (c.write_text.ensures.faults_monotone, c.in_err-write_text.ensures.faults_counted), refl)

@@ -5,8 +5,8 @@ use Rattle.protocol.specs.Dumps.{Good, read_dump}
 use Rattle.dump_writer.specs.Text.{text_of}
 use Rattle.mig_ports.specs.Streams.{Puts}
 use Rattle.law_node.specs.Told.{Counts}
-use Rattle.script_runner.specs.Playing.{PutsFront}
-use Rattle.script_runner.proofs.Fronts.{if_err_is}
+use Rattle.script_runner.specs.Playing.{PutsPrefix}
+use Rattle.script_runner.proofs.Prefixes.{if_err_is}
 use Rattle.rdma_cli_calls.specs.declared.stop.Stop.TheVariants as stop
 use Rattle.rdma_cli_calls.specs.Stopping.{ShowStops, counts_of, over_depot, stop_of_dump}
 use Rattle.rdma_cli_calls.proofs.Stops.{counted_err, dump_counts, look_counts, output_counts, show_cut_off, shown}
@@ -15,7 +15,7 @@ use Rattle.rdma_cli_calls.proofs.commands.show_dump.Goals as goal
 pub returns-in_err-write_text-clause-stops : goal.returns-in_err-write_text-clause-stops
 returns-in_err-write_text-clause-stops g c r =
     if_err_is c.from_residual-in_err-write_text.result (ShowStops text_of c.args.name (over_depot r (g.K.Sink.held c.args.output.now) (g.K.Sink.held c.write_text.new.output) (g.D.Depot.held c.args.depot.now) (g.D.Depot.held c.look_up.new.depot))) stop.WriteFault c.from_residual-in_err-write_text.ensures.1
-    (show_cut_off text_of c.args.name (over_depot r (g.K.Sink.held c.args.output.now) (g.K.Sink.held c.write_text.new.output) (g.D.Depot.held c.args.depot.now) (g.D.Depot.held c.look_up.new.depot)) c.in_ok-bytes.bytes.items c.in_ok-bytes.ensures.found c.in_ok-image.image (length c.as_slice.result.now) [] (subst (λ bs. read_dump bs ≡ Good c.in_ok-image.image (length c.as_slice.result.now) []) c.as_slice.ensures.value c.in_ok-image.ensures.image) (subst (PutsFront (g.K.Sink.held c.args.output.now) (g.K.Sink.held c.write_text.new.output)) (c.as_slice-2.ensures.value ∙ c.in_ok-text.ensures) c.in_err-write_text.ensures.part))
+    (show_cut_off text_of c.args.name (over_depot r (g.K.Sink.held c.args.output.now) (g.K.Sink.held c.write_text.new.output) (g.D.Depot.held c.args.depot.now) (g.D.Depot.held c.look_up.new.depot)) c.in_ok-bytes.bytes.items c.in_ok-bytes.ensures.found c.in_ok-image.image (length c.as_slice.result.now) [] (subst (λ bs. read_dump bs ≡ Good c.in_ok-image.image (length c.as_slice.result.now) []) c.as_slice.ensures.value c.in_ok-image.ensures.image) (subst (PutsPrefix (g.K.Sink.held c.args.output.now) (g.K.Sink.held c.write_text.new.output)) (c.as_slice-2.ensures.value ∙ c.in_ok-text.ensures) c.in_err-write_text.ensures.part))
 
 pub returns-clause-done : goal.returns-clause-done
 returns-clause-done g c r =

@@ -1,12 +1,12 @@
 use Rattle.std.proofs.Common.{arith, map, ◌∙◌}
 use Rattle.std.proofs.lemmas.Result.{on_err_weaker, on_ok_weaker}
 use Rattle.script_lang.specs.Printed.{ended, line}
-use Rattle.script_runner.proofs.Fronts.{front_longer, on_err}
+use Rattle.script_runner.proofs.Prefixes.{prefix_longer, on_err}
 use Rattle.rdma_cli_calls.proofs.Lines.{end_cut_off, space_cut_off, word_cut_off, word_written}
 use Rattle.rdma_cli_calls.proofs.writing.write_line.Goals as goal
 
 pub returns-in_err-write_text-clause-part : goal.returns-in_err-write_text-clause-part
-returns-in_err-write_text-clause-part g c = on_err c.from_residual.result (front_longer _ _ c.args.first.now (ended (map (λ w. w.now) c.args.words.now)) c.in_err-write_text.ensures.part)
+returns-in_err-write_text-clause-part g c = on_err c.from_residual.result (prefix_longer _ _ c.args.first.now (ended (map (λ w. w.now) c.args.words.now)) c.in_err-write_text.ensures.part)
 
 pub returns-in_err-write_text-2-clause-part : goal.returns-in_err-write_text-2-clause-part
 returns-in_err-write_text-2-clause-part g c = on_err c.from_residual-in_err-write_text-2.result (space_cut_off (g.K.Sink.held c.args.output.now) (g.K.Sink.held c.loop-word.output) (g.K.Sink.held c.write_text-in-loop-word.new.output) (line c.args.first.now (map (λ w. w.now) c.args.words.now)) c.args.words.now c.loop-word.word-index c.loop-word.invariant.written c.args.first c.loop-word-test.true c.in_err-write_text-2.ensures.part)

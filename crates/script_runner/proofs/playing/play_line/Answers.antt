@@ -1,6 +1,6 @@
 use Rattle.std.proofs.Common.{sym, ◌∙◌}
 use Rattle.std.proofs.lemmas.Result.{on_err_weaker}
-use Rattle.script_runner.proofs.Fronts.{on_ok_with}
+use Rattle.script_runner.proofs.Prefixes.{on_ok_with}
 use Rattle.script_runner.proofs.Played.{line_cut_off, line_played}
 use Rattle.script_runner.proofs.playing.play_line.Goals as goal
 

@@ -3,7 +3,7 @@ use Rattle.protocol.specs.State.{World, empty_world}
 use Rattle.script_runner.specs.Playing.{IfBadLine, IsPlayedTo, IsStoppedAt}
 use Rattle.script_runner.specs.declared.fault.PlayFault.TheVariants.{WriteFault}
 use Rattle.script_runner.proofs.Faults.{still_err}
-use Rattle.script_runner.proofs.Fronts.{if_err_is, on_err}
+use Rattle.script_runner.proofs.Prefixes.{if_err_is, on_err}
 use Rattle.script_runner.proofs.Played.{next_number, start, whole, world_after}
 use Rattle.script_runner.proofs.playing.play_world.Goals as goal
 

@@ -1,6 +1,6 @@
 use Rattle.std.proofs.lemmas.Result.{on_err_weaker}
-use Rattle.script_runner.proofs.Fronts.{front_of_part}
+use Rattle.script_runner.proofs.Prefixes.{prefix_of_part}
 use Rattle.script_runner.proofs.playing.write_text.Goals as goal
 
 pub returns-clause-part : goal.returns-clause-part
-returns-clause-part g c = on_err_weaker c.write_all_of.result (front_of_part _ _ c.args.text.now) c.write_all_of.ensures.part
+returns-clause-part g c = on_err_weaker c.write_all_of.result (prefix_of_part _ _ c.args.text.now) c.write_all_of.ensures.part

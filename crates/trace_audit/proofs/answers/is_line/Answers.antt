@@ -9,4 +9,4 @@ returns-then-last-eq10 c = c.eq.ensures ∙ ended-same _ _ c.args.line.now _ c.i
 pub returns-else-last-eq10 : goal.returns-else-last-eq10
 returns-else-last-eq10 c =
     let no = c.if-last-eq10.false in
-    grind (arith, nat_tests) ∙ ended-other c.args.bytes.now c.in-Some.front.now c.args.line.now c.in-Some.last.now c.in-Some.ensures.cases.0 no
+    grind (arith, nat_tests) ∙ ended-other c.args.bytes.now c.in-Some.prefix.now c.args.line.now c.in-Some.last.now c.in-Some.ensures.cases.0 no
