@@ -1,17 +1,15 @@
 -- What the pages are after each change.
 use Rattle.std.proofs.Common.{◌≡◌, ℕ, ◌+◌, ◌-◌, ◌*◌, ◌<◌, ◌≤◌, ◌≢◌, ◌^◌, List, [], ◌∷◌, ◌++◌, length, get_or, set, sum, arith, refl, ap, sym, ◌∙◌, inl, inr}
 use Rattle.std.specs.Prelude.{◌⊎◌, replicate}
-use Rattle.std.proofs.lemmas.Bool.{cases_lt, cases_eq}
-use Rattle.std.proofs.lemmas.List.{length-replicate, length-set, get_or-set_same, get_or-set_other}
+use Rattle.std.proofs.lemmas.Bool.{cases_lt}
+use Rattle.std.proofs.lemmas.List.{length-replicate, length-set, get_or-set_same}
 use Rattle.rdma_types.specs.Memory.{cut, put}
 use Rattle.page_pool.specs.Ledger.{page_at}
 use Rattle.page_pool.specs.Store.{Store, IsStock, IsMade, padded, later_pages, waiting, times, idle, idle_pages}
-use Rattle.byte_run.proofs.Cuts.{length-cut}
-use Rattle.page_pool.proofs.Steps.{inside}
 use Rattle.page_pool.proofs.Counts.{one_if, times-none, idle-is, idle-past, sum-none, idle_pages-all}
 use Rattle.page_pool.proofs.Padded.{padded-none, length-padded, zero_at, zeros, padded-at, padded-set, padded-put, padded-cut, in_front, later-in, later-past, waiting-push, waiting-same, length-waiting, times-waiting}
 use Rattle.page_pool.proofs.Stock.{read_is, held_more, held_less, held_last, stock_room, rewritten}
-use Rattle.page_pool.proofs.Drawn.{Drawn, restated}
+use Rattle.page_pool.proofs.Drawn.{restated}
 
 -- ---- a page that is held
 
@@ -72,10 +70,10 @@ room_left bytes hs now st pages spare cap page k within e held =
 
 -- ---- what callers see of a change
 
-abbrev store : List ℕ → List ℕ → Store
+abbrev pub store : List ℕ → List ℕ → Store
 store bytes holders = record { bytes = bytes; holders = holders }
 
-store_is : (b b' h h' : List ℕ) → b ≡ b' → h ≡ h' → store b h ≡ store b' h'
+pub store_is : (b b' h h' : List ℕ) → b ≡ b' → h ≡ h' → store b h ≡ store b' h'
 store_is b b' h h' p q = rw (p, q) refl
 
 pub seen_held : (bs hs : List ℕ) (now : Store) (n pages page v w : ℕ) → store (padded n bs) (padded pages hs) ≡ now → page < length hs → v ≡ w → store (padded n bs) (padded pages (set hs page v)) ≡ record now { holders = set now.holders page w }
@@ -84,15 +82,6 @@ seen_held bs hs now n pages page v w e l same = store_is _ _ _ _ (ap (λ (s : St
 pub seen_put : (bs bs' hs w : List ℕ) (now : Store) (n pages a b : ℕ) → store (padded n bs) (padded pages hs) ≡ now → bs' ≡ put bs a w → a + length w ≤ length bs → a ≡ b → store (padded n bs') (padded pages hs) ≡ record now { bytes = put now.bytes b w }
 seen_put bs bs' hs w now n pages a b e new l same =
     store_is _ _ _ _ (ap (padded n) new ∙ (padded-put n bs a w l ∙ (ap (λ ys. put ys a w) (ap (λ (s : Store). s.bytes) e) ∙ ap (λ k. put now.bytes k w) same))) (ap (λ (s : Store). s.holders) e)
-
-pub seen_drawn : (bs hs st bs' bs'' hs' st' v w : List ℕ) (now : Store) (pages page a : ℕ) → store (padded (4096 * pages) bs) (padded pages hs) ≡ now → Drawn bs hs st bs' hs' st' pages page → bs'' ≡ put bs' a v → a + length v ≤ length bs' → a ≡ 4096 * page → v ≡ w → store (padded (4096 * pages) bs'') (padded pages (set hs' page 1)) ≡ record { bytes = put now.bytes (4096 * page) w; holders = set now.holders page 1 }
-seen_drawn bs hs st bs' bs'' hs' st' v w now pages page a e d new l same what =
-    store_is _ _ _ _
-    (ap (padded (4096 * pages)) new
-    ∙ (padded-put (4096 * pages) bs' a v l
-    ∙ (ap (λ ys. put ys a v) (d.bytes ∙ ap (λ (s : Store). s.bytes) e)
-    ∙ (ap (λ k. put now.bytes k v) same ∙ ap (put now.bytes (4096 * page)) what))))
-    (padded-set pages hs' page 1 d.made ∙ ap (λ ys. set ys page 1) (d.holders ∙ ap (λ (s : Store). s.holders) e))
 
 -- the bytes of a page that is made
 pub seen_cut : (bs : List ℕ) (now : Store) (hs : List ℕ) (n page a : ℕ) → store (padded n bs) hs ≡ now → a + 4096 ≤ length bs → a ≡ 4096 * page → cut a 4096 bs ≡ cut (4096 * page) 4096 now.bytes
@@ -164,36 +153,3 @@ still_stocked bs bs' hs stock pages spare cap bytes_room holders_room m k b =
     let within : length bs ≤ 4096 * pages = omega (arith, m.whole, m.within) in
     rewritten (padded (4096 * pages) bs) (padded (4096 * pages) bs') (padded pages hs) stock spare cap k
     (length-padded (4096 * pages) bs' (omega arith) ∙ sym (length-padded (4096 * pages) bs within))
-
--- ---- a page copied to one that is drawn
-
--- a page that is held is made, also after another page is drawn
-pub made_still : (bs hs st bs' hs' st' : List ℕ) (pages page q : ℕ) → Drawn bs hs st bs' hs' st' pages page → 0 < get_or hs q 0 → q < length hs'
-made_still bs hs st bs' hs' st' pages page q d held =
-    let l : q < length hs = inside hs q held in
-    in_front pages hs' q (omega (arith, ap (λ ys. get_or ys q 0) d.holders, padded-at pages hs q 0 l))
-
--- nobody held the page that is drawn
-pub idle_copy : (hs now : List ℕ) (pages page copy x : ℕ) → padded pages hs ≡ now → page < length hs → 1 < x → get_or (padded pages (set hs page (x - 1))) copy 0 ≡ 0 → get_or now copy 0 ≡ 0
-idle_copy hs now pages page copy x e l more free = by_place (cases_eq copy page)
-  where
-    count : length (set hs page (x - 1)) ≡ length hs
-    count = length-set hs page (x - 1)
-
-    by_place : (copy ≡ page) ⊎ (copy ≢ page) → get_or now copy 0 ≡ 0
-    by_place (inl i) =
-        let at : get_or (padded pages (set hs page (x - 1))) page 0 ≡ x - 1 = padded-at pages (set hs page (x - 1)) page 0 (omega (arith, count)) ∙ get_or-set_same hs page (x - 1) 0 l in
-        absurd (omega (arith, ap (λ q. get_or (padded pages (set hs page (x - 1))) q 0) i))
-    by_place (inr n) =
-        ap (λ ys. get_or ys copy 0) (sym e)
-        ∙ (sym (get_or-set_other (padded pages hs) page copy (x - 1) 0 n)
-        ∙ (ap (λ ys. get_or ys copy 0) (sym (padded-set pages hs page (x - 1) l)) ∙ free))
-
-pub seen_copy : (bs hs st bs' bs'' hs' st' : List ℕ) (now : Store) (pages page copy x : ℕ) → store (padded (4096 * pages) bs) (padded pages hs) ≡ now → page < length hs → get_or now.holders page 0 ≡ x → Drawn bs (set hs page (x - 1)) st bs' hs' st' pages copy → bs'' ≡ put bs' (copy * 4096) (cut (page * 4096) 4096 bs') → page * 4096 + 4096 ≤ length bs' → copy * 4096 + 4096 ≤ length bs'
-    → store (padded (4096 * pages) bs'') (padded pages (set hs' copy 1)) ≡ record { bytes = put now.bytes (4096 * copy) (cut (4096 * page) 4096 now.bytes); holders = set (set now.holders page (get_or now.holders page 0 - 1)) copy 1 }
-seen_copy bs hs st bs' bs'' hs' st' now pages page copy x e l x_is d new from to =
-    let part : length (cut (page * 4096) 4096 bs') ≡ 4096 = length-cut (page * 4096) 4096 bs' from in
-    let what : cut (page * 4096) 4096 bs' ≡ cut (4096 * page) 4096 now.bytes = seen_cut bs' now (padded pages hs) (4096 * pages) page (page * 4096) (ap (λ b. store b (padded pages hs)) d.bytes ∙ e) from (omega arith) in
-    seen_drawn bs (set hs page (x - 1)) st bs' bs'' hs' st' (cut (page * 4096) 4096 bs') (cut (4096 * page) 4096 now.bytes) (record now { holders = set now.holders page (get_or now.holders page 0 - 1) }) pages copy (copy * 4096)
-    (seen_held bs hs now (4096 * pages) pages page (x - 1) (get_or now.holders page 0 - 1) e l (ap (λ n. n - 1) (sym x_is)))
-    d new (omega arith) (omega arith) what

@@ -172,7 +172,7 @@ module _ {A : Type 0} where
       same None h = refl
       same (Some v) h = ap Some (joined-same (page_at frames.bytes) (page_at frames'.bytes) 0 0 v.items v.items refl h)
 
--- want of memory is not want of pages
+-- out of memory is not too few pages
 pub not_no_page : {T : Type 0} (r : Result T PoolFault) (free n : ℕ) → IsErrAnd r (λ e. e ≡ OutOfMemory) → n ≤ free → IsErrOf r NoPage ↔ (free < n)
 not_no_page (Ok x) free n h l = absurd h
 not_no_page (Err e) free n h l = (λ q. absurd (cc), λ b. absurd (omega arith))
@@ -237,6 +237,6 @@ module _ {A : Type 0} where
       by_slot (Some v) s = refl
       by_slot None s = absurd (cc (h, bytes-is frames lists now k e ∙ ap (shown frames.bytes) s))
 
--- a list given is not want of pages
+-- where a list is given, there were pages enough
 pub done_no_page : {T : Type 0} (x : T) (free n : ℕ) → n ≤ free → IsErrOf {T = T} {E = PoolFault} (Ok x) NoPage ↔ (free < n)
 done_no_page x free n l = (λ q. absurd (cc), λ b. absurd (omega arith))

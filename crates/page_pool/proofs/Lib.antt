@@ -10,4 +10,5 @@ pub mod Writes
 pub mod Stock
 pub mod Drawn
 pub mod Kept
+pub mod Anew
 pub mod Copied
