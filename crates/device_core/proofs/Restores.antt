@@ -51,7 +51,7 @@ use Rattle.device_core.proofs.Stops.{placed-absent, placed-at}
 
 -- ---- the causes
 
--- a cause but for want of pages counts
+-- a cause other than too few pages counts
 pub must-refuse : (d : Device) (i : ContextImage) (taken full : Bool) (r : Refusal) → taken ≡ brings_taken d i → full ≡ (nat_le most_contexts (length d.contexts) || list_any (λ e. has_moved_image e.linked) i.ends)
     → first_cause (cause NumberTaken taken ∷ cause TooMany full ∷ []) ≡ Some r → first_cause (causes_of d (event.Restore i)) ≡ Some r
 unfolding first_cause
@@ -62,7 +62,7 @@ must-refuse d i taken full r takes fills h = by_test taken full _ _ _ (takes ∙
     by_test false true a b c ta fb g = ap (λ x. if x then Some NumberTaken else if b then Some TooMany else if c then Some NoPage else None) (sym ta) ∙ (ap (λ x. if x then Some TooMany else if c then Some NoPage else None) (sym fb) ∙ g)
     by_test false false a b c ta fb g = absurd (cc)
 
--- .. and where none of them holds, nothing is taken, and want of pages alone counts
+-- .. and where none of them holds, nothing is taken, and too few pages alone count
 pub may-restore : (d : Device) (i : ContextImage) (taken full : Bool) → taken ≡ brings_taken d i → full ≡ (nat_le most_contexts (length d.contexts) || list_any (λ e. has_moved_image e.linked) i.ends)
     → first_cause (cause NumberTaken taken ∷ cause TooMany full ∷ []) ≡ None
     → (brings_taken d i ≡ false) × (first_cause (causes_of d (event.Restore i)) ≡ (if nat_lt (rule.free_pages d) (pages_of_context (context_of i)) then Some NoPage else None))

@@ -18,11 +18,9 @@ use crate::index::EndLocation;
 use context_core::{ArrivalOutcome, ContextFault};
 use protocol::{Aeth, Event, Outcome, Syndrome};
 use rdma_types::{Address, Answer, Items, Sent, SilentWhy, Took};
+use roce_headers::opcodes::ACKNOWLEDGE;
 use roce_headers::{Datagram, decode, encode, encoded_len};
 use std::alloc::{AllocError, Global};
-
-/// Acknowledge (IBA 9.2).
-const ACKNOWLEDGE: u8 = 0x11;
 
 /// The NAK code of NAK_STOPPED (this project's choice).
 const STOPPED: u8 = 5;

@@ -19,12 +19,10 @@ use crate::index::{EndLocation, put_location};
 use crate::named::put_named;
 use context_core::{ContextFault, ContextState};
 use indexmap::IndexMap;
+use move_core::MOST_MOVES;
 use protocol::{ContextImage, EndImage, Event, Outcome, RegionImage};
 use rdma_types::{Answer, Keys, Name, Refusal};
 use std::alloc::Global;
-
-/// Moves of an end at most.
-const MOST_MOVES: u16 = 65_535;
 
 /// Whether an end in Rts was moved as often as may be.
 fn has_moved_out(end: &EndImage) -> bool

@@ -10,7 +10,7 @@ ghost use Rattle.move_core.specs.Table.{moving_of, control_of, row_of, moved_by,
 use rdma_types::Address;
 
 /// The greatest count of moves.
-const MOST_MOVES: u32 = 65_535;
+pub const MOST_MOVES: u16 = 65_535;
 
 /// What a connected end may do.
 #[derive(Clone, Copy)]
@@ -102,7 +102,8 @@ impl MoveState {
                 self.phase = Phase::Paused;
                 MoveTook::Paused
             }
-            Control::Resume { count, address } if recorded < count && count <= MOST_MOVES => {
+            Control::Resume { count, address }
+                if recorded < count && count <= u32::from(MOST_MOVES) => {
                 self.recorded = count as u16;
                 self.partner = address;
                 if self.is_paused() {

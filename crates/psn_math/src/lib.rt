@@ -13,7 +13,7 @@ mod places;
 pub use places::PsnOrder;
 
 /// How many packet sequence numbers there are.
-const WIRE_NUMBERS: u32 = 16_777_216;
+pub const WIRE_NUMBERS: u32 = 16_777_216;
 
 /// Half of them.
 const HALF: u64 = 8_388_608;

@@ -2,7 +2,6 @@
 
 ghost use Rattle.std.specs.Prelude.{◌≡◌};
 ghost use Rattle.rdma_types.specs.Kinds as kinds;
-ghost use Rattle.protocol.specs.Wire as wire;
 
 use rdma_types::Kind;
 
@@ -18,11 +17,4 @@ pub fn is_read(kind: Kind) -> bool
     ensures { result ≡ kinds.is_read kind }
 {
     matches!(kind, Kind::Read)
-}
-
-/// The opcode of a READ response.
-pub fn is_read_response(opcode: u8) -> bool
-    ensures { result ≡ wire.is_read_response opcode }
-{
-    matches!(opcode, 0x0D..=0x10)
 }

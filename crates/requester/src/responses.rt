@@ -14,6 +14,7 @@ use crate::marks::seek_barrier;
 use crate::{Requester, kinds};
 use psn_math::unwrap_near;
 use rdma_types::{Shape, WcStatus};
+use roce_headers::opcodes::{ATOMIC_ACKNOWLEDGE, is_read_response};
 use roce_headers::{Aeth, Datagram, Syndrome};
 use segmenter::{piece_at, span_of};
 
@@ -21,7 +22,7 @@ use segmenter::{piece_at, span_of};
 fn is_landing(opcode: u8) -> bool
     ensures { result ≡ (is_read_response opcode || opcode == 0x12) }
 {
-    kinds::is_read_response(opcode) || opcode == 0x12
+    is_read_response(opcode) || opcode == ATOMIC_ACKNOWLEDGE
 }
 
 /// Number `n` is sent and not acknowledged.
@@ -62,11 +63,11 @@ fn landing(
 {
     if !kinds::is_read(shape.kind) {
         let old = d.old.unwrap_or(0);
-        return (d.opcode == 0x12).then_some(ResponseEffect::OldLanded { index, old });
+        return (d.opcode == ATOMIC_ACKNOWLEDGE).then_some(ResponseEffect::OldLanded { index, old });
     }
     let (off, length) = piece_at(shape.length, k, mtu);
     let fits = d.payload.len() == length as usize;
-    (kinds::is_read_response(d.opcode) && fits).then_some(ResponseEffect::Landed { index, off })
+    (is_read_response(d.opcode) && fits).then_some(ResponseEffect::Landed { index, off })
 }
 
 impl Requester {

@@ -26,6 +26,7 @@ use crate::{Flow, Reply, Responder, ResponderParts, Why, checks};
 use completion_queue::Cq;
 use memory_keys::{Regions, Spot};
 use page_pool::PagePool;
+use psn_math::WIRE_NUMBERS;
 use rdma_types::{Completion, Name, Receive, WcKind, WcStatus};
 use roce_headers::{AtomicEth, Datagram};
 use segmenter::pieces_of;
@@ -123,7 +124,7 @@ impl Responder {
         ResponderParts {
             expected: self.parts.expected + self.span(d),
             nak_sent: false,
-            msn: (self.parts.msn + finished(part)) % 16_777_216,
+            msn: (self.parts.msn + finished(part)) % WIRE_NUMBERS,
             flow,
         }
     }

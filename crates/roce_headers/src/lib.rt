@@ -7,7 +7,7 @@
 
 mod datagram;
 mod laws;
-mod opcodes;
+pub mod opcodes;
 mod reading;
 mod writing;
 

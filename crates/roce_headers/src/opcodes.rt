@@ -1,12 +1,57 @@
-//! The table of opcodes.
+//! The opcodes: SEND, WRITE, READ and atomics of the reliable connection (IBA 9.2), and the two messages of moving, which are
+//! this project's choice.
 
 ghost use Rattle.std.specs.Prelude.{◌≡◌};
 ghost use Rattle.protocol.specs.Wire as wire;
 
 use protocol::{Headers, Layout};
 
-/// The row of an opcode: SEND, WRITE, READ and atomics of the reliable connection (IBA 9.2), and the two messages of
-/// moving. None where it is not in the table.
+/// A READ request.
+pub const READ_REQUEST: u8 = 0x0C;
+
+/// The first of several READ responses.
+pub const READ_FIRST: u8 = 0x0D;
+
+/// One between the first and the last of the READ responses, which has no AETH.
+pub const READ_MIDDLE: u8 = 0x0E;
+
+/// The last of several READ responses.
+pub const READ_LAST: u8 = 0x0F;
+
+/// The one READ response.
+pub const READ_ONLY: u8 = 0x10;
+
+/// An acknowledgement or a NAK.
+pub const ACKNOWLEDGE: u8 = 0x11;
+
+/// The acknowledgement of an atomic, with the old value.
+pub const ATOMIC_ACKNOWLEDGE: u8 = 0x12;
+
+/// A FETCH and ADD.
+pub const FETCH_ADD: u8 = 0x14;
+
+/// RESUME: an end that moved tells its partner where it is.
+pub const RESUME: u8 = 0x1E;
+
+/// RESUME_ACK: its partner knows.
+pub const RESUME_ACK: u8 = 0x1F;
+
+/// Whether an opcode is of a request.
+#[tactic(auto, unfolding(protocol::specs::Wire::is_request))]
+pub fn is_request(opcode: u8) -> bool
+    ensures { result ≡ wire.is_request opcode }
+{
+    opcode <= 0x0C || opcode == 0x13 || opcode == 0x14
+}
+
+/// Whether an opcode is of a READ response.
+pub fn is_read_response(opcode: u8) -> bool
+    ensures { result ≡ wire.is_read_response opcode }
+{
+    READ_FIRST <= opcode && opcode <= READ_ONLY
+}
+
+/// The row of an opcode; None where it is not in the table.
 #[tactic(auto, unfolding(protocol::specs::Wire::layout_of))]
 pub fn layout(opcode: u8) -> Option<Layout>
     ensures { result ≡ wire.layout_of opcode }

@@ -7,7 +7,6 @@ ghost use Rattle.ideal_model.specs.Machine.{end_of};
 ghost use Rattle.law_simulation.specs.Carries as carries;
 ghost use Rattle.law_simulation.specs.Named as named;
 ghost use Rattle.law_simulation.specs.Packets.{aeth_class, class_of, nak_class};
-ghost use Rattle.protocol.specs.Wire as wire;
 ghost use Rattle.roce_headers.specs.Packets.{packet};
 ghost use Rattle.trace_steps.specs.Steps.{HasDue, HasNumbers};
 ghost use Rattle.trace_record.specs.Arrivals as rules;
@@ -15,6 +14,7 @@ ghost use Rattle.trace_record.specs.Arrivals.{HasItsNumbers, IsArrival, IsArriva
 
 use ideal_model::{Ideal, IdealStep};
 use rdma_types::{EndState, ObjName, Took};
+use roce_headers::opcodes::{ACKNOWLEDGE, ATOMIC_ACKNOWLEDGE, is_read_response, is_request};
 use roce_headers::{Aeth, Datagram, Syndrome, decode};
 use std::alloc::AllocError;
 use trace_steps::{acknowledge, bytes_of, land, land_old, request};
@@ -84,21 +84,6 @@ fn sort_of_aeth(aeth: Option<Aeth>) -> Sort
     }
 }
 
-/// The opcode of a request.
-#[tactic(auto, unfolding(protocol::specs::Wire::is_request))]
-fn is_request(opcode: u8) -> bool
-    ensures { result ≡ wire.is_request opcode }
-{
-    opcode <= 0x0C || opcode == 0x13 || opcode == 0x14
-}
-
-/// The opcode of a READ response.
-fn is_read_response(opcode: u8) -> bool
-    ensures { result ≡ wire.is_read_response opcode }
-{
-    opcode >= 0x0D && opcode <= 0x10
-}
-
 /// The sort of a datagram.
 fn sort_of(d: &Datagram<'_>) -> Sort
     ensures { result ≡ sort_of (class_of (packet d.now)) }
@@ -109,10 +94,10 @@ fn sort_of(d: &Datagram<'_>) -> Sort
     if is_read_response(d.opcode) {
         return Sort::ReadResponse;
     }
-    if d.opcode == 0x12 {
+    if d.opcode == ATOMIC_ACKNOWLEDGE {
         return Sort::AtomicResponse;
     }
-    if d.opcode == 0x11 {
+    if d.opcode == ACKNOWLEDGE {
         return sort_of_aeth(d.aeth);
     }
     Sort::Other

@@ -6,7 +6,6 @@ ghost use Rattle.protocol.specs.Bytes.{byte_at, number_at};
 ghost use Rattle.protocol.specs.DeviceStep.{device_step};
 ghost use Rattle.protocol.specs.Fabric.{kept_flight};
 ghost use Rattle.protocol.specs.State as state;
-ghost use Rattle.protocol.specs.Wire as wire;
 ghost use Rattle.protocol.specs.WorldStep as rules;
 ghost use Rattle.protocol.specs.declared.events.Event.TheVariants as event;
 ghost use Rattle.world_core.specs.Delivered.{ChangesWorldOnly, is_delivered, is_touched_on};
@@ -18,6 +17,7 @@ use crate::running::send_outcome;
 use device_core::{Device, Outcome};
 use fabric::{Fabric, Look};
 use rdma_types::{Answer, Items, SilentWhy, Took};
+use roce_headers::opcodes::is_request;
 use std::alloc::{AllocError, Global};
 
 /// What becomes of a datagram that is delivered.
@@ -44,13 +44,6 @@ fn destination(bytes: &[u8]) -> u32
     ensures { result ≡ number_at 5 3 bytes.now }
 {
     u32::from(byte(bytes, 5)) * 65_536 + u32::from(byte(bytes, 6)) * 256 + u32::from(byte(bytes, 7))
-}
-
-/// The opcode of a request.
-fn is_request(opcode: u8) -> bool
-    ensures { result ≡ wire.is_request opcode }
-{
-    opcode <= 0x0C || opcode == 0x13 || opcode == 0x14
 }
 
 /// What the end that bytes are for keeps: its expected number for a request and its `top` for a response; 0 where there

@@ -10,14 +10,14 @@ returns-then-is_request c = request_sort (packet c.args.d.now) (sym c.is_request
 pub returns-then-is_read_response : goal.returns-then-is_read_response
 returns-then-is_read_response c = response_sort (packet c.args.d.now) (sym c.is_request.ensures ∙ c.if-is_request.false) (sym c.is_read_response.ensures ∙ c.if-is_read_response.true)
 
-pub returns-then-d-eq18 : goal.returns-then-d-eq18
-returns-then-d-eq18 c =
-    value_sort (packet c.args.d.now) (sym c.is_request.ensures ∙ c.if-is_request.false) (sym c.is_read_response.ensures ∙ c.if-is_read_response.false) (grind (arith, nat_tests, c.if-d-eq18.true))
+pub returns-then-d-eq-ATOMIC_ACKNOWLEDGE : goal.returns-then-d-eq-ATOMIC_ACKNOWLEDGE
+returns-then-d-eq-ATOMIC_ACKNOWLEDGE c =
+    value_sort (packet c.args.d.now) (sym c.is_request.ensures ∙ c.if-is_request.false) (sym c.is_read_response.ensures ∙ c.if-is_read_response.false) (grind (arith, nat_tests, c.if-d-eq-ATOMIC_ACKNOWLEDGE.true))
 
-pub returns-then-d-eq17 : goal.returns-then-d-eq17
-returns-then-d-eq17 c =
-    c.sort_of_aeth.ensures ∙ ack_sort (packet c.args.d.now) (sym c.is_request.ensures ∙ c.if-is_request.false) (sym c.is_read_response.ensures ∙ c.if-is_read_response.false) (grind (arith, nat_tests, c.if-d-eq18.false)) (grind (arith, nat_tests, c.if-d-eq17.true))
+pub returns-then-d-eq-ACKNOWLEDGE : goal.returns-then-d-eq-ACKNOWLEDGE
+returns-then-d-eq-ACKNOWLEDGE c =
+    c.sort_of_aeth.ensures ∙ ack_sort (packet c.args.d.now) (sym c.is_request.ensures ∙ c.if-is_request.false) (sym c.is_read_response.ensures ∙ c.if-is_read_response.false) (grind (arith, nat_tests, c.if-d-eq-ATOMIC_ACKNOWLEDGE.false)) (grind (arith, nat_tests, c.if-d-eq-ACKNOWLEDGE.true))
 
 pub returns : goal.returns
 returns c =
-    moving_sort (packet c.args.d.now) (sym c.is_request.ensures ∙ c.if-is_request.false) (sym c.is_read_response.ensures ∙ c.if-is_read_response.false) (grind (arith, nat_tests, c.if-d-eq18.false)) (grind (arith, nat_tests, c.if-d-eq17.false))
+    moving_sort (packet c.args.d.now) (sym c.is_request.ensures ∙ c.if-is_request.false) (sym c.is_read_response.ensures ∙ c.if-is_read_response.false) (grind (arith, nat_tests, c.if-d-eq-ATOMIC_ACKNOWLEDGE.false)) (grind (arith, nat_tests, c.if-d-eq-ACKNOWLEDGE.false))

@@ -3,7 +3,7 @@ use Rattle.ideal_model.specs.Legal.{IsRun, after}
 use Rattle.law_simulation.specs.Kept.{kept_verb, verb_of}
 use Rattle.law_simulation.specs.Named.{inner_by, spoken_steps}
 use Rattle.law_traces.specs.Recording.{spoken_text}
-use Rattle.script_runner.proofs.Fronts.{on_ok_with}
+use Rattle.script_runner.proofs.Prefixes.{on_ok_with}
 use Rattle.trace_record.specs.Events.{foreseen_steps, made_by}
 use Rattle.trace_record.proofs.Happened.{answered_whole, foreseen_named, inner_run, recorded}
 use Rattle.trace_record.proofs.events.happen.Goals as goal

@@ -3,7 +3,7 @@ use Rattle.protocol.specs.State.{World, empty_world}
 use Rattle.ideal_model.specs.Machine.{Machine, empty}
 use Rattle.law_traces.specs.Recording.{IsFaultOf, IsTraceOf}
 use Rattle.script_lang.specs.Scripts.{lines_of}
-use Rattle.script_runner.proofs.Fronts.{if_err_is}
+use Rattle.script_runner.proofs.Prefixes.{if_err_is}
 use Rattle.trace_audit.specs.declared.verdicts.AuditFault.TheVariants as fault
 use Rattle.trace_record.specs.Recorded.{IsRecordedTo}
 use Rattle.trace_record.proofs.Played.{beside, next_number, start, whole}
