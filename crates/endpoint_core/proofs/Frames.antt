@@ -3,11 +3,13 @@ use Rattle.std.proofs.Common.{◌≡◌, ◌≢◌, ℕ, zero, suc, ◌+◌, ◌
 use Rattle.std.specs.Prelude.{◌↔◌, IsErr, OnOk, Result, Ok, Err, All, Option, Some, None, is_some, nat_eq, option_map, slice_get, unwrap_or}
 use Rattle.std.specs.List.{IsDistinct}
 use Rattle.std.proofs.lemmas.List.Elements.{All-head, All-tail}
+use Rattle.indexmap.specs.IndexMap.{IndexMap}
 use Rattle.rdma_types.specs.declared.names.Name.{Name}
 use Rattle.rdma_types.specs.Limits.{AreTerms}
 use Rattle.rdma_types.specs.Memory.{cut}
 use Rattle.page_pool.specs.Pool.{Pool, bytes_of, free_pages}
 use Rattle.page_pool.specs.Held.{payload_bytes}
+use Rattle.completion_queue.specs.Queue.{Queue}
 use Rattle.memory_keys.specs.declared.Held.{Held}
 use Rattle.memory_keys.specs.Regions.{regions_of}
 use Rattle.work_queues.specs.declared.posted.QueuedRequest.{QueuedRequest}
@@ -16,6 +18,7 @@ use Rattle.responder.specs.Sound.{IsSound as IsServing}
 use Rattle.protocol.specs.State.{Context, Link}
 use Rattle.protocol.specs.EndWords.{linked, with_end, with_link}
 use Rattle.end_memory.proofs.Given.{AreKept}
+use Rattle.endpoint_core.specs.declared.memory.EndMemory.{EndMemory}
 use Rattle.endpoint_core.specs.declared.end.Endpoint.{Endpoint}
 use Rattle.endpoint_core.specs.declared.end.EndLink.{EndLink}
 use Rattle.endpoint_core.specs.Ends.{KeepsLink, Names, end_in, link_in, untold_by}
@@ -152,6 +155,11 @@ sound-kept a b held e kept h = record { queue = h.queue; depth = h.depth; state 
       no_message = h.no_message;
       running = h.running;
     }
+
+-- ---- an end with what it was lent, after a call that lent the memory on
+
+abbrev pub site_after : {Hasher : Type 0} → EndMemory → Pool × (List Held × (IndexMap Name Queue Hasher × Unit {0})) → Endpoint → EndWithMemory
+site_after m (pool, (regions, (queues, rest))) e = record { pool = pool; held = regions; queues = queues.entries; send = m.send; recv = m.recv; end = e }
 
 -- ---- a connection with other numbers, at a site
 

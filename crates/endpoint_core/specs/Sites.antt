@@ -1,5 +1,7 @@
 -- An end with the memory that it is lent, and the contexts of the protocol in which it stands.
 use Rattle.std.specs.Prelude.{ℕ, ◌≡◌, ◌+◌, All, List, ◌++◌, drop}
+use Rattle.std.specs.Borrow.{MutBor}
+use Rattle.indexmap.specs.IndexMap.{IndexMap}
 use Rattle.rdma_types.specs.declared.names.Name.{Name}
 use Rattle.page_pool.specs.Pool.{Pool, bytes_of, free_pages}
 use Rattle.completion_queue.specs.Queue.{Queue}
@@ -27,9 +29,23 @@ pub record EndWithMemory : Type 0 where
 abbrev pub site_of : EndMemory → Endpoint → EndWithMemory
 site_of m e = record { pool = m.pool.now; held = m.regions.now; queues = m.queues.now.entries; send = m.send; recv = m.recv; end = e }
 
--- .. and with what is there after a call
-abbrev pub site_at : EndMemory → Pool → List Held → List (Name × Queue) → Endpoint → EndWithMemory
-site_at m pool held queues e = record { pool = pool; held = held; queues = queues; send = m.send; recv = m.recv; end = e }
+-- the memory that an end was lent, as it is after the call: a clause sees it as `memory.exit`, its fields in nested pairs
+abbrev pub LeftMemory : Type 0 → Type 0
+LeftMemory Hasher = MutBor Pool × (MutBor (List Held) × (MutBor (IndexMap Name Queue Hasher) × (ℕ × (ℕ × Unit {0}))))
+
+module _ {Hasher : Type 0} where
+  abbrev pub pool_left : LeftMemory Hasher → Pool
+  pool_left (pool, rest) = pool.now
+
+  abbrev pub regions_left : LeftMemory Hasher → List Held
+  regions_left (pool, (regions, rest)) = regions.now
+
+  abbrev pub queues_left : LeftMemory Hasher → IndexMap Name Queue Hasher
+  queues_left (pool, (regions, (queues, rest))) = queues.now
+
+  -- an end with what it was lent, as both are after the call
+  abbrev pub site_left : LeftMemory Hasher → Endpoint → EndWithMemory
+  site_left (pool, (regions, (queues, (send, (recv, rest))))) e = record { pool = pool.now; held = regions.now; queues = queues.now.entries; send = send; recv = recv; end = e }
 
 -- the end in the words of the protocol, under these names
 abbrev pub end_at : Names → EndWithMemory → End

@@ -12,13 +12,11 @@ ghost use Rattle.endpoint_core.specs.Due.{due_in, due_read, is_in_turn};
 use crate::answers::DueRead;
 use crate::end::EndLink;
 use memory_keys::Regions;
-use psn_math::unwrap_near;
+use psn_math::{WIRE_NUMBERS, unwrap_near};
 use rdma_types::{Name, Rights};
 use roce_headers::Datagram;
+use roce_headers::opcodes::READ_REQUEST;
 use segmenter::pieces_of;
-
-/// READ request (IBA 9.2).
-const READ_REQUEST: u8 = 0x0C;
 
 /// How many bytes a message may have.
 const MOST_BYTES: u32 = 1_048_576;
@@ -76,7 +74,7 @@ impl EndLink {
         let read = Rights::REMOTE_READ;
         let spot = regions.check_remote(domain, reth.rkey, reth.address, reth.length, read)?;
         let msn = if first == parts.expected {
-            (parts.msn + 1) % 16_777_216
+            (parts.msn + 1) % WIRE_NUMBERS
         } else {
             parts.msn
         };

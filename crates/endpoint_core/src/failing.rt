@@ -13,7 +13,7 @@ ghost use Rattle.responder.specs.Receiving.{idled};
 ghost use Rattle.end_memory.specs.Completing.{listed};
 ghost use Rattle.end_memory.specs.Payloads.{AreApart, GivesBack};
 ghost use Rattle.endpoint_core.specs.Queues.{nothing, reserved_in, settle_at};
-ghost use Rattle.endpoint_core.specs.Sites.{IsHome, IsSound, Keeps, end_at, home, site_at, site_of};
+ghost use Rattle.endpoint_core.specs.Sites.{IsHome, IsSound, Keeps, end_at, home, site_left, site_of};
 ghost use Rattle.std.specs.Option.{option_map};
 
 use crate::end::{EndLink, Endpoint};
@@ -36,9 +36,9 @@ impl Endpoint {
         ensures answer { result ≡ expiry_of (option_map (link_in memory.entry.pool.now) self.old.link) }
         ensures step { (c : Context) (names : Names) → IsHome c names (site_of memory.entry self.old)
             → expired_at c (end_at names (site_of memory.entry self.old)) (end_at names (site_of memory.entry self.old)).link
-            ≡ home c names (site_at memory.entry memory.exit.0.now memory.exit.1.0.now memory.exit.1.1.0.now.entries self.new) }
-        ensures sound { IsSound (site_at memory.entry memory.exit.0.now memory.exit.1.0.now memory.exit.1.1.0.now.entries self.new) nothing }
-        ensures keeps { Keeps (site_of memory.entry self.old) (site_at memory.entry memory.exit.0.now memory.exit.1.0.now memory.exit.1.1.0.now.entries self.new) [] nothing }
+            ≡ home c names (site_left memory.exit self.new) }
+        ensures sound { IsSound (site_left memory.exit self.new) nothing }
+        ensures keeps { Keeps (site_of memory.entry self.old) (site_left memory.exit self.new) [] nothing }
     {
         let Some(link) = &mut self.link else {
             unreachable!()
@@ -57,10 +57,10 @@ impl Endpoint {
         requires sound { IsSound (site_of memory self.old) nothing }
         ensures step { (c : Context) (names : Names) → IsHome c names (site_of memory.entry self.old)
             → failed_at c (end_at names (site_of memory.entry self.old)) (end_at names (site_of memory.entry self.old)).link status
-            ≡ home c names (site_at memory.entry memory.exit.0.now memory.exit.1.0.now memory.exit.1.1.0.now.entries self.new) }
-        ensures sound { IsSound (site_at memory.entry memory.exit.0.now memory.exit.1.0.now memory.exit.1.1.0.now.entries self.new) nothing }
+            ≡ home c names (site_left memory.exit self.new) }
+        ensures sound { IsSound (site_left memory.exit self.new) nothing }
         ensures partner { (l : EndLink) → self.old.link ≡ Some l → KeepsPartner l self.new.link }
-        ensures keeps { Keeps (site_of memory.entry self.old) (site_at memory.entry memory.exit.0.now memory.exit.1.0.now memory.exit.1.1.0.now.entries self.new) [] nothing }
+        ensures keeps { Keeps (site_of memory.entry self.old) (site_left memory.exit self.new) [] nothing }
     {
         soundness_stays();
         let EndMemory {

@@ -18,6 +18,7 @@ use crate::answers::{EndReply, EndTook};
 use crate::end::EndLink;
 use move_core::{Control, MoveTook, Phase};
 use rdma_types::{SilentWhy, Took};
+use roce_headers::opcodes::RESUME;
 use roce_headers::{Datagram, Syndrome};
 
 /// A message of moving; None for every other datagram.
@@ -33,7 +34,7 @@ pub fn control_of(d: &Datagram<'_>) -> Option<Control>
     let body = d.resume?;
     let count = body.count;
     let address = body.address;
-    if d.opcode == 0x1E {
+    if d.opcode == RESUME {
         Some(Control::Resume { count, address })
     } else {
         Some(Control::ResumeAck { count })

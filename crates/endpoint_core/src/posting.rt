@@ -10,7 +10,7 @@ ghost use Rattle.work_queues.specs.Untold.{posted_in};
 ghost use Rattle.endpoint_core.specs.Answers.{posted_by, received_at};
 ghost use Rattle.endpoint_core.specs.Ends.{Names, is_ended_link, untold_by};
 ghost use Rattle.endpoint_core.specs.Queues.{count_at, nothing};
-ghost use Rattle.endpoint_core.specs.Sites.{IsHome, IsSound, Keeps, end_at, home, site_at, site_of};
+ghost use Rattle.endpoint_core.specs.Sites.{IsHome, IsSound, Keeps, end_at, home, pool_left, queues_left, regions_left, site_left, site_of};
 ghost use Rattle.endpoint_core.specs.Sound.{IsNew};
 
 use crate::end::{EndLink, Endpoint};
@@ -35,16 +35,16 @@ impl Endpoint {
         requires new { IsNew memory.pool.now memory.regions.now self.old p }
         ensures step { OnOk result ((c : Context) (names : Names) → IsHome c names (site_of memory.entry self.old)
             → posted_by c (end_at names (site_of memory.entry self.old)) (end_at names (site_of memory.entry self.old)).link (posted_in memory.entry.pool.now p)
-            ≡ home c names (site_at memory.entry memory.exit.0.now memory.exit.1.0.now memory.exit.1.1.0.now.entries self.new)) }
-        ensures sound { OnOk result (IsSound (site_at memory.entry memory.exit.0.now memory.exit.1.0.now memory.exit.1.1.0.now.entries self.new) nothing) }
-        ensures keeps { OnOk result (Keeps (site_of memory.entry self.old) (site_at memory.entry memory.exit.0.now memory.exit.1.0.now memory.exit.1.1.0.now.entries self.new) (p ∷ []) (count_at memory.entry.send 1)) }
+            ≡ home c names (site_left memory.exit self.new)) }
+        ensures sound { OnOk result (IsSound (site_left memory.exit self.new) nothing) }
+        ensures keeps { OnOk result (Keeps (site_of memory.entry self.old) (site_left memory.exit self.new) (p ∷ []) (count_at memory.entry.send 1)) }
         ensures still { OnOk result (is_ended_link self.old.link ≡ true → self.new ≡ self.old) }
         ensures full { IsErr result ↔ (self.old.send_depth ≤ length (untold_by self.old.link)) }
         ensures back { IfErr result (λ x. x ≡ p) }
         ensures err { OnErr result (self.new ≡ self.old) }
-        ensures err_pool { OnErr result (memory.exit.0.now ≡ memory.entry.pool.now) }
-        ensures err_regions { OnErr result (memory.exit.1.0.now ≡ memory.entry.regions.now) }
-        ensures err_queues { OnErr result (memory.exit.1.1.0.now ≡ memory.entry.queues.now) }
+        ensures err_pool { OnErr result (pool_left memory.exit ≡ memory.entry.pool.now) }
+        ensures err_regions { OnErr result (regions_left memory.exit ≡ memory.entry.regions.now) }
+        ensures err_queues { OnErr result (queues_left memory.exit ≡ memory.entry.queues.now) }
     {
         let number = self.number;
         let Some(link) = &mut self.link else {
@@ -74,15 +74,15 @@ impl Endpoint {
         requires place { IsPlace memory.regions.now self.old.domain r }
         ensures step { OnOk result ((c : Context) (names : Names) → IsHome c names (site_of memory.entry self.old)
             → received_at c (end_at names (site_of memory.entry self.old)) r
-            ≡ home c names (site_at memory.entry memory.exit.0.now memory.exit.1.0.now memory.exit.1.1.0.now.entries self.new)) }
-        ensures sound { OnOk result (IsSound (site_at memory.entry memory.exit.0.now memory.exit.1.0.now memory.exit.1.1.0.now.entries self.new) nothing) }
-        ensures keeps { OnOk result (Keeps (site_of memory.entry self.old) (site_at memory.entry memory.exit.0.now memory.exit.1.0.now memory.exit.1.1.0.now.entries self.new) [] (count_at memory.entry.recv 1)) }
+            ≡ home c names (site_left memory.exit self.new)) }
+        ensures sound { OnOk result (IsSound (site_left memory.exit self.new) nothing) }
+        ensures keeps { OnOk result (Keeps (site_of memory.entry self.old) (site_left memory.exit self.new) [] (count_at memory.entry.recv 1)) }
         ensures full { IsErr result ↔ (self.old.recv_depth ≤ length self.old.recvs.items) }
         ensures back { IfErr result (λ x. x ≡ r) }
         ensures err { OnErr result (self.new ≡ self.old) }
-        ensures err_pool { OnErr result (memory.exit.0.now ≡ memory.entry.pool.now) }
-        ensures err_regions { OnErr result (memory.exit.1.0.now ≡ memory.entry.regions.now) }
-        ensures err_queues { OnErr result (memory.exit.1.1.0.now ≡ memory.entry.queues.now) }
+        ensures err_pool { OnErr result (pool_left memory.exit ≡ memory.entry.pool.now) }
+        ensures err_regions { OnErr result (regions_left memory.exit ≡ memory.entry.regions.now) }
+        ensures err_queues { OnErr result (queues_left memory.exit ≡ memory.entry.queues.now) }
     {
         soundness_stays();
         if self.recvs.len() >= self.recv_depth as usize {

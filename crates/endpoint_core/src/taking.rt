@@ -13,7 +13,7 @@ ghost use Rattle.endpoint_core.specs.Answers.{IsReply, sent_of, taken_at};
 ghost use Rattle.endpoint_core.specs.Due.{WasDue};
 ghost use Rattle.endpoint_core.specs.Ends.{Names, is_ended_link, link_in};
 ghost use Rattle.endpoint_core.specs.Queues.{nothing};
-ghost use Rattle.endpoint_core.specs.Sites.{IsHome, IsSound, Keeps, end_at, home, site_at, site_of};
+ghost use Rattle.endpoint_core.specs.Sites.{IsHome, IsSound, Keeps, end_at, home, regions_left, site_left, site_of};
 
 use crate::answers::{EndReply, EndTook};
 use crate::end::Endpoint;
@@ -25,14 +25,7 @@ use rdma_types::{SilentWhy, Took, WcStatus};
 use requester::ResponseEffect;
 use responder::Reply;
 use roce_headers::Datagram;
-
-/// An opcode of a request.
-#[tactic(auto, unfolding(protocol::specs::Wire::is_request))]
-fn is_request(opcode: u8) -> bool
-    ensures { result ≡ is_request_opcode opcode }
-{
-    opcode <= 0x0C || (opcode == 0x13 || opcode == 0x14)
-}
+use roce_headers::opcodes::is_request;
 
 impl Endpoint {
     /// Takes a datagram of the grammar: a message of moving, a request or a response.
@@ -42,17 +35,17 @@ impl Endpoint {
         requires sound { IsSound (site_of memory self.old) nothing }
         ensures step { (c : Context) (names : Names) → IsHome c names (site_of memory.entry self.old)
             → (taken_at c (end_at names (site_of memory.entry self.old)) (end_at names (site_of memory.entry self.old)).link (packet d.now)).context
-            ≡ home c names (site_at memory.entry memory.exit.0.now memory.exit.1.0.now memory.exit.1.1.0.now.entries self.new) }
+            ≡ home c names (site_left memory.exit self.new) }
         ensures took { (c : Context) (names : Names) → IsHome c names (site_of memory.entry self.old)
             → (taken_at c (end_at names (site_of memory.entry self.old)) (end_at names (site_of memory.entry self.old)).link (packet d.now)).took ≡ result.took }
         ensures sent { (c : Context) (names : Names) → IsHome c names (site_of memory.entry self.old)
             → (taken_at c (end_at names (site_of memory.entry self.old)) (end_at names (site_of memory.entry self.old)).link (packet d.now)).sent
-            ≡ sent_of (site_at memory.entry memory.exit.0.now memory.exit.1.0.now memory.exit.1.1.0.now.entries self.new) result.reply }
-        ensures reply { IfSome self.new.link (λ l. IsReply memory.exit.1.0.now l result.reply) }
+            ≡ sent_of (site_left memory.exit self.new) result.reply }
+        ensures reply { IfSome self.new.link (λ l. IsReply (regions_left memory.exit) l result.reply) }
         ensures due { (l : EndLink) → self.old.link ≡ Some l
-            → WasDue (site_of memory.entry self.old) (site_at memory.entry memory.exit.0.now memory.exit.1.0.now memory.exit.1.1.0.now.entries self.new) l (packet d.now) result.reply }
-        ensures sound { IsSound (site_at memory.entry memory.exit.0.now memory.exit.1.0.now memory.exit.1.1.0.now.entries self.new) nothing }
-        ensures keeps { Keeps (site_of memory.entry self.old) (site_at memory.entry memory.exit.0.now memory.exit.1.0.now memory.exit.1.1.0.now.entries self.new) [] nothing }
+            → WasDue (site_of memory.entry self.old) (site_left memory.exit self.new) l (packet d.now) result.reply }
+        ensures sound { IsSound (site_left memory.exit self.new) nothing }
+        ensures keeps { Keeps (site_of memory.entry self.old) (site_left memory.exit self.new) [] nothing }
     {
         let Some(link) = &mut self.link else {
             unreachable!()
@@ -83,12 +76,12 @@ impl Endpoint {
         ensures step { (c : Context) (names : Names) (l : EndLink) → IsHome c names (site_of memory.entry self.old) → self.old.link ≡ Some l
             → takes_response c (end_at names (site_of memory.entry self.old)) (link_in memory.entry.pool.now l) (packet d.now)
             ≡ record {
-              context = home c names (site_at memory.entry memory.exit.0.now memory.exit.1.0.now memory.exit.1.1.0.now.entries self.new);
+              context = home c names (site_left memory.exit self.new);
               took = result;
               sent = [];
             } }
-        ensures sound { IsSound (site_at memory.entry memory.exit.0.now memory.exit.1.0.now memory.exit.1.1.0.now.entries self.new) nothing }
-        ensures keeps { Keeps (site_of memory.entry self.old) (site_at memory.entry memory.exit.0.now memory.exit.1.0.now memory.exit.1.1.0.now.entries self.new) [] nothing }
+        ensures sound { IsSound (site_left memory.exit self.new) nothing }
+        ensures keeps { Keeps (site_of memory.entry self.old) (site_left memory.exit self.new) [] nothing }
     {
         let EndMemory {
             pool,
@@ -134,15 +127,15 @@ impl Endpoint {
         ensures step { (c : Context) (names : Names) (l : EndLink) → IsHome c names (site_of memory.entry self.old) → self.old.link ≡ Some l
             → takes_request c (end_at names (site_of memory.entry self.old)) (link_in memory.entry.pool.now l) (packet d.now)
             ≡ record {
-              context = home c names (site_at memory.entry memory.exit.0.now memory.exit.1.0.now memory.exit.1.1.0.now.entries self.new);
+              context = home c names (site_left memory.exit self.new);
               took = result.took;
-              sent = sent_of (site_at memory.entry memory.exit.0.now memory.exit.1.0.now memory.exit.1.1.0.now.entries self.new) result.reply;
+              sent = sent_of (site_left memory.exit self.new) result.reply;
             } }
-        ensures reply { IfSome self.new.link (λ l. IsReply memory.exit.1.0.now l result.reply) }
+        ensures reply { IfSome self.new.link (λ l. IsReply (regions_left memory.exit) l result.reply) }
         ensures due { (l : EndLink) → self.old.link ≡ Some l → is_paused (phase_of l.moves.phase) ≡ false
-            → WasDue (site_of memory.entry self.old) (site_at memory.entry memory.exit.0.now memory.exit.1.0.now memory.exit.1.1.0.now.entries self.new) l (packet d.now) result.reply }
-        ensures sound { IsSound (site_at memory.entry memory.exit.0.now memory.exit.1.0.now memory.exit.1.1.0.now.entries self.new) nothing }
-        ensures keeps { Keeps (site_of memory.entry self.old) (site_at memory.entry memory.exit.0.now memory.exit.1.0.now memory.exit.1.1.0.now.entries self.new) [] nothing }
+            → WasDue (site_of memory.entry self.old) (site_left memory.exit self.new) l (packet d.now) result.reply }
+        ensures sound { IsSound (site_left memory.exit self.new) nothing }
+        ensures keeps { Keeps (site_of memory.entry self.old) (site_left memory.exit self.new) [] nothing }
     {
         let EndMemory {
             pool,

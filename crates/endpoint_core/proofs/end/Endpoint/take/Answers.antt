@@ -9,8 +9,8 @@ use Rattle.roce_headers.specs.Packets.{packet}
 use Rattle.memory_keys.specs.Regions.{regions_of}
 use Rattle.endpoint_core.specs.Answers.{sent_by, sent_of, taken_at}
 use Rattle.endpoint_core.specs.Ends.{Names, link_in}
-use Rattle.endpoint_core.specs.Sites.{IsHome, end_at, home, site_at, site_of}
-use Rattle.endpoint_core.proofs.Frames.{home-linked, home-same, link-keeps, link-sound, linked-same, same-site, with_link'}
+use Rattle.endpoint_core.specs.Sites.{IsHome, end_at, home, site_of}
+use Rattle.endpoint_core.proofs.Frames.{home-linked, home-same, link-keeps, link-sound, linked-same, same-site, site_after, with_link'}
 use Rattle.endpoint_core.proofs.Taken.{ack-reply, none-sent, taken-control, taken-ended, taken-paused, taken-request, taken-response}
 use Rattle.std.specs.Prelude.{Some}
 use Rattle.endpoint_core.specs.declared.answers.EndTook.{EndTook}
@@ -83,7 +83,7 @@ returns-in-Some-control_of-clause-keeps c = link-keeps (site_of c.args.memory c.
 response : (c : goal.After-take_response-took) (ctx : Context) (names : Names) → IsHome ctx names (site_of c.args.memory c.args.self.now)
     → taken_at ctx (end_at names (site_of c.args.memory c.args.self.now)) (option_map (link_in c.args.memory.pool.now) c.args.self.now.link) (packet c.args.d.now)
     ≡ record {
-      context = home ctx names (site_at c.args.memory c.take_response-took.new.memory.0 c.take_response-took.new.memory.1.0 c.take_response-took.new.memory.1.1.0.entries c.take_response-took.new.self);
+      context = home ctx names (site_after c.args.memory c.take_response-took.new.memory c.take_response-took.new.self);
       took = c.take_response-took.result;
       sent = [];
     }
@@ -105,7 +105,7 @@ returns-then-not-is_request-clause-took c = λ ctx names at. ap (λ (x : EndStep
 pub returns-then-not-is_request-clause-sent : goal.returns-then-not-is_request-clause-sent
 returns-then-not-is_request-clause-sent c = λ ctx names at.
     ap (λ (x : EndStep). x.sent) (response c ctx names at)
-    ∙ none-sent (site_at c.args.memory c.take_response-took.new.memory.0 c.take_response-took.new.memory.1.0 c.take_response-took.new.memory.1.1.0.entries c.take_response-took.new.self)
+    ∙ none-sent (site_after c.args.memory c.take_response-took.new.memory c.take_response-took.new.self)
 
 -- ---- a request at a Paused end
 
@@ -137,9 +137,9 @@ returns-then-is_paused-clause-sent c = λ ctx names at.
 request : (c : goal.After-take_request) (ctx : Context) (names : Names) → IsHome ctx names (site_of c.args.memory c.args.self.now)
     → taken_at ctx (end_at names (site_of c.args.memory c.args.self.now)) (option_map (link_in c.args.memory.pool.now) c.args.self.now.link) (packet c.args.d.now)
     ≡ record {
-      context = home ctx names (site_at c.args.memory c.take_request.new.memory.0 c.take_request.new.memory.1.0 c.take_request.new.memory.1.1.0.entries c.take_request.new.self);
+      context = home ctx names (site_after c.args.memory c.take_request.new.memory c.take_request.new.self);
       took = c.take_request.result.took;
-      sent = sent_of (site_at c.args.memory c.take_request.new.memory.0 c.take_request.new.memory.1.0 c.take_request.new.memory.1.1.0.entries c.take_request.new.self) c.take_request.result.reply;
+      sent = sent_of (site_after c.args.memory c.take_request.new.memory c.take_request.new.self) c.take_request.result.reply;
     }
 request c ctx names at =
     let s = site_of c.args.memory c.args.self.now in
@@ -176,6 +176,6 @@ returns-clause-due c = λ l at.
     let k = c.in-Some.link in
     let some : Some l ≡ Some k = sym at ∙ c.in-Some.is in
     let same : l ≡ k = cc in
-    let after = site_at c.args.memory c.take_request.new.memory.0 c.take_request.new.memory.1.0 c.take_request.new.memory.1.1.0.entries c.take_request.new.self in
+    let after = site_after c.args.memory c.take_request.new.memory c.take_request.new.self in
     subst (λ x. WasDue x after l (packet c.args.d.now) c.take_request.result.reply) (sym (same-site s k k c.in-Some.is refl))
     (subst (λ (x : EndLink). WasDue (with_link' s k) after x (packet c.args.d.now) c.take_request.result.reply) (sym same) (c.take_request.ensures.due k refl (sym c.is_paused.ensures ∙ c.if-is_paused.false)))

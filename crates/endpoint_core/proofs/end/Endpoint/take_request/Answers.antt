@@ -18,10 +18,10 @@ use Rattle.endpoint_core.specs.Ends.{is_ended_link, link_in}
 use Rattle.endpoint_core.specs.Flushed.{all_receives}
 use Rattle.endpoint_core.specs.Queues.{StandsAt, nothing}
 use Rattle.endpoint_core.specs.Served.{request_answer}
-use Rattle.endpoint_core.specs.Sites.{IsSound, Keeps, EndWithMemory, end_at, home, site_at, site_of}
+use Rattle.endpoint_core.specs.Sites.{IsSound, Keeps, EndWithMemory, end_at, home, site_of}
 use Rattle.endpoint_core.proofs.Answered.{home-of, home-twice}
 use Rattle.endpoint_core.proofs.Ended.{count-here, length-both, promised-is}
-use Rattle.endpoint_core.proofs.Frames.{link-of}
+use Rattle.endpoint_core.proofs.Frames.{link-of, site_after}
 use Rattle.move_core.specs.Table.{phase_of}
 use Rattle.protocol.specs.EndWords.{is_paused}
 use Rattle.endpoint_core.specs.Due.{WasDue}
@@ -67,7 +67,7 @@ returns-in-Refused-clause-step c = λ ctx names l at is.
     let some : Some l ≡ Some k = sym is ∙ c.in-Some.is in
     let same : l ≡ k = cc in
     let s1 : EndWithMemory = failing c in
-    let s2 : EndWithMemory = site_at c.args.memory c.fail.new.memory.0 c.fail.new.memory.1.0 c.fail.new.memory.1.1.0.entries c.fail.new.self in
+    let s2 : EndWithMemory = site_after c.args.memory c.fail.new.memory c.fail.new.self in
     let a : EndTook = c.answer_of.result in
     let answer : request_answer c.serve-reply.result k.responder.receiver.expected c.expected-after.result ≡ a = sym (c.answer_of.ensures ∙ ap (λ n. request_answer c.serve-reply.result n c.expected-after.result) c.expected-before.ensures) in
     let refused : request_answer (served.Refused c.in-Refused.field-0) k.responder.receiver.expected c.expected-after.result ≡ a = sym (ap (λ r. request_answer r k.responder.receiver.expected c.expected-after.result) c.in-Refused.is) ∙ answer in
@@ -88,7 +88,7 @@ returns-in-Refused-clause-keeps c =
     let l = c.in-Some.link in
     let t = taken_request l.responder.terms c.args.self.now.domain c.args.self.now.number l.responder.receiver (regions_of c.args.memory.pool.now c.args.memory.regions.now) c.args.self.now.recvs.items (packet c.args.d.now) in
     let one = served-keeps s l c.serve-reply.new.self (packet c.args.d.now) c.serve-reply.new.pool c.serve-reply.new.recvs c.serve-reply.new.queues.entries t c.requires.sound c.in-Some.is (sym (ap is_ended_link c.in-Some.is) ∙ c.requires.running) c.requires.fits refl c.serve-reply.ensures.served in
-    keeps-both s (failing c) (site_at c.args.memory c.fail.new.memory.0 c.fail.new.memory.1.0 c.fail.new.memory.1.1.0.entries c.fail.new.self) refl refl
+    keeps-both s (failing c) (site_after c.args.memory c.fail.new.memory c.fail.new.self) refl refl
     (subst (λ h. Keeps s (record (failing c) { held = h }) [] nothing) (sym c.serve-reply.ensures.regions) one) c.fail.ensures.keeps
 
 pub returns-in-Refused-clause-reply : goal.returns-in-Refused-clause-reply
@@ -100,7 +100,7 @@ returns-in-Refused-clause-reply c =
 pub returns-in-Refused-clause-due : goal.returns-in-Refused-clause-due
 returns-in-Refused-clause-due c = λ l is paused.
     let before : ℕ = c.expected-before.result in
-    refused-due (site_of c.args.memory c.args.self.now) (site_at c.args.memory c.fail.new.memory.0 c.fail.new.memory.1.0 c.fail.new.memory.1.1.0.entries c.fail.new.self) l (packet c.args.d.now) c.answer_of.result.reply before (Nak (nak_code c.in-Refused.field-0))
+    refused-due (site_of c.args.memory c.args.self.now) (site_after c.args.memory c.fail.new.memory c.fail.new.self) l (packet c.args.d.now) c.answer_of.result.reply before (Nak (nak_code c.in-Refused.field-0))
     (ap (λ (x : EndTook). x.reply) (c.answer_of.ensures ∙ ap (λ r. request_answer r before c.expected-after.result) c.in-Refused.is))
 
 -- ---- any other answer

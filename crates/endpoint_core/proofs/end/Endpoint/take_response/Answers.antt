@@ -12,8 +12,9 @@ use Rattle.endpoint_core.specs.declared.end.EndLink.{EndLink}
 use Rattle.endpoint_core.specs.Ends.{is_ended_link, link_in}
 use Rattle.endpoint_core.specs.Queues.{StandsAt, nothing}
 use Rattle.endpoint_core.specs.Responded.{is_useless}
-use Rattle.endpoint_core.specs.Sites.{IsSound, Keeps, EndWithMemory, end_at, home, site_at, site_of}
+use Rattle.endpoint_core.specs.Sites.{IsSound, Keeps, EndWithMemory, end_at, home, site_of}
 use Rattle.endpoint_core.proofs.Answered.{ended-step, home-of, home-twice, told-keeps, told-sound}
+use Rattle.endpoint_core.proofs.Frames.{site_after}
 use Rattle.endpoint_core.proofs.Settled.{stands-settled}
 use Rattle.endpoint_core.proofs.Whole.{IsStep, keeps-both, old-there, response-whole}
 use Rattle.endpoint_core.proofs.end.Endpoint.take_response.Goals as goal
@@ -47,13 +48,13 @@ returns-in-Ended-clause-step c = λ ctx names l at is.
     ∙ (ap (λ h. record { context = ended h; took = took.Ended c.in-Ended.status; sent = [] }) (sym c.respond-taken.ensures.regions)
     ∙ ap (λ x. record { context = x; took = took.Ended c.in-Ended.status; sent = [] })
     (c.fail.ensures.step (home ctx names s1) names (home-of ctx names s1 (stands names.send_cq s.send at.send) (stands names.recv_cq s.recv at.recv))
-    ∙ home-twice ctx names s1 (site_at c.args.memory c.fail.new.memory.0 c.fail.new.memory.1.0 c.fail.new.memory.1.1.0.entries c.fail.new.self))))
+    ∙ home-twice ctx names s1 (site_after c.args.memory c.fail.new.memory c.fail.new.self))))
 
 pub returns-in-Ended-clause-keeps : goal.returns-in-Ended-clause-keeps
 returns-in-Ended-clause-keeps c =
     let s = site_of c.args.memory c.args.self.now in
     let one = told-keeps s c.in-Some.link c.respond-taken.new.self (taken_response c.in-Some.link.requester.terms (sender_of c.in-Some.link.requester) (packet c.args.d.now)).sender (packet c.args.d.now) c.respond-taken.result c.respond-taken.new.pool c.respond-taken.new.queues.entries c.requires.sound c.in-Some.is (sym (ap is_ended_link c.in-Some.is) ∙ c.requires.running) (c.respond-taken.ensures.answered (ap is_useless c.in-Ended.is)) in
-    keeps-both s (failing c) (site_at c.args.memory c.fail.new.memory.0 c.fail.new.memory.1.0 c.fail.new.memory.1.1.0.entries c.fail.new.self) refl refl
+    keeps-both s (failing c) (site_after c.args.memory c.fail.new.memory c.fail.new.self) refl refl
     (subst (λ h. Keeps s (record (failing c) { held = h }) [] nothing) (sym c.respond-taken.ensures.regions) one) c.fail.ensures.keeps
 
 -- ---- any other response
