@@ -1,19 +1,20 @@
 -- READ responses.
-use Rattle.std.proofs.Common.{◌≡◌, ℕ, zero, suc, ◌+◌, ◌-◌, ◌<◌, ◌≤◌, ◌^◌, Bool, true, false, List, [], ◌∷◌, ◌++◌, length, take, drop, refl, ap, sym, ◌∙◌, arith, append_assoc}
-use Rattle.std.specs.Prelude.{◌%◌, ◌==◌, Option, Some, None, IsSomeAnd, option_map, unwrap_or, if◌then◌else◌}
+use Rattle.std.proofs.Common.{◌≡◌, ℕ, zero, suc, ◌+◌, ◌-◌, ◌*◌, ◌<◌, ◌≤◌, ◌^◌, Bool, true, false, List, [], ◌∷◌, ◌++◌, length, drop, refl, ap, sym, ◌∙◌, arith, append_assoc}
+use Rattle.std.proofs.lemmas.List.{length-take}
+use Rattle.std.specs.Prelude.{min, ◌%◌, ◌==◌, Option, Some, None, IsSomeAnd, if◌then◌else◌}
 use Rattle.rdma_types.specs.declared.answers.Sent.{Sent}
 use Rattle.rdma_types.specs.Lists.{at}
 use Rattle.rdma_types.specs.Memory.{cut}
 use Rattle.rdma_types.specs.Objects.{Region, no_region}
-use Rattle.rdma_types.specs.Spans.{pieces}
+use Rattle.rdma_types.specs.Spans.{piece_length, pieces}
 use Rattle.page_pool.specs.Pool.{Pool, bytes_in}
 use Rattle.memory_keys.specs.declared.Held.{Held}
 use Rattle.memory_keys.specs.declared.Spot.{Spot}
-use Rattle.memory_keys.specs.Regions.{IsSpot, held_at, regions_of, spot_bytes}
+use Rattle.memory_keys.specs.Regions.{IsSpot, held_at, part_of, regions_of, spot_bytes}
 use Rattle.memory_keys.proofs.Protocol.{found-region}
+use Rattle.memory_keys.proofs.Spots.{spot-empty, spot-is}
 use Rattle.protocol.specs.declared.wire.Headers.TheVariants as headers
 use Rattle.protocol.specs.declared.wire.Syndrome.TheVariants.{Ack}
-use Rattle.protocol.specs.Bytes.{bytes_at}
 use Rattle.protocol.specs.Numbers.{wire_number}
 use Rattle.protocol.specs.Responder.{read_piece, read_pieces, read_response}
 use Rattle.protocol.specs.State.{Link}
@@ -24,7 +25,7 @@ use Rattle.endpoint_core.specs.Due.{responses, telling}
 use Rattle.endpoint_core.specs.Ends.{link_in}
 use Rattle.context_core.specs.Arriving.{aeth_at, opcode_at}
 use Rattle.context_core.specs.Sending.{addressed}
-use Rattle.context_core.proofs.ByteParts.{front-part, inner-part}
+use Rattle.context_core.proofs.ByteParts.{front-part}
 use Rattle.context_core.proofs.PacketSizes.{answer-fits}
 
 -- ---- the packet of a response
@@ -68,35 +69,37 @@ response-fits k count dest psn msn payload d p m few = by_tests (count == 1) (k 
 
 -- ---- its bytes
 
--- a part of a range of a region
-in-region : (bs : List ℕ) (off size top n count : ℕ) → off + size ≤ top → count ≤ size - n → take count (drop n (take size (drop off bs))) ≡ take count (drop (off + n) (take top bs))
-in-region bs off size top n zero inside few = refl
-in-region bs off size top n (suc count) inside few = inner-part bs off size n (suc count) (omega arith) ∙ sym (front-part bs (off + n) (suc count) top (omega arith))
-
-none-left : (count size n : ℕ) → size ≡ 0 → count ≤ size - n → count ≡ 0
-none-left count size n z few = omega arith
-
-pub piece-bytes : (pool : Pool) (held : List Held) (spot : Spot) (n count : ℕ) (bytes : List ℕ) → IsSpot held spot → bytes ≡ spot_bytes pool held spot → count ≤ spot.length - n
-    → bytes_at n count bytes ≡ cut (spot.off + n) count (at (λ r. r.keys.local) no_region spot.region (regions_of pool held)).bytes
-unfolding bytes_at cut
-piece-bytes pool held spot n count bytes inside is few = by_size spot.length refl
+-- a part of a spot in the region that the protocol finds
+pub piece-bytes : (pool : Pool) (held : List Held) (spot : Spot) (n count : ℕ) → IsSpot held spot → n + count ≤ spot.length
+    → spot_bytes pool held (part_of spot n count) ≡ cut (spot.off + n) count (at (λ r. r.keys.local) no_region spot.region (regions_of pool held)).bytes
+unfolding cut
+piece-bytes pool held spot n zero is few = spot-empty pool held (part_of spot n 0) refl
+piece-bytes pool held spot n (suc count) is few = found (held_at spot.region held) refl (is (omega arith))
   where
     region : Region
     region = at (λ r. r.keys.local) no_region spot.region (regions_of pool held)
 
-    none : count ≡ 0 → take count (drop n bytes) ≡ take count (drop (spot.off + n) region.bytes)
-    none z = ap (λ k. take k (drop n bytes)) z ∙ sym (ap (λ k. take k (drop (spot.off + n) region.bytes)) z)
-
-    found : (o : Option Held) → held_at spot.region held ≡ o → IsSomeAnd o (λ h. spot.off + spot.length ≤ h.head.length) → take count (drop n bytes) ≡ take count (drop (spot.off + n) region.bytes)
+    found : (o : Option Held) → held_at spot.region held ≡ o → IsSomeAnd o (λ h. spot.off + spot.length ≤ h.head.length) → spot_bytes pool held (part_of spot n (suc count)) ≡ cut (spot.off + n) (suc count) region.bytes
     found None e h = absurd h
     found (Some h) e low =
-        ap (λ bs. take count (drop n bs)) (is ∙ ap (λ o. unwrap_or (option_map (λ h. cut spot.off spot.length (bytes_in pool h.list)) o) []) e)
-        ∙ (in-region (bytes_in pool h.list) spot.off spot.length h.head.length n count low few
-        ∙ ap (λ (r : Region). take count (drop (spot.off + n) r.bytes)) (sym (found-region pool spot.region held h e)))
+        spot-is pool held (part_of spot n (suc count)) h e
+        ∙ (sym (front-part (bytes_in pool h.list) (spot.off + n) (suc count) h.head.length (omega arith))
+        ∙ ap (λ (r : Region). cut (spot.off + n) (suc count) r.bytes) (sym (found-region pool spot.region held h e)))
 
-    by_size : (size : ℕ) → spot.length ≡ size → take count (drop n bytes) ≡ take count (drop (spot.off + n) region.bytes)
-    by_size zero z = none (none-left count spot.length n z few)
-    by_size (suc size) z = found (held_at spot.region held) refl (inside (omega (arith, z)))
+-- the bytes of response k, as they are taken from the spot
+pub payload-is : (pool : Pool) (held : List Held) (spot : Spot) (k mtu from count size : ℕ) (bytes : List ℕ) → IsSpot held spot → bytes ≡ spot_bytes pool held (part_of spot from size) → count ≡ size → from ≡ k * mtu → count ≡ piece_length spot.length k mtu → from + count ≤ spot.length
+    → bytes ≡ cut (spot.off + k * mtu) (piece_length spot.length k mtu) (at (λ r. r.keys.local) no_region spot.region (regions_of pool held)).bytes
+payload-is pool held spot k mtu from count size bytes is taken all here whole inside =
+    let region = at (λ r. r.keys.local) no_region spot.region (regions_of pool held) in
+    taken
+    ∙ (ap (λ n. spot_bytes pool held (part_of spot from n)) (sym all)
+    ∙ (piece-bytes pool held spot from count is inside
+    ∙ (ap (λ n. cut (spot.off + n) count region.bytes) here ∙ ap (λ n. cut (spot.off + k * mtu) n region.bytes) whole)))
+
+-- .. are no more than the MTU
+pub payload-few : (off mtu size : ℕ) (bytes xs : List ℕ) → bytes ≡ cut off (min mtu size) xs → length bytes ≤ mtu
+unfolding cut
+payload-few off mtu size bytes xs e = omega (arith, ap length e, length-take (min mtu size) (drop off xs))
 
 -- ---- one after the other
 

@@ -8,8 +8,7 @@ ghost use Rattle.rdma_types.specs.Memory.{cut};
 ghost use Rattle.rdma_types.specs.Spans.{piece_length, pieces};
 ghost use Rattle.page_pool.specs.Pool.{Pool};
 ghost use Rattle.memory_keys.specs.declared.Held.{Held};
-ghost use Rattle.memory_keys.specs.Regions.{AreHeld, IsSpot, regions_of};
-ghost use Rattle.protocol.specs.Bytes.{bytes_at};
+ghost use Rattle.memory_keys.specs.Regions.{AreHeld, IsSpot, part_of, regions_of, spot_bytes};
 ghost use Rattle.protocol.specs.EndStep.{takes};
 ghost use Rattle.protocol.specs.Responder.{read_piece, read_response};
 ghost use Rattle.protocol.specs.State.{End, Link};
@@ -29,24 +28,16 @@ use crate::ContextState;
 use crate::datagrams::{DatagramBuffer, answer, encoded, moving};
 use crate::sending::MOST_HEADERS;
 use endpoint_core::{DueRead, EndLink, EndMemory, EndReply, Endpoint};
-use memory_keys::Regions;
+use memory_keys::{Regions, Spot};
 use page_pool::PagePool;
 use protocol::{Aeth, ResumeBody, Syndrome};
 use rdma_types::{Items, Name, Sent, Took};
 use roce_headers::Datagram;
+use roce_headers::opcodes::{
+    ACKNOWLEDGE, ATOMIC_ACKNOWLEDGE, READ_FIRST, READ_LAST, READ_MIDDLE, READ_ONLY, RESUME_ACK,
+};
 use segmenter::{piece_at, pieces_of};
 use std::alloc::{AllocError, Global};
-
-/// Acknowledge and ATOMIC Acknowledge (IBA 9.2).
-const ACKNOWLEDGE: u8 = 0x11;
-
-const ATOMIC_ACKNOWLEDGE: u8 = 0x12;
-
-/// RESUME_ACK (this project's choice).
-const RESUME_ACK: u8 = 0x1F;
-
-/// READ response Middle, which has no AETH (IBA 9.2).
-const MIDDLE: u8 = 0x0E;
 
 /// What a datagram did, and what is sent for it.
 #[derive(Drop)]
@@ -68,13 +59,13 @@ fn response_opcode(k: u64, count: u64) -> u8
     ensures { result ≡ opcode_at k count }
 {
     if count == 1 {
-        0x10
+        READ_ONLY
     } else if k == 0 {
-        0x0D
+        READ_FIRST
     } else if k + 1 == count {
-        0x0F
+        READ_LAST
     } else {
-        0x0E
+        READ_MIDDLE
     }
 }
 
@@ -82,7 +73,7 @@ fn response_opcode(k: u64, count: u64) -> u8
 fn response_aeth(opcode: u8, msn: u32) -> Option<Aeth>
     ensures { result ≡ aeth_at opcode msn }
 {
-    if opcode == MIDDLE {
+    if opcode == READ_MIDDLE {
         return None;
     }
     let syndrome = Syndrome::Ack;
@@ -111,28 +102,24 @@ fn read_datagram<'a>(
     answer(opcode, link.peer, start, n, aeth, None, payload)
 }
 
-/// READ response `k` of so many, in memory of its own.
+/// READ response `k` of so many with these bytes, in memory of its own.
 fn response(
     alloc: Global,
     link: &EndLink,
     due: &DueRead,
     k: u64,
     count: u64,
-    bytes: &[u8],
+    payload: &[u8],
 ) -> Result<Sent, AllocError>
-    requires terms { AreTerms link.now.terms }
     requires number { due.now.first < 2 ^ 62 }
     requires msn { due.now.msn < 2 ^ 24 }
     requires all { count ≡ pieces due.now.spot.length link.now.terms.mtu }
     requires bounded { count ≤ 2 ^ 32 }
     requires inside { k < count }
-    requires bytes { length bytes.now ≡ due.now.spot.length }
-    ensures { (pool : Pool) (r : Region) → bytes_at (k * link.now.terms.mtu) (piece_length due.now.spot.length k link.now.terms.mtu) bytes.now ≡ cut (due.now.spot.off + k * link.now.terms.mtu) (piece_length due.now.spot.length k link.now.terms.mtu) r.bytes
+    requires few { length payload.now ≤ 4096 }
+    ensures { (pool : Pool) (r : Region) → payload.now ≡ cut (due.now.spot.off + k * link.now.terms.mtu) (piece_length due.now.spot.length k link.now.terms.mtu) r.bytes
         → IfOk result (λ s. s ≡ read_piece (telling (link_in pool link.now) due.now.msn) r due.now.spot.off due.now.spot.length due.now.first k) }
 {
-    let (from, length) = piece_at(due.spot.length, k, link.terms.mtu);
-    let (from, length) = (from as usize, length as usize);
-    let payload = part_of(bytes, from, length);
     let number = due.first + k;
     let d = read_datagram(link, due.msn, number, k, count, payload);
     Ok(Sent {
@@ -142,13 +129,26 @@ fn response(
     })
 }
 
-/// So many bytes from a place on.
-#[tactic(auto, unfolding(protocol::specs::Bytes::bytes_at))]
-fn part_of(bytes: &[u8], from: usize, count: usize) -> &[u8]
-    requires { from + count ≤ length bytes.now }
-    ensures { result.now ≡ bytes_at from count bytes.now }
+/// The bytes of a spot from its byte `from` on, as many as the memory has: where they lie, if that is in one page, and
+/// else copied into the memory.
+fn bytes_of<'a>(
+    pool: &'a PagePool,
+    regions: &Regions,
+    spot: Spot,
+    from: u32,
+    memory: &'a mut [u8],
+) -> &'a [u8]
+    requires held { AreHeld pool.now regions.now }
+    requires spot { IsSpot regions.now spot }
+    requires inside { from + length memory.old ≤ spot.length }
+    ensures { result.now ≡ spot_bytes pool.now regions.now (part_of spot from (length memory.old)) }
 {
-    &bytes[from..from + count]
+    let count = memory.len() as u32;
+    if let Some(bytes) = regions.piece(pool, spot, from, count) {
+        return bytes;
+    }
+    regions.load_part(pool, spot, from, memory);
+    memory
 }
 
 /// How many responses a READ of so many bytes has.
@@ -176,13 +176,14 @@ fn responses(
     ensures all { IfOk result (λ list. list ≡ responses pool.now (regions_of pool.now regions.now) link.now due.now (pieces due.now.spot.length link.now.terms.mtu)) }
     ensures bounded { IfOk result (λ list. length list ≤ 2 ^ 32) }
 {
-    regions.are_keyed();
-    let mut bytes = vec![in alloc; 0; due.spot.length as usize]?;
-    regions.load(pool, due.spot, &mut bytes);
-    let count = count_of(due.spot.length, link.terms.mtu);
+    let (spot, mtu) = (due.spot, link.terms.mtu);
+    let mut memory = vec![in alloc; 0; spot.length.min(mtu) as usize]?;
+    let count = count_of(spot.length, mtu);
     let mut sent = Items::new(Vec::with_capacity(alloc, count as usize)?);
     for k in 0..count {
-        sent.push(response(alloc, link, due, k, count, &bytes)?)?;
+        let (from, length) = piece_at(spot.length, k, mtu);
+        let payload = bytes_of(pool, regions, spot, from, &mut memory[..length as usize]);
+        sent.push(response(alloc, link, due, k, count, payload)?)?;
     }
     Ok(sent)
 }

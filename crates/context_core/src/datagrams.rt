@@ -11,14 +11,14 @@ ghost use Rattle.context_core.specs.Sending.{IsDatagramBuffer};
 
 use crate::sending::MOST_HEADERS;
 use protocol::{Aeth, AtomicEth, ResumeBody, Reth};
-use psn_math::wire_of;
+use psn_math::{WIRE_NUMBERS, wire_of};
 use rdma_types::{Address, Items, Sent, Shape};
 use roce_headers::{Datagram, encode, encoded_len};
 use segmenter::PacketHead;
 use std::alloc::{AllocError, Global};
 
-/// How many numbers have 24 bits.
-const BITS_24: u32 = 16_777_216;
+/// How many queue pair numbers there are: they have 24 bits.
+const QP_NUMBERS: u32 = 16_777_216;
 
 /// Memory for one datagram.
 #[derive(Drop)]
@@ -106,9 +106,9 @@ pub fn answer<'a>(
 {
     Datagram {
         opcode,
-        dest: peer % BITS_24,
+        dest: peer % QP_NUMBERS,
         ack_request: false,
-        psn: wire_of(n % u64::from(BITS_24), start),
+        psn: wire_of(n % u64::from(WIRE_NUMBERS), start),
         reth: None,
         imm: None,
         aeth,
@@ -127,7 +127,7 @@ pub fn moving(opcode: u8, peer: u32, body: ResumeBody) -> Datagram<'static>
 {
     Datagram {
         opcode,
-        dest: peer % BITS_24,
+        dest: peer % QP_NUMBERS,
         ack_request: false,
         psn: 0,
         reth: None,
@@ -178,7 +178,7 @@ pub fn request<'a>(
     };
     Datagram {
         opcode: head.opcode,
-        dest: peer % BITS_24,
+        dest: peer % QP_NUMBERS,
         ack_request: head.asks_for_ack(psn),
         psn,
         reth: with_reth(head.opcode).then_some(reth),

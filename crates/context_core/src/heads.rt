@@ -18,10 +18,8 @@ use crate::image_links::{is_paused, is_resuming};
 use crate::{ContextState, EndSlot};
 use endpoint_core::EndLink;
 use indexmap::IndexMap;
+use move_core::MOST_MOVES;
 use rdma_types::Name;
-
-/// How often an end may have moved.
-const MOST_MOVES: u16 = 65_535;
 
 /// A queue pair, by its name and number; `link` is None in Init.
 #[derive(Clone, Copy)]

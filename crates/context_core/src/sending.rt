@@ -30,15 +30,13 @@ use protocol::ResumeBody;
 use psn_math::wire_of;
 use rdma_types::{Address, Answer, Items, Name, Sent, Shape};
 use requester::Transmit;
+use roce_headers::opcodes::RESUME;
 use segmenter::PacketHead;
 use std::alloc::{AllocError, Global};
 use work_queues::QueuedRequest;
 
 /// More bytes than a datagram has besides its payload.
 pub const MOST_HEADERS: usize = 92;
-
-/// RESUME (this project's choice).
-const RESUME: u8 = 0x1E;
 
 /// An answer, and the datagrams that are sent.
 #[derive(Drop)]

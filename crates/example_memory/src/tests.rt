@@ -103,6 +103,30 @@ fn a_snapshot_stays(rt: HostRuntime) -> Result<(), Fail> {
     Ok(())
 }
 
+/// Whether the middle two of four bytes that are stored are found where they lie.
+fn lie_in_place(pool: &mut PagePool, regions: &mut Regions) -> Result<bool, Fail>
+    requires held { AreHeld pool.old regions.old }
+{
+    let p = Name::read(b"p").ok_or("a name")?;
+    let place = regions.check_local(p, 2, 8192, 4, true);
+    let spot = place.ok_or("granted")?;
+    regions.store(pool, spot, &[0xde, 0xad, 0xbe, 0xef]);
+    let bytes = regions.piece(pool, spot, 1, 2).ok_or("one page")?;
+    Ok(bytes == [0xad, 0xbe].as_slice())
+}
+
+/// The same of the region `n`.
+fn placed(alloc: Global) -> Result<bool, Fail> {
+    let (mut pool, mut regions) = memory(alloc, 1)?;
+    lie_in_place(&mut pool, &mut regions)
+}
+
+#[test]
+fn bytes_lie_in_place(rt: HostRuntime) -> Result<(), Fail> {
+    assert!(rt; placed(rt.alloc())?);
+    Ok(())
+}
+
 /// Two bytes are restored as the region `m`, with the keys 4 and 5.
 fn restore(alloc: Global, pool: &mut PagePool, regions: &mut Regions) -> Result<(), Fail>
     requires held { AreHeld pool.old regions.old }

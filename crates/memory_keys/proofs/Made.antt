@@ -73,7 +73,7 @@ free-to-make rs free head e l f =
     let s : nat_lt free (pages_for head.length) ≡ false = grind (arith, nat_tests) in
     rw e (rw m (rw s refl))
 
--- want of memory has no cause
+-- out of memory has no cause
 pub memory-told : {T : Type 0} (r : Result T MemFault) → IsErrAnd r (λ e. e ≡ OutOfMemory) → refusal_of r ≡ None
 memory-told (Ok x) h = refl
 memory-told (Err e) h = ap told_as h

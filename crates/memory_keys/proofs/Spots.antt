@@ -20,7 +20,7 @@ use Rattle.memory_keys.specs.declared.MemFault.TheVariants.{NoPage}
 use Rattle.memory_keys.specs.Faults.{fault_of}
 use Rattle.memory_keys.specs.declared.Held.{Held}
 use Rattle.memory_keys.specs.declared.Spot.{Spot}
-use Rattle.memory_keys.specs.Regions.{AreHeld, IsSpot, Lies, held_at, spot_bytes, pages_touched}
+use Rattle.memory_keys.specs.Regions.{AreHeld, IsSpot, Lies, held_at, part_of, spot_bytes, pages_touched}
 
 -- a region that is found lies in the pool
 pub found-lies : (pool : Pool) (key : ℕ) (hs : List Held) (h : Held) → All (Lies pool) hs → held_at key hs ≡ Some h → Lies pool h
@@ -63,6 +63,18 @@ spot-empty pool held spot e = by_case (held_at spot.region held)
     by_case : (o : Option Held) → unwrap_or (option_map (λ h. cut spot.off spot.length (bytes_in pool h.list)) o) [] ≡ []
     by_case None = refl
     by_case (Some h) = ap (λ n. cut spot.off n (bytes_in pool h.list)) e
+
+-- a part of a spot is a spot
+pub part-is : (hs : List Held) (spot : Spot) (from count : ℕ) → IsSpot hs spot → from + count ≤ spot.length → IsSpot hs (part_of spot from count)
+part-is hs spot from count is inside some = by_case (held_at spot.region hs) (is (omega arith))
+  where
+    by_case : (o : Option Held) → IsSomeAnd o (λ h. spot.off + spot.length ≤ h.head.length) → IsSomeAnd o (λ h. spot.off + from + count ≤ h.head.length)
+    by_case None h = h
+    by_case (Some x) h = omega (arith, h)
+
+-- there are bytes
+pub some-bytes : (n : ℕ) → (n == 0) ≡ false → 0 < n
+some-bytes n e = grind (arith, nat_tests, e)
 
 -- the bytes of a spot in its region
 pub spot-is : (pool : Pool) (held : List Held) (spot : Spot) (h : Held) → held_at spot.region held ≡ Some h → spot_bytes pool held spot ≡ cut spot.off spot.length (bytes_in pool h.list)

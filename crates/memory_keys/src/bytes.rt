@@ -1,6 +1,6 @@
 //! The bytes of regions.
 
-ghost use Rattle.std.specs.Prelude.{◌≡◌, ◌≢◌, All, ℕ, ◌+◌, ◌<◌, ◌≤◌, ◌↔◌, length, Some, None, OnOk, OnErr, IfOk, IsErrOf};
+ghost use Rattle.std.specs.Prelude.{◌≡◌, ◌≢◌, All, ℕ, ◌+◌, ◌<◌, ◌≤◌, ◌↔◌, length, Some, None, OnOk, OnErr, IfOk, IfSome, IsErrOf, is_some, ◌==◌};
 ghost use Rattle.rdma_types.specs.Memory.{put, word_of, word_bytes};
 ghost use Rattle.page_pool.specs.Pool.{Pool, Puts, bytes_of, bytes_in, free_pages, pages_of};
 ghost use Rattle.page_pool.specs.Held.{HoldsPayload, payload_bytes};
@@ -19,11 +19,45 @@ impl Regions {
         requires length { length out.old ≡ spot.length }
         ensures { out.new ≡ spot_bytes pool.now self.now spot }
     {
-        if spot.length == 0 {
+        self.load_part(pool, spot, 0, out);
+    }
+
+    /// Copies the bytes of a part of a spot, from its byte `from` on. It takes no memory.
+    pub fn load_part(&self, pool: &PagePool, spot: Spot, from: u32, out: &mut [u8])
+        requires held { AreHeld pool.now self.now }
+        requires spot { IsSpot self.now spot }
+        requires inside { from + length out.old ≤ spot.length }
+        ensures { out.new ≡ spot_bytes pool.now self.now (part_of spot from (length out.old)) }
+    {
+        if out.is_empty() {
             return;
         }
         let held = self.find(spot.region).unwrap();
-        pool.read(&held.list, u64::from(spot.off), out);
+        let at = u64::from(spot.off) + u64::from(from);
+        pool.read(&held.list, at, out);
+    }
+
+    /// The bytes of a part of a spot where they lie: so many, from its byte `from` on. `None` comes exactly where they
+    /// touch no page, or more than one. It takes no memory.
+    pub fn piece<'a>(
+        &self,
+        pool: &'a PagePool,
+        spot: Spot,
+        from: u32,
+        count: u32,
+    ) -> Option<&'a [u8]>
+        requires held { AreHeld pool.now self.now }
+        requires spot { IsSpot self.now spot }
+        requires inside { from + count ≤ spot.length }
+        ensures bytes { IfSome result (λ bytes. bytes.now ≡ spot_bytes pool.now self.now (part_of spot from count)) }
+        ensures one_page { is_some result ≡ (pages_touched (part_of spot from count) == 1) }
+    {
+        if count == 0 {
+            return None;
+        }
+        let held = self.find(spot.region).unwrap();
+        let at = u64::from(spot.off) + u64::from(from);
+        pool.piece(&held.list, at).get(..count as usize)
     }
 
     /// The word at a spot of eight bytes (this project's choice: big-endian). It takes no memory.

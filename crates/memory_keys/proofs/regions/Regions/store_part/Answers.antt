@@ -1,30 +1,17 @@
-use Rattle.std.proofs.Common.{◌≡◌, ℕ, ◌+◌, ◌<◌, ◌≤◌, List, length, arith, ap, sym, ◌∙◌, subst}
-use Rattle.std.specs.Prelude.{◌==◌, false, Option, Some, None, IsSomeAnd}
+use Rattle.std.proofs.Common.{◌≡◌, ◌+◌, length, arith, ap, sym, ◌∙◌, subst}
+use Rattle.std.specs.Prelude.{Some}
 use Rattle.std.specs.Option.{option_copied_mut}
 use Rattle.std.specs.Map.{values_of}
 use Rattle.std.proofs.lemmas.Bool.Decides.{nat_tests}
 use Rattle.rdma_types.specs.Memory.{put}
 use Rattle.page_pool.specs.Pool.{Puts, bytes_in}
 use Rattle.memory_keys.specs.declared.Held.{Held}
-use Rattle.memory_keys.specs.declared.Spot.{Spot}
 use Rattle.memory_keys.specs.Keyed.{IsKeyed}
-use Rattle.memory_keys.specs.Regions.{AreHeld, IsSpot, part_of, regions_of, held_at}
+use Rattle.memory_keys.specs.Regions.{AreHeld, part_of, regions_of, held_at}
 use Rattle.memory_keys.proofs.Found.{found, keyed}
-use Rattle.memory_keys.proofs.Spots.{spot-in, spot-there-mut, holds-pages}
+use Rattle.memory_keys.proofs.Spots.{part-is, some-bytes, spot-in, spot-there-mut, holds-pages}
 use Rattle.memory_keys.proofs.Stores.{set-same, stored-nothing, regions-stored, lie-stored}
 use Rattle.memory_keys.proofs.regions.Regions.store_part.Goals as goal
-
--- a part of a spot is a spot
-part-is : (hs : List Held) (spot : Spot) (from count : ℕ) → IsSpot hs spot → from + count ≤ spot.length → IsSpot hs (part_of spot from count)
-part-is hs spot from count is inside some = by_case (held_at spot.region hs) (is (omega arith))
-  where
-    by_case : (o : Option Held) → IsSomeAnd o (λ h. spot.off + spot.length ≤ h.head.length) → IsSomeAnd o (λ h. spot.off + from + count ≤ h.head.length)
-    by_case None h = h
-    by_case (Some x) h = omega (arith, h)
-
--- there are bytes
-some-bytes : (n : ℕ) → (n == 0) ≡ false → 0 < n
-some-bytes n e = grind (arith, nat_tests, e)
 
 pub returns-then-is_empty-clause-regions : goal.returns-then-is_empty-clause-regions
 returns-then-is_empty-clause-regions c = sym (stored-nothing (part_of c.args.spot c.args.from (length c.args.bytes.now)) c.args.bytes.now (regions_of c.args.pool.now c.args.self.now) (grind (arith, nat_tests, c.is_empty.ensures, c.if-is_empty.true)))
