@@ -20,7 +20,8 @@ struct Polling<'a, G> {
 }
 
 impl<'a, G: Gate> Polling<'a, G> {
-    /// Polls until there are completions, and waits for a change after each poll that gives none; false where all was halted.
+    /// Polls until there are completions, and after each poll that gives none rests until another one's turn did something;
+    /// false where all was halted.
     fn poll<R: Wait>(&mut self, rt: &R, alloc: Global) -> Result<bool, PlanFault> {
         for _ in rt.forever() {
             let seen = self.hand.begin(rt);
@@ -29,9 +30,10 @@ impl<'a, G: Gate> Polling<'a, G> {
             self.waiting.reverse();
             self.hand.keep(receipt)?;
             if !self.waiting.is_empty() {
+                self.hand.end_turn(rt);
                 return Ok(true);
             }
-            if !self.hand.rest(rt, seen, false) {
+            if !self.hand.rest(rt, seen) {
                 return Ok(false);
             }
         }

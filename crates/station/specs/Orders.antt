@@ -1,9 +1,5 @@
 -- The order of all devices' steps, and the network between them (this project's choice).
-use Rattle.std.specs.Prelude.{◌≡◌, ℕ, ◌+◌, Bool, true, false, List, [], ◌∷◌, ◌++◌, length, Some, if◌then◌else◌}
-use Rattle.rdma_types.specs.declared.answers.Answer.{Answer}
-use Rattle.rdma_types.specs.declared.answers.Answer.TheVariants as answer
-use Rattle.rdma_types.specs.declared.answers.Took.{Took}
-use Rattle.rdma_types.specs.declared.answers.Took.TheVariants as took_word
+use Rattle.std.specs.Prelude.{◌≡◌, ℕ, ◌+◌, List, [], ◌∷◌, ◌++◌, length, Some}
 use Rattle.rdma_types.specs.declared.requests.Address.{Address}
 use Rattle.protocol.specs.declared.images.Outcome.{Outcome}
 use Rattle.protocol.specs.State.{Flight}
@@ -11,38 +7,14 @@ use Rattle.protocol.specs.Fabric.{kept_flight, pending, sending, took}
 use Rattle.fabric.specs.Store.{forgetting}
 use Rattle.law_world_orders.specs.declared.OrderEntry.{OrderEntry}
 
--- the entries of all steps, every datagram that they sent, and how often something changed
+-- the entries of all steps, and every datagram that they sent
 pub record OrderView : Type 0 where
   pub entries : List OrderEntry
   pub flights : List Flight  -- number k stands at place k - 1; blank where it is not kept any more
-  pub changed : ℕ
 
 -- the order before the first step
 abbrev pub no_order : OrderView
-no_order = record { entries = []; flights = []; changed = 0 }
-
--- a silent arrival
-abbrev pub is_silent : Took → Bool
-is_silent (took_word.Silent why) = true
-is_silent other = false
-
--- the answer says that nothing changed: a refusal, nothing to send or to count, a silent arrival, or an empty poll
-abbrev pub is_idle : Answer → Bool
-is_idle (answer.Refused r) = true
-is_idle answer.Idle = true
-is_idle answer.WindowFull = true
-is_idle answer.ReadsFull = true
-is_idle answer.Fenced = true
-is_idle answer.Waiting = true
-is_idle (answer.NotCounted why) = true
-is_idle answer.NotWaiting = true
-is_idle (answer.Took t first count) = is_silent t
-is_idle (answer.Polled []) = true
-is_idle other = false
-
--- what an answer adds to the count of changes
-abbrev pub change_of : Answer → ℕ
-change_of a = if is_idle a then 0 else 1
+no_order = record { entries = []; flights = [] }
 
 -- the entry that a step gets
 abbrev pub next_entry : OrderView → ℕ → ℕ → Outcome → OrderEntry
@@ -53,7 +25,6 @@ abbrev pub entered : OrderView → ℕ → ℕ → Address → Outcome → Order
 entered b device place from o = record {
   entries = b.entries ++ next_entry b device place o ∷ [];
   flights = forgetting (sending b.flights from o.sent);
-  changed = b.changed + change_of o.answer;
 }
 
 -- datagram k is pending no more, where it is kept

@@ -7,5 +7,5 @@ mod order_book;
 
 pub use book::Book;
 pub use law_world_orders::{OrderEntry, Receipt};
-pub use locks::{Orders, Station};
+pub use locks::{NextDatagram, Orders, Station};
 pub use order_book::{Claim, OrderBook};

@@ -13,14 +13,29 @@ use std::marker::Model;
 use std::sync::{Condvar, Mutex, Wait};
 use step_differences::copy_event;
 
-/// The order book, and whether it is halted.
+/// The order book, and what the threads that write into it tell one another.
 #[derive(Drop)]
 struct Desk {
     book: OrderBook,
+    /// A datagram is claimed, and its arrival is not yet entered.
+    is_claimed: bool,
+    /// How many turns have ended that did something.
+    turns: u64,
     halted: bool,
 }
 
-/// A lock round an order book. A thread that waits at it sleeps until something changed or the orders are halted.
+/// What the network has for a thread that would deliver.
+#[derive(Drop)]
+pub enum NextDatagram {
+    /// This one, which nobody else delivers.
+    Claimed(Claim),
+    /// Another thread is delivering one.
+    UnderWay,
+    Nothing,
+}
+
+/// A lock round an order book. A thread that waits at it sleeps until another one's turn did something or the orders are
+/// halted.
 #[derive(Drop)]
 pub struct Orders {
     desk: Mutex<Desk>,
@@ -33,13 +48,15 @@ impl Orders {
         Orders {
             desk: Mutex::new(Desk {
                 book,
+                is_claimed: false,
+                turns: 0,
                 halted: false,
             }),
             changes: Condvar::new(),
         }
     }
 
-    /// Enters a step, and where it changed something wakes all who wait.
+    /// Enters a step.
     fn enter<R: Wait>(
         &self,
         rt: &R,
@@ -49,29 +66,43 @@ impl Orders {
         from: Address,
         outcome: &Outcome,
     ) -> Result<(), AllocError> {
-        let mut desk = self.desk.lock(rt);
-        let seen = desk.book.changed();
-        desk.book.enter(alloc, device, place, from, outcome)?;
-        if desk.book.changed() > seen {
-            self.changes.notify_all();
-        }
+        self.desk
+            .lock(rt)
+            .book
+            .enter(alloc, device, place, from, outcome)?;
         Ok(())
     }
 
-    /// A copy of the pending datagram with the least number, as it is at that moment. Errors: `AllocError` when out of
-    /// memory.
-    pub fn pending<R: Wait>(&self, rt: &R, alloc: Global) -> Result<Option<Claim>, AllocError> {
-        self.desk.lock(rt).book.pending(alloc)
+    /// Claims the pending datagram with the least number, which is pending no more. One is claimed at a time, so datagrams
+    /// arrive in the order of their numbers. Errors: `AllocError` when out of memory.
+    pub fn claim<R: Wait>(&self, rt: &R, alloc: Global) -> Result<NextDatagram, AllocError> {
+        let mut desk = self.desk.lock(rt);
+        if desk.is_claimed {
+            return Ok(NextDatagram::UnderWay);
+        }
+        let Some(claim) = desk.book.pending(alloc)? else {
+            return Ok(NextDatagram::Nothing);
+        };
+        desk.book.took(claim.k);
+        desk.is_claimed = true;
+        Ok(NextDatagram::Claimed(claim))
     }
 
-    /// Datagram `k` is pending no more, where it is kept.
-    pub fn took<R: Wait>(&self, rt: &R, k: u64) {
-        self.desk.lock(rt).book.took(k);
+    /// The claimed datagram has arrived.
+    pub fn arrived<R: Wait>(&self, rt: &R) {
+        self.desk.lock(rt).is_claimed = false;
     }
 
-    /// How many steps changed something so far.
-    pub fn changed<R: Wait>(&self, rt: &R) -> u64 {
-        self.desk.lock(rt).book.changed()
+    /// How many turns have ended that did something.
+    pub fn turns<R: Wait>(&self, rt: &R) -> u64 {
+        self.desk.lock(rt).turns
+    }
+
+    /// A turn has ended that did something: all who wait are woken.
+    pub fn end_turn<R: Wait>(&self, rt: &R) {
+        let mut desk = self.desk.lock(rt);
+        desk.turns = desk.turns.saturating_add(1);
+        self.changes.notify_all();
     }
 
     /// From now on each wait ends.
@@ -81,11 +112,14 @@ impl Orders {
         self.changes.notify_all();
     }
 
-    /// Waits until more steps than `seen` changed something, or the orders are halted; and whether they are not halted.
+    /// Waits until more turns than `seen` have ended that did something, or the orders are halted; and whether they are not
+    /// halted.
     pub fn wait_past<R: Wait>(&self, rt: &R, seen: u64) -> bool {
-        let desk = self.changes.wait_while(rt, self.desk.lock(rt), |desk| {
-            !desk.halted && desk.book.changed() <= seen
-        });
+        let desk = self.changes.wait_while(
+            rt,
+            self.desk.lock(rt),
+            |desk| !desk.halted && desk.turns <= seen,
+        );
         !desk.halted
     }
 

@@ -3,12 +3,12 @@
 ghost use Rattle.std.specs.Prelude.{◌≡◌, ◌≤◌, ◌<◌, ◌+◌, ◌^◌, length, IfOk, MatchOption, OnErr, None};
 ghost use Rattle.protocol.specs.Fabric.{pending, sending};
 ghost use Rattle.fabric.specs.Store.{forgetting};
-ghost use Rattle.station.specs.Orders.{IsPending, change_of, entered, is_idle, is_silent, next_entry, no_order, with_taken};
+ghost use Rattle.station.specs.Orders.{IsPending, entered, next_entry, no_order, with_taken};
 
 use fabric::Fabric;
 use law_world_orders::OrderEntry;
 use protocol::Outcome;
-use rdma_types::{Address, Answer, Items, Sent, Took};
+use rdma_types::{Address, Items, Sent};
 use std::alloc::{AllocError, Global};
 use std::marker::Model;
 use step_differences::copy_sent;
@@ -26,57 +26,19 @@ pub struct Claim {
     pub bytes: Items<u8>,
 }
 
-/// The order of all devices' steps: an entry for each, the datagrams that they sent, of which the last 16,384 are kept,
-/// and how often something changed.
+/// The order of all devices' steps: an entry for each, and the datagrams that they sent, of which the last 16,384 are kept.
 #[derive(Drop)]
 pub struct OrderBook {
     entries: Vec<OrderEntry>,
     fabric: Fabric,
-    changed: u64,
 }
 
 impl Model for OrderBook {
-    ghost use Rattle.std.specs.Prelude.{◌≤◌, length};
     ghost use Rattle.station.specs.Orders.{OrderView};
 
     ghost Value = { OrderView };
 
-    ghost view = { λ b. record { entries = b.entries.items; flights = b.fabric; changed = b.changed } };
-
-    ghost invariant = { λ b. b.changed ≤ length b.entries.items };
-}
-
-/// A silent arrival.
-fn is_silent_took(took: Took) -> bool
-    ensures { result ≡ is_silent took }
-{
-    matches!(took, Took::Silent(_))
-}
-
-/// Whether an answer says that nothing changed.
-fn is_idle_answer(answer: &Answer) -> bool
-    ensures { result ≡ is_idle answer.now }
-{
-    match answer {
-        Answer::Refused(_)
-        | Answer::Idle
-        | Answer::WindowFull
-        | Answer::ReadsFull
-        | Answer::Fenced
-        | Answer::Waiting
-        | Answer::NotCounted(_)
-        | Answer::NotWaiting => true,
-        Answer::Took { took, .. } => is_silent_took(*took),
-        Answer::Polled(completions) => completions.len() == 0,
-        _ => false,
-    }
-}
-
-/// What an answer adds to the count of changes.
-fn change(answer: &Answer) -> u64
-    ensures { (result ≡ change_of answer.now) × (result ≤ 1) }
-{
-    u64::from(!is_idle_answer(answer))
+    ghost view = { λ b. record { entries = b.entries.items; flights = b.fabric } };
 }
 
 /// Sends datagrams in their order.
@@ -99,7 +61,6 @@ impl OrderBook {
         Ok(OrderBook {
             entries: Vec::new(alloc),
             fabric,
-            changed: 0,
         })
     }
 
@@ -132,7 +93,6 @@ impl OrderBook {
             count,
         };
         self.entries.push(entry).unwrap();
-        self.changed += change(&outcome.answer);
         Ok(entry)
     }
 
@@ -176,12 +136,5 @@ impl OrderBook {
     {
         let OrderBook { entries, .. } = self;
         entries
-    }
-
-    /// How many steps changed something: all but those that were refused, idle or silent, and empty polls.
-    pub fn changed(&self) -> u64
-        ensures { result ≡ self.now.changed }
-    {
-        self.changed
     }
 }

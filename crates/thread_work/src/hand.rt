@@ -9,7 +9,7 @@ use crate::gate::Gate;
 use crate::site::Site;
 use protocol::Event;
 use rdma_types::Items;
-use station::{Receipt, Station};
+use station::{Claim, NextDatagram, Receipt, Station};
 use std::alloc::Global;
 use std::sync::Wait;
 use thread_plan::PlanFault;
@@ -21,7 +21,17 @@ pub struct Hand<'a, G> {
     gate: &'a G,
     worker: u32,
     receipts: Items<Receipt>,
-    has_changed: bool,
+    /// Since its turn began, a step changed something or a datagram arrived.
+    has_worked: bool,
+}
+
+/// What became of a delivery.
+#[derive(Clone, Copy, Debug, PartialEq, Eq)]
+pub enum Delivery {
+    Delivered,
+    /// Another one is delivering.
+    UnderWay,
+    NothingPending,
 }
 
 impl<'a, G: Gate> Hand<'a, G> {
@@ -32,7 +42,7 @@ impl<'a, G: Gate> Hand<'a, G> {
             gate,
             worker,
             receipts,
-            has_changed: false,
+            has_worked: false,
         }
     }
 
@@ -80,7 +90,7 @@ impl<'a, G: Gate> Hand<'a, G> {
     pub fn keep(&mut self, receipt: Receipt) -> Result<Told, PlanFault> {
         let told = told_by(&receipt.outcome.answer);
         if told == Told::Accepted || told == Told::Changed {
-            self.has_changed = true;
+            self.has_worked = true;
         }
         self.receipts.push(receipt)?;
         Ok(told)
@@ -100,29 +110,62 @@ impl<'a, G: Gate> Hand<'a, G> {
         self.keep(receipt)
     }
 
-    /// Delivers the oldest pending datagram, and says whether there was one. It is pending until its arrival is entered.
-    pub fn deliver<R: Wait>(&mut self, rt: &R, alloc: Global) -> Result<bool, PlanFault> {
-        let Some(claim) = self.site.orders.pending(rt, alloc)? else {
-            return Ok(false);
-        };
-        let k = claim.k;
+    /// A claimed datagram arrives at the device that has its address.
+    fn bring<R: Wait>(&mut self, rt: &R, alloc: Global, claim: Claim) -> Result<(), PlanFault> {
         if let Some(station) = self.site.station_at(claim.to) {
             let receipt = self.call_at(rt, alloc, station, arrives(claim))?;
             self.keep(receipt)?;
         }
-        self.site.orders.took(rt, k);
-        Ok(true)
+        self.site.orders.arrived(rt);
+        self.has_worked = true;
+        Ok(())
     }
 
-    /// A turn begins; the answer is how much had changed before.
+    /// Delivers the oldest pending datagram, unless another one is delivering.
+    fn deliver<R: Wait>(&mut self, rt: &R, alloc: Global) -> Result<Delivery, PlanFault> {
+        match self.site.orders.claim(rt, alloc)? {
+            NextDatagram::Claimed(claim) => {
+                self.bring(rt, alloc, claim)?;
+                Ok(Delivery::Delivered)
+            }
+            NextDatagram::UnderWay => Ok(Delivery::UnderWay),
+            NextDatagram::Nothing => Ok(Delivery::NothingPending),
+        }
+    }
+
+    /// Delivers what is pending, oldest first, until nothing is or another one is delivering; and says which.
+    pub fn deliver_all<R: Wait>(&mut self, rt: &R, alloc: Global) -> Result<Delivery, PlanFault> {
+        for _ in rt.forever() {
+            let delivery = self.deliver(rt, alloc)?;
+            if delivery != Delivery::Delivered {
+                return Ok(delivery);
+            }
+        }
+        unreachable!()
+    }
+
+    /// Whether its turn did something so far.
+    pub fn has_worked(&self) -> bool {
+        self.has_worked
+    }
+
+    /// Ends a turn, and wakes those who rest where it did something.
+    pub fn end_turn<R: Wait>(&mut self, rt: &R) {
+        if self.has_worked {
+            self.has_worked = false;
+            self.site.orders.end_turn(rt);
+        }
+    }
+
+    /// A turn begins, after the last one; the answer is how many turns of all had done something before.
     pub fn begin<R: Wait>(&mut self, rt: &R) -> u64 {
-        self.has_changed = false;
-        self.site.orders.changed(rt)
+        self.end_turn(rt);
+        self.site.orders.turns(rt)
     }
 
-    /// A turn ends: where nothing was pending in it and its steps changed nothing, waits until something has changed. Says
-    /// whether to go on, and not where all was halted.
-    pub fn rest<R: Wait>(&mut self, rt: &R, seen: u64, was_pending: bool) -> bool {
-        was_pending || self.has_changed || self.site.orders.wait_past(rt, seen)
+    /// Where its turn did nothing, waits until another one's turn did something. Says whether to go on, and not where all was
+    /// halted.
+    pub fn rest<R: Wait>(&mut self, rt: &R, seen: u64) -> bool {
+        self.has_worked || self.site.orders.wait_past(rt, seen)
     }
 }

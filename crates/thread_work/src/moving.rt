@@ -47,8 +47,8 @@ fn settle<R: Wait, G: Gate>(
         if are_idle(rt, alloc, hand, id, workers)? {
             return Ok(true);
         }
-        let was_pending = hand.deliver(rt, alloc)?;
-        if !hand.rest(rt, seen, was_pending) {
+        let _delivery = hand.deliver_all(rt, alloc)?;
+        if !hand.rest(rt, seen) {
             break;
         }
     }
@@ -109,5 +109,6 @@ pub fn move_all<R: Wait, G: Gate>(
         (from, to) = (to, from);
     }
     settle(rt, alloc, hand, from, workers)?;
+    hand.end_turn(rt);
     Ok(())
 }

@@ -4,7 +4,7 @@ ghost use Rattle.std.specs.Prelude.{◌≤◌};
 
 use crate::events::{Side, Told, expires, polls, transmits};
 use crate::gate::Gate;
-use crate::hand::Hand;
+use crate::hand::{Delivery, Hand};
 use std::alloc::Global;
 use std::sync::Wait;
 use thread_plan::{PlanFault, addition};
@@ -33,8 +33,45 @@ fn is_through<R: Wait, G: Gate>(
     }
 }
 
-/// Posts the next addition where one is left, sends, delivers what is pending, or else lets the own end expire. The answer is
-/// whether something was pending; None where the worker is through.
+/// Posts additions until all are posted or one is refused; `posted` counts those that were accepted.
+fn post_all<R: Wait, G: Gate>(
+    rt: &R,
+    alloc: Global,
+    hand: &mut Hand<'_, G>,
+    worker: u32,
+    adds: u32,
+    posted: &mut u32,
+) -> Result<(), PlanFault>
+    requires { (1 ≤ worker) × (worker ≤ 8) × (adds ≤ 10000) }
+{
+    for j in *posted..adds {
+        if hand.call(rt, alloc, OF_A, addition(worker, j + 1))? != Told::Accepted {
+            break;
+        }
+        *posted = j + 1;
+    }
+    Ok(())
+}
+
+/// Sends until the own end has nothing to send now.
+fn send_all<R: Wait, G: Gate>(
+    rt: &R,
+    alloc: Global,
+    hand: &mut Hand<'_, G>,
+    worker: u32,
+) -> Result<(), PlanFault>
+    requires { worker ≤ 8 }
+{
+    for _ in rt.forever() {
+        if hand.call(rt, alloc, OF_A, transmits(Side::A, worker))? != Told::Changed {
+            break;
+        }
+    }
+    Ok(())
+}
+
+/// One turn: posts, sends and delivers all that it can; where that was nothing, and nobody else is delivering, lets the own end
+/// expire. Says whether the worker is through.
 fn push_on<R: Wait, G: Gate>(
     rt: &R,
     alloc: Global,
@@ -42,27 +79,21 @@ fn push_on<R: Wait, G: Gate>(
     worker: u32,
     adds: u32,
     posted: &mut u32,
-) -> Result<Option<bool>, PlanFault>
+) -> Result<bool, PlanFault>
     requires { (1 ≤ worker) × (worker ≤ 8) × (adds ≤ 10000) }
 {
-    if *posted < adds
-        && hand.call(rt, alloc, OF_A, addition(worker, *posted + 1))? == Told::Accepted
-    {
-        *posted += 1;
+    post_all(rt, alloc, hand, worker, adds, posted)?;
+    send_all(rt, alloc, hand, worker)?;
+    let delivery = hand.deliver_all(rt, alloc)?;
+    if hand.has_worked() || delivery == Delivery::UnderWay {
+        return Ok(false);
     }
-    hand.call(rt, alloc, OF_A, transmits(Side::A, worker))?;
-    let was_pending = hand.deliver(rt, alloc)?;
-    if !was_pending {
-        let told = hand.call(rt, alloc, OF_A, expires(worker))?;
-        if *posted >= adds && is_through(rt, alloc, hand, worker, told)? {
-            return Ok(None);
-        }
-    }
-    Ok(Some(was_pending))
+    let told = hand.call(rt, alloc, OF_A, expires(worker))?;
+    Ok(*posted >= adds && is_through(rt, alloc, hand, worker, told)?)
 }
 
-/// All turns of a worker, who polls at the end of each if `does_poll`: it ends when all its additions are posted and none is in
-/// flight, or where all was halted.
+/// All turns of a worker, who polls at the end of each that did something, if `does_poll`: it ends when all its additions are
+/// posted and none is in flight, or where all was halted.
 fn take_turns<R: Wait, G: Gate>(
     rt: &R,
     alloc: Global,
@@ -76,16 +107,17 @@ fn take_turns<R: Wait, G: Gate>(
     let mut posted = 0;
     for _ in rt.forever() {
         let seen = hand.begin(rt);
-        let Some(was_pending) = push_on(rt, alloc, hand, worker, adds, &mut posted)? else {
+        if push_on(rt, alloc, hand, worker, adds, &mut posted)? {
             break;
-        };
-        if does_poll {
+        }
+        if does_poll && hand.has_worked() {
             hand.call(rt, alloc, OF_A, polls())?;
         }
-        if !hand.rest(rt, seen, was_pending) {
+        if !hand.rest(rt, seen) {
             break;
         }
     }
+    hand.end_turn(rt);
     Ok(())
 }
 
