@@ -45,6 +45,7 @@ pub due_changes : {i : ℕ} {sender receiver : End} {stored landed : List ℕ} {
     HasArrived c' sent open'' → WaitsOpen c'.receives c'.reads sent open'' → IsKeptWith i sender receiver stored landed due' c' sent open''
 due_changes {i} {sender} {receiver} {stored} {landed} {due} {due'} {c} {c'} {sent} {open'} {open''} h copied reposted receives counts slot landing arrived waits_open = record {
   letters = h.letters;
+  unoffered = h.unoffered;
   number = h.number;
   plain = h.plain;
   sends = h.sends;
@@ -127,6 +128,7 @@ module _ (i : ℕ) (sender receiver : End) (stored landed : List ℕ) (c : Chann
       let posted_is = is_due.posted_is in
       record {
         letters = h.letters;
+        unoffered = h.unoffered;
         number = h.number;
         plain = h.plain;
         sends = h.sends;
@@ -266,6 +268,7 @@ module _ (i : ℕ) (sender receiver : End) (stored landed : List ℕ) (c : Chann
   pub free_posts : receiver.ended ≡ false → IsKeptWith i sender (record receiver { posted = receiver.posted ++ freed_as ∷ [] }) stored landed (record { copied = copied; reposted = reposted; fetched = fetched; bodies = bodies; frees = frees; slots = slots }) c sent open'
   free_posts live = record {
     letters = h.letters;
+    unoffered = h.unoffered;
     number = h.number;
     plain = h.plain;
     sends = h.sends;
@@ -329,6 +332,7 @@ module _ (i : ℕ) (sender receiver : End) (stored landed : List ℕ) (c : Chann
       IsKeptWith i sender receiver stored' landed (record { copied = copied; reposted = reposted; fetched = fetched; bodies = bodies; frees = frees; slots = slots }) c sent open'
   stores stored' same h = record {
     letters = h.letters;
+    unoffered = h.unoffered;
     number = h.number;
     plain = h.plain;
     sends = h.sends;

@@ -73,3 +73,7 @@ gains_between i owed first xs more copied body positive a b d e f g = record {
   fetches_same = same_between (fetch_in i) owed first (dues_of i xs) more f;
   frees_same = same_between (free_in i) owed first (dues_of i xs) more g;
 }
+
+-- what completions of a sender make due is of slots alone
+pub nothing_of_sender : {Y : Type 0} (f : Due → List Y) → ((n place : ℕ) → f (due.FreeSlot n place) ≡ []) → (n : ℕ) (xs : List Completion) → 1 ≤ n → flat_map f (dues_of n xs) ≡ []
+nothing_of_sender f free_none n xs positive = sender_none f free_none n xs positive

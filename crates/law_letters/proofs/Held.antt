@@ -28,27 +28,29 @@ use Rattle.letter_rules.specs.Letters.{is_rendezvous}
 use Rattle.letter_rules.specs.State.{Channel, Mail, channel, is_sender, made, with_channel, with_world}
 use Rattle.letter_rules.specs.Theorem.{IsFirstOpen, IsLanded, IsReached, Begins, Replied, WasCut, MayBeCalled, NoneExactlyWhere, TakesFirstWhole}
 use Rattle.letter_rules.specs.Wanting.{IsCut, IsWorkCut, SendWorkCut, SendCut, TakeCut, WorkCut, NetworkCut, SettleCut}
-use Rattle.letter_rules.specs.Working.{begun, most_steps, worked, working}
+use Rattle.letter_rules.specs.Working.{most_steps, working}
 use Rattle.law_letters.specs.Arrived.{HasArrived, IsTaken}
 use Rattle.law_letters.specs.Held.{AreAllKept, IsAllKept, IsHeld, IsInner, KeepingIsEnough, MayBeSent}
 use Rattle.law_letters.specs.Kept.{Has, IsKept, Sight, sight_of}
 use Rattle.law_letters.proofs.Fetching.{due_changes}
 use Rattle.law_letters.proofs.Channels.{IsSender, changed_elsewhere, changed_long, changed_there, sender_is}
 use Rattle.law_letters.proofs.Places.{all_front}
+use Rattle.law_letters.proofs.PostedAs.{IsHeldAs, as_itself, copied_stays}
 use Rattle.law_letters.proofs.Opened.{placed_more, sent_more, were_sent}
+use Rattle.law_letters.proofs.Staged.{is_worked}
 use Rattle.law_letters.proofs.Taking.{IsGivenAt, IsNotGiven, is_taken, outcome}
 
 -- ---- steps of the machine
 
-no_parts : {X : Type 0} (xs ys : List X) → xs ++ ys ≡ [] → (xs ≡ []) × (ys ≡ [])
+pub no_parts : {X : Type 0} (xs ys : List X) → xs ++ ys ≡ [] → (xs ≡ []) × (ys ≡ [])
 no_parts [] ys h = (refl, h)
 no_parts (x ∷ xs) ys h = cc
 
-is_inner : (machine : Machine) (s : IdealStep) → seen_of machine s ≡ [] → IsInner s
+pub is_inner : (machine : Machine) (s : IdealStep) → seen_of machine s ≡ [] → IsInner s
 is_inner machine (steps.Verb verb given) h = cc
 is_inner machine s h = tt
 
-module _ (peers : ℕ) (keep : IsAllKept peers) where
+module _ (peers : ℕ) {Also : Mail → Type 0} (keep : IsAllKept peers Also) where
   run_keeps : (ts : List Turn) (m : Mail) (machine : Machine) (ss : List IdealStep) → IsRun machine ss → seen machine ss ≡ [] → AreAllKept peers ts m machine → AreAllKept peers ts m (after machine ss)
   run_keeps ts m machine [] run unheard all = all
   run_keeps ts m machine (s ∷ ss) run unheard all =
@@ -64,7 +66,7 @@ unheard_turn w (event.Expire o) a h = refl
 unheard_turn w (event.RnrOver o) a h = refl
 unheard_turn w e a h = cc
 
-unheard : (w : World) (e : WorldEvent) (a : Answer) → is_of_network e ≡ true → kept_of w e a ≡ []
+pub unheard : (w : World) (e : WorldEvent) (a : Answer) → is_of_network e ≡ true → kept_of w e a ≡ []
 unfolding kept_verb verb_of
 unheard w (world_event.Deliver k) a h = refl
 unheard w (world_event.Lose k) a h = refl
@@ -81,7 +83,7 @@ turn_in_range (event.Expire o) h = tt
 turn_in_range (event.RnrOver o) h = tt
 turn_in_range e h = cc
 
-in_range : (e : WorldEvent) → is_of_network e ≡ true → IsInRange e
+pub in_range : (e : WorldEvent) → is_of_network e ≡ true → IsInRange e
 in_range (world_event.Deliver k) h = tt
 in_range (world_event.Lose k) h = tt
 in_range (world_event.Wire k) h = tt
@@ -97,18 +99,18 @@ turn_of_network (event.Expire o) h = refl
 turn_of_network (event.RnrOver o) h = refl
 turn_of_network e h = absurd h
 
-settling_of_network : (e : WorldEvent) → IsSettling e → is_of_network e ≡ true
+pub settling_of_network : (e : WorldEvent) → IsSettling e → is_of_network e ≡ true
 settling_of_network (world_event.Deliver k) h = refl
 settling_of_network (world_event.At e) h = turn_of_network e h
 settling_of_network e h = absurd h
 
-module _ (peers : ℕ) (keep : IsAllKept peers) (follow : (e : WorldEvent) → AlwaysFollows e) where
+module _ (peers : ℕ) {Also : Mail → Type 0} (keep : IsAllKept peers Also) (follow : (e : WorldEvent) → AlwaysFollows e) where
   event_held : (ts : List Turn) (m : Mail) (e : WorldEvent) → is_of_network e ≡ true → IsHeld peers ts m → IsHeld peers ts (with_world m (world_step m.world e).world)
   event_held ts m e net h =
       let f : Follows m.world h.machine e = follow e m.world h.machine (in_range e net) h.stands in
       let quiet : seen h.machine f.steps ≡ [] = f.heard ∙ unheard m.world e (world_step m.world e).answer net in
       let all : AreAllKept peers ts m (after h.machine f.steps) = run_keeps peers keep ts m h.machine f.steps f.is_run quiet h.all in
-      record { machine = after h.machine f.steps; stands = f.stands; senders = h.senders; all = record { opened = all.opened; joined = all.joined; kept = all.kept } }
+      record { machine = after h.machine f.steps; stands = f.stands; senders = h.senders; all = record { opened = all.opened; joined = all.joined; kept = all.kept; dues = all.dues } }
 
   events_held : (ts : List Turn) (m : Mail) (es : List WorldEvent) → All (λ e. is_of_network e ≡ true) es → IsHeld peers ts m → IsHeld peers ts (with_world m (world_after m.world es))
   unfolding world_after
@@ -119,11 +121,11 @@ module _ (peers : ℕ) (keep : IsAllKept peers) (follow : (e : WorldEvent) → A
 
 -- ---- turns that send and give no letter
 
-record IsIdle (c : Call) (r : Reply) : Type 0 where
+pub record IsIdle (c : Call) (r : Reply) : Type 0 where
   none : (i : ℕ) → sent_by i c r ≡ []
   same : (i count : ℕ) (open' : List Placed) → opened_by i c r count open' ≡ open'
 
-refused_idle : (c : Call) (f : MailFault) → IsIdle c (Refused f)
+pub refused_idle : (c : Call) (f : MailFault) → IsIdle c (Refused f)
 refused_idle (Send from tag body) f = record { none = λ i. refl; same = λ i count open'. refl }
 refused_idle (Take from tag) f = record { none = λ i. refl; same = λ i count open'. refl }
 refused_idle Work f = record { none = λ i. refl; same = λ i count open'. refl }
@@ -133,13 +135,13 @@ refused_idle Settle f = record { none = λ i. refl; same = λ i count open'. ref
 none_idle : (from : ℕ) (tag : Option ℕ) → IsIdle (Take from tag) (Gives None)
 none_idle from tag = record { none = λ i. refl; same = λ i count open'. refl }
 
-work_idle : (r : Reply) → IsIdle Work r
+pub work_idle : (r : Reply) → IsIdle Work r
 work_idle r = record { none = λ i. refl; same = λ i count open'. refl }
 
-network_idle : (e : WorldEvent) (r : Reply) → IsIdle (Network e) r
+pub network_idle : (e : WorldEvent) (r : Reply) → IsIdle (Network e) r
 network_idle e r = record { none = λ i. refl; same = λ i count open'. refl }
 
-settle_idle : (r : Reply) → IsIdle Settle r
+pub settle_idle : (r : Reply) → IsIdle Settle r
 settle_idle r = record { none = λ i. refl; same = λ i count open'. refl }
 
 -- what is kept, of other letters that are the same
@@ -147,22 +149,29 @@ kept_as : (i : ℕ) (s : Sight) (c : Channel) (sent sent' : List Letter) (open' 
 kept_as i s c sent sent' open' opened' e f h =
     subst (λ (x : List Letter). IsKept i s c x opened') (sym e) (subst (λ (y : List Placed). IsKept i s c sent y) (sym f) h)
 
-idle_held : (peers : ℕ) (ts : List Turn) (m : Mail) (c : Call) (r : Reply) → IsIdle c r → IsHeld peers ts m → IsHeld peers (ts ++ record { call = c; reply = r } ∷ []) m
-idle_held peers ts m c r idle h = record {
-  machine = h.machine;
-  stands = h.stands;
-  senders = h.senders;
-  all = record {
-    opened = h.all.opened;
-    joined = h.all.joined;
-    kept = λ i a b.
-        let t : Turn = record { call = c; reply = r } in
-        kept_as i (sight_of h.machine m.owed i) (channel m i) (sent_letters i ts) (sent_letters i (ts ++ t ∷ [])) (placed_letters i ts) (placed_letters i (ts ++ t ∷ []))
-        (sent_more i ts t ∙ ap (λ (s : List Letter). sent_letters i ts ++ s) (idle.none i) ∙ append-nil (sent_letters i ts))
-        (placed_more i ts t ∙ idle.same i (length (sent_letters i ts)) (placed_letters i ts))
-        (h.all.kept i a b);
+pub idle_as : (peers : ℕ) (ts : List Turn) (m : Mail) (c : Call) (r : Reply) → IsIdle c r → (h : IsHeld peers ts m) → IsHeldAs peers (ts ++ record { call = c; reply = r } ∷ []) m m h.machine
+idle_as peers ts m c r idle h = record {
+  held = record {
+    machine = h.machine;
+    stands = h.stands;
+    senders = h.senders;
+    all = record {
+      opened = h.all.opened;
+      joined = h.all.joined;
+      kept = λ i a b.
+          let t : Turn = record { call = c; reply = r } in
+          kept_as i (sight_of h.machine m.owed i) (channel m i) (sent_letters i ts) (sent_letters i (ts ++ t ∷ [])) (placed_letters i ts) (placed_letters i (ts ++ t ∷ []))
+          (sent_more i ts t ∙ ap (λ (s : List Letter). sent_letters i ts ++ s) (idle.none i) ∙ append-nil (sent_letters i ts))
+          (placed_more i ts t ∙ idle.same i (length (sent_letters i ts)) (placed_letters i ts))
+          (h.all.kept i a b);
+      dues = h.all.dues;
+    };
   };
+  as_posted = λ q low high. as_itself q m h.machine;
 }
+
+idle_held : (peers : ℕ) (ts : List Turn) (m : Mail) (c : Call) (r : Reply) → IsIdle c r → IsHeld peers ts m → IsHeld peers (ts ++ record { call = c; reply = r } ∷ []) m
+idle_held peers ts m c r idle h = (idle_as peers ts m c r idle h).held
 
 -- ---- a letter is taken
 
@@ -235,12 +244,15 @@ module _ (peers : ℕ) (ts : List Turn) (m : Mail) (from : ℕ) (tag : Option �
         subst (λ (j : ℕ). IsKept j (sight_of h.machine m.owed j) (channel (with_channel m from (taking g.k)) j) (sent_letters j (ts ++ t ∷ [])) (placed_letters j (ts ++ t ∷ []))) e kept_there
     kept_each i a b (inr o) = kept_elsewhere i a b o.0 o.1
 
-    given_held : IsHeld peers (ts ++ record { call = Take from tag; reply = Gives (Some g.x.letter) } ∷ []) (with_channel m from (taking g.k))
-    given_held = record {
-      machine = h.machine;
-      stands = h.stands;
-      senders = changed_long m from there (taking g.k) ∙ h.senders;
-      all = record { opened = h.all.opened; joined = h.all.joined; kept = λ i a b. kept_each i a b (eq_is from i (from == i) refl) };
+    given_as : IsHeldAs peers (ts ++ record { call = Take from tag; reply = Gives (Some g.x.letter) } ∷ []) m (with_channel m from (taking g.k)) h.machine
+    given_as = record {
+      held = record {
+        machine = h.machine;
+        stands = h.stands;
+        senders = changed_long m from there (taking g.k) ∙ h.senders;
+        all = record { opened = h.all.opened; joined = h.all.joined; kept = λ i a b. kept_each i a b (eq_is from i (from == i) refl); dues = h.all.dues };
+      };
+      as_posted = λ q low high. record { receiver_same = refl; dues_same = refl; owed_same = refl; copied_same = copied_stays m from there (taking g.k) (λ c. refl) q low };
     }
 
   -- ---- what `take` answers, and what it leaves
@@ -249,34 +261,30 @@ module _ (peers : ℕ) (ts : List Turn) (m : Mail) (from : ℕ) (tag : Option �
   unfolding takes
   not_there e = rw e refl
 
-  take_held : IsHeld peers (ts ++ record { call = Take from tag; reply = (takes m from tag).reply } ∷ []) (takes m from tag).mail
-  take_held = by (is_sender m from) refl
+  pub take_as : IsHeldAs peers (ts ++ record { call = Take from tag; reply = (takes m from tag).reply } ∷ []) m (takes m from tag).mail h.machine
+  take_as = by (is_sender m from) refl
     where
       told : (there : is_sender m from ≡ true) → IsGivenAt m from (sent_letters from ts) (placed_letters from ts) tag ⊎ IsNotGiven m from (sent_letters from ts) (placed_letters from ts) tag →
-          IsHeld peers (ts ++ record { call = Take from tag; reply = (takes m from tag).reply } ∷ []) (takes m from tag).mail
-      told there (inl g) = subst (λ (a : After). IsHeld peers (ts ++ record { call = Take from tag; reply = a.reply } ∷ []) a.mail) (sym g.answer) (given_held there g)
-      told there (inr g) = subst (λ (a : After). IsHeld peers (ts ++ record { call = Take from tag; reply = a.reply } ∷ []) a.mail) (sym g.answer) (idle_held peers ts m (Take from tag) (Gives None) (none_idle from tag) h)
+          IsHeldAs peers (ts ++ record { call = Take from tag; reply = (takes m from tag).reply } ∷ []) m (takes m from tag).mail h.machine
+      told there (inl g) = subst (λ (a : After). IsHeldAs peers (ts ++ record { call = Take from tag; reply = a.reply } ∷ []) m a.mail h.machine) (sym g.answer) (given_as there g)
+      told there (inr g) = subst (λ (a : After). IsHeldAs peers (ts ++ record { call = Take from tag; reply = a.reply } ∷ []) m a.mail h.machine) (sym g.answer) (idle_as peers ts m (Take from tag) (Gives None) (none_idle from tag) h)
 
-      by : (b : Bool) → is_sender m from ≡ b → IsHeld peers (ts ++ record { call = Take from tag; reply = (takes m from tag).reply } ∷ []) (takes m from tag).mail
+      by : (b : Bool) → is_sender m from ≡ b → IsHeldAs peers (ts ++ record { call = Take from tag; reply = (takes m from tag).reply } ∷ []) m (takes m from tag).mail h.machine
       by true there =
           let among : (1 ≤ from) × (from ≤ peers) = is_among there in
           told there (outcome m from (sent_letters from ts) (placed_letters from ts) tag there (were_sent from ts) (h.all.kept from among.0 among.1).arrived)
-      by false e = subst (λ (a : After). IsHeld peers (ts ++ record { call = Take from tag; reply = a.reply } ∷ []) a.mail) (sym (not_there e)) (idle_held peers ts m (Take from tag) (Refused fault.NoSender) (refused_idle (Take from tag) fault.NoSender) h)
+      by false e = subst (λ (a : After). IsHeldAs peers (ts ++ record { call = Take from tag; reply = a.reply } ∷ []) m a.mail h.machine) (sym (not_there e)) (idle_as peers ts m (Take from tag) (Refused fault.NoSender) (refused_idle (Take from tag) fault.NoSender) h)
 
 -- ---- each call
 
-is_worked : (m : Mail) → working m ≡ (worked most_steps (begun m)).mail
-unfolding working
-is_worked m = refl
-
-module _ (peers : ℕ) (keep : IsAllKept peers) (follow : (e : WorldEvent) → AlwaysFollows e) (named : SettlingHasEvents) where
+module _ (peers : ℕ) {Also : Mail → Type 0} (keep : IsAllKept peers Also) (follow : (e : WorldEvent) → AlwaysFollows e) (named : SettlingHasEvents) where
   worked_held : (ts : List Turn) (m : Mail) → IsHeld peers ts m → IsHeld peers ts (working m)
   worked_held ts m h = subst (λ (n : Mail). IsHeld peers ts n) (sym (is_worked m)) (keep.works ts m most_steps h)
 
-  send_held : (ts : List Turn) (m : Mail) (i : ℕ) (l : Letter) → MayBeSent l → IsHeld peers ts m → (o : Option MailFault) → send_fault (working m) i l.body ≡ o →
+  send_held : (ts : List Turn) (m : Mail) (i : ℕ) (l : Letter) → MayBeSent l → IsHeld peers ts m → Also m → (o : Option MailFault) → send_fault (working m) i l.body ≡ o →
       IsHeld peers (ts ++ record { call = Send i l.tag l.body; reply = (by_fault (working m) o (posts_letter (working m) i l)).reply } ∷ []) (by_fault (working m) o (posts_letter (working m) i l)).mail
-  send_held ts m i l may h (Some f) e = idle_held peers ts (working m) (Send i l.tag l.body) (Refused f) (refused_idle (Send i l.tag l.body) f) (worked_held ts m h)
-  send_held ts m i l may h None e = keep.sends ts m i l may h e
+  send_held ts m i l may h also (Some f) e = idle_held peers ts (working m) (Send i l.tag l.body) (Refused f) (refused_idle (Send i l.tag l.body) f) (worked_held ts m h)
+  send_held ts m i l may h also None e = keep.sends ts m i l may h also e
 
   network_held : (ts : List Turn) (m : Mail) (e : WorldEvent) → IsHeld peers ts m → (b : Bool) → is_of_network e ≡ b →
       IsHeld peers (ts ++ record { call = Network e; reply = (by_fault m (if b then None else Some fault.NotNetwork) (answers_by m (world_step m.world e))).reply } ∷ [])
@@ -295,18 +303,18 @@ module _ (peers : ℕ) (keep : IsAllKept peers) (follow : (e : WorldEvent) → A
       subst (λ (w : World). IsHeld peers ts (with_world m w)) (named m.world).after
       (settled_held ts m (settling_events m.world) [] (sym (append-nil (settling_events m.world))) h)
 
-  called_held : (ts : List Turn) (m : Mail) (c : Call) → MayBeCalled c → IsHeld peers ts m → IsHeld peers (ts ++ record { call = c; reply = (calls m c).reply } ∷ []) (calls m c).mail
+  called_held : (ts : List Turn) (m : Mail) (c : Call) → MayBeCalled c → IsHeld peers ts m → Also m → IsHeld peers (ts ++ record { call = c; reply = (calls m c).reply } ∷ []) (calls m c).mail
   unfolding calls networks sends settles
-  called_held ts m (Send from tag body) may h =
+  called_held ts m (Send from tag body) may h also =
       let l : Letter = record { tag = tag; body = body } in
-      send_held ts m from l (record { tag_fits = may.0; bytes = may.1 }) h (send_fault (working m) from body) refl
-  called_held ts m (Take from tag) may h = take_held peers ts (working m) from tag (worked_held ts m h)
-  called_held ts m Work may h = idle_held peers ts (working m) Work IsWorked (work_idle IsWorked) (worked_held ts m h)
-  called_held ts m (Network e) may h = network_held ts m e h (is_of_network e) refl
-  called_held ts m Settle may h =
+      send_held ts m from l (record { tag_fits = may.0; bytes = may.1 }) h also (send_fault (working m) from body) refl
+  called_held ts m (Take from tag) may h also = (take_as peers ts (working m) from tag (worked_held ts m h)).held
+  called_held ts m Work may h also = idle_held peers ts (working m) Work IsWorked (work_idle IsWorked) (worked_held ts m h)
+  called_held ts m (Network e) may h also = network_held ts m e h (is_of_network e) refl
+  called_held ts m Settle may h also =
       idle_held peers ts (with_world m (settled m.world).world) Settle (quiet_by m (settled m.world)).reply (settle_idle (quiet_by m (settled m.world)).reply) (settle_held ts m h)
 
-  -- ---- calls that met want of memory
+  -- ---- calls that ran out of memory
 
   work_cut_held : (ts : List Turn) (m m' : Mail) → IsWorkCut m m' → IsHeld peers ts m → IsHeld peers ts m'
   work_cut_held ts m m' cut h = subst (λ (n : Mail). IsHeld peers ts n) (sym cut.after) (keep.works ts m cut.steps h)
@@ -322,10 +330,10 @@ module _ (peers : ℕ) (keep : IsAllKept peers) (follow : (e : WorldEvent) → A
 
   -- ---- any calls
 
-  reached_held : {ts : List Turn} {m : Mail} → IsReached (made peers) ts m → IsHeld peers ts m
-  reached_held Begins = keep.begins
-  reached_held (Replied {ts = ts} {m = m} c may r) = called_held ts m c may (reached_held r)
-  reached_held (WasCut {ts = ts} {m = m} c may r cut) = cut_held ts m cut may (reached_held r)
+  reached_held : {ts : List Turn} {m : Mail} → IsReached (made peers) ts m → IsHeld peers ts m × Also m
+  reached_held Begins = (keep.begins, keep.also_begins)
+  reached_held (Replied {ts = ts} {m = m} c may r) = let b = reached_held r in (called_held ts m c may b.0 b.1, keep.also_called ts m c may b.0 b.1)
+  reached_held (WasCut {ts = ts} {m = m} {m' = m'} c may r cut) = let b = reached_held r in (cut_held ts m cut may b.0, keep.also_cut ts m c m' cut may b.0 b.1)
 
   -- ---- what is taken
 
@@ -356,7 +364,7 @@ module _ (peers : ℕ) (keep : IsAllKept peers) (follow : (e : WorldEvent) → A
       let same : (calls m (Take i tag)).reply ≡ (takes (working m) i tag).reply = ap (λ (a : After). a.reply) (took m i tag) in
       (λ e. taken.none.0 (sym same ∙ e), λ awaited. same ∙ taken.none.1 awaited)
 
-pub enough : SettlingHasEvents → ((e : WorldEvent) → AlwaysFollows e) → KeepingIsEnough
-enough named follow peers keep ts m reached =
-    let h : IsHeld peers ts m = reached_held peers keep follow named reached in
+pub enough : (Also : ℕ → Mail → Type 0) → SettlingHasEvents → ((e : WorldEvent) → AlwaysFollows e) → KeepingIsEnough Also
+enough Also named follow peers keep ts m reached =
+    let h : IsHeld peers ts m = (reached_held peers keep follow named reached).0 in
     record { held = h; whole = whole peers keep follow named ts m h; none = none peers keep follow named ts m h }

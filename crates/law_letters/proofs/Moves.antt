@@ -13,7 +13,7 @@ use Rattle.letter_rules.specs.declared.letters.Letter.{Letter}
 use Rattle.letter_rules.specs.Histories.{Placed, fetched_before}
 use Rattle.letter_rules.specs.Opening.{depth, place_bytes}
 use Rattle.letter_rules.specs.State.{Channel}
-use Rattle.law_letters.specs.Kept.{AreMessagesKept, ArePlacesKept, IsKept, IsLandingKept, IsPlain, IsSlotKept, Sight, bodies, copies, fetches, frees, landing_offset, last_long, long_letters, reposts, slot_offset, slots}
+use Rattle.law_letters.specs.Kept.{AreMessagesKept, ArePlacesKept, IsKept, IsKeptWith, IsLandingKept, IsPlain, IsSlotKept, Pending, Sight, bodies, copies, fetches, frees, landing_offset, last_long, long_letters, pending, reposts, slot_offset, slots}
 use Rattle.law_letters.specs.Moves.{Gains}
 use Rattle.law_letters.proofs.Bytes.{cut_before, cut_joined, cut_nothing, cut_within, take_more_of, take_whole}
 use Rattle.law_letters.proofs.Places.{all_at, all_back, all_front, all_of_map, copied_long, holds_as, nil_of, part_as}
@@ -36,11 +36,12 @@ module _ (i : ℕ) (ds ds' : List Due) (copied : List (ℕ × ℕ)) (body slot :
 module _ (i : ℕ) (s : Sight) (c : Channel) (sent : List Letter) (open' : List Placed) (h : IsKept i s c sent open') where
   -- ---- steps that change little
 
-  pub sender_stays : (told known spent waits : ℕ) (answers : List Reply) (offers : List Offered) (dry : List ℕ) (unused : List Receive) (in_use : Option Receive) (ended : Bool) →
+  pub sender_stays : (told known spent waits : ℕ) (answers : List Reply) (dry : List ℕ) (unused : List Receive) (in_use : Option Receive) (ended : Bool) →
       All IsPlain answers → (ended ≡ false → s.sender.ended ≡ false) →
-      IsKept i (record s { sender = record s.sender { told = told; known = known; spent = spent; waits = waits; answers = answers; offers = offers; dry = dry; unused = unused; in_use = in_use; ended = ended } }) c sent open'
-  sender_stays told known spent waits answers offers dry unused in_use ended plain lives = record {
+      IsKept i (record s { sender = record s.sender { told = told; known = known; spent = spent; waits = waits; answers = answers; dry = dry; unused = unused; in_use = in_use; ended = ended } }) c sent open'
+  sender_stays told known spent waits answers dry unused in_use ended plain lives = record {
     letters = h.letters;
+    unoffered = h.unoffered;
     number = h.number;
     plain = (plain, h.plain.1);
     sends = record {
@@ -63,6 +64,7 @@ module _ (i : ℕ) (s : Sight) (c : Channel) (sent : List Letter) (open' : List 
   pub receiver_stays : (spent waits : ℕ) (answers : List Reply) (dry : List ℕ) → All IsPlain answers → IsKept i (record s { receiver = record s.receiver { spent = spent; waits = waits; answers = answers; dry = dry } }) c sent open'
   receiver_stays spent waits answers dry plain = record {
     letters = h.letters;
+    unoffered = h.unoffered;
     number = h.number;
     plain = (h.plain.0, plain);
     sends = h.sends;
@@ -77,6 +79,21 @@ module _ (i : ℕ) (s : Sight) (c : Channel) (sent : List Letter) (open' : List 
     waits_open = h.waits_open;
   }
 
+  -- ---- more is due elsewhere
+
+  pub others_gain : (ds : List Due) → Gains i s.dues ds [] [] [] → IsKept i (record s { dues = ds }) c sent open'
+  others_gain ds g = subst (λ (p : Pending). IsKeptWith i s.sender s.receiver s.stored s.landed p c sent open') (sym same) h
+    where
+      same : pending i ds ≡ pending i s.dues
+      same = λ k. record {
+        copied = (g.copied_more ∙ append-nil (copies i s.dues)) k;
+        reposted = g.reposts_same k;
+        fetched = g.fetches_same k;
+        bodies = (g.bodies_more ∙ append-nil (bodies i s.dues)) k;
+        frees = length (g.frees_same k);
+        slots = length ((g.slots_more ∙ append-nil (slots i s.dues)) k);
+      }
+
   -- ---- the receiver's end ends
 
   no_more : true ≡ false → ⊥
@@ -85,6 +102,7 @@ module _ (i : ℕ) (s : Sight) (c : Channel) (sent : List Letter) (open' : List 
   pub receiver_ends : IsKept i (record s { receiver = record s.receiver { ended = true; told = length s.receiver.posted; known = 0; spent = 0; waits = 0; unused = []; in_use = None } }) c sent open'
   receiver_ends = record {
     letters = h.letters;
+    unoffered = h.unoffered;
     number = h.number;
     plain = h.plain;
     sends = h.sends;
@@ -124,6 +142,7 @@ module _ (i : ℕ) (s : Sight) (c : Channel) (sent : List Letter) (open' : List 
   pub receiver_knows : (known : ℕ) → s.receiver.told < length s.receiver.posted → s.receiver.told % 2 ≡ 1 → IsKept i (record s { receiver = record s.receiver { known = known; spent = 0; waits = 0 } }) c sent open'
   receiver_knows known untold odd = record {
     letters = h.letters;
+    unoffered = h.unoffered;
     number = h.number;
     plain = h.plain;
     sends = h.sends;
@@ -151,6 +170,7 @@ module _ (i : ℕ) (s : Sight) (c : Channel) (sent : List Letter) (open' : List 
       IsKept i (record s { receiver = record s.receiver { acted = suc s.receiver.acted; into = 0; answers = answers } }) c sent open'
   read_turns answers plain posted even = record {
     letters = h.letters;
+    unoffered = h.unoffered;
     number = h.number;
     plain = (h.plain.0, plain);
     sends = h.sends;
@@ -200,6 +220,7 @@ module _ (i : ℕ) (s : Sight) (c : Channel) (sent : List Letter) (open' : List 
       let one : suc s.receiver.acted / 2 ≡ s.receiver.acted / 2 + 1 = omega arith in
       record {
         letters = h.letters;
+        unoffered = h.unoffered;
         number = h.number;
         plain = (h.plain.0, plain);
         sends = h.sends;
@@ -285,6 +306,7 @@ module _ (i : ℕ) (s : Sight) (c : Channel) (sent : List Letter) (open' : List 
       IsKept i (record s { receiver = record s.receiver { offers = s.receiver.offers ++ o ∷ [] } }) c sent open'
   read_offers o acted even inside is = record {
     letters = h.letters;
+    unoffered = h.unoffered;
     number = h.number;
     plain = h.plain;
     sends = h.sends;
@@ -334,6 +356,7 @@ module _ (i : ℕ) (s : Sight) (c : Channel) (sent : List Letter) (open' : List 
       let past : landing_offset ≤ landing_offset + s.receiver.known = omega arith in
       record {
         letters = h.letters;
+        unoffered = h.unoffered;
         number = h.number;
         plain = h.plain;
         sends = h.sends;
@@ -390,6 +413,7 @@ module _ (i : ℕ) (s : Sight) (c : Channel) (sent : List Letter) (open' : List 
       let told = h.counts.bodies_told live in
       record {
         letters = h.letters;
+        unoffered = h.unoffered;
         number = h.number;
         plain = h.plain;
         sends = h.sends;
@@ -433,6 +457,7 @@ module _ (i : ℕ) (s : Sight) (c : Channel) (sent : List Letter) (open' : List 
       let told = h.counts.bodies_told live in
       record {
         letters = h.letters;
+        unoffered = h.unoffered;
         number = h.number;
         plain = h.plain;
         sends = h.sends;

@@ -24,10 +24,10 @@ pub record IsAlike (a b : End) : Type 0 where
   pub send_depth : a.send_depth ≡ b.send_depth
   pub receive_depth : a.receive_depth ≡ b.receive_depth
 
-alike_itself : (a : End) → IsAlike a a
+pub alike_itself : (a : End) → IsAlike a a
 alike_itself a = record { connected = refl; peer = refl; domain = refl; send_queue = refl; receive_queue = refl; send_depth = refl; receive_depth = refl }
 
-joined_as : (a b : End) (p : ObjName) → IsAlike a b → IsJoined b p → IsJoined a p
+pub joined_as : (a b : End) (p : ObjName) → IsAlike a b → IsJoined b p → IsJoined a p
 joined_as a b p x j = record {
   connected = x.connected ∙ j.connected;
   peer_is = x.peer ∙ j.peer_is;
@@ -51,7 +51,7 @@ module _ (m : Machine) (o : ObjName) (e : End) (there : has_end m o ≡ true) (n
   queues_as : (c : Name) → (context_of (with_end m o e) c).queues ≡ (context_of m c).queues
   queues_as c = part_same m (with_end m o e) o.context (record (context_of m o.context) { ends = store_named (λ z. z.name) o.name e (context_of m o.context).ends }) (changed m o e there name same) (λ x. x.queues) c refl
 
-  there_as : (q : ObjName) → has_end (with_end m o e) q ≡ has_end m q
+  pub there_as : (q : ObjName) → has_end (with_end m o e) q ≡ has_end m q
   there_as q = there_same m (with_end m o e) o.context (record (context_of m o.context) { ends = store_named (λ z. z.name) o.name e (context_of m o.context).ends }) (changed m o e there name same) q
       (λ n. has_name-store (λ z. z.name) o.name n e (context_of m o.context).ends (end_there m o e there name same) name)
 

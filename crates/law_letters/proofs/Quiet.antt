@@ -93,21 +93,21 @@ module _ (m : Machine) (owed : List Due) (i : ℕ) (opened : IsOpened m i) (c : 
   sender_knows bytes =
       let e : End = end_of m (sender_end i) in
       sender_seen (record (end_of m (sender_end i)) { known = bytes; spent = 0; waits = 0 }) refl (record { connected = refl; peer = refl; domain = refl; send_queue = refl; receive_queue = refl; send_depth = refl; receive_depth = refl })
-      (SenderStays e.told bytes 0 0 e.answers e.offers e.dry e.unused e.in_use e.ended h.plain.0 (λ live. live))
+      (SenderStays e.told bytes 0 0 e.answers e.dry e.unused e.in_use e.ended h.plain.0 (λ live. live))
 
   pub sender_dries : IsSeen i owed m (dried m (sender_end i))
   unfolding dried dried_at
   sender_dries =
       let e : End = end_of m (sender_end i) in
       sender_seen (record (end_of m (sender_end i)) { dry = (end_of m (sender_end i)).dry ++ (end_of m (sender_end i)).acted ∷ [] }) refl (record { connected = refl; peer = refl; domain = refl; send_queue = refl; receive_queue = refl; send_depth = refl; receive_depth = refl })
-      (SenderStays e.told e.known e.spent e.waits e.answers e.offers (e.dry ++ e.acted ∷ []) e.unused e.in_use e.ended h.plain.0 (λ live. live))
+      (SenderStays e.told e.known e.spent e.waits e.answers (e.dry ++ e.acted ∷ []) e.unused e.in_use e.ended h.plain.0 (λ live. live))
 
   pub sender_expires : ((end_of m (sender_end i)).spent == (end_of m (sender_end i)).retry) ≡ false → IsSeen i owed m (expire m (sender_end i))
   unfolding expire expired
   sender_expires more =
       let e : End = end_of m (sender_end i) in
       rw more (sender_seen (record (end_of m (sender_end i)) { spent = suc (end_of m (sender_end i)).spent }) refl (record { connected = refl; peer = refl; domain = refl; send_queue = refl; receive_queue = refl; send_depth = refl; receive_depth = refl })
-      (SenderStays e.told e.known (suc e.spent) e.waits e.answers e.offers e.dry e.unused e.in_use e.ended h.plain.0 (λ live. live)))
+      (SenderStays e.told e.known (suc e.spent) e.waits e.answers e.dry e.unused e.in_use e.ended h.plain.0 (λ live. live)))
 
   pub sender_waits : ((end_of m (sender_end i)).rnr == 7) ≡ true → IsSeen i owed m (wait m (sender_end i))
   unfolding wait

@@ -27,7 +27,7 @@ use Rattle.law_letters.proofs.Places.{all_back, all_front, all_of_map, holds_as}
 
 -- ---- the message
 
-sent_at : (i : ℕ) (ls : List Letter) (k : ℕ) (l : Letter) → slice_get ls k ≡ Some l → get_or (map (sent_as i) ls) k no_posted ≡ sent_as i l
+pub sent_at : (i : ℕ) (ls : List Letter) (k : ℕ) (l : Letter) → slice_get ls k ≡ Some l → get_or (map (sent_as i) ls) k no_posted ≡ sent_as i l
 sent_at i [] k l h = absurd (none-some l h)
 sent_at i (x ∷ ls) zero l h = ap (sent_as i) (same_Some x l h)
 sent_at i (x ∷ ls) (suc k) l h = sent_at i ls k l h
@@ -211,6 +211,7 @@ module _ (i : ℕ) (s : Sight) (c : Channel) (sent : List Letter) (open' : List 
       }) c sent open'
   part_runs short = record {
     letters = h.letters;
+    unoffered = h.unoffered;
     number = h.number;
     plain = h.plain;
     sends = h.sends;
@@ -289,6 +290,7 @@ module _ (i : ℕ) (s : Sight) (c : Channel) (sent : List Letter) (open' : List 
     }) c sent open'
     message_runs answers plain = record {
       letters = h.letters;
+      unoffered = h.unoffered;
       number = h.number;
       plain = (plain, h.plain.1);
       sends = record {
@@ -309,3 +311,7 @@ module _ (i : ℕ) (s : Sight) (c : Channel) (sent : List Letter) (open' : List 
       arrived = h.arrived;
       waits_open = h.waits_open;
     }
+
+  -- the receive that the message runs into
+  pub receive_of : v ≡ receiver_receive i v.id
+  receive_of = receive_known next_letter the_next

@@ -232,6 +232,7 @@ module _ (i : ℕ) (sender receiver : End) (stored landed : List ℕ) (c : Chann
       IsKeptWith i (record sender { posted = posted }) receiver stored landed due (sending l c) (sent ++ l ∷ []) (open' ++ record { place = length sent; letter = l } ∷ [])
   sent_with posted sends = record {
     letters = All-push IsLetter sent l h.letters is_letter;
+    unoffered = h.unoffered;
     number = h.number;
     plain = h.plain;
     sends = sends;

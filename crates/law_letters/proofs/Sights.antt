@@ -22,7 +22,7 @@ pub record IsEndChanged (m m' : Machine) (o : ObjName) (e : End) : Type 0 where
   pub regions : (c : Name) → regions_of m' c ≡ regions_of m c
   pub queues : (c q : Name) → queue_of m' c q ≡ queue_of m c q
 
-nowhere : {A : Type 0} (name : A → List ℕ) (none : A) (n : List ℕ) (xs : List A) → has_name name n xs ≡ false → named name none n xs ≡ none
+pub nowhere : {A : Type 0} (name : A → List ℕ) (none : A) (n : List ℕ) (xs : List A) → has_name name n xs ≡ false → named name none n xs ≡ none
 unfolding has_name named
 nowhere name none n [] h = refl
 nowhere name none n (x ∷ xs) h = by (bytes_eq (name x) n) (nowhere name none n xs) h

@@ -4,13 +4,14 @@ use Rattle.letter_rules.specs.Histories.{Placed}
 use Rattle.letter_rules.specs.State.{Channel}
 use Rattle.std.proofs.Common.{ℕ, List}
 use Rattle.law_letters.specs.Kept.{IsKept, Sight}
-use Rattle.law_letters.specs.Moves.{MovesKeep, MovesTo, SenderStays, ReceiverStays, ReceiverEnds, ReceiverKnows, ReadTurns, FreeActs, ReadOffers, ReadLands, ReadTells, FreeTells, PartRuns, MessageRuns}
-use Rattle.law_letters.proofs.Moves.{free_acts, free_tells, read_lands, read_offers, read_tells, read_turns, receiver_ends, receiver_knows, receiver_stays, sender_stays}
+use Rattle.law_letters.specs.Moves.{MovesKeep, MovesTo, SenderStays, ReceiverStays, OthersGain, ReceiverEnds, ReceiverKnows, ReadTurns, FreeActs, ReadOffers, ReadLands, ReadTells, FreeTells, PartRuns, MessageRuns}
+use Rattle.law_letters.proofs.Moves.{free_acts, free_tells, others_gain, read_lands, read_offers, read_tells, read_turns, receiver_ends, receiver_knows, receiver_stays, sender_stays}
 use Rattle.law_letters.proofs.Runs.{message_runs, part_runs}
 
 move_keeps : (i : ℕ) (s : Sight) {s' : Sight} (c : Channel) (sent : List Letter) (open' : List Placed) → MovesTo i s s' → IsKept i s c sent open' → IsKept i s' c sent open'
-move_keeps i s c sent open' (SenderStays told known spent waits answers offers dry unused in_use ended plain lives) h = sender_stays i s c sent open' h told known spent waits answers offers dry unused in_use ended plain lives
+move_keeps i s c sent open' (SenderStays told known spent waits answers dry unused in_use ended plain lives) h = sender_stays i s c sent open' h told known spent waits answers dry unused in_use ended plain lives
 move_keeps i s c sent open' (ReceiverStays spent waits answers dry plain) h = receiver_stays i s c sent open' h spent waits answers dry plain
+move_keeps i s c sent open' (OthersGain ds g) h = others_gain i s c sent open' h ds g
 move_keeps i s c sent open' ReceiverEnds h = receiver_ends i s c sent open' h
 move_keeps i s c sent open' (ReceiverKnows known untold odd) h = receiver_knows i s c sent open' h known untold odd
 move_keeps i s c sent open' (ReadTurns answers plain posted even) h = read_turns i s c sent open' h answers plain posted even

@@ -77,7 +77,7 @@ queue_named m c there = name-named_there (λ z. z.name) no_queue queue_name (con
 module _ (m : Machine) (owed : List Due) (i : ℕ) (positive : 1 ≤ i) (opened : IsOpened m i) (c : Channel) (sent : List Letter) (open' : List Placed) (h : IsKept i (sight_of m owed i) c sent open') where
   -- ---- the sender's end tells
 
-  abbrev told_there : Machine
+  abbrev pub told_there : Machine
   told_there = completing m (sender i) queue_name (success (end_of m (sender_end i)) (front (end_of m (sender_end i))))
 
   sender_same : sight_of (completing m (sender i) queue_name (success (end_of m (sender_end i)) (front (end_of m (sender_end i))))) owed i ≡ sight_of m owed i
@@ -85,10 +85,10 @@ module _ (m : Machine) (owed : List Due) (i : ℕ) (positive : 1 ≤ i) (opened 
       sees_longer m owed i (sender i) (success (end_of m (sender_end i)) (front (end_of m (sender_end i)))) (context_there m (sender_end i) opened.sender_there) opened.sender_queue (queue_named m (sender i) opened.sender_queue)
       (λ e. cc) (λ e. told_none i (end_of m (sender_end i)) (front (end_of m (sender_end i))) positive)
 
-  sender_opened : IsOpened (completing m (sender i) queue_name (success (end_of m (sender_end i)) (front (end_of m (sender_end i))))) i
+  pub sender_opened : IsOpened (completing m (sender i) queue_name (success (end_of m (sender_end i)) (front (end_of m (sender_end i))))) i
   sender_opened = opened_longer m (sender i) queue_name (success (end_of m (sender_end i)) (front (end_of m (sender_end i)))) (context_there m (sender_end i) opened.sender_there) opened.sender_queue (queue_named m (sender i) opened.sender_queue) i opened
 
-  sender_told : tell m (sender_end i) ≡ with_end told_there (sender_end i) (told_one (end_of told_there (sender_end i)))
+  pub sender_told : tell m (sender_end i) ≡ with_end told_there (sender_end i) (told_one (end_of told_there (sender_end i)))
   unfolding tell tell_at
   sender_told =
       let e : End = end_of m (sender_end i) in
@@ -104,7 +104,7 @@ module _ (m : Machine) (owed : List Due) (i : ℕ) (positive : 1 ≤ i) (opened 
       let seen : IsSeen i owed told_there (with_end told_there (sender_end i) (record (end_of told_there (sender_end i)) { told = suc (end_of told_there (sender_end i)).told; known = 0; spent = 0; waits = 0 })) =
       sender_seen told_there owed i sender_opened c sent open' k (record (end_of told_there (sender_end i)) { told = suc (end_of told_there (sender_end i)).told; known = 0; spent = 0; waits = 0 }) refl
       (record { connected = refl; peer = refl; domain = refl; send_queue = refl; receive_queue = refl; send_depth = refl; receive_depth = refl })
-      (SenderStays (suc e.told) 0 0 0 e.answers e.offers e.dry e.unused e.in_use e.ended k.plain.0 (λ live. live)) in
+      (SenderStays (suc e.told) 0 0 0 e.answers e.dry e.unused e.in_use e.ended k.plain.0 (λ live. live)) in
       subst (λ (x : Machine). IsSeen i owed m x) (sym sender_told) (record { moves = subst (λ (s : Sight). Moves i s (sight_of (with_end told_there (sender_end i) (record (end_of told_there (sender_end i)) { told = suc (end_of told_there (sender_end i)).told; known = 0; spent = 0; waits = 0 })) owed i)) sender_same seen.moves; opened = seen.opened })
 
   -- ---- the receiver's end tells a Send of no bytes

@@ -1,12 +1,18 @@
 -- Each step of work, and each letter that is stored or sent, keeps what is true of a connection.
-use Rattle.std.proofs.Common.{◌≡◌, ℕ, ◌≤◌, List, [], ◌∷◌, ◌++◌, length, sym, subst}
+use Rattle.std.proofs.Common.{◌≡◌, ℕ, ◌+◌, ◌*◌, ◌≤◌, List, [], ◌∷◌, ◌++◌, length, sym, subst}
+use Rattle.std.specs.Prelude.{option_to_list}
+use Rattle.rdma_types.specs.Memory.{cut}
 use Rattle.ideal_model.specs.Machine.{End}
+use Rattle.letter_rules.specs.declared.due.Due.{Due}
 use Rattle.letter_rules.specs.declared.letters.Letter.{Letter}
-use Rattle.letter_rules.specs.Histories.{Placed}
+use Rattle.letter_rules.specs.Histories.{Placed, fetched_before}
+use Rattle.letter_rules.specs.Letters.{header_of}
+use Rattle.letter_rules.specs.Opening.{place_bytes}
 use Rattle.letter_rules.specs.State.{Channel}
+use Rattle.letter_rules.specs.Working.{fetch_of}
 use Rattle.law_letters.specs.Arrived.{AreOpen}
 use Rattle.law_letters.specs.Kept.{IsKeptWith, Pending, bodies, copies, fetches, frees, pending, reposts, sent_as, slots}
-use Rattle.law_letters.specs.Works.{BodyCopies, Copies, Fetches, FetchesNot, FreePosts, FreePostsNot, IsKeptLine, Line, Reposts, RepostsNot, Sends, SendsEnded, SlotFrees, Stores, WorkKeeps, WorksTo}
+use Rattle.law_letters.specs.Works.{BodyCopies, Copies, Fetches, FetchesNot, FreePosts, FreePostsNot, IsCopied, IsKeptLine, Line, Reposts, RepostsNot, Sends, SendsEnded, SlotFrees, Stores, WorkKeeps, WorksTo}
 use Rattle.law_letters.proofs.Fetching as fetching
 use Rattle.law_letters.proofs.Sending as sending
 use Rattle.law_letters.proofs.Working as working
@@ -77,3 +83,13 @@ work_keeps_one i x known opened (SendsEnded l is_letter gone slot_free) h =
 
 pub work_keeps : WorkKeeps
 work_keeps i x x' known opened works h = work_keeps_one i x known opened works h
+
+-- a message that is copied makes a fetch due where its letter is long
+pub copied_counted : (i : ℕ) (x : Line) (place size : ℕ) (bytes : List ℕ) (ds : List Due) → i ≤ 8 → AreOpen x.sent x.open' → bytes ≡ cut (place_bytes * place) size x.sight.landed →
+    IsCopied i x.sight.dues ds place size (option_to_list (fetch_of (header_of bytes))) → IsKeptLine i x →
+    fetched_before (x.channel.receives + 1) x.sent ≡ fetched_before x.channel.receives x.sent + length (option_to_list (fetch_of (header_of bytes)))
+copied_counted i x place size bytes ds known opened is g h =
+    let before : Pending = record { copied = (place, size) ∷ copies i ds; reposted = g.repost.front ++ g.repost.behind; fetched = g.fetch.front ++ g.fetch.behind; bodies = bodies i ds; frees = length (frees i ds); slots = length (slots i ds) } in
+    working.copy_counted i x.sight.sender x.sight.receiver x.sight.stored x.sight.landed x.channel x.sent x.open' (copies i ds) g.repost.front g.repost.behind place size g.fetch.front g.fetch.behind (bodies i ds) (length (frees i ds)) (length (slots i ds)) known opened
+    (moved i x.sight.sender x.sight.receiver x.sight.stored x.sight.landed x.channel x.sent x.open' _ before
+    (λ k. record { copied = g.first k; reposted = g.repost.without k; fetched = g.fetch.without k; bodies = sym g.bodies_same k; frees = length (sym g.frees_same k); slots = length (sym g.slots_same k) }) h) bytes is

@@ -31,6 +31,7 @@ module _ (i : ℕ) (sender receiver : End) (stored landed : List ℕ) (c : Chann
   pub reposts_not : IsKeptWith i sender receiver stored landed (record { copied = copied; reposted = front ++ behind; fetched = fetched; bodies = bodies; frees = frees; slots = slots }) c sent open'
   reposts_not = record {
     letters = h.letters;
+    unoffered = h.unoffered;
     number = h.number;
     plain = h.plain;
     sends = h.sends;
@@ -56,6 +57,7 @@ module _ (i : ℕ) (sender receiver : End) (stored landed : List ℕ) (c : Chann
   pub reposts : IsKeptWith i sender (record receiver { unused = receiver.unused ++ receiver_receive i place ∷ [] }) stored landed (record { copied = copied; reposted = front ++ behind; fetched = fetched; bodies = bodies; frees = frees; slots = slots }) c sent open'
   reposts = record {
     letters = h.letters;
+    unoffered = h.unoffered;
     number = h.number;
     plain = h.plain;
     sends = h.sends;
@@ -178,6 +180,7 @@ module _ (i : ℕ) (sender receiver : End) (stored landed : List ℕ) (c : Chann
       (arriving bytes c) sent open'
   copies = record {
     letters = h.letters;
+    unoffered = h.unoffered;
     number = h.number;
     plain = h.plain;
     sends = h.sends;
@@ -229,3 +232,14 @@ module _ (i : ℕ) (sender receiver : End) (stored landed : List ℕ) (c : Chann
       earlier : (k : ℕ) {A : Type 0} → (c.receives + 1 ≤ k) ⊎ A → (c.receives ≤ k) ⊎ A
       earlier k (inl past) = inl (omega (arith, past))
       earlier k (inr waits) = inr waits
+
+module _ (i : ℕ) (sender receiver : End) (stored landed : List ℕ) (c : Channel) (sent : List Letter) (open' : List Placed) (copied : List (ℕ × ℕ)) (front behind : List ℕ) (place size : ℕ) (ffront fbehind : List Fetch) (bodies : List ℕ) (frees slots : ℕ)
+    (known : i ≤ 8) (opened : AreOpen sent open')
+    (h : IsKeptWith i sender receiver stored landed (record { copied = (place, size) ∷ copied; reposted = front ++ behind; fetched = ffront ++ fbehind; bodies = bodies; frees = frees; slots = slots }) c sent open')
+    (bytes : List ℕ) (is : bytes ≡ cut (place_bytes * place) size landed) where
+  -- a message that is copied makes a fetch due where its letter is long
+  pub copy_counted : fetched_before (c.receives + 1) sent ≡ fetched_before c.receives sent + length (option_to_list (fetch_of (header_of bytes)))
+  copy_counted =
+      let next = next_counted i sender receiver stored landed c sent open' copied front behind place size ffront fbehind bodies frees slots known opened h bytes is in
+      let fetch = fetch_counted i sender receiver stored landed c sent open' copied front behind place size ffront fbehind bodies frees slots known opened h bytes is in
+      omega (arith, next, fetch)

@@ -278,6 +278,7 @@ pub record IsKeptWith (i : ℕ) (sender receiver : End) (stored landed : List �
   pub letters : All IsLetter sent
   pub number : connection_of receiver.number ≡ i
   pub plain : All IsPlain sender.answers × All IsPlain receiver.answers
+  pub unoffered : sender.offers ≡ []  -- the sender's end has no Reads, so nothing is offered to it
   pub sends : AreSendsKept i sender.posted sender.acted sender.ended sent
   pub messages : AreMessagesKept i landed sender.acted sender.into receiver.ended receiver.in_use due.copied c.receives sent
   pub places : ArePlacesKept i receiver.ended receiver.unused receiver.in_use due.copied due.reposted

@@ -38,12 +38,14 @@ pub record MayRun (s : Sight) (v : Receive) (n : ℕ) : Type 0 where
 -- what is seen once a step was made
 pub data MovesTo (i : ℕ) (s : Sight) : Sight → Type 0 where
   -- the sender's end is as before but for its owner's side and its receives, or it has ended
-  SenderStays : (told known spent waits : ℕ) (answers : List Reply) (offers : List Offered) (dry : List ℕ) (unused : List Receive) (in_use : Option Receive) (ended : Bool) →
+  SenderStays : (told known spent waits : ℕ) (answers : List Reply) (dry : List ℕ) (unused : List Receive) (in_use : Option Receive) (ended : Bool) →
       All IsPlain answers → (ended ≡ false → s.sender.ended ≡ false) →
-      MovesTo i s (record s { sender = record s.sender { told = told; known = known; spent = spent; waits = waits; answers = answers; offers = offers; dry = dry; unused = unused; in_use = in_use; ended = ended } })
+      MovesTo i s (record s { sender = record s.sender { told = told; known = known; spent = spent; waits = waits; answers = answers; dry = dry; unused = unused; in_use = in_use; ended = ended } })
   -- the receiver's end is as before but for its counts of expiries and waits and its replies
   ReceiverStays : (spent waits : ℕ) (answers : List Reply) (dry : List ℕ) → All IsPlain answers →
       MovesTo i s (record s { receiver = record s.receiver { spent = spent; waits = waits; answers = answers; dry = dry } })
+  -- more is due on other connections
+  OthersGain : (ds : List Due) → Gains i s.dues ds [] [] [] → MovesTo i s (record s { dues = ds })
   -- the receiver's end has ended
   ReceiverEnds : MovesTo i s (record s { receiver = record s.receiver { ended = true; told = length s.receiver.posted; known = 0; spent = 0; waits = 0; unused = []; in_use = None } })
   -- it knows more of an untold Send

@@ -1,0 +1,16 @@
+-- Little is owed, and queues are short: what makes work stop in time.
+use Rattle.std.specs.Prelude.{ℕ, ◌≤◌, ◌==◌, count_by, length}
+use Rattle.ideal_model.specs.Machine.{Machine}
+use Rattle.law_simulation.specs.Stands.{Stands}
+use Rattle.letter_rules.specs.Opening.{receiver_capacity}
+use Rattle.letter_rules.specs.State.{Mail, context_at}
+use Rattle.letter_rules.specs.Working.{context_of, most_polled}
+use Rattle.law_letters.specs.Kept.{standing}
+
+-- in each context no more is owed than one poll makes due
+abbrev pub IsLittleOwed : ℕ → Mail → Type 0
+IsLittleOwed peers m = (n : ℕ) → n ≤ peers → count_by (λ d. context_of d == n) m.owed ≤ most_polled
+
+-- no queue has more completions than the receiver's may have
+abbrev pub AreQueuesShort : ℕ → Mail → Type 0
+AreQueuesShort peers m = (machine : Machine) → Stands m.world machine → (n : ℕ) → n ≤ peers → length (standing machine (context_at n)) ≤ receiver_capacity
