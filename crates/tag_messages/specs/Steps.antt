@@ -167,12 +167,12 @@ pub record Replies (new : Mail) (reply : Reply) (a : After) : Type 0 where
   pub reply_is : a.reply ≡ reply
   pub shown : Shows new a.mail
 
--- one fact where a call met want of memory, and another where it was refused
+-- one fact where a call ran out of memory, and another where it was refused
 abbrev pub ByFault : MailFault → Type 0 → Type 0 → Type 0
 ByFault fault.OutOfMemory cut refused = cut
 ByFault f cut refused = refused
 
--- a letter was not sent for want of memory: all was done but the posting, or less
+-- a letter was not sent, since memory ran out: all was done but the posting, or less
 pub record IsPartOfSend (new m : Mail) (i : ℕ) (l : Letter) : Type 0 where
   pub mail : Mail
   pub cut : IsCut m (Send i l.tag l.body) mail
