@@ -11,6 +11,7 @@ use Rattle.law_letters.specs.Works.{BodyCopies, Copies, Fetches, FetchesNot, Fre
 use Rattle.law_letters.proofs.Posted.{as_many, work_keeps_posted}
 use Rattle.law_letters.proofs.Steps.{moves_keep}
 use Rattle.law_letters.proofs.WorkSteps.{work_keeps}
+use Rattle.law_letters.proofs.Changing.{flags_unread}
 
 no_more : true ≡ false → ⊥
 no_more e = cc
@@ -147,22 +148,7 @@ module _ (i : ℕ) (x : Line) (known : i ≤ 8) (opened : AreOpen x.sent x.open'
       record {
         opened = opened;
         worked = record {
-          kept = record {
-            letters = h.letters;
-            number = h.number;
-            plain = h.plain;
-            unoffered = h.unoffered;
-            sends = h.sends;
-            messages = h.messages;
-            places = h.places;
-            queue = h.queue;
-            counts = h.counts;
-            slot = h.slot;
-            offers = h.offers;
-            landing = h.landing;
-            arrived = h.arrived;
-            waits_open = h.waits_open;
-          };
+          kept = flags_unread i x.sight.sender x.sight.receiver x.sight.stored x.sight.landed (pending i x.sight.dues) x.channel (record x.channel { receiver_ended = at_receiver; sender_ended = at_sender }) x.sent x.open' (record { arrived = refl; receives = refl; reads = refl; slot_in_use = refl }) h;
           posted = record { reads_all = λ live e. p.reads_all live (was e); frees_all = λ live e. p.frees_all live (was e) };
           ahead = came_to r r.receives r.reads r.sends r.posted r.acted r.told r.sender_ended r.receiver_ended at_receiver (omega arith) (omega arith) (omega arith) (omega arith) (omega arith) (omega arith) (λ e. e) (λ e. e) was;
         };

@@ -11,7 +11,7 @@ use Rattle.letter_rules.specs.declared.due.Due.TheVariants as due
 use Rattle.letter_rules.specs.declared.due.Side.TheVariants.{AtReceiver, AtSender}
 use Rattle.letter_rules.specs.Opening.{connection_of}
 use Rattle.letter_rules.specs.State.{Mail, channel, ending, with_channel}
-use Rattle.letter_rules.specs.Working.{due_of, failing, heard, is_success, noting, noting_all, owing, place_in, received}
+use Rattle.letter_rules.specs.Working.{asking, due_of, entries_in, failing, heard, is_success, noting, noting_all, owing, place_in, poll_event, received}
 use Rattle.law_letters.specs.Held.{connection_in}
 use Rattle.law_letters.specs.Kept.{body_in, copy_in, dues_by, dues_of, fetch_in, free_in, pending, repost_in, slot_in, slots}
 use Rattle.law_letters.proofs.Changing.{IsSameFor, same_itself, same_joined}
@@ -162,3 +162,16 @@ other_polled i n positive apart owed xs front =
         ap (flat_map f) (append_assoc owed (dues_of n xs) front)
         ∙ (flat_map-append f owed (dues_of n xs ++ front)
         ∙ (ap (λ zs. flat_map f owed ++ zs) (flat_map-append f (dues_of n xs) front ∙ ap (λ zs. zs ++ flat_map f front) none) ∙ sym (flat_map-append f owed front)))
+
+-- ---- what a poll leaves of what is owed and of the channels
+
+pub record IsPollNoted (m m' : Mail) (ds : List Due) : Type 0 where
+  pub owed : m'.owed ≡ m.owed ++ ds
+  pub same : (q : ℕ) → IsSameFor (channel m q) (channel m' q)
+  pub long : length m'.channels ≡ length m.channels
+
+pub poll_noted : (m : Mail) (n : ℕ) → IsPollNoted m (noting_all n (asking m (poll_event n)).mail (entries_in (asking m (poll_event n)).answer)) (dues_of n (entries_in (asking m (poll_event n)).answer))
+unfolding asking
+poll_noted m n =
+    let noted = noted_all n (asking m (poll_event n)).mail (entries_in (asking m (poll_event n)).answer) in
+    record { owed = noted.owed; same = noted.same; long = noted.long }

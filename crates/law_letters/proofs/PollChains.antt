@@ -23,9 +23,8 @@ use Rattle.law_letters.specs.Settled.{Flags, IsWorkedOn, Rests, Turns, Worked, W
 use Rattle.law_letters.specs.Works.{Line}
 use Rattle.law_letters.proofs.Ahead.{works_go_ahead}
 use Rattle.law_letters.proofs.Chains.{to_work, works_then}
-use Rattle.law_letters.proofs.Changing.{IsSameFor}
 use Rattle.law_letters.proofs.DueChains.{dues_seen}
-use Rattle.law_letters.proofs.Noting.{IsNoted, noted_all}
+use Rattle.law_letters.proofs.Noting.{IsNoted, IsPollNoted, noted_all, poll_noted}
 use Rattle.law_letters.proofs.Opened.{were_sent}
 use Rattle.law_letters.proofs.Polling.{IsPollAsked, opened_polled, poll_asked}
 use Rattle.law_letters.proofs.Sights.{region_same}
@@ -99,17 +98,8 @@ module _ (follow : EventsFollowByName) (peers : ℕ) (small : peers ≤ 8) (ts :
   noted : IsNoted n (asking m (poll_event n)).mail m1 (dues_of n xs)
   noted = noted_all n (asking m (poll_event n)).mail xs
 
-  owed_is : m1.owed ≡ m.owed ++ dues_of n xs
-  unfolding asking
-  owed_is = noted.owed
-
-  same_is : (q : ℕ) → IsSameFor (channel m q) (channel m1 q)
-  unfolding asking
-  same_is q = noted.same q
-
-  long_is : length m1.channels ≡ length m.channels
-  unfolding asking
-  long_is = noted.long
+  left : IsPollNoted m m1 (dues_of n xs)
+  left = poll_noted m n
 
   flagged_is : (q : ℕ) → IsFlagged (channel m q) (channel m1 q)
   unfolding asking
@@ -123,10 +113,10 @@ module _ (follow : EventsFollowByName) (peers : ℕ) (small : peers ≤ 8) (ts :
       let g = p.polled.changed in
       let c : Channel = channel m i in
       let c1 : Channel = channel m1 i in
-      let same = same_is i in
+      let same = left.same i in
       let flagged = flagged_is i in
       let due_is : pending i (m1.owed ++ (sight_of p.machine' [] i).dues) ≡ pending i (m.owed ++ (sight_of machine [] i).dues) =
-      ap (λ (ds : List Due). pending i (ds ++ (sight_of p.machine' [] i).dues)) owed_is ∙ dues.due i high in
+      ap (λ (ds : List Due). pending i (ds ++ (sight_of p.machine' [] i).dues)) left.owed ∙ dues.due i high in
       let set : Works i (line_of machine m ts i) (record (line_of machine m ts i) { channel = record (channel m i) { receiver_ended = (channel m1 i).receiver_ended; sender_ended = (channel m1 i).sender_ended } }) =
       Worked Rests (Flags c1.receiver_ended c1.sender_ended flagged.at_receiver flagged.at_sender) in
       let turned : Works i (line_of machine m ts i) (record (line_of machine m ts i) {
@@ -156,10 +146,10 @@ module _ (follow : EventsFollowByName) (peers : ℕ) (small : peers ≤ 8) (ts :
   poll_seen = subst (λ (m2 : Mail). IsWorkSeen peers ts m m2 machine) (sym (heard_is follow peers small ts m (to_work peers ts m machine h) n within (asking m (poll_event n)).mail xs)) (record {
     machine' = p.machine';
     stands = subst (λ (w : World). Stands w p.machine') (sym noted.world) p.stands;
-    senders = long_is;
+    senders = left.long;
     opened = λ i low high. opened_polled machine p.machine' (context_at n) p.polled.behind p.polled.changed i (h.all.opened i low high);
     joined = λ o connected. h.all.joined o (sym (ap (λ (e : End). e.connected) (p.polled.changed.ends o)) ∙ connected);
-    dues = subst (λ (ds : List Due). AreOfSenders peers (ds ++ dues_of 0 (standing p.machine' receiver))) (sym owed_is) (dues.known h.all.dues);
+    dues = subst (λ (ds : List Due). AreOfSenders peers (ds ++ dues_of 0 (standing p.machine' receiver))) (sym left.owed) (dues.known h.all.dues);
     works = λ i low high. each_works i high;
   })
 

@@ -18,10 +18,10 @@ use Rattle.letter_rules.specs.Working.{Working, asking, begun, doing, doing_at, 
 use Rattle.law_letters.specs.Calls.{WorksAreKept}
 use Rattle.law_letters.specs.Held.{AreOfSenders, IsHeld}
 use Rattle.law_letters.specs.Kept.{IsKept, IsKeptWith, Pending, Sight, dues_of, pending, sight_of, standing}
-use Rattle.law_letters.proofs.Changing.{IsSameFor, flags_unread, one_or_not}
+use Rattle.law_letters.proofs.Changing.{flags_unread, one_or_not}
 use Rattle.law_letters.proofs.Copying.{bodies_held, copies_held}
 use Rattle.law_letters.proofs.DueSteps.{fetches_held, frees_held, reposts_held, sender_reposts_held, slots_held}
-use Rattle.law_letters.proofs.Noting.{IsNoted, noted_all}
+use Rattle.law_letters.proofs.Noting.{IsNoted, IsPollNoted, noted_all, poll_noted}
 use Rattle.law_letters.proofs.Polling.{IsPollAsked, IsPolled, opened_polled, poll_asked, receiver_due, receiver_known, sender_due, sender_known}
 use Rattle.law_letters.proofs.Sights.{region_same}
 use Rattle.law_letters.proofs.Tells.{not_true}
@@ -57,17 +57,8 @@ module _ (follow : EventsFollowByName) (peers : ℕ) (small : peers ≤ 8) (ts :
   noted : IsNoted n (asking m (poll_event n)).mail m1 (dues_of n xs)
   noted = noted_all n (asking m (poll_event n)).mail xs
 
-  owed_is : m1.owed ≡ m.owed ++ dues_of n xs
-  unfolding asking
-  owed_is = noted.owed
-
-  same_is : (q : ℕ) → IsSameFor (channel m q) (channel m1 q)
-  unfolding asking
-  same_is q = noted.same q
-
-  long_is : length m1.channels ≡ length m.channels
-  unfolding asking
-  long_is = noted.long
+  left : IsPollNoted m m1 (dues_of n xs)
+  left = poll_noted m n
 
   dues : AreDuesKept peers h.machine p.machine' m.owed xs n
   dues = dues_kept peers small h.machine p.machine' m.owed xs n within p.polled
@@ -78,11 +69,11 @@ module _ (follow : EventsFollowByName) (peers : ℕ) (small : peers ≤ 8) (ts :
       let old : IsKept i (sight_of h.machine m.owed i) (channel m i) (sent_letters i ts) (placed_letters i ts) = h.all.kept i low high in
       let s : Sight = sight_of h.machine [] i in
       let due_is : pending i (m1.owed ++ (sight_of p.machine' [] i).dues) ≡ pending i (m.owed ++ (sight_of h.machine [] i).dues) =
-      ap (λ (ds : List Due). pending i (ds ++ (sight_of p.machine' [] i).dues)) owed_is ∙ dues.due i high in
+      ap (λ (ds : List Due). pending i (ds ++ (sight_of p.machine' [] i).dues)) left.owed ∙ dues.due i high in
       let owed : IsKeptWith i s.sender s.receiver s.stored s.landed (pending i (m1.owed ++ (sight_of p.machine' [] i).dues)) (channel m i) (sent_letters i ts) (placed_letters i ts) =
       subst (λ (d : Pending). IsKeptWith i (sight_of h.machine [] i).sender (sight_of h.machine [] i).receiver (sight_of h.machine [] i).stored (sight_of h.machine [] i).landed d (channel m i) (sent_letters i ts) (placed_letters i ts)) (sym due_is) old in
       let flags : IsKept i (record (sight_of h.machine [] i) { dues = m1.owed ++ (sight_of p.machine' [] i).dues }) (channel m1 i) (sent_letters i ts) (placed_letters i ts) =
-      flags_unread i s.sender s.receiver s.stored s.landed (pending i (m1.owed ++ (sight_of p.machine' [] i).dues)) (channel m i) (channel m1 i) (sent_letters i ts) (placed_letters i ts) (same_is i) owed in
+      flags_unread i s.sender s.receiver s.stored s.landed (pending i (m1.owed ++ (sight_of p.machine' [] i).dues)) (channel m i) (channel m1 i) (sent_letters i ts) (placed_letters i ts) (left.same i) owed in
       let seen : record (sight_of h.machine [] i) { dues = m1.owed ++ (sight_of p.machine' [] i).dues } ≡ sight_of p.machine' m1.owed i =
       (λ k. record {
         sender = sym (g.ends (sender_end i)) k;
@@ -97,12 +88,12 @@ module _ (follow : EventsFollowByName) (peers : ℕ) (small : peers ≤ 8) (ts :
   noted_held = record {
     machine = p.machine';
     stands = subst (λ (w : World). Stands w p.machine') (sym noted.world) p.stands;
-    senders = long_is ∙ h.senders;
+    senders = left.long ∙ h.senders;
     all = record {
       opened = λ i low high. opened_polled h.machine p.machine' (context_at n) p.polled.behind p.polled.changed i (h.all.opened i low high);
       joined = λ o connected. h.all.joined o (sym (ap (λ (e : End). e.connected) (p.polled.changed.ends o)) ∙ connected);
       kept = each_kept;
-      dues = subst (λ (ds : List Due). AreOfSenders peers (ds ++ dues_of 0 (standing p.machine' receiver))) (sym owed_is) (dues.known h.all.dues);
+      dues = subst (λ (ds : List Due). AreOfSenders peers (ds ++ dues_of 0 (standing p.machine' receiver))) (sym left.owed) (dues.known h.all.dues);
     };
   }
 
