@@ -13,7 +13,7 @@ use crate::sending::MOST_HEADERS;
 use protocol::{Aeth, AtomicEth, ResumeBody, Reth};
 use psn_math::{WIRE_NUMBERS, wire_of};
 use rdma_types::{Address, Items, Sent, Shape};
-use roce_headers::{Datagram, encode, encoded_len};
+use roce_headers::{Datagram, encode_in, encoded_len};
 use segmenter::PacketHead;
 use std::alloc::{AllocError, Global};
 
@@ -51,9 +51,8 @@ impl DatagramBuffer {
         ensures { result ≡ record { to = to; number = number; bytes = wire_of (packet d.now) } ∷ [] }
     {
         let DatagramBuffer { mut sent, bytes } = self;
-        let mut bytes = zeros_in(bytes, encoded_len(d));
+        let mut bytes = encode_in(d, bytes);
         give_back(&mut bytes);
-        encode(d, &mut bytes);
         let bytes = Items::new(bytes);
         if sent.push(Sent { to, number, bytes }).is_err() {
             unreachable!()
@@ -86,9 +85,8 @@ pub fn encoded(alloc: Global, d: &Datagram<'_>) -> Result<Items<u8>, AllocError>
     requires { Fits (packet d.now) }
     ensures { IfOk result (λ bytes. bytes ≡ wire_of (packet d.now)) }
 {
-    let mut bytes = vec![in alloc; 0; encoded_len(d)]?;
-    encode(d, &mut bytes);
-    Ok(Items::new(bytes))
+    let memory = Vec::with_capacity(alloc, encoded_len(d))?;
+    Ok(Items::new(encode_in(d, memory)))
 }
 
 /// A response, an acknowledge or a NAK, of number `n`.

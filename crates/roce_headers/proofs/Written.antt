@@ -2,7 +2,7 @@
 use Rattle.std.proofs.Common.{◌≡◌, ℕ, ◌+◌, ◌-◌, ◌*◌, ◌/◌, ◌%◌, ◌^◌, ◌≤◌, ◌<◌, List, [], ◌++◌, take, drop, length, replicate, Bool, true, false, not, Option, None, Some, refl, ap, sym, subst, ◌∙◌, arith, drop-drop, length-append, append_assoc, IsTrue, is_some, nat_le}
 use Rattle.std.specs.Prelude.{◌||◌, ◌==◌, if◌then◌else◌, IfSome}
 use Rattle.std.proofs.lemmas.Bool.Decides.{nat_tests}
-use Rattle.std.proofs.lemmas.List.{length-replicate}
+use Rattle.std.proofs.lemmas.List.{length-replicate, take_all}
 use Rattle.std.specs.Bool.{OnTrue, OnFalse}
 use Rattle.std.proofs.Math.Seq.{take-append_seam, drop-append_seam}
 use Rattle.byteorder.specs.Numbers.{big_number-reads_back}
@@ -288,3 +288,17 @@ written_len d = length_written d (extension_bytes d) (length (extension_bytes d)
 pub written_parts : (d : Packet) → base_bytes d ++ (extension_bytes d ++ (d.payload ++ replicate (padding (length d.payload) + 4) 0)) ≡ wire_of d
 unfolding wire_of
 written_parts d = sym (append_assoc (base_bytes d ++ extension_bytes d) d.payload _ ∙ append_assoc (base_bytes d) (extension_bytes d) _)
+
+-- how long all headers of a datagram are
+pub headers_length : (d : Packet) → length (base_bytes d ++ extension_bytes d) ≡ 12 + length (extension_bytes d)
+unfolding big_bytes
+headers_length d = simp length-append (omega arith)
+
+-- the headers and the payload, and then zeros
+pub written_on : (d : Packet) (bytes : List ℕ) (n : ℕ) → bytes ≡ (base_bytes d ++ extension_bytes d) ++ d.payload → n ≡ length (wire_of d) → take n bytes ++ replicate (n - length bytes) 0 ≡ wire_of d
+unfolding wire_of
+written_on d bytes n e whole =
+    let size : length bytes ≡ 12 + length (extension_bytes d) + length d.payload = omega (arith, ap length e, length-append (base_bytes d ++ extension_bytes d) d.payload, headers_length d) in
+    let len : n ≡ 16 + length (extension_bytes d) + (length d.payload + padding (length d.payload)) = whole ∙ written_len d in
+    let left : n - length bytes ≡ padding (length d.payload) + 4 = omega arith in
+    ap (λ xs. xs ++ replicate (n - length bytes) 0) (take_all n bytes (omega arith) ∙ e) ∙ ap (λ k. ((base_bytes d ++ extension_bytes d) ++ d.payload) ++ replicate k 0) left

@@ -19,4 +19,4 @@ pub use laws::{
 pub use protocol::{Aeth, AtomicEth, Malformed, MalformedWhy, ResumeBody, Reth, Syndrome};
 pub use rdma_types::Address;
 pub use reading::decode;
-pub use writing::{encode, encoded_len};
+pub use writing::{encode, encode_in, encoded_len};

@@ -1,6 +1,6 @@
 //! From a datagram to its bytes.
 
-ghost use Rattle.std.specs.Prelude.{◌≡◌, ◌+◌, ◌<◌, ◌≤◌, ◌++◌, length, replicate, Some, IfSome};
+ghost use Rattle.std.specs.Prelude.{◌≡◌, ◌+◌, ◌<◌, ◌≤◌, ◌++◌, length, replicate, Some, IfSome, vec_capacity, []};
 ghost use Rattle.protocol.specs.Bytes.{big_bytes};
 ghost use Rattle.protocol.specs.Wire.{Fits, packet_of, wire_of, base_bytes, extension_bytes, optional, reth_bytes, atomic_bytes, aeth_bytes, resume_bytes, syndrome_byte, padding};
 ghost use Rattle.roce_headers.specs.Packets.{packet};
@@ -253,4 +253,33 @@ pub fn encode(d: &Datagram<'_>, out: &mut [u8])
     ensures again { packet_of out.new ≡ Some (packet d.now) }
 {
     write_parts(d, out);
+}
+
+/// The base header and the extension headers of a datagram, in memory that is taken before.
+fn with_headers(d: &Datagram<'_>, mut memory: Vec<u8>) -> Vec<u8>
+    requires fits { IfSome d.now.aeth (λ h. syndrome_byte h.syndrome < 256) }
+    requires empty { memory.items ≡ [] }
+    requires room { 12 + length (extension_bytes (packet d.now)) ≤ vec_capacity memory }
+    ensures items { result.items ≡ base_bytes (packet d.now) ++ extension_bytes (packet d.now) }
+    ensures capacity { vec_capacity memory ≤ vec_capacity result }
+{
+    memory.resize(12 + headers_len(d), 0).unwrap();
+    let (base, headers) = memory.split_at_mut(12);
+    write_base(d, base);
+    write_headers(d, headers);
+    memory
+}
+
+/// The one spelling of a datagram, as [`encode`] writes it, in memory that is taken before. It takes no other.
+#[tactic(auto, using(crate::proofs::Written::written_len))]
+pub fn encode_in(d: &Datagram<'_>, memory: Vec<u8>) -> Vec<u8>
+    requires fits { Fits (packet d.now) }
+    requires empty { memory.items ≡ [] }
+    requires room { length (wire_of (packet d.now)) ≤ vec_capacity memory }
+    ensures { result.items ≡ wire_of (packet d.now) }
+{
+    let mut bytes = with_headers(d, memory);
+    bytes.extend_from_slice(d.payload).unwrap();
+    bytes.resize(encoded_len(d), 0).unwrap();
+    bytes
 }
