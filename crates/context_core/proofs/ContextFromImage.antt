@@ -240,12 +240,9 @@ image-may c h = All-from_recursion (λ e. MayMove e.linked) c.ends (may-move c c
 pub queue-pairs : (c : ContextImage) (qs : List CqImage) → qs ≡ c.queues → IsLawful c → AllPairs (λ a b. a.name ≢ b.name) qs
 queue-pairs c qs same law = subst (AllPairs (λ a b. a.name ≢ b.name)) (sym same) (pairs-unmap (λ a b. a ≢ b) (λ q. q.name) c.queues law.queue_names.distinct)
 
--- why it is not refused
-pub enough-so : (o : Option ℕ) (n free pages : ℕ) (t : Bool) → n ≡ free → MatchOption o (n < pages) (λ left. left + pages ≡ n) → is_some o ≡ not t → t ≡ false → None ≡ (if nat_lt free pages then Some refusal.NoPage else None)
-enough-so None n free pages t same h e f = absurd (let no : false ≡ true = e ∙ ap not f in cc)
-enough-so (Some k) n free pages t same h e f = let no : nat_lt free pages ≡ false = grind (arith, nat_tests, h, same) in ap (λ b. if b then Some refusal.NoPage else None) (sym no)
-
--- .. and why it is
-pub few-so : (o : Option ℕ) (n free pages : ℕ) (t : Bool) → n ≡ free → MatchOption o (n < pages) (λ left. left + pages ≡ n) → is_some o ≡ not t → t ≡ true → Some refusal.NoPage ≡ (if nat_lt free pages then Some refusal.NoPage else None)
-few-so None n free pages t same h e f = let yes : nat_lt free pages ≡ true = grind (arith, nat_tests, h, same) in ap (λ b. if b then Some refusal.NoPage else None) (sym yes)
-few-so (Some k) n free pages t same h e f = absurd (let no : true ≡ false = e ∙ ap not f in cc)
+-- whether too few pages are free
+pub lacks-so : (o : Option ℕ) (n free pages : ℕ) (t : Bool) → n ≡ free → MatchOption o (n < pages) (λ left. left + pages ≡ n) → is_some o ≡ not t → t ≡ nat_lt free pages
+lacks-so None n free pages true same h e = let yes : nat_lt free pages ≡ true = grind (arith, nat_tests, h, same) in sym yes
+lacks-so None n free pages false same h e = absurd (cc)
+lacks-so (Some k) n free pages true same h e = absurd (cc)
+lacks-so (Some k) n free pages false same h e = let no : nat_lt free pages ≡ false = grind (arith, nat_tests, h, same) in sym no

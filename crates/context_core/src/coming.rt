@@ -227,6 +227,14 @@ impl ContextState {
         self.put_ends(pool, alloc, image)
     }
 
+    /// Whether a pool has fewer free pages than the context of an image that keeps the rules takes.
+    pub fn lacks_pages(pool: &PagePool, image: &ContextImage) -> bool
+        requires { IsLawful image.now }
+        ensures { result ≡ nat_lt (free_pages pool.now) (pages_of_context (context_of image.now)) }
+    {
+        less_image(pool.free(), image).is_none()
+    }
+
     /// The moved context of an image that keeps the rules. None of its ends may have reached the limit of moves.
     /// Errors: refused with `NoPage` exactly where too few pages are free, or `OutOfMemory`. The lists of others and
     /// the count of free pages are then as before.
@@ -243,7 +251,7 @@ impl ContextState {
         ensures moves { IfOk result (λ s. Moves pool.old pool.new no_holding s) }
         ensures err { OnErr result (Moves pool.old pool.new no_holding no_holding) }
     {
-        if less_image(pool.free(), image).is_none() {
+        if ContextState::lacks_pages(pool, image) {
             return Err(Refusal::NoPage.into());
         }
         let mut state = ContextState::bare_of(alloc, image)?;

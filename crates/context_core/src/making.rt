@@ -92,6 +92,14 @@ impl ContextState {
         )
     }
 
+    /// Why [`ContextState::make_qp`] makes no such queue pair, besides being out of memory.
+    pub fn qp_refusal(&self, new: &NewEnd, number: Option<u32>) -> Option<Refusal>
+        ensures { (pool : Pool) (n : Name) (d : Device) → IsContext pool self.now → nat_le most_numbers d.qp_count ≡ is_none number
+            → result ≡ first_cause (qp_causes d (context_in pool n self.now) new.now.name new.now.domain new.now.send_cq new.now.recv_cq) }
+    {
+        new_ends::refusal(&self.domains, &self.queues, &self.ends, new, number)
+    }
+
     /// Connects a queue pair in Init to its partner. It takes no memory. Errors: `NoSuch` where no queue pair has the
     /// name, and else `BadState` where it is connected already. Nothing has changed then.
     pub fn connect(

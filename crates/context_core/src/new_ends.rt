@@ -76,6 +76,22 @@ fn number_for(
     }
 }
 
+/// Why [`make`] makes no such queue pair, besides being out of memory.
+pub fn refusal(
+    domains: &IndexSet<Name>,
+    queues: &IndexMap<Name, Cq>,
+    ends: &IndexMap<Name, EndSlot>,
+    new: &NewEnd,
+    number: Option<u32>,
+) -> Option<Refusal>
+    ensures { length queues.now.entries ≤ most_queues → result ≡ first_cause (make_causes domains.now.keys queues.now.entries ends.now.entries new.now number) }
+{
+    let Some(_parts) = parts_of(domains, queues, new) else {
+        return Some(Refusal::NoSuch);
+    };
+    number_for(ends, new.name, number).err()
+}
+
 /// Makes a queue pair in Init behind the others, with this number. Errors: refused for the first of these causes that
 /// holds (this project's choice): `NoSuch` where the domain or a completion queue is not there, `NumberTaken` where a
 /// queue pair has the name, `TooMany` where there are 64 queue pairs or no number is given; or `OutOfMemory`. The queue

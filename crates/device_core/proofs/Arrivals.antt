@@ -14,7 +14,7 @@ use Rattle.protocol.specs.declared.events.Event.TheVariants as event
 use Rattle.protocol.specs.declared.images.Outcome.{Outcome}
 use Rattle.protocol.specs.DeviceStep.{Step, arrives, arrives_packet, device_step, at_found, at_husk, ended_step, found_in, found_link, husk_entries, with_context}
 use Rattle.protocol.specs.EndStep.{takes}
-use Rattle.protocol.specs.Refusals.{has_context, has_husk}
+use Rattle.protocol.specs.Refusals.{causes_of, has_context, has_husk}
 use Rattle.protocol.specs.State.{Context, Device, End, HuskEntry as Entry, Link, context_at}
 use Rattle.protocol.specs.Wire.{Packet, is_control, packet_of}
 use Rattle.context_core.specs.declared.arriving.ArrivalOutcome.{ArrivalOutcome}
@@ -55,6 +55,11 @@ pub stays-there : (d : Device) (n : Name) (place k : ℕ) → has_context d n �
 stays-there d n place k gone (inl e) = absurd (true≢false (sym e.lives ∙ gone))
 stays-there d n place k gone (inr e) = e
 
+-- an arrival is not refused
+not-refused : (d : Device) (from : Address) (bytes : List ℕ) → first_cause (causes_of d (event.Arrive from bytes)) ≡ None
+unfolding first_cause
+not-refused d from bytes = refl
+
 -- a datagram reaches an entry of a husk
 pub husk-arrived : (index : ℕ → Option EndLocation) (d : Device) → IsIndex index d → AllPairs (λ a b. a ≢ b) (map (λ c. c.name) d.contexts) → AllPairs (λ a b. a ≢ b) (map (λ h. h.name) d.husks)
     → (n : Name) (place : ℕ) (from : Address) (bytes : List ℕ) (p : Packet) → packet_of bytes ≡ Some p → IsEntryAt d n place p.dest → has_context d n ≡ false
@@ -63,7 +68,7 @@ pub husk-arrived : (index : ℕ → Option EndLocation) (d : Device) → IsIndex
 husk-arrived index d i names husk_names n place from bytes p is entry gone r told tells done = subst (IsDone d (event.Arrive from bytes) d) (sym tells) (by_result r done)
   where
     by_result : (x : Result Outcome AllocError) → IfOk x (λ o. (h : Entry) → slice_get (husk_at d n).entries place ≡ Some h → at_husk d from p (h ∷ []) ≡ record { device = d; outcome = o }) → IsDone d (event.Arrive from bytes) d (told_memory x)
-    by_result (Err e) h = refl
+    by_result (Err e) h = (refl, not-refused d from bytes)
     by_result (Ok o) h =
         arrives-packet d from bytes p is _
         (ap (at_found d from p) (found-none index d i names husk_names p.dest n place entry gone)
@@ -135,7 +140,7 @@ module _ (id : ℕ) (address : Address) (qp key : ℕ) (pool : Pool) (es : List 
           → ((e : End) (l : Link) → slice_get (context_in pool n s).ends place ≡ Some e → e.link ≡ Some l → IfOk x (λ o. IfSome o (λ t. takes (context_in pool n s) e l p ≡ record { context = context_in pool' n s'; took = t.took; sent = t.sent })))
           → IfOk x (λ o. IfNone o (s' ≡ s)) → IfOk x (λ o. IfNone o (pool' ≡ pool)) → OnErr x (s' ≡ s) → OnErr x (pool' ≡ pool)
           → (l : Option Link) → end.end.link ≡ l → IsDone (device_of id address qp key pool es husks) (event.Arrive from bytes) (device_of id address qp key pool' es' husks) (told_taken x)
-      by_result (Err e) agree tk nt ntp er erp l at = same er erp
+      by_result (Err e) agree tk nt ntp er erp l at = (same er erp, not-refused (device_of id address qp key pool es husks) from bytes)
       by_result (Ok None) agree tk nt ntp er erp None at = arrives-packet (device_of id address qp key pool es husks) from bytes p is _ (unlinked at) ∙ ap (λ k. record { device = k; outcome = silent why.Unknown }) (sym (same nt ntp))
       by_result (Ok None) agree tk nt ntp er erp (Some l) at = absurd (cc (agree, ap (λ e. is_none (link_by e)) here, ap is_none at))
       by_result (Ok (Some t)) agree tk nt ntp er erp None at = absurd (cc (agree, ap (λ e. is_none (link_by e)) here, ap is_none at))

@@ -1,5 +1,5 @@
 -- What an event does, from its refusal.
-use Rattle.std.proofs.Common.{◌≡◌, List, true, false, refl, sym, ap, ◌∙◌, subst}
+use Rattle.std.proofs.Common.{◌≡◌, Bool, List, true, false, refl, sym, ap, ◌∙◌, subst}
 use Rattle.std.specs.Prelude.{◌&&◌, not, if◌then◌else◌, Some, None, Result, Ok, Err, OnErr, IfOk}
 use Rattle.std.specs.Result.{result_err}
 use Rattle.rdma_types.specs.Causes.{Cause, first_cause}
@@ -53,6 +53,16 @@ within-nothing d n causes h k =
     ap (λ b. if (not b && not (has_husk d n)) then Some NoSuch else if not (has_context d n) then Some Stopped else first_cause (causes (context_at d n))) h
     ∙ ap (λ b. if not b then Some NoSuch else if not (has_context d n) then Some Stopped else first_cause (causes (context_at d n))) k
 
+-- where none of them counts, the context lives
+pub within-lives : (d : Device) (n : Name) (causes : Context → List Cause) → first_cause (within d n causes) ≡ None → has_context d n ≡ true
+unfolding first_cause
+within-lives d n causes none = by_test (has_context d n) (has_husk d n) none
+  where
+    by_test : (a b : Bool) → (if (not a && not b) then Some NoSuch else if not a then Some Stopped else first_cause (causes (context_at d n))) ≡ None → a ≡ true
+    by_test true b h = refl
+    by_test false true h = absurd (cc)
+    by_test false false h = absurd (cc)
+
 -- ---- events of a context
 
 -- an event of a context that lives, from the answer of the context
@@ -67,7 +77,7 @@ done-by {T} d new e n causes tell r told is same there refused done err = subst 
     by_result : (x : Result T ContextFault) → refusal_of x ≡ first_cause (causes (context_at d n)) → IfOk x (λ y. done_by d e ≡ record { device = new; outcome = tell y }) → OnErr x (new ≡ d) → IsDone d e new (told_by tell x)
     by_result (Ok y) ref ok er = step-done d e (same ∙ (within-there d n causes there ∙ sym ref)) ∙ ok
     by_result (Err (Refused w)) ref ok er = (step-refused d e w (same ∙ (within-there d n causes there ∙ sym ref)), er)
-    by_result (Err OutOfMemory) ref ok er = er
+    by_result (Err OutOfMemory) ref ok er = (er, same ∙ (within-there d n causes there ∙ sym ref))
 
 -- .. that takes no memory
 pub done-plainly : {T : Type 0} (d new : Device) (e : Event) (n : Name) (causes : Context → List Cause) (tell : T → Outcome) (r : Result T Refusal) (told : Result Outcome ContextFault)
@@ -90,4 +100,4 @@ missing-done d e n causes r same h = (step-refused d e r (same ∙ h), refl)
 pub sound-done : (d new : Device) (e : Event) (told : Result Outcome ContextFault) → IsSoundDevice d → IsLawfulEvent e → GivesNames e → IsDone d e new told → IsSoundDevice new
 sound-done d new e (Ok o) sound lawful spelled done = subst IsSoundDevice (ap (λ (s : Step). s.device) done) (stays-sound d e sound lawful spelled)
 sound-done d new e (Err (Refused r)) sound lawful spelled done = subst IsSoundDevice (sym done.1) sound
-sound-done d new e (Err OutOfMemory) sound lawful spelled done = subst IsSoundDevice (sym done) sound
+sound-done d new e (Err OutOfMemory) sound lawful spelled done = subst IsSoundDevice (sym done.0) sound

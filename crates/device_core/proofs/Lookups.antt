@@ -1,5 +1,5 @@
 -- A look-up of a context that finds none, after which the device is as it was.
-use Rattle.std.proofs.Common.{◌≡◌, ◌∙◌, ℕ, List, false, sym, ap, subst}
+use Rattle.std.proofs.Common.{◌≡◌, ◌∙◌, ℕ, List, false, true, refl, sym, ap, subst}
 use Rattle.std.specs.Prelude.{bytes_eq, is_some, Option, Some, None, Err}
 use Rattle.std.specs.Borrow.{Bor, MutBor}
 use Rattle.std.specs.Map.{lookup}
@@ -25,6 +25,10 @@ use Rattle.device_core.proofs.Dones.{step-refused}
 -- what is told where nothing is found, to write or to read
 pub none-mut : {A : Type 0} (r : Option (MutBor A)) (o : Option A) → r ≡ None → option_copied_mut r ≡ o → is_some o ≡ false
 none-mut {A} r o is value = ap is_some (sym value) ∙ ap (λ (x : Option (MutBor A)). is_some (option_copied_mut x)) is
+
+pub some-mut : {A : Type 0} (r : Option (MutBor A)) → is_some (option_copied_mut r) ≡ true → is_some r ≡ true
+some-mut None h = h
+some-mut (Some b) h = refl
 
 pub none-ref : {A : Type 0} (r : Option (Bor A)) (o : Option A) → r ≡ None → option_copied r ≡ o → is_some o ≡ false
 none-ref {A} r o is value = ap is_some (sym value) ∙ ap (λ (x : Option (Bor A)). is_some (option_copied x)) is

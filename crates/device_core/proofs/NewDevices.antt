@@ -171,4 +171,4 @@ made-context id address qp key pool es husks index held n none s empty view is r
         let same : f ≡ OutOfMemory = cc in
         let gone : told ≡ Err OutOfMemory = t ∙ ap Err same in
         subst (λ z. Stepped (device_of id address qp key pool es husks) (event.MakeContext n) pool es' index (device_of id address qp key pool es' husks) z) (sym gone)
-        (subst (λ z. Stepped (device_of id address qp key pool es husks) (event.MakeContext n) pool z index (device_of id address qp key pool z husks) (Err OutOfMemory)) (sym e) (record { done = refl; held = λ lawful spelled. held }))
+        (subst (λ z. Stepped (device_of id address qp key pool es husks) (event.MakeContext n) pool z index (device_of id address qp key pool z husks) (Err OutOfMemory)) (sym e) (record { done = (refl, none); held = λ lawful spelled. held }))

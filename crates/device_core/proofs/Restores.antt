@@ -51,43 +51,37 @@ use Rattle.device_core.proofs.Stops.{placed-absent, placed-at}
 
 -- ---- the causes
 
--- a cause other than too few pages counts
-pub must-refuse : (d : Device) (i : ContextImage) (taken full : Bool) (r : Refusal) → taken ≡ brings_taken d i → full ≡ (nat_le most_contexts (length d.contexts) || list_any (λ e. has_moved_image e.linked) i.ends)
-    → first_cause (cause NumberTaken taken ∷ cause TooMany full ∷ []) ≡ Some r → first_cause (causes_of d (event.Restore i)) ≡ Some r
+-- the cause that counts
+pub restore-cause : (d : Device) (i : ContextImage) (taken full few : Bool) → taken ≡ brings_taken d i → full ≡ (nat_le most_contexts (length d.contexts) || list_any (λ e. has_moved_image e.linked) i.ends) → few ≡ nat_lt (rule.free_pages d) (pages_of_context (context_of i))
+    → first_cause (cause NumberTaken taken ∷ cause TooMany full ∷ cause NoPage few ∷ []) ≡ first_cause (causes_of d (event.Restore i))
 unfolding first_cause
-must-refuse d i taken full r takes fills h = by_test taken full _ _ _ (takes ∙ taken-brought d i) (fills ∙ ap (λ b. nat_le most_contexts (length d.contexts) || b) (moved-brought i)) h
-  where
-    by_test : (t f a b c : Bool) → t ≡ a → f ≡ b → (if t then Some NumberTaken else if f then Some TooMany else None) ≡ Some r → (if a then Some NumberTaken else if b then Some TooMany else if c then Some NoPage else None) ≡ Some r
-    by_test true f a b c ta fb g = ap (λ x. if x then Some NumberTaken else if b then Some TooMany else if c then Some NoPage else None) (sym ta) ∙ g
-    by_test false true a b c ta fb g = ap (λ x. if x then Some NumberTaken else if b then Some TooMany else if c then Some NoPage else None) (sym ta) ∙ (ap (λ x. if x then Some TooMany else if c then Some NoPage else None) (sym fb) ∙ g)
-    by_test false false a b c ta fb g = absurd (cc)
-
--- .. and where none of them holds, nothing is taken, and too few pages alone count
-pub may-restore : (d : Device) (i : ContextImage) (taken full : Bool) → taken ≡ brings_taken d i → full ≡ (nat_le most_contexts (length d.contexts) || list_any (λ e. has_moved_image e.linked) i.ends)
-    → first_cause (cause NumberTaken taken ∷ cause TooMany full ∷ []) ≡ None
-    → (brings_taken d i ≡ false) × (first_cause (causes_of d (event.Restore i)) ≡ (if nat_lt (rule.free_pages d) (pages_of_context (context_of i)) then Some NoPage else None))
-unfolding first_cause
-may-restore d i taken full takes fills h = by_test taken full _ _ _ takes (takes ∙ taken-brought d i) (fills ∙ ap (λ b. nat_le most_contexts (length d.contexts) || b) (moved-brought i)) h
-  where
-    by_test : (t f a b c : Bool) → t ≡ brings_taken d i → t ≡ a → f ≡ b → (if t then Some NumberTaken else if f then Some TooMany else None) ≡ None → (brings_taken d i ≡ false) × ((if a then Some NumberTaken else if b then Some TooMany else if c then Some NoPage else None) ≡ (if c then Some NoPage else None))
-    by_test true f a b c tb ta fb g = absurd (cc)
-    by_test false true a b c tb ta fb g = absurd (cc)
-    by_test false false a b c tb ta fb g = (sym tb, ap (λ x. if x then Some NumberTaken else if b then Some TooMany else if c then Some NoPage else None) (sym ta) ∙ ap (λ x. if x then Some TooMany else if c then Some NoPage else None) (sym fb))
+restore-cause d i taken full few takes fills lacks = λ k.
+    if (takes ∙ taken-brought d i) k then Some NumberTaken else if (fills ∙ ap (λ b. nat_le most_contexts (length d.contexts) || b) (moved-brought i)) k then Some TooMany else if lacks k then Some NoPage else None
 
 or_false : (a b : Bool) → (a || b) ≡ false → (a ≡ false) × (b ≡ false)
 or_false true b h = absurd (true≢false h)
 or_false false b h = (refl, h)
 
--- .. and no end of it has moved out
-pub may-move : (d : Device) (i : ContextImage) (taken full : Bool) → full ≡ (nat_le most_contexts (length d.contexts) || list_any (λ e. has_moved_image e.linked) i.ends)
-    → first_cause (cause NumberTaken taken ∷ cause TooMany full ∷ []) ≡ None → some has_moved_out (links_of (context_of i)) ≡ false
+-- where none counts, nothing is taken, too few pages alone would count, and no end has moved out
+pub record MayRestore (d : Device) (i : ContextImage) : Type 0 where
+  pub nothing : brings_taken d i ≡ false
+  pub pages : first_cause (causes_of d (event.Restore i)) ≡ (if nat_lt (rule.free_pages d) (pages_of_context (context_of i)) then Some NoPage else None)
+  pub stays : some has_moved_out (links_of (context_of i)) ≡ false
+
+pub may-restore : (d : Device) (i : ContextImage) → first_cause (causes_of d (event.Restore i)) ≡ None → MayRestore d i
 unfolding first_cause
-may-move d i taken full fills h = sym (moved-brought i) ∙ (or_false _ _ (by_test taken full fills h)).1
+may-restore d i none = by_test _ _ _ (taken-brought d i) refl refl none
   where
-    by_test : (t f : Bool) → f ≡ (nat_le most_contexts (length d.contexts) || list_any (λ e. has_moved_image e.linked) i.ends) → (if t then Some NumberTaken else if f then Some TooMany else None) ≡ None → (nat_le most_contexts (length d.contexts) || list_any (λ e. has_moved_image e.linked) i.ends) ≡ false
-    by_test true f e g = absurd (cc)
-    by_test false true e g = absurd (cc)
-    by_test false false e g = sym e
+    by_test : (a b c : Bool) → brings_taken d i ≡ a → (nat_le most_contexts (length d.contexts) || some has_moved_out (links_of (context_of i))) ≡ b → nat_lt (rule.free_pages d) (pages_of_context (context_of i)) ≡ c
+        → (if a then Some NumberTaken else if b then Some TooMany else if c then Some NoPage else None) ≡ None → MayRestore d i
+    by_test true b c ta fb lc h = absurd (cc)
+    by_test false true c ta fb lc h = absurd (cc)
+    by_test false false true ta fb lc h = absurd (cc)
+    by_test false false false ta fb lc h = record {
+      nothing = ta;
+      pages = none ∙ ap (λ x. if x then Some NoPage else None) (sym lc);
+      stays = (or_false _ _ fb).1;
+    }
 
 -- no context has its name
 pub absent-name : (d : Device) (i : ContextImage) → brings_taken d i ≡ false → has_context d i.name ≡ false
@@ -141,7 +135,7 @@ module _ (id : ℕ) (address : Address) (qp key : ℕ) (pool : Pool) (es : List 
 
         the_done : (f : ContextFault) → told_as f ≡ (if nat_lt (free_pages pool) (pages_of_context (context_of image)) then Some NoPage else None) → IsDone (device_of id address qp key pool es husks) (event.Restore image) (device_of id address qp key pool' es' husks) (Err f)
         the_done (Refused r) e = (step-refused (device_of id address qp key pool es husks) (event.Restore image) r (cause_is e), back)
-        the_done OutOfMemory e = back
+        the_done OutOfMemory e = (back, cause_is e)
 
         the_held : IsHeld pool' es index (device_of id address qp key pool' es husks)
         the_held = subst (IsHeld pool' es index) (sym view) (record {

@@ -122,8 +122,10 @@ pub record Told (d new : Device) (e : Event) (told : Result Outcome AllocError) 
   pub id : new.id ≡ d.id
   pub address : new.address ≡ d.address
   pub err : OnErr told (new ≡ d)
+  pub refused_first : OnErr told (refusal_of d e ≡ None)
 
 pub told : (d new : Device) (e : Event) (r : Result Outcome ContextFault) (t : Result Outcome AllocError) → t ≡ told_step r → IsDone d e new r → AreFew r → Told d new e t
+unfolding refusal_of
 told d new e r t tells done few = subst (Told d new e) (sym tells) (by_result r done few)
   where
     by_result : (x : Result Outcome ContextFault) → IsDone d e new x → AreFew x → Told d new e (told_step x)
@@ -133,6 +135,7 @@ told d new e r t tells done few = subst (Told d new e) (sym tells) (by_result r 
       id = ap (λ (s : Step). s.device.id) (sym h) ∙ (step-keeps d e).id;
       address = ap (λ (s : Step). s.device.address) (sym h) ∙ (step-keeps d e).address;
       err = tt;
+      refused_first = tt;
     }
     by_result (Err (Refused w)) h f = record {
       ok = h.0 ∙ ap (λ k. answers k (answer.Refused w)) (sym h.1);
@@ -140,13 +143,15 @@ told d new e r t tells done few = subst (Told d new e) (sym tells) (by_result r 
       id = ap (λ (k : Device). k.id) h.1;
       address = ap (λ (k : Device). k.address) h.1;
       err = tt;
+      refused_first = tt;
     }
     by_result (Err OutOfMemory) h f = record {
       ok = tt;
       few = tt;
-      id = ap (λ (k : Device). k.id) h;
-      address = ap (λ (k : Device). k.address) h;
-      err = h;
+      id = ap (λ (k : Device). k.id) h.0;
+      address = ap (λ (k : Device). k.address) h.0;
+      err = h.0;
+      refused_first = h.1;
     }
 
 pub told-not_out_of_memory : (r : Result Outcome ContextFault) (t : Result Outcome AllocError) → t ≡ told_step r → IsNotOutOfMemory r → IsOk t

@@ -19,4 +19,4 @@ AreWithin d = (e : Event) → IsOfTurn e → ChangesOnly (is_touched_by_event d 
 pub stepped-within : (d new : Device) (e : Event) (told : Result Outcome ContextFault) → AreWithin d → IsDone d e new told → IsOfTurn e → ChangesOnly (is_touched_by_event d e) d new
 stepped-within d new e (Ok o) within done turn = subst (ChangesOnly (is_touched_by_event d e) d) (ap (λ (s : Step). s.device) done) (within e turn)
 stepped-within d new e (Err (Refused r)) within done turn = subst (ChangesOnly (is_touched_by_event d e) d) (sym done.1) (changes-nothing (is_touched_by_event d e) d)
-stepped-within d new e (Err OutOfMemory) within done turn = subst (ChangesOnly (is_touched_by_event d e) d) (sym done) (changes-nothing (is_touched_by_event d e) d)
+stepped-within d new e (Err OutOfMemory) within done turn = subst (ChangesOnly (is_touched_by_event d e) d) (sym done.0) (changes-nothing (is_touched_by_event d e) d)

@@ -11,12 +11,14 @@ use Rattle.rdma_types.specs.declared.answers.Took.TheVariants as took
 use Rattle.context_core.specs.declared.arriving.ArrivalOutcome.{ArrivalOutcome}
 use Rattle.rdma_types.specs.declared.requests.Keys.{Keys}
 use Rattle.rdma_types.specs.declared.names.Name.{Name}
+use Rattle.rdma_types.specs.Causes.{first_cause}
 use Rattle.context_core.specs.declared.making.NewEnd.{NewEnd}
 use Rattle.protocol.specs.declared.events.Event.{Event}
 use Rattle.protocol.specs.declared.events.Event.TheVariants as event
 use Rattle.protocol.specs.declared.images.Outcome.{Outcome}
 use Rattle.protocol.specs.DeviceStep.{answers, device_step}
 use Rattle.protocol.specs.Lawful.{IsLawful}
+use Rattle.protocol.specs.Refusals.{causes_of}
 use Rattle.protocol.specs.State.{Device}
 use Rattle.context_core.specs.declared.ContextFault.{ContextFault}
 use Rattle.context_core.specs.declared.ContextFault.TheVariants.{Refused, OutOfMemory}
@@ -29,11 +31,11 @@ giving a sent = record { answer = a; sent = sent; image = None }
 abbrev pub plain : Answer → Outcome
 plain a = giving a []
 
--- the event is done, or refused, or there was no memory
+-- the event is done, or refused, or there was no memory, and then no refusal is due
 abbrev pub IsDone : Device → Event → Device → Result Outcome ContextFault → Type 0
 IsDone d e new (Ok o) = device_step d e ≡ record { device = new; outcome = o }
 IsDone d e new (Err (Refused r)) = (device_step d e ≡ answers d (answer.Refused r)) × (new ≡ d)
-IsDone d e new (Err OutOfMemory) = new ≡ d
+IsDone d e new (Err OutOfMemory) = (new ≡ d) × (first_cause (causes_of d e) ≡ None)
 
 -- what is told of a call that may be refused or run out of memory
 abbrev pub told_by : {T : Type 0} → (T → Outcome) → Result T ContextFault → Result Outcome ContextFault

@@ -8,7 +8,8 @@ ghost use Rattle.rdma_types.specs.Limits.{most_contexts};
 ghost use Rattle.rdma_types.specs.declared.requests.Keys.{Keys};
 ghost use Rattle.protocol.specs.Events.{IsLawfulEvent};
 ghost use Rattle.protocol.specs.DeviceStep.{highest as highest_of};
-ghost use Rattle.protocol.specs.Refusals.{number_is_taken};
+ghost use Rattle.protocol.specs.Lawful.{IsLawful};
+ghost use Rattle.protocol.specs.Refusals.{causes_of, number_is_taken};
 ghost use Rattle.device_core.specs.Coming.{brings_taken, has_moved_image, higher as higher_of, numbers_of_ends, pair_is_taken, pairs_of};
 ghost use Rattle.device_core.specs.Done.{IsDone};
 ghost use Rattle.device_core.specs.Leaving.{placed};
@@ -101,15 +102,17 @@ fn put_context(contexts: &mut IndexMap<Name, ContextState>, name: Name, state: C
     put_named(contexts, name, state).unwrap();
 }
 
-/// Which cause of a restore counts, apart from too few free pages.
+/// Which cause of a restore counts.
 #[tactic(auto, unfolding(rdma_types::specs::Causes::first_cause))]
-fn restore_cause(taken: bool, full: bool) -> Option<Refusal>
-    ensures { result ≡ first_cause (cause Refusal.NumberTaken taken ∷ cause Refusal.TooMany full ∷ []) }
+fn restore_cause(taken: bool, full: bool, lacks_pages: bool) -> Option<Refusal>
+    ensures { result ≡ first_cause (cause Refusal.NumberTaken taken ∷ cause Refusal.TooMany full ∷ cause Refusal.NoPage lacks_pages ∷ []) }
 {
     if taken {
         Some(Refusal::NumberTaken)
     } else if full {
         Some(Refusal::TooMany)
+    } else if lacks_pages {
+        Some(Refusal::NoPage)
     } else {
         None
     }
@@ -166,6 +169,18 @@ impl Device {
         self.is_full() || have_moved_out(image.ends.as_slice())
     }
 
+    /// Why an image is not put on the device.
+    fn restore_refusal(&self, image: &ContextImage) -> Option<Refusal>
+        requires { IsLawful image.now }
+        ensures { result ≡ first_cause (causes_of self.now (Event.Restore image.now)) }
+    {
+        restore_cause(
+            self.meets_own(image),
+            self.takes_none(image),
+            ContextState::lacks_pages(&self.pool, image),
+        )
+    }
+
     /// An image is put on the device.
     pub(crate) fn put_image(
         &mut self,
@@ -175,7 +190,7 @@ impl Device {
         requires { IsLawfulEvent (Event.Restore image.now) }
         ensures { IsDone self.old (Event.Restore image.now) self.new result }
     {
-        if let Some(refusal) = restore_cause(self.meets_own(image), self.takes_none(image)) {
+        if let Some(refusal) = self.restore_refusal(image) {
             return Err(ContextFault::Refused(refusal));
         }
         if self.contexts.reserve(1).is_err() {

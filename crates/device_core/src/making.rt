@@ -99,6 +99,16 @@ impl Device {
         told(alloc, made, Answer::Done)
     }
 
+    /// Why no such queue pair is made in a context.
+    fn qp_refusal(&self, context: Name, asked: &NewEnd) -> Option<Refusal>
+        ensures { result ≡ first_cause (causes_of self.now (qp_event context asked.now)) }
+    {
+        match self.contexts.get(&context) {
+            None => Some(self.missing(context)),
+            Some(state) => state.qp_refusal(asked, self.next_number()),
+        }
+    }
+
     /// A queue pair in Init, with the device's next number.
     pub(crate) fn make_qp(
         &mut self,
@@ -109,8 +119,8 @@ impl Device {
         requires { IsLawfulEvent (qp_event context asked.now) }
         ensures { IsDone self.old (qp_event context asked.now) self.new result }
     {
-        if !self.contexts.contains_key(&context) {
-            return Err(ContextFault::Refused(self.missing(context)));
+        if let Some(refusal) = self.qp_refusal(context, asked) {
+            return Err(ContextFault::Refused(refusal));
         }
         if self.index.reserve(1).is_err() {
             return Err(ContextFault::OutOfMemory);

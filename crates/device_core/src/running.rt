@@ -1,12 +1,13 @@
 //! One step of a device.
 
-ghost use Rattle.std.specs.Prelude.{◌≡◌, ◌≤◌, ◌^◌, length, IfOk, IfSome, IsOk, OnErr};
+ghost use Rattle.std.specs.Prelude.{◌≡◌, ◌≤◌, ◌^◌, length, IfOk, IfSome, IsOk, None, OnErr};
 ghost use Rattle.protocol.specs.declared.events.Event.{Event};
 ghost use Rattle.protocol.specs.DeviceStep.{device_step};
 ghost use Rattle.law_arrivals.specs.Touched.{ChangesOnly, is_touched};
 ghost use Rattle.law_arrivals.specs.Turns.{IsOfTurn, is_touched_by_event};
 ghost use Rattle.protocol.specs.Events.{IsLawfulEvent};
 ghost use Rattle.protocol.specs.Lawful.{IsLawful};
+ghost use Rattle.protocol.specs.Refusals.{refusal_of};
 ghost use Rattle.protocol.specs.Wire.{packet_of};
 ghost use Rattle.device_core.specs.Done.{AreFew, AreLawful, IsDone, IsNotOutOfMemory, told_step as step_told};
 ghost use Rattle.device_core.specs.Readings.{DoNothing, TakesNoMemoryAt};
@@ -94,7 +95,7 @@ impl Device {
     }
 
     /// One step on an event. A refusal is an answer, and the device is then as before. Errors: `AllocError` when out of
-    /// memory; the device is then as before. Connect, DropRegion, Store, PostRecv, Expire, RnrOver, Release and bytes that
+    /// memory, and then no refusal is due; the device is as before. Connect, DropRegion, Store, PostRecv, Expire, RnrOver, Release and bytes that
     /// do nothing (as at `arrive`) take no memory. Transmit, Expire and RnrOver change no byte of a region, and Arrive only
     /// those that `arrive` may change.
     pub fn step(&mut self, alloc: Global, event: &Event) -> Result<Outcome, AllocError>
@@ -105,6 +106,7 @@ impl Device {
         ensures id { self.new.id ≡ self.old.id }
         ensures address { self.new.address ≡ self.old.address }
         ensures never_out_of_memory { TakesNoMemoryAt self.old event.now → IsOk result }
+        ensures refused_first { OnErr result (refusal_of self.old event.now ≡ None) }
         ensures touched { IsOfTurn event.now → ChangesOnly (is_touched_by_event self.old event.now) self.old self.new }
         ensures err { OnErr result (self.new ≡ self.old) }
     {
@@ -113,14 +115,15 @@ impl Device {
         told_step(alloc, done)
     }
 
-    /// The step on `Event::Restore`, with an image that stays with its owner. Errors: `AllocError` when out of memory;
-    /// the device is then as before.
+    /// The step on `Event::Restore`, with an image that stays with its owner. Errors: `AllocError` when out of memory, and
+    /// then no refusal is due; the device is as before.
     pub fn restore(&mut self, alloc: Global, image: &ContextImage) -> Result<Outcome, AllocError>
         requires { IsLawful image.now }
         ensures ok { IfOk result (λ o. device_step self.old (Event.Restore image.now) ≡ record { device = self.new; outcome = o }) }
         ensures bounded { IfOk result (λ o. length o.sent ≤ 2 ^ 32) }
         ensures id { self.new.id ≡ self.old.id }
         ensures address { self.new.address ≡ self.old.address }
+        ensures refused_first { OnErr result (refusal_of self.old (Event.Restore image.now) ≡ None) }
         ensures err { OnErr result (self.new ≡ self.old) }
     {
         let done = self.put_image(alloc, image);

@@ -1,6 +1,6 @@
 -- A queue pair is made with the next number, and its place is noted.
 use Rattle.std.proofs.Common.{◌≡◌, ◌∙◌, sym, ap, refl, subst, Some, length}
-use Rattle.std.specs.Prelude.{IfSome, is_none, is_ok, nat_eq, nat_le}
+use Rattle.std.specs.Prelude.{IfSome, is_none, is_ok, is_some, nat_eq, nat_le}
 use Rattle.std.specs.Str.{bytes_eq}
 use Rattle.std.specs.Map.{lookup}
 use Rattle.rdma_types.specs.Limits.{most_numbers}
@@ -12,17 +12,21 @@ use Rattle.device_core.specs.Index.{noted, spot}
 use Rattle.device_core.specs.Held.{IsHeld}
 use Rattle.device_core.specs.Parts.{device_of}
 use Rattle.device_core.proofs.Contexts.{found-there}
-use Rattle.device_core.proofs.Dones.{missing-done}
+use Rattle.device_core.proofs.Dones.{step-refused, within-lives}
 use Rattle.device_core.proofs.Helds.{is-context, moves-plainly}
+use Rattle.device_core.proofs.Lookups.{some-mut}
 use Rattle.device_core.proofs.MadeEnds.{Noted, qp-made}
 use Rattle.device_core.proofs.Stepping.{done-at, found-mut}
 use Rattle.device_core.proofs.device.Device.make_qp.Goals as goal
 
-pub missing-requires : goal.missing-requires
-missing-requires c = ap (λ k. has_context k c.args.context) (sym c.self.view_is) ∙ (sym (found-there c.self.inside.pool c.args.context c.self.inside.contexts.entries) ∙ (sym c.contains_key.ensures ∙ c.if-not-contains_key.true))
+pub returns-in-Some : goal.returns-in-Some
+returns-in-Some c = (step-refused c.args.self.now (qp_event c.args.context c.args.asked.now) c.in-Some.refusal (sym c.qp_refusal.ensures ∙ c.in-Some.is), refl)
 
-pub returns-then-not-contains_key : goal.returns-then-not-contains_key
-returns-then-not-contains_key c = missing-done c.args.self.now (qp_event c.args.context c.args.asked.now) c.args.context (λ k. qp_causes c.args.self.now k c.args.asked.now.name c.args.asked.now.domain c.args.asked.now.send_cq c.args.asked.now.recv_cq) c.missing.result refl (c.missing.ensures (λ k. qp_causes c.args.self.now k c.args.asked.now.name c.args.asked.now.domain c.args.asked.now.send_cq c.args.asked.now.recv_cq))
+pub unwrap-state-requires : goal.unwrap-state-requires
+unwrap-state-requires c =
+    let asked = c.args.asked.now in
+    let lives = within-lives c.args.self.now c.args.context (λ k. qp_causes c.args.self.now k asked.name asked.domain asked.send_cq asked.recv_cq) (sym c.qp_refusal.ensures ∙ c.in_default.is) in
+    some-mut c.get_mut.result (ap is_some c.get_mut.ensures.value ∙ (found-there c.self.inside.pool c.args.context c.self.inside.contexts.entries ∙ (ap (λ k. has_context k c.args.context) c.self.view_is ∙ lives)))
 
 pub invariant_of-self : goal.invariant_of-self
 invariant_of-self c =

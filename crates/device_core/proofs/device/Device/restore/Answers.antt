@@ -11,3 +11,6 @@ returns-clause-address c = (told c.args.self.now c.put_image-done.new.self (even
 
 pub returns-clause-bounded : goal.returns-clause-bounded
 returns-clause-bounded c = (told c.args.self.now c.put_image-done.new.self (event.Restore c.args.image.now) c.put_image-done.result c.told_step.result c.told_step.ensures c.put_image-done.ensures (few-sent c.args.self.now c.put_image-done.new.self (event.Restore c.args.image.now) c.put_image-done.result tt c.put_image-done.ensures)).few
+
+pub returns-clause-refused_first : goal.returns-clause-refused_first
+returns-clause-refused_first c = (told c.args.self.now c.put_image-done.new.self (event.Restore c.args.image.now) c.put_image-done.result c.told_step.result c.told_step.ensures c.put_image-done.ensures (few-sent c.args.self.now c.put_image-done.new.self (event.Restore c.args.image.now) c.put_image-done.result tt c.put_image-done.ensures)).refused_first

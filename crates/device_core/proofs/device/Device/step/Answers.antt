@@ -14,3 +14,6 @@ returns-clause-image c = told-image c.run-done.result c.told_step.result c.told_
 
 pub returns-clause-touched : goal.returns-clause-touched
 returns-clause-touched c = stepped-within c.args.self.now c.run-done.new.self c.args.event.now c.run-done.result c.bounds_turns.ensures c.run-done.ensures.done
+
+pub returns-clause-refused_first : goal.returns-clause-refused_first
+returns-clause-refused_first c = (told c.args.self.now c.run-done.new.self c.args.event.now c.run-done.result c.told_step.result c.told_step.ensures c.run-done.ensures.done c.run-done.ensures.bounded).refused_first

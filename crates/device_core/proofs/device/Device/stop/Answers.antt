@@ -31,6 +31,9 @@ use Rattle.device_core.proofs.device.Device.stop.Goals as goal
 pub returns-in-Some-clause-done : goal.returns-in-Some-clause-done
 returns-in-Some-clause-done c = (step-refused c.args.self.now (event.Stop c.args.name c.args.alone) c.in-Some.refusal (sym c.stop_refusal.ensures ∙ c.in-Some.is), refl)
 
+pub returns-in_default-parting-clause-done : goal.returns-in_default-parting-clause-done
+returns-in_default-parting-clause-done c = (refl, sym c.stop_refusal.ensures ∙ c.in_default.is)
+
 pub parting-requires : goal.parting-requires
 parting-requires c = (may-stop c.args.self.now c.args.name c.args.alone (sym c.stop_refusal.ensures ∙ c.in_default.is)).0
 
