@@ -20,8 +20,8 @@ struct Polling<'a, G> {
 }
 
 impl<'a, G: Gate> Polling<'a, G> {
-    /// Polls until there are completions, and after each poll that gives none rests until another one's turn did something;
-    /// false where all was halted.
+    /// Polls until there are completions, and after each poll that gives none rests until another one's turn has ended with
+    /// news; false where all was halted.
     fn poll<R: Wait>(&mut self, rt: &R, alloc: Global) -> Result<bool, PlanFault> {
         for _ in rt.forever() {
             let seen = self.hand.begin(rt);

@@ -19,7 +19,7 @@ struct Desk {
     book: OrderBook,
     /// A datagram is claimed, and its arrival is not yet entered.
     is_claimed: bool,
-    /// How many turns have ended that did something.
+    /// How many turns have ended with news.
     turns: u64,
     halted: bool,
 }
@@ -34,8 +34,8 @@ pub enum NextDatagram {
     Nothing,
 }
 
-/// A lock round an order book. A thread that waits at it sleeps until another one's turn did something or the orders are
-/// halted.
+/// A lock round an order book. A thread that waits at it sleeps until another one's turn has ended with news, or the orders
+/// are halted.
 #[derive(Drop)]
 pub struct Orders {
     desk: Mutex<Desk>,
@@ -93,12 +93,12 @@ impl Orders {
         self.desk.lock(rt).is_claimed = false;
     }
 
-    /// How many turns have ended that did something.
+    /// How many turns have ended with news.
     pub fn turns<R: Wait>(&self, rt: &R) -> u64 {
         self.desk.lock(rt).turns
     }
 
-    /// A turn has ended that did something: all who wait are woken.
+    /// A turn has ended with news: all who wait are woken.
     pub fn end_turn<R: Wait>(&self, rt: &R) {
         let mut desk = self.desk.lock(rt);
         desk.turns = desk.turns.saturating_add(1);
@@ -112,8 +112,7 @@ impl Orders {
         self.changes.notify_all();
     }
 
-    /// Waits until more turns than `seen` have ended that did something, or the orders are halted; and whether they are not
-    /// halted.
+    /// Waits until more turns than `seen` have ended with news, or the orders are halted; and whether they are not halted.
     pub fn wait_past<R: Wait>(&self, rt: &R, seen: u64) -> bool {
         let desk = self.changes.wait_while(
             rt,

@@ -9,24 +9,24 @@ use crate::checks::{all_told, find_head, next_head, no_head, zeros};
 use crate::counts::{completions, word};
 use crate::replays::{Replay, all_replayed, find_book, openings, replay_at};
 use crate::run::{Run, RunFault, missing, same};
-use crate::sent::{Flown, flights_of, has_arrived};
+use crate::sent::Flights;
 use crate::stops::{StopAt, note_stop, take_stop};
 use rdma_types::Items;
 use station::{Book, OrderBook, OrderEntry, Receipt};
 use std::alloc::Global;
 
 /// Checks the next entry: its device, its receipt, its numbers, what arrives and what is restored; and makes the step.
-fn advance(
+fn advance<'a>(
     alloc: Global,
     books: &[Book],
-    receipts: &[Items<Receipt>],
+    receipts: &'a [Items<Receipt>],
     entry: &OrderEntry,
     replays: &mut Vec<Replay>,
     heads: &mut Vec<usize>,
-    flights: &mut Vec<Flown>,
+    flights: &mut Flights<'a>,
     stops: &mut Vec<StopAt>,
 ) -> Result<(), RunFault>
-    ensures ok { OnOk result (IsAdvanced books.now receipts.now entry.now replays.old.items heads.old.items flights.old.items stops.old.items replays.new.items heads.new.items flights.new.items stops.new.items) }
+    ensures ok { OnOk result (IsAdvanced books.now receipts.now entry.now replays.old.items heads.old.items flights.old stops.old.items replays.new.items heads.new.items flights.new stops.new.items) }
     ensures err { IfErr result TellsValues }
 {
     let place = entry.place;
@@ -40,7 +40,7 @@ fn advance(
     same(place, u64::from(receipt.worker), worker as u64)?;
     same(place, entry.first, flights.len() as u64 + 1)?;
     same(place, entry.count, sent.len() as u64)?;
-    if !has_arrived(flights.as_slice(), address, &receipt.event) {
+    if !flights.has_arrived(address, &receipt.event) {
         return Err(missing(place));
     }
     if !take_stop(receipts, stops, &receipt.event) {
@@ -51,8 +51,7 @@ fn advance(
         return Err(missing(place));
     }
     replay_at(alloc, books, replays, i, receipt)?;
-    let mut more = flights_of(alloc, address, sent)?;
-    flights.append(&mut more)?;
+    flights.put(address, sent)?;
     Ok(())
 }
 
@@ -78,7 +77,7 @@ fn check(
 {
     let mut replays = openings(alloc, books)?;
     let mut heads = zeros(alloc, receipts.len())?;
-    let mut flights = Vec::new(alloc);
+    let mut flights = Flights::none(alloc);
     let mut stops = Vec::new(alloc);
     for k in 0..entries.len() {
         let entry = entry_at(entries, k);

@@ -123,6 +123,9 @@ pub enum Told {
     NothingInFlight,
     /// Nothing changed.
     Unchanged,
+    Sent,
+    /// Completions were polled.
+    Polled,
     Changed,
 }
 
@@ -145,6 +148,8 @@ pub fn told_by(answer: &Answer) -> Told {
             ..
         } => Told::Unchanged,
         Answer::Polled(completions) if completions.len() == 0 => Told::Unchanged,
+        Answer::Polled(_) => Told::Polled,
+        Answer::Sent { .. } => Told::Sent,
         _ => Told::Changed,
     }
 }

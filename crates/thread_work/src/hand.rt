@@ -23,6 +23,9 @@ pub struct Hand<'a, G> {
     receipts: Items<Receipt>,
     /// Since its turn began, a step changed something or a datagram arrived.
     has_worked: bool,
+    /// .. a datagram arrived or completions were polled: another one may go on. What was only posted or sent is no news, since the
+    /// one who sent it, or who is delivering, delivers it.
+    has_news: bool,
 }
 
 /// What became of a delivery.
@@ -43,6 +46,7 @@ impl<'a, G: Gate> Hand<'a, G> {
             worker,
             receipts,
             has_worked: false,
+            has_news: false,
         }
     }
 
@@ -86,12 +90,22 @@ impl<'a, G: Gate> Hand<'a, G> {
         self.call_at(rt, alloc, station, event)
     }
 
+    /// Notes what its turn did.
+    fn note(&mut self, told: Told) {
+        match told {
+            Told::Accepted | Told::Sent => self.has_worked = true,
+            Told::Polled | Told::Changed => {
+                self.has_worked = true;
+                self.has_news = true;
+            }
+            Told::Idle | Told::Ended | Told::NothingInFlight | Told::Unchanged => {}
+        }
+    }
+
     /// Keeps a receipt, and says what it tells.
     pub fn keep(&mut self, receipt: Receipt) -> Result<Told, PlanFault> {
         let told = told_by(&receipt.outcome.answer);
-        if told == Told::Accepted || told == Told::Changed {
-            self.has_worked = true;
-        }
+        self.note(told);
         self.receipts.push(receipt)?;
         Ok(told)
     }
@@ -117,7 +131,7 @@ impl<'a, G: Gate> Hand<'a, G> {
             self.keep(receipt)?;
         }
         self.site.orders.arrived(rt);
-        self.has_worked = true;
+        self.note(Told::Changed);
         Ok(())
     }
 
@@ -149,22 +163,23 @@ impl<'a, G: Gate> Hand<'a, G> {
         self.has_worked
     }
 
-    /// Ends a turn, and wakes those who rest where it did something.
+    /// Ends a turn, and wakes those who rest where it has news.
     pub fn end_turn<R: Wait>(&mut self, rt: &R) {
-        if self.has_worked {
-            self.has_worked = false;
+        self.has_worked = false;
+        if self.has_news {
+            self.has_news = false;
             self.site.orders.end_turn(rt);
         }
     }
 
-    /// A turn begins, after the last one; the answer is how many turns of all had done something before.
+    /// A turn begins, after the last one; the answer is how many turns of all have ended with news.
     pub fn begin<R: Wait>(&mut self, rt: &R) -> u64 {
         self.end_turn(rt);
         self.site.orders.turns(rt)
     }
 
-    /// Where its turn did nothing, waits until another one's turn did something. Says whether to go on, and not where all was
-    /// halted.
+    /// Where its turn did nothing, waits until another one's turn has ended with news. Says whether to go on, and not where all
+    /// was halted.
     pub fn rest<R: Wait>(&mut self, rt: &R, seen: u64) -> bool {
         self.has_worked || self.site.orders.wait_past(rt, seen)
     }

@@ -63,7 +63,7 @@ fn send_all<R: Wait, G: Gate>(
     requires { worker ≤ 8 }
 {
     for _ in rt.forever() {
-        if hand.call(rt, alloc, OF_A, transmits(Side::A, worker))? != Told::Changed {
+        if hand.call(rt, alloc, OF_A, transmits(Side::A, worker))? != Told::Sent {
             break;
         }
     }
@@ -154,7 +154,7 @@ pub fn drain<R: Wait, G: Gate>(
     hand: &mut Hand<'_, G>,
 ) -> Result<(), PlanFault> {
     for _ in rt.forever() {
-        if hand.call(rt, alloc, OF_A, polls())? != Told::Changed {
+        if hand.call(rt, alloc, OF_A, polls())? != Told::Polled {
             break;
         }
     }

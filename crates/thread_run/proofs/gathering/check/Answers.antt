@@ -5,7 +5,7 @@ use Rattle.thread_run.proofs.Loops.{check_first, check_more}
 use Rattle.thread_run.proofs.gathering.check.Goals as goal
 
 pub loop-k-init : goal.loop-k-init
-loop-k-init c = check_first _ _ _ _ _ _ c.in_ok-replays.ensures c.in_ok-heads.ensures.0 c.in_ok-heads.ensures.1 c.new-flights.ensures.items c.new-stops.ensures.items
+loop-k-init c = check_first _ _ _ _ _ _ c.in_ok-replays.ensures c.in_ok-heads.ensures.0 c.in_ok-heads.ensures.1 c.none-flights.ensures c.new-stops.ensures.items
 
 pub loop-k-preserved : goal.loop-k-preserved
 loop-k-preserved c = check_more c.args.books.now c.args.receipts.now c.args.entries.now c.loop-k.k c.entry_at-entry.result _ _ _ _ _ _ _ _ c.requires (omega arith) c.entry_at-entry.ensures c.loop-k.invariant c.in_ok-advance.ensures.ok
