@@ -1,5 +1,5 @@
 -- Each inner step of the machine is seen as moves of each connection, and keeps what is held.
-use Rattle.std.proofs.Common.{◌≡◌, ◌≢◌, ℕ, ◌≤◌, true, false, Bool, refl, sym, subst, inl, inr, ◌⊎◌, eqb-true}
+use Rattle.std.proofs.Common.{◌≡◌, ◌≢◌, ℕ, ◌≤◌, true, false, Bool, refl, sym, subst, ap, ◌∙◌, inl, inr, ◌⊎◌, eqb-true}
 use Rattle.std.specs.Prelude.{List, ◌==◌}
 use Rattle.std.proofs.lemmas.Bool.{eqb-false}
 use Rattle.std.proofs.lemmas.List.Elements.{All-append, All-weaker}
@@ -14,12 +14,13 @@ use Rattle.law_letters.specs.Held.{AreAllKept, AreOfSenders, AtReceiverOf, AtSen
 use Rattle.law_letters.specs.Kept.{dues_of, standing}
 use Rattle.law_letters.specs.Seen.{InnerStepsAreSeen, InnerStepsKeep, IsOf, IsOwnStep, IsReadStep, IsRunStep, IsSeen}
 use Rattle.law_letters.proofs.Connected.{connected_kept, stepping, stepping_connected}
+use Rattle.law_letters.proofs.Longer.{dues_both}
 use Rattle.law_letters.proofs.OtherSteps.{other_steps}
 use Rattle.law_letters.proofs.OwnSteps.{own_steps}
 use Rattle.law_letters.proofs.ReadSteps.{read_steps}
 use Rattle.law_letters.proofs.RunSteps.{run_steps}
 use Rattle.law_letters.proofs.Seen.{enough_seen}
-use Rattle.law_letters.proofs.Standing.{steps_stand}
+use Rattle.law_letters.proofs.Standing.{dues_of_it, steps_stand}
 
 -- the steps of connection i
 abbrev IsStepOf : ℕ → IdealStep → Type 0
@@ -61,16 +62,16 @@ module _ (peers : ℕ) (ts : List Turn) (m : Mail) (machine : Machine) (s : Idea
         by false e = seen_elsewhere i low high (eqb-false i j e)
 
   -- what stands in the receiver's queue then is of one of the connections
-  stands_of : (j : ℕ) → 1 ≤ j → j ≤ peers → IsStepOf j s → AreOfSenders peers (dues_of 0 (standing machine receiver)) → AreOfSenders peers (dues_of 0 (standing (effect machine s) receiver))
-  stands_of j low high step known =
-      let more = steps_stand machine m.owed j low (all.opened j low high) (channel m j) (sent_letters j ts) (placed_letters j ts) (all.kept j low high) s step enabled in
-      subst (AreOfSenders peers) (sym more.stands)
-      (All-append (λ d. (1 ≤ connection_in d) × (connection_in d ≤ peers)) (dues_of 0 (standing machine receiver)) more.more known
-      (All-weaker (λ d. connection_in d ≡ j) (λ d. (1 ≤ connection_in d) × (connection_in d ≤ peers)) (λ d e. subst (λ (i : ℕ). (1 ≤ i) × (i ≤ peers)) (sym e) (low, high)) more.more more.of_it))
+  stands_of : (j : ℕ) → 1 ≤ j → j ≤ peers → IsOf j (stepping s) → AreOfSenders peers (dues_of 0 (standing machine receiver)) → AreOfSenders peers (dues_of 0 (standing (effect machine s) receiver))
+  stands_of j low high of known =
+      let k = steps_stand machine j (all.opened j low high) (all.kept j low high).number s inner of enabled in
+      subst (AreOfSenders peers) (sym (ap (dues_of 0) k.stands ∙ dues_both 0 (standing machine receiver) k.more))
+      (All-append (λ d. (1 ≤ connection_in d) × (connection_in d ≤ peers)) (dues_of 0 (standing machine receiver)) (dues_of 0 k.more) known
+      (All-weaker (λ d. connection_in d ≡ j) (λ d. (1 ≤ connection_in d) × (connection_in d ≤ peers)) (λ d e. subst (λ (i : ℕ). (1 ≤ i) × (i ≤ peers)) (sym e) (low, high)) (dues_of 0 k.more) (dues_of_it j k.more k.are.of_it)))
 
   stands_by : IsEndOf peers (stepping s) → AreOfSenders peers (dues_of 0 (standing machine receiver)) → AreOfSenders peers (dues_of 0 (standing (effect machine s) receiver))
-  stands_by (AtSenderOf j low high e) = stands_of j low high (step_of j s inner (inl e))
-  stands_by (AtReceiverOf j low high e) = stands_of j low high (step_of j s inner (inr e))
+  stands_by (AtSenderOf j low high e) = stands_of j low high (inl e)
+  stands_by (AtReceiverOf j low high e) = stands_of j low high (inr e)
 
   seen_by : IsEndOf peers (stepping s) → (i : ℕ) → 1 ≤ i → i ≤ peers → IsSeen i m.owed machine (effect machine s)
   seen_by (AtSenderOf j low' high' e) = seen_each j low' high' (step_of j s inner (inl e))

@@ -11,15 +11,17 @@ use Rattle.rdma_types.specs.Limits.{most_bytes}
 use Rattle.rdma_types.specs.Lists.{has_name}
 use Rattle.rdma_types.specs.Objects.{IsWhole, Region, no_region}
 use Rattle.protocol.specs.State.{empty_world}
-use Rattle.ideal_model.specs.Machine.{End, Machine, empty, end_of, has_end, nobody, context_of, regions_of}
+use Rattle.ideal_model.specs.Machine.{End, Machine, empty, end_of, has_end, nobody, context_of, regions_of, untold_count, used_count}
 use Rattle.ideal_model.specs.Verbs.{has_region, region_of}
 use Rattle.law_simulation.specs.Named.{RunsFollowByName}
 use Rattle.law_simulation.specs.Stands.{Stands}
 use Rattle.law_simulation.specs.Views.{name_at, numbered_ends}
 use Rattle.law_simulation.proofs.relation.Tables.{All-named}
-use Rattle.letter_rules.specs.Opening.{depth, opening_world, place_address, place_bytes, receiver, receiver_end, receiver_key, receiver_receive, receiver_region, sender_end, sender_key, sender_receive, sender_region, staging_address}
+use Rattle.letter_rules.specs.Opening.{connection_of, depth, opening_world, place_address, place_bytes, receiver, receiver_end, receiver_key, receiver_receive, receiver_region, sender_end, sender_key, sender_receive, sender_region, staging_address}
 use Rattle.letter_rules.specs.State.{Channel, channel, fresh_channel, made, or_fresh}
+use Rattle.law_letters.specs.AlwaysFew.{BeginningIsFew}
 use Rattle.law_letters.specs.Beginning.{BeginningIsHeld}
+use Rattle.law_letters.specs.Few.{AreFew, IsFewOn}
 use Rattle.law_letters.specs.Headers.{IsLetter}
 use Rattle.law_letters.specs.Held.{AreAllKept, AreOfSenders, AtReceiverOf, AtSenderOf, IsEndOf, connection_in}
 use Rattle.law_letters.specs.Kept.{IsJoined, IsKept, IsKeptWith, IsOpened, IsPlain, IsRegion, Sight, dues_of, landing_offset, pending, sight_of, standing}
@@ -99,6 +101,11 @@ first_kept i high stored landed = record {
   arrived = refl;
   waits_open = λ k l h w. absurd (none-some l h);
 }
+
+-- 16 receives are not used, and nothing else
+first_few : (i : ℕ) → IsFewOn i (made_for i).receiver [] [] fresh_channel []
+unfolding untold_count used_count
+first_few i = record { receives = omega arith; requests = omega arith }
 
 -- every channel is fresh
 first_channel : (n k : ℕ) → or_fresh (slice_get (replicate n fresh_channel) k) ≡ fresh_channel
@@ -220,7 +227,23 @@ module _ (peers : ℕ) (low : 1 ≤ peers) (high : peers ≤ 8) (w : Stands (ope
   first_all_kept : AreAllKept peers [] (made peers) m
   first_all_kept = record { opened = first_opened; joined = first_joined; kept = each_kept; dues = first_dues }
 
+  each_few : (i : ℕ) → 1 ≤ i → i ≤ peers → IsFewOn i (end_of m (receiver_end i)) (standing m receiver) [] (channel (made peers) i) []
+  each_few i first last =
+      subst (λ (c : Channel). IsFewOn i (end_of m (receiver_end i)) (standing m receiver) [] c []) (sym (first_channel peers (i - 1)))
+      (subst (λ (f : Found). IsFewOn i f.receiver f.receiver_standing [] fresh_channel []) (sym (one i first last)) (first_few i))
+
+  first_all_few : AreFew peers [] (made peers) m
+  first_all_few = record {
+    each = each_few;
+    known = subst (λ (xs : List Completion). All (λ x. (1 ≤ connection_of x.qp) × (connection_of x.qp ≤ peers)) xs) (sym (ap (λ (f : Found). f.receiver_standing) (one 1 (omega arith) low))) (All-nil (λ x. (1 ≤ connection_of x.qp) × (connection_of x.qp ≤ peers)));
+  }
+
 pub begins : RunsFollowByName → Stands empty_world empty → BeginningIsHeld
 begins follow start peers low high =
     let w : Stands (opening_world most_bytes peers) (opened peers) = stands follow start peers (opening_in_range peers high) in
     record { machine = opened peers; stands = w; senders = length-replicate peers fresh_channel; all = first_all_kept peers low high w }
+
+pub begins_few : RunsFollowByName → Stands empty_world empty → BeginningIsFew
+begins_few follow start peers low high =
+    let w : Stands (opening_world most_bytes peers) (opened peers) = stands follow start peers (opening_in_range peers high) in
+    record { machine = opened peers; stands = w; senders = length-replicate peers fresh_channel; all = first_all_kept peers low high w; few = first_all_few peers low high w }

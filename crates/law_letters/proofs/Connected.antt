@@ -27,7 +27,7 @@ connected_of m q = (end_of m q).connected
 
 -- ---- changes of the machine
 
-one_kept : (m : Machine) (o : ObjName) (e : End) (q : ObjName) → e.name ≡ (end_of m o).name → e.connected ≡ (end_of m o).connected → connected_of (with_end m o e) q ≡ connected_of m q
+pub one_kept : (m : Machine) (o : ObjName) (e : End) (q : ObjName) → e.name ≡ (end_of m o).name → e.connected ≡ (end_of m o).connected → connected_of (with_end m o e) q ≡ connected_of m q
 one_kept m o e q name same = end_related (λ a b. a.connected ≡ b.connected) (λ a. refl) m o e q name same
 
 queues_kept : (m : Machine) (c : Name) (qs : List CompletionQueue) (q : ObjName) → connected_of (with_queues m c qs) q ≡ connected_of m q
@@ -48,7 +48,7 @@ unfolding put_in_receive
 receive_kept m c into new None q = refl
 receive_kept m c into new (Some v) q = regions_kept m c _ q
 
-placing_kept : (m : Machine) (c : Name) (e x : End) (new : List ℕ) (q : ObjName) → connected_of (placing m c e x new) q ≡ connected_of m q
+pub placing_kept : (m : Machine) (c : Name) (e x : End) (new : List ℕ) (q : ObjName) → connected_of (placing m c e x new) q ≡ connected_of m q
 unfolding placing
 placing_kept m c e x new q = by (is_send (kind_of (current e)))
   where

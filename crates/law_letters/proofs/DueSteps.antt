@@ -123,7 +123,7 @@ send_verb o r = refl
 pub sender_there : (m : Mail) (peers j : ℕ) → length m.channels ≡ peers → 1 ≤ j → j ≤ peers → is_sender m j ≡ true
 sender_there m peers j long low high = rw (le-leb 1 j low, le-leb j (length m.channels) (omega (arith, long, high))) refl
 
-next_read_of : (j place : ℕ) (fetch : Option Fetch) → All (λ x. connection_in x ≡ j) (option_to_list (read_due j fetch))
+pub next_read_of : (j place : ℕ) (fetch : Option Fetch) → All (λ x. connection_in x ≡ j) (option_to_list (read_due j fetch))
 next_read_of j place None = All-nil (λ x. connection_in x ≡ j)
 next_read_of j place (Some f) = All-cons (λ x. connection_in x ≡ j) (due.PostRead j f) [] refl (All-nil (λ x. connection_in x ≡ j))
 

@@ -93,27 +93,31 @@ capacity_is m c most names capacities =
     let same : (named (λ q. q.name) no_queue queue_name (context_of m c).queues).capacity ∷ [] ≡ most ∷ [] = ap (λ (qs : List CompletionQueue). map (λ q. q.capacity) qs) (sym one) ∙ capacities in
     cc
 
+pub receiver_capacity_is : (peers : ℕ) (m : Machine) → IsFurnished peers m → (queue_of m receiver queue_name).capacity ≡ receiver_capacity
+receiver_capacity_is peers m f = capacity_is m receiver receiver_capacity (ap (λ (p : Plan). p.queues) f.at_receiver) (ap (λ (p : Plan). p.capacities) f.at_receiver)
+
 pub furnished_as : (peers : ℕ) (m m' : Machine) → IsPlannedAs m m' → KeepsRoom m m' → IsFurnished peers m → IsFurnished peers m'
 furnished_as peers m m' like keeps f = record {
   contexts = λ c there. f.contexts c (sym (like.contexts c) ∙ there);
   at_receiver = like.plans receiver ∙ f.at_receiver;
   at_sender = λ i low high. like.plans (sender i) ∙ f.at_sender i low high;
-  receiver_room = keeps.within receiver receiver_capacity (capacity_is m receiver receiver_capacity (ap (λ (p : Plan). p.queues) f.at_receiver) (ap (λ (p : Plan). p.capacities) f.at_receiver)) f.receiver_room;
+  receiver_room = keeps.within receiver receiver_capacity (receiver_capacity_is peers m f) f.receiver_room;
   sender_room = λ i low high.
       keeps.within (sender i) sender_capacity (capacity_is m (sender i) sender_capacity (ap (λ (p : Plan). p.queues) (f.at_sender i low high)) (ap (λ (p : Plan). p.capacities) (f.at_sender i low high))) (f.sender_room i low high);
 }
 
 -- the same stands and is reserved in all machines that a world stands for
-one_load : (w : World) (m m' : Machine) → Stands w m → Stands w m' → KeepsRoom m m'
-one_load w m m' s s' = record {
-  within = λ c most capacity within.
-      let queues = ap (λ (qs : List CompletionQueue). length (named (λ q. q.name) no_queue queue_name qs).entries) (sym (s'.same c).queues ∙ (s.same c).queues) in
-      let reserved' = sym (reserved_same (context_of_world w c) (context_of m' c) queue_name (s'.same c)) ∙ reserved_same (context_of_world w c) (context_of m c) queue_name (s.same c) in
-      omega (arith, queues, reserved', within);
-}
+pub one_load : (w : World) (m m' : Machine) → Stands w m → Stands w m' → (c : Name) → load m' c queue_name ≡ load m c queue_name
+one_load w m m' s s' c =
+    let queues = ap (λ (qs : List CompletionQueue). length (named (λ q. q.name) no_queue queue_name qs).entries) (sym (s'.same c).queues ∙ (s.same c).queues) in
+    let reserved' = sym (reserved_same (context_of_world w c) (context_of m' c) queue_name (s'.same c)) ∙ reserved_same (context_of_world w c) (context_of m c) queue_name (s.same c) in
+    omega (arith, queues, reserved')
+
+one_room : (w : World) (m m' : Machine) → Stands w m → Stands w m' → KeepsRoom m m'
+one_room w m m' s s' = record { within = λ c most capacity within. let same = one_load w m m' s s' c in omega (arith, same, within) }
 
 pub furnished_machine : (peers : ℕ) (w : World) (m : Machine) → Stands w m → IsFurnishedFor peers w → IsFurnished peers m
-furnished_machine peers w m s f = furnished_as peers f.machine m (one_plan w f.machine m f.stands s) (one_load w f.machine m f.stands s) f.furnished
+furnished_machine peers w m s f = furnished_as peers f.machine m (one_plan w f.machine m f.stands s) (one_room w f.machine m f.stands s) f.furnished
 
 -- so no queue has more completions than the receiver's may have
 pub queues_short : (peers : ℕ) (m : Mail) → IsFurnishedFor peers m.world → AreQueuesShort peers m

@@ -1,40 +1,35 @@
 -- What is held stays held through calls, where each kind of thing that happens keeps it.
 use Rattle.std.proofs.Common.{arith, ◌≡◌, ◌≢◌, ℕ, ◌<◌, ◌≤◌, List, [], ◌∷◌, ◌++◌, length, true, false, Bool, refl, sym, subst, ap, ◌∙◌, Some, None, Option, ◌⊎◌, inl, inr, append-nil, eqb-true, eq-eqb}
-use Rattle.std.specs.Prelude.{if◌then◌else◌, ◌==◌, All, nat_le, ◌&&◌}
-use Rattle.std.proofs.lemmas.List.Elements.{All-head, All-tail, All-weaker}
+use Rattle.std.specs.Prelude.{if◌then◌else◌, ◌==◌, nat_le, ◌&&◌}
 use Rattle.std.proofs.lemmas.Option.{same_Some}
 use Rattle.rdma_types.specs.declared.answers.Answer.{Answer}
 use Rattle.protocol.specs.declared.events.Event.{Event}
 use Rattle.protocol.specs.declared.events.Event.TheVariants as event
 use Rattle.protocol.specs.declared.events.WorldEvent.{WorldEvent}
 use Rattle.protocol.specs.declared.events.WorldEvent.TheVariants as world_event
-use Rattle.protocol.specs.Settle.{settled}
 use Rattle.protocol.specs.State.{World}
-use Rattle.protocol.specs.WorldStep.{world_after, world_step}
+use Rattle.protocol.specs.WorldStep.{world_step}
 use Rattle.ideal_model.specs.declared.steps.IdealStep.{IdealStep}
 use Rattle.ideal_model.specs.declared.steps.IdealStep.TheVariants as steps
 use Rattle.ideal_model.specs.Legal.{IsRun, after, effect, seen, seen_of}
 use Rattle.ideal_model.specs.Machine.{Machine}
 use Rattle.law_simulation.specs.Kept.{kept_of, kept_verb, verb_in, verb_of}
 use Rattle.law_simulation.specs.Law.{AlwaysFollows, Follows, IsEventInRange, IsInRange}
-use Rattle.law_settling.specs.Events.{settling_events}
-use Rattle.law_settling.specs.Settling.{IsSettling, IsTurn, SettlingHasEvents}
-use Rattle.letter_rules.specs.declared.faults.MailFault.{MailFault}
+use Rattle.law_settling.specs.Settling.{SettlingHasEvents}
 use Rattle.letter_rules.specs.declared.faults.MailFault.TheVariants as fault
 use Rattle.letter_rules.specs.declared.letters.Letter.{Letter}
-use Rattle.letter_rules.specs.Calls.{After, Answers, Call, Gives, IsWorked, Network, Refused, Reply, Send, Settle, Take, Work, answers_by, by_fault, calls, is_of_network, is_turn, networks, posts_letter, quiet_by, replies, send_fault, sends, settles, takes, taking}
-use Rattle.letter_rules.specs.Histories.{Placed, Turn, fetched_before, first_wanted, is_wanted, opened_by, placed_letters, sent_by, sent_letters, without_first}
+use Rattle.letter_rules.specs.Calls.{After, Call, Gives, Refused, Reply, Take, calls, is_of_network, is_turn, replies, takes, taking}
+use Rattle.letter_rules.specs.Histories.{Placed, Turn, fetched_before, first_wanted, is_wanted, placed_letters, sent_letters, without_first}
 use Rattle.letter_rules.specs.Letters.{is_rendezvous}
 use Rattle.letter_rules.specs.State.{Channel, Mail, channel, is_sender, made, with_channel, with_world}
-use Rattle.letter_rules.specs.Theorem.{IsFirstOpen, IsLanded, IsReached, Begins, Replied, WasCut, MayBeCalled, NoneExactlyWhere, TakesFirstWhole}
-use Rattle.letter_rules.specs.Wanting.{IsCut, IsWorkCut, SendWorkCut, SendCut, TakeCut, WorkCut, NetworkCut, SettleCut}
+use Rattle.letter_rules.specs.Theorem.{IsFirstOpen, IsLanded, IsReached, Begins, Replied, WasCut, NoneExactlyWhere, TakesFirstWhole}
 use Rattle.letter_rules.specs.Working.{most_steps, working}
 use Rattle.law_letters.specs.Arrived.{HasArrived, IsTaken}
-use Rattle.law_letters.specs.Held.{AreAllKept, IsAllKept, IsHeld, IsInner, KeepingIsEnough, MayBeSent}
+use Rattle.law_letters.specs.Held.{AreAllKept, IsAllKept, IsHeld, IsInner, KeepingIsEnough}
 use Rattle.law_letters.specs.Kept.{Has, IsKept, Sight, sight_of}
+use Rattle.law_letters.proofs.EachCall.{IsIdle, after_call, after_cut, none_idle, refused_idle}
 use Rattle.law_letters.proofs.Fetching.{due_changes}
 use Rattle.law_letters.proofs.Channels.{IsSender, changed_elsewhere, changed_long, changed_there, sender_is}
-use Rattle.law_letters.proofs.Places.{all_front}
 use Rattle.law_letters.proofs.PostedAs.{IsHeldAs, as_itself, copied_stays}
 use Rattle.law_letters.proofs.Opened.{placed_more, sent_more, were_sent}
 use Rattle.law_letters.proofs.Staged.{is_worked}
@@ -93,17 +88,6 @@ in_range (world_event.Release n k) h = tt
 in_range (world_event.At e) h = turn_in_range e h
 in_range e h = cc
 
-turn_of_network : (e : Event) → IsTurn e → is_turn e ≡ true
-turn_of_network (event.Transmit o) h = refl
-turn_of_network (event.Expire o) h = refl
-turn_of_network (event.RnrOver o) h = refl
-turn_of_network e h = absurd h
-
-pub settling_of_network : (e : WorldEvent) → IsSettling e → is_of_network e ≡ true
-settling_of_network (world_event.Deliver k) h = refl
-settling_of_network (world_event.At e) h = turn_of_network e h
-settling_of_network e h = absurd h
-
 module _ (peers : ℕ) {Also : Mail → Type 0} (keep : IsAllKept peers Also) (follow : (e : WorldEvent) → AlwaysFollows e) where
   event_held : (ts : List Turn) (m : Mail) (e : WorldEvent) → is_of_network e ≡ true → IsHeld peers ts m → IsHeld peers ts (with_world m (world_step m.world e).world)
   event_held ts m e net h =
@@ -112,37 +96,7 @@ module _ (peers : ℕ) {Also : Mail → Type 0} (keep : IsAllKept peers Also) (f
       let all : AreAllKept peers ts m (after h.machine f.steps) = run_keeps peers keep ts m h.machine f.steps f.is_run quiet h.all in
       record { machine = after h.machine f.steps; stands = f.stands; senders = h.senders; all = record { opened = all.opened; joined = all.joined; kept = all.kept; dues = all.dues } }
 
-  events_held : (ts : List Turn) (m : Mail) (es : List WorldEvent) → All (λ e. is_of_network e ≡ true) es → IsHeld peers ts m → IsHeld peers ts (with_world m (world_after m.world es))
-  unfolding world_after
-  events_held ts m [] net h = h
-  events_held ts m (e ∷ es) net h =
-      events_held ts (with_world m (world_step m.world e).world) es (All-tail (λ e. is_of_network e ≡ true) e es net)
-      (event_held ts m e (All-head (λ e. is_of_network e ≡ true) e es net) h)
-
 -- ---- turns that send and give no letter
-
-pub record IsIdle (c : Call) (r : Reply) : Type 0 where
-  none : (i : ℕ) → sent_by i c r ≡ []
-  same : (i count : ℕ) (open' : List Placed) → opened_by i c r count open' ≡ open'
-
-pub refused_idle : (c : Call) (f : MailFault) → IsIdle c (Refused f)
-refused_idle (Send from tag body) f = record { none = λ i. refl; same = λ i count open'. refl }
-refused_idle (Take from tag) f = record { none = λ i. refl; same = λ i count open'. refl }
-refused_idle Work f = record { none = λ i. refl; same = λ i count open'. refl }
-refused_idle (Network e) f = record { none = λ i. refl; same = λ i count open'. refl }
-refused_idle Settle f = record { none = λ i. refl; same = λ i count open'. refl }
-
-none_idle : (from : ℕ) (tag : Option ℕ) → IsIdle (Take from tag) (Gives None)
-none_idle from tag = record { none = λ i. refl; same = λ i count open'. refl }
-
-pub work_idle : (r : Reply) → IsIdle Work r
-work_idle r = record { none = λ i. refl; same = λ i count open'. refl }
-
-pub network_idle : (e : WorldEvent) (r : Reply) → IsIdle (Network e) r
-network_idle e r = record { none = λ i. refl; same = λ i count open'. refl }
-
-pub settle_idle : (r : Reply) → IsIdle Settle r
-settle_idle r = record { none = λ i. refl; same = λ i count open'. refl }
 
 -- what is kept, of other letters that are the same
 kept_as : (i : ℕ) (s : Sight) (c : Channel) (sent sent' : List Letter) (open' opened' : List Placed) → sent' ≡ sent → opened' ≡ open' → IsKept i s c sent open' → IsKept i s c sent' opened'
@@ -168,6 +122,7 @@ idle_as peers ts m c r idle h = record {
     };
   };
   as_posted = λ q low high. as_itself q m h.machine;
+  standing_same = refl;
 }
 
 idle_held : (peers : ℕ) (ts : List Turn) (m : Mail) (c : Call) (r : Reply) → IsIdle c r → IsHeld peers ts m → IsHeld peers (ts ++ record { call = c; reply = r } ∷ []) m
@@ -253,6 +208,7 @@ module _ (peers : ℕ) (ts : List Turn) (m : Mail) (from : ℕ) (tag : Option �
         all = record { opened = h.all.opened; joined = h.all.joined; kept = λ i a b. kept_each i a b (eq_is from i (from == i) refl); dues = h.all.dues };
       };
       as_posted = λ q low high. record { receiver_same = refl; dues_same = refl; owed_same = refl; copied_same = copied_stays m from there (taking g.k) (λ c. refl) q low };
+      standing_same = refl;
     }
 
   -- ---- what `take` answers, and what it leaves
@@ -275,65 +231,28 @@ module _ (peers : ℕ) (ts : List Turn) (m : Mail) (from : ℕ) (tag : Option �
           told there (outcome m from (sent_letters from ts) (placed_letters from ts) tag there (were_sent from ts) (h.all.kept from among.0 among.1).arrived)
       by false e = subst (λ (a : After). IsHeldAs peers (ts ++ record { call = Take from tag; reply = a.reply } ∷ []) m a.mail h.machine) (sym (not_there e)) (idle_as peers ts m (Take from tag) (Refused fault.NoSender) (refused_idle (Take from tag) fault.NoSender) h)
 
--- ---- each call
+-- ---- after calls
 
 module _ (peers : ℕ) {Also : Mail → Type 0} (keep : IsAllKept peers Also) (follow : (e : WorldEvent) → AlwaysFollows e) (named : SettlingHasEvents) where
   worked_held : (ts : List Turn) (m : Mail) → IsHeld peers ts m → IsHeld peers ts (working m)
   worked_held ts m h = subst (λ (n : Mail). IsHeld peers ts n) (sym (is_worked m)) (keep.works ts m most_steps h)
 
-  send_held : (ts : List Turn) (m : Mail) (i : ℕ) (l : Letter) → MayBeSent l → IsHeld peers ts m → Also m → (o : Option MailFault) → send_fault (working m) i l.body ≡ o →
-      IsHeld peers (ts ++ record { call = Send i l.tag l.body; reply = (by_fault (working m) o (posts_letter (working m) i l)).reply } ∷ []) (by_fault (working m) o (posts_letter (working m) i l)).mail
-  send_held ts m i l may h also (Some f) e = idle_held peers ts (working m) (Send i l.tag l.body) (Refused f) (refused_idle (Send i l.tag l.body) f) (worked_held ts m h)
-  send_held ts m i l may h also None e = keep.sends ts m i l may h also e
-
-  network_held : (ts : List Turn) (m : Mail) (e : WorldEvent) → IsHeld peers ts m → (b : Bool) → is_of_network e ≡ b →
-      IsHeld peers (ts ++ record { call = Network e; reply = (by_fault m (if b then None else Some fault.NotNetwork) (answers_by m (world_step m.world e))).reply } ∷ [])
-      (by_fault m (if b then None else Some fault.NotNetwork) (answers_by m (world_step m.world e))).mail
-  network_held ts m e h true net =
-      idle_held peers ts (with_world m (world_step m.world e).world) (Network e) (Answers (world_step m.world e).answer) (network_idle e (Answers (world_step m.world e).answer)) (event_held peers keep follow ts m e net h)
-  network_held ts m e h false net = idle_held peers ts m (Network e) (Refused fault.NotNetwork) (refused_idle (Network e) fault.NotNetwork) h
-
-  settled_held : (ts : List Turn) (m : Mail) (es rest : List WorldEvent) → settling_events m.world ≡ es ++ rest → IsHeld peers ts m → IsHeld peers ts (with_world m (world_after m.world es))
-  settled_held ts m es rest are h =
-      let each : All IsSettling (es ++ rest) = subst (λ (xs : List WorldEvent). All IsSettling xs) are (named m.world).each in
-      events_held peers keep follow ts m es (All-weaker IsSettling (λ e. is_of_network e ≡ true) settling_of_network es (all_front IsSettling es rest each)) h
-
-  settle_held : (ts : List Turn) (m : Mail) → IsHeld peers ts m → IsHeld peers ts (with_world m (settled m.world).world)
-  settle_held ts m h =
-      subst (λ (w : World). IsHeld peers ts (with_world m w)) (named m.world).after
-      (settled_held ts m (settling_events m.world) [] (sym (append-nil (settling_events m.world))) h)
-
-  called_held : (ts : List Turn) (m : Mail) (c : Call) → MayBeCalled c → IsHeld peers ts m → Also m → IsHeld peers (ts ++ record { call = c; reply = (calls m c).reply } ∷ []) (calls m c).mail
-  unfolding calls networks sends settles
-  called_held ts m (Send from tag body) may h also =
-      let l : Letter = record { tag = tag; body = body } in
-      send_held ts m from l (record { tag_fits = may.0; bytes = may.1 }) h also (send_fault (working m) from body) refl
-  called_held ts m (Take from tag) may h also = (take_as peers ts (working m) from tag (worked_held ts m h)).held
-  called_held ts m Work may h also = idle_held peers ts (working m) Work IsWorked (work_idle IsWorked) (worked_held ts m h)
-  called_held ts m (Network e) may h also = network_held ts m e h (is_of_network e) refl
-  called_held ts m Settle may h also =
-      idle_held peers ts (with_world m (settled m.world).world) Settle (quiet_by m (settled m.world)).reply (settle_idle (quiet_by m (settled m.world)).reply) (settle_held ts m h)
-
-  -- ---- calls that ran out of memory
-
-  work_cut_held : (ts : List Turn) (m m' : Mail) → IsWorkCut m m' → IsHeld peers ts m → IsHeld peers ts m'
-  work_cut_held ts m m' cut h = subst (λ (n : Mail). IsHeld peers ts n) (sym cut.after) (keep.works ts m cut.steps h)
-
-  cut_held : (ts : List Turn) (m : Mail) {c : Call} {m' : Mail} → IsCut m c m' → MayBeCalled c → IsHeld peers ts m → IsHeld peers ts m'
-  cut_held ts m {m' = m'} (SendWorkCut cut) may h = work_cut_held ts m m' cut h
-  cut_held ts m {m' = m'} (SendCut {from = from} {tag = tag} {body = body} cut) may h =
-      keep.stores ts m from (record { tag = tag; body = body }) m' (record { tag_fits = may.0; bytes = may.1 }) h cut.may cut.stored
-  cut_held ts m {m' = m'} (TakeCut cut) may h = work_cut_held ts m m' cut h
-  cut_held ts m {m' = m'} (WorkCut cut) may h = work_cut_held ts m m' cut h
-  cut_held ts m NetworkCut may h = h
-  cut_held ts m {m' = m'} (SettleCut cut) may h = subst (λ (n : Mail). IsHeld peers ts n) (sym cut.after) (settled_held ts m cut.made cut.rest cut.are h)
-
   -- ---- any calls
 
   reached_held : {ts : List Turn} {m : Mail} → IsReached (made peers) ts m → IsHeld peers ts m × Also m
   reached_held Begins = (keep.begins, keep.also_begins)
-  reached_held (Replied {ts = ts} {m = m} c may r) = let b = reached_held r in (called_held ts m c may b.0 b.1, keep.also_called ts m c may b.0 b.1)
-  reached_held (WasCut {ts = ts} {m = m} {m' = m'} c may r cut) = let b = reached_held r in (cut_held ts m cut may b.0, keep.also_cut ts m c m' cut may b.0 b.1)
+  reached_held (Replied {ts = ts} {m = m} c may r) =
+      let b = reached_held r in (
+        after_call (IsHeld peers) (λ us. Also) (event_held peers keep follow) (λ us x n also. keep.works us x n) (idle_held peers) (λ us x i tag h. (take_as peers us x i tag h).held) (λ us x i l x' fits e part also h w. keep.stores us x i l x' fits h e part)
+            (λ us x i l fits e also h w. keep.sends us x i l fits h also e) named ts m c may b.1 b.0,
+        keep.also_called ts m c may b.0 b.1,
+      )
+  reached_held (WasCut {ts = ts} {m = m} {m' = m'} c may r cut) =
+      let b = reached_held r in (
+        after_cut (IsHeld peers) (λ us. Also) (event_held peers keep follow) (λ us x n also. keep.works us x n) (idle_held peers) (λ us x i tag h. (take_as peers us x i tag h).held) (λ us x i l x' fits e part also h w. keep.stores us x i l x' fits h e part)
+            (λ us x i l fits e also h w. keep.sends us x i l fits h also e) named ts m cut may b.1 b.0,
+        keep.also_cut ts m c m' cut may b.0 b.1,
+      )
 
   -- ---- what is taken
 

@@ -93,7 +93,7 @@ not_carried c (x ∷ xs) h = by (bytes_eq x.name c) (not_carried c xs) h
     by false rest f = rest f
 
 -- completions are polled of contexts that live
-heard_lives : (m : Mail) (n : ℕ) (x : Completion) (xs : List Completion) → entries_in (asking m (poll_event n)).answer ≡ x ∷ xs → is_live m.world (context_at n) ≡ true
+pub heard_lives : (m : Mail) (n : ℕ) (x : Completion) (xs : List Completion) → entries_in (asking m (poll_event n)).answer ≡ x ∷ xs → is_live m.world (context_at n) ≡ true
 unfolding asking
 heard_lives m n x xs e = by (is_live m.world (context_at n)) refl
   where

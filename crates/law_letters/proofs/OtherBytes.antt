@@ -35,7 +35,7 @@ use Rattle.law_letters.proofs.Tells.{freed_there, queue_named, receiver_opened, 
 
 -- ---- ends that know more, or have told a request
 
-pub known_name : (e : End) (known : ℕ) → (with_known e known).name ≡ e.name
+known_name : (e : End) (known : ℕ) → (with_known e known).name ≡ e.name
 unfolding with_known
 known_name e known = refl
 

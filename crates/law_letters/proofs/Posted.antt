@@ -71,7 +71,7 @@ sent_posted i x l h p = record {
   frees_all = p.frees_all;
 }
 
-at_most : (t : Bool) → (if t then 1 else 0) ≤ 1
+pub at_most : (t : Bool) → (if t then 1 else 0) ≤ 1
 at_most true = omega arith
 at_most false = omega arith
 

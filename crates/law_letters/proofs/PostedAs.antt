@@ -9,7 +9,7 @@ use Rattle.letter_rules.specs.Opening.{receiver, receiver_end, sender}
 use Rattle.letter_rules.specs.State.{Channel, Mail, channel, is_sender, with_channel}
 use Rattle.law_letters.specs.Finished.{IsHeldIn, IsHeldOn, line_of}
 use Rattle.law_letters.specs.Held.{IsHeld}
-use Rattle.law_letters.specs.Kept.{dues_of, fetches, frees, sight_of}
+use Rattle.law_letters.specs.Kept.{dues_of, fetches, frees, sight_of, standing}
 use Rattle.law_letters.specs.Settled.{IsPostedLine}
 use Rattle.law_letters.proofs.Changing.{one_or_not}
 use Rattle.law_letters.proofs.Channels.{changed_elsewhere, changed_there}
@@ -85,10 +85,11 @@ still_posted q ts ts' more m m' machine machine' same sent within p =
 
 -- ---- what is held
 
--- it is held after these turns, and what is posted and due at the receivers' ends is as before
+-- it is held after these turns, and what is posted and due at the receivers' ends is as before, and what stands in the receiver's queue
 pub record IsHeldAs (peers : ℕ) (ts : List Turn) (m m' : Mail) (machine : Machine) : Type 0 where
   pub held : IsHeld peers ts m'
   pub as_posted : (q : ℕ) → 1 ≤ q → q ≤ peers → IsPostedAs q m m' machine held.machine
+  pub standing_same : standing held.machine receiver ≡ standing machine receiver
 
 pub held_on : (peers : ℕ) (ts ts' : List Turn) (m m' : Mail) (machine : Machine) (more : ℕ → List Letter) → ((q : ℕ) → sent_letters q ts' ≡ sent_letters q ts ++ more q) → IsHeldIn peers ts m machine → IsHeldAs peers ts' m m' machine → IsHeldOn peers ts' m'
 held_on peers ts ts' m m' machine more sent h a = record {

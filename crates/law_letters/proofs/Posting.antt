@@ -17,7 +17,7 @@ use Rattle.ideal_model.specs.Machine.{End, Machine, completing, end_of, in_end, 
 use Rattle.ideal_model.specs.Verbs.{after_answer, after_verb, done, posted, received, refusal_of, taken, with_receive, with_request}
 use Rattle.ideal_model.proofs.Views.{end_of-completing}
 use Rattle.letter_rules.specs.Opening.{queue_name, receiver, receiver_end, sender, sender_end}
-use Rattle.law_letters.specs.Kept.{IsOpened, Sight, dues_of, sight_of}
+use Rattle.law_letters.specs.Kept.{IsOpened, Sight, dues_of, sight_of, standing}
 use Rattle.law_letters.proofs.Changing.{IsSeenAt, sees_itself}
 use Rattle.law_letters.proofs.Longer.{dues_same, opened_longer, queue_elsewhere, queue_here, sees_longer}
 use Rattle.law_letters.proofs.Opens.{IsAlike, connected_as, opened_as}
@@ -45,10 +45,10 @@ receiver_no_sender i j e = let contexts : receiver ≡ sender j = ap (λ (o : Ob
 
 -- ---- what is posted at an end, live or ended
 
-pub flushed_receive : End → Receive → Completion
+unfoldable pub flushed_receive : End → Receive → Completion
 flushed_receive e v = receive_done e.number v wc_kinds.Recv statuses.Flush 0 None
 
-pub flushed_request : End → Posted → Completion
+unfoldable pub flushed_request : End → Posted → Completion
 flushed_request e p = request_done e.number p statuses.Flush 0
 
 pub flushed_receive_no_due : (e : End) (v : Receive) (n : ℕ) → dues_of n (flushed_receive e v ∷ []) ≡ []
@@ -221,3 +221,21 @@ module _ (peers : ℕ) (small : peers ≤ 8) (m : Machine) (j : ℕ) (within : j
             subst (λ (x : Machine). IsSeenAt peers m x j (with_sent p)) (sym (posted_live m (sender_end j) r p is e))
                 (sender_at (record (end_of m (sender_end j)) { posted = (end_of m (sender_end j)).posted ++ p ∷ [] }) refl (record { connected = refl; peer = refl; domain = refl; send_queue = refl; receive_queue = refl; send_depth = refl; receive_depth = refl })),
           )
+
+  -- .. and no completion is added to the receiver's queue
+  pub sent_standing : (r : Request) → standing (posted m (sender_end j) r) receiver ≡ standing m receiver
+  sent_standing r = by (end_of m (sender_end j)).ended refl
+    where
+      p : Posted
+      p = taken m (sender_end j) r
+
+      by : (b : Bool) → (end_of m (sender_end j)).ended ≡ b → standing (posted m (sender_end j) r) receiver ≡ standing m receiver
+      by true e =
+          let more = flushed_request (end_of m (sender_end j)) p ∷ [] in
+          let is = posted_ended m (sender_end j) r p refl e ∙ ap (λ (q : Name). completing m (sender j) q (flushed_request (end_of m (sender_end j)) p ∷ [])) opened.sender_joined.send_queue in
+          ap (λ (x : Machine). standing x receiver) is
+          ∙ ap (λ (q : CompletionQueue). q.entries) (queue_elsewhere m (sender j) queue_name more (context_there m (sender_end j) opened.sender_there) opened.sender_queue (queue_named m (sender j) opened.sender_queue) receiver queue_name (λ f. cc))
+      by false e =
+          let new : End = record (end_of m (sender_end j)) { posted = (end_of m (sender_end j)).posted ++ p ∷ [] } in
+          let g : IsEndChanged m (with_end m (sender_end j) new) (sender_end j) new = end_is_changed m (sender_end j) new opened.sender_there (end_name m (sender_end j)) refl in
+          ap (λ (x : Machine). standing x receiver) (posted_live m (sender_end j) r p refl e) ∙ ap (λ (q : CompletionQueue). q.entries) (g.queues receiver queue_name)

@@ -85,41 +85,46 @@ refused_alike x y queues there send receive =
 
 -- ---- a machine with such queues
 
+pub queues_ends : (m : Machine) (c : Name) (queues : List CompletionQueue) (q : ObjName) → end_of (with_queues m c queues) q ≡ end_of m q
+unfolding with_queues
+queues_ends m c queues q = end_of-with_context m c (record (context_of m c) { queues = queues }) q refl refl
+
+module _ (m : Machine) (c : Name) (queues : List CompletionQueue) (context : has_context m c ≡ true) where
+  queues_changed : MachineChanged m (with_queues m c queues) c (record (context_of m c) { queues = queues })
+  unfolding with_queues
+  queues_changed = with_context_changed m c (record (context_of m c) { queues = queues }) (context_name m c) context
+
+  pub queues_there : (context_of (with_queues m c queues) c).queues ≡ queues
+  queues_there = ap (λ (x : Context). x.queues) (context_here m (with_queues m c queues) c (record (context_of m c) { queues = queues }) queues_changed)
+
+  pub queues_elsewhere : (d : Name) → d ≢ c → (context_of (with_queues m c queues) d).queues ≡ (context_of m d).queues
+  queues_elsewhere d other = ap (λ (x : Context). x.queues) (context_other m (with_queues m c queues) c (record (context_of m c) { queues = queues }) queues_changed d other)
+
 module _ (m : Machine) (c : Name) (queues : List CompletionQueue) (context : has_context m c ≡ true) (alike : AreDueAlike (context_of m c).queues queues) where
-  changed : MachineChanged m (with_queues m c queues) c (record (context_of m c) { queues = queues })
-  unfolding with_queues
-  changed = with_context_changed m c (record (context_of m c) { queues = queues }) (context_name m c) context
-
-  ends_same : (q : ObjName) → end_of (with_queues m c queues) q ≡ end_of m q
-  unfolding with_queues
-  ends_same q = end_of-with_context m c (record (context_of m c) { queues = queues }) q refl refl
-
   regions_stay : (d : Name) → regions_of (with_queues m c queues) d ≡ regions_of m d
-  regions_stay d = part_same m (with_queues m c queues) c (record (context_of m c) { queues = queues }) changed (λ x. x.regions) d refl
+  regions_stay d = part_same m (with_queues m c queues) c (record (context_of m c) { queues = queues }) (queues_changed m c queues context) (λ x. x.regions) d refl
 
   region_stays : (q : ObjName) → region_of (with_queues m c queues) q ≡ region_of m q
   region_stays q = region_same m (with_queues m c queues) q (regions_stay q.context)
 
   dues_stay : (n : ℕ) (d : Name) → dues_of n (queue_of (with_queues m c queues) d queue_name).entries ≡ dues_of n (queue_of m d queue_name).entries
   unfolding queue_of
-  dues_stay n d = part_same m (with_queues m c queues) c (record (context_of m c) { queues = queues }) changed (λ (x : Context). dues_of n (the_queue x.queues).entries) d (alike.dues n)
+  dues_stay n d = part_same m (with_queues m c queues) c (record (context_of m c) { queues = queues }) (queues_changed m c queues context) (λ (x : Context). dues_of n (the_queue x.queues).entries) d (alike.dues n)
 
   there_stays : (q : ObjName) → has_end (with_queues m c queues) q ≡ has_end m q
-  there_stays q = there_same m (with_queues m c queues) c (record (context_of m c) { queues = queues }) changed q (λ n. refl)
+  there_stays q = there_same m (with_queues m c queues) c (record (context_of m c) { queues = queues }) (queues_changed m c queues context) q (λ n. refl)
 
   queue_stays : (d : Name) → has_queue m d queue_name ≡ true → has_queue (with_queues m c queues) d queue_name ≡ true
   queue_stays d there = by (name_or_not d c)
     where
       by : (d ≡ c) ⊎ (d ≢ c) → has_queue (with_queues m c queues) d queue_name ≡ true
-      by (inl e) =
-          ap (λ (k : Name). has_queue (with_queues m c queues) k queue_name) e
-          ∙ (ap (λ (x : Context). has_name (λ z. z.name) queue_name x.queues) (context_here m (with_queues m c queues) c (record (context_of m c) { queues = queues }) changed) ∙ alike.there)
-      by (inr other) = ap (λ (x : Context). has_name (λ z. z.name) queue_name x.queues) (context_other m (with_queues m c queues) c (record (context_of m c) { queues = queues }) changed d other) ∙ there
+      by (inl e) = ap (λ (k : Name). has_queue (with_queues m c queues) k queue_name) e ∙ (ap (has_name (λ z. z.name) queue_name) (queues_there m c queues context) ∙ alike.there)
+      by (inr other) = ap (has_name (λ z. z.name) queue_name) (queues_elsewhere m c queues context d other) ∙ there
 
   pub sees_queues : (owed : List Due) (i : ℕ) → sight_of (with_queues m c queues) owed i ≡ sight_of m owed i
   sees_queues owed i = λ k. record {
-    sender = ends_same (sender_end i) k;
-    receiver = ends_same (receiver_end i) k;
+    sender = queues_ends m c queues (sender_end i) k;
+    receiver = queues_ends m c queues (receiver_end i) k;
     stored = (region_stays (sender_region i) k).bytes;
     landed = (region_stays (receiver_region i) k).bytes;
     dues = owed ++ (dues_stay 0 receiver k ++ dues_stay i (sender i) k);
@@ -129,8 +134,8 @@ module _ (m : Machine) (c : Name) (queues : List CompletionQueue) (context : has
   opened_queues i x = record {
     sender_there = there_stays (sender_end i) ∙ x.sender_there;
     receiver_there = there_stays (receiver_end i) ∙ x.receiver_there;
-    sender_joined = subst (λ (e : End). IsJoined e (receiver_end i)) (sym (ends_same (sender_end i))) x.sender_joined;
-    receiver_joined = subst (λ (e : End). IsJoined e (sender_end i)) (sym (ends_same (receiver_end i))) x.receiver_joined;
+    sender_joined = subst (λ (e : End). IsJoined e (receiver_end i)) (sym (queues_ends m c queues (sender_end i))) x.sender_joined;
+    receiver_joined = subst (λ (e : End). IsJoined e (sender_end i)) (sym (queues_ends m c queues (receiver_end i))) x.receiver_joined;
     sender_queue = queue_stays (sender i) x.sender_queue;
     receiver_queue = queue_stays receiver x.receiver_queue;
     sender_region_there = ap (λ (rs : List Region). has_name (λ z. z.name) (sender_region i).name rs) (regions_stay (sender i)) ∙ x.sender_region_there;
@@ -260,8 +265,3 @@ module _ (m : Machine) (owed : List Due) (i : ℕ) (opened : IsOpened m i) (c : 
       subst (λ (p : ObjName). IsSeen i owed m (refuse_at m (receiver_end i) y p (end_of m p))) (sym opened.receiver_joined.peer_is)
       (seen_then i owed m receiver_denied (refuse_at m (receiver_end i) y (sender_end i) (end_of m (sender_end i))) first
       (sender_over receiver_denied owed i first.opened c sent open' k (refused_queues (end_of m (sender_end i)) y (context_of m (sender i)).queues) alike))
-
--- what stands in each queue makes the same due
-pub dues_stand : (m : Machine) (c : Name) (queues : List CompletionQueue) → has_context m c ≡ true → AreDueAlike (context_of m c).queues queues → (n : ℕ) (d : Name) →
-    dues_of n (queue_of (with_queues m c queues) d queue_name).entries ≡ dues_of n (queue_of m d queue_name).entries
-dues_stand m c queues context alike n d = dues_stay m c queues context alike n d

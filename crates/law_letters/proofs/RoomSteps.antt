@@ -38,7 +38,7 @@ receives_long : (number : ℕ) (vs : List Receive) → length (failed_receives n
 unfolding failed_receives
 receives_long number vs = length-map vs _
 
-all_receives : (v : Option Receive) (vs : List Receive) → length (option_to_list v ++ vs) ≡ used_count v + length vs
+pub all_receives : (v : Option Receive) (vs : List Receive) → length (option_to_list v ++ vs) ≡ used_count v + length vs
 unfolding used_count
 all_receives None vs = omega arith
 all_receives (Some v) vs = omega arith
@@ -178,16 +178,16 @@ module _ (m : Machine) (o : ObjName) (some' : (end_of m o).told < length (end_of
 -- ---- the peer of an end that steps
 
 -- what an end reserves is as before
-record IsReservedAs (a b : End) : Type 0 where
-  number : a.number ≡ b.number
-  send_queue : a.send_queue ≡ b.send_queue
-  receive_queue : a.receive_queue ≡ b.receive_queue
-  posted : a.posted ≡ b.posted
-  told : a.told ≡ b.told
-  in_use : a.in_use ≡ b.in_use
-  unused : a.unused ≡ b.unused
+pub record IsReservedAs (a b : End) : Type 0 where
+  pub number : a.number ≡ b.number
+  pub send_queue : a.send_queue ≡ b.send_queue
+  pub receive_queue : a.receive_queue ≡ b.receive_queue
+  pub posted : a.posted ≡ b.posted
+  pub told : a.told ≡ b.told
+  pub in_use : a.in_use ≡ b.in_use
+  pub unused : a.unused ≡ b.unused
 
-reserved_itself : (a : End) → IsReservedAs a a
+pub reserved_itself : (a : End) → IsReservedAs a a
 reserved_itself a = record { number = refl; send_queue = refl; receive_queue = refl; posted = refl; told = refl; in_use = refl; unused = refl }
 
 reserved_as : (q : Name) (a b : End) → IsReservedAs a b → reserved_by q a ≡ reserved_by q b
@@ -196,7 +196,7 @@ reserved_as q a b s = λ k. (if bytes_eq (s.send_queue k) q then length (s.poste
 
 -- ---- Refuse
 
-refused_few : (x : End) (why : Why) → length (step.refused_receives x why) + length (step.refused_entries x why) ≤ used_count x.in_use + length x.unused
+pub refused_few : (x : End) (why : Why) → length (step.refused_receives x why) + length (step.refused_entries x why) ≤ used_count x.in_use + length x.unused
 unfolding step.refused_receives step.refused_entries step.too_long receive_for step.first_receive unused_after used_count
 refused_few x whys.Invalid = let a = all_receives x.in_use x.unused in omega (arith, a)
 refused_few x whys.Access = let a = all_receives x.in_use x.unused in omega (arith, a)
@@ -262,25 +262,30 @@ unfolding received_whole
 drops_one number r v [] = omega arith
 drops_one number r v (w ∷ vs) = omega arith
 
+-- what a Run of e leaves of the receives of x, and how many it completes
+module _ (e : End) (n : ℕ) (x : End) (P : End → ℕ → Type 0) (one : (v : Option Receive) (vs : List Receive) (k : ℕ) → (used_count v + length vs) + k ≤ used_count x.in_use + length x.unused → P (record x { in_use = v; unused = vs }) k) where
+  pub run_uses : P (receiving (current e).request.shape (fills e n) x) (length (arrivals e n x))
+  unfolding receiving arrivals used_by receive_for unused_after received_whole
+  run_uses = by (is_send (kind_of (current e))) (fills e n) (is_some (current e).request.shape.imm)
+    where
+      by : (b w i : Bool) →
+          P (if b then record x { in_use = if w then None else step.first_receive x.in_use x.unused; unused = if is_some x.in_use then x.unused else drop 1 x.unused } else if i && w then record x { unused = drop 1 x.unused } else x)
+          (length (if w then received_whole x.number (current e) (if b then step.first_receive x.in_use x.unused else if i then slice_get x.unused 0 else None) else []))
+      by true true i = one None (if is_some x.in_use then x.unused else drop 1 x.unused) _ (uses_one x.number (current e) x.in_use x.unused)
+      by true false i = one (step.first_receive x.in_use x.unused) (if is_some x.in_use then x.unused else drop 1 x.unused) 0 (keeps_one x.in_use x.unused)
+      by false true true = one x.in_use (drop 1 x.unused) _ (drops_one x.number (current e) x.in_use x.unused)
+      by false true false = one x.in_use x.unused 0 (omega arith)
+      by false false true = one x.in_use x.unused 0 (omega arith)
+      by false false false = one x.in_use x.unused 0 (omega arith)
+
 run_fits : (q : Name) (e : End) (n : ℕ) (x : End) → reserved_by q (receiving (current e).request.shape (fills e n) x) + if_same x.receive_queue q (length (arrivals e n x)) ≤ reserved_by q x
-unfolding receiving arrivals used_by receive_for unused_after received_whole
-run_fits q e n x = by (is_send (kind_of (current e))) (fills e n) (is_some (current e).request.shape.imm)
-  where
-    by : (b w i : Bool) →
-        reserved_by q (if b then record x { in_use = if w then None else step.first_receive x.in_use x.unused; unused = if is_some x.in_use then x.unused else drop 1 x.unused } else if i && w then record x { unused = drop 1 x.unused } else x)
-        + if_same x.receive_queue q (length (if w then received_whole x.number (current e) (if b then step.first_receive x.in_use x.unused else if i then slice_get x.unused 0 else None) else [])) ≤ reserved_by q x
-    by true true i = uses_within q x None (if is_some x.in_use then x.unused else drop 1 x.unused) _ (uses_one x.number (current e) x.in_use x.unused)
-    by true false i = uses_within q x (step.first_receive x.in_use x.unused) (if is_some x.in_use then x.unused else drop 1 x.unused) 0 (keeps_one x.in_use x.unused)
-    by false true true = uses_within q x x.in_use (drop 1 x.unused) _ (drops_one x.number (current e) x.in_use x.unused)
-    by false true false = uses_within q x x.in_use x.unused 0 (omega arith)
-    by false false true = uses_within q x x.in_use x.unused 0 (omega arith)
-    by false false false = uses_within q x x.in_use x.unused 0 (omega arith)
+run_fits q e n x = run_uses e n x (λ y k. reserved_by q y + if_same x.receive_queue q k ≤ reserved_by q x) (uses_within q x)
 
 arrivals_as : (e : End) (n : ℕ) (x y : End) → IsReservedAs y x → arrivals e n y ≡ arrivals e n x
 unfolding arrivals used_by receive_for
 arrivals_as e n x y s = λ k. if fills e n then received_whole (s.number k) (current e) (if is_send (kind_of (current e)) then step.first_receive (s.in_use k) (s.unused k) else if is_some (current e).request.shape.imm then slice_get (s.unused k) 0 else None) else []
 
-advanced_as : (e : End) (n : ℕ) → IsReservedAs (advanced e n) e
+pub advanced_as : (e : End) (n : ℕ) → IsReservedAs (advanced e n) e
 unfolding advanced acted_with
 advanced_as e n = by (fills e n)
   where
@@ -288,7 +293,7 @@ advanced_as e n = by (fills e n)
     by true = record { number = refl; send_queue = refl; receive_queue = refl; posted = refl; told = refl; in_use = refl; unused = refl }
     by false = record { number = refl; send_queue = refl; receive_queue = refl; posted = refl; told = refl; in_use = refl; unused = refl }
 
-placed_end : (m : Machine) (c : Name) (e x : End) (new : List ℕ) (o : ObjName) → end_of (placing m c e x new) o ≡ end_of m o
+pub placed_end : (m : Machine) (c : Name) (e x : End) (new : List ℕ) (o : ObjName) → end_of (placing m c e x new) o ≡ end_of m o
 unfolding placing put_in_receive
 placed_end m c e x new o = by (is_send (kind_of (current e))) (receive_for x)
   where
@@ -297,7 +302,7 @@ placed_end m c e x new o = by (is_send (kind_of (current e))) (receive_for x)
     by true (Some v) = end_of-with_regions m c _ o
     by false v = end_of-with_regions m c _ o
 
-placed_queues : (m : Machine) (c : Name) (e x : End) (new : List ℕ) (d : Name) → (context_of (placing m c e x new) d).queues ≡ (context_of m d).queues
+pub placed_queues : (m : Machine) (c : Name) (e x : End) (new : List ℕ) (d : Name) → (context_of (placing m c e x new) d).queues ≡ (context_of m d).queues
 unfolding placing put_in_receive
 placed_queues m c e x new d = by (is_send (kind_of (current e))) (receive_for x)
   where
@@ -361,7 +366,7 @@ waited_load m o c q = by ((end_of m o).rnr == 7) ((end_of m o).waits == (end_of 
     by false true = ended_load m o status.RnrExceeded c q
     by false false = same_end m o _ (λ k. refl) c q
 
-may_told : (m : Machine) (o : ObjName) → may_tell m o ≡ true → (end_of m o).told < length (end_of m o).posted
+pub may_told : (m : Machine) (o : ObjName) → may_tell m o ≡ true → (end_of m o).told < length (end_of m o).posted
 unfolding may_tell has_untold
 may_told m o may = ltb-true (end_of m o).told (length (end_of m o).posted) (both _ _ (both _ _ (both _ _ may).0).1).1
 

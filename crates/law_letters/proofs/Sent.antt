@@ -41,9 +41,10 @@ use Rattle.law_letters.proofs.Flags.{ending_long, ending_seen}
 use Rattle.law_letters.proofs.Keyed.{bytes_by_key}
 use Rattle.law_letters.proofs.Opened.{placed_more, sent_more, were_sent}
 use Rattle.law_letters.proofs.PostedAs.{IsHeldAs, as_both, copied_of, copied_stays}
-use Rattle.law_letters.proofs.Posting.{request_at_sender, with_sent}
+use Rattle.law_letters.proofs.Posting.{request_at_sender, sent_standing, with_sent}
 use Rattle.law_letters.proofs.Regions.{region_holds, region_offset}
 use Rattle.law_letters.proofs.Staged.{IsStaged, MaySend, channel_same, is_staged, may_send, message_fits, sender_among, staged_as, worked_before}
+use Rattle.law_letters.proofs.Storing.{standing_stays}
 use Rattle.law_letters.proofs.WorkSteps.{work_keeps}
 
 -- ---- the request of a letter
@@ -169,6 +170,7 @@ module _ (follow : EventsFollowByName) (peers : ℕ) (small : peers ≤ 8) (ts :
               (subst (λ (ds : List Due). AreOfSenders peers (ds ++ dues_of 0 (standing g.held.machine receiver))) (sym owed) g.held.all.dues);
         };
         as_posted = λ q low high. record { receiver_same = refl; dues_same = refl; owed_same = owed; copied_same = copied q low };
+        standing_same = refl;
       }
 
   -- what is posted and due at the receivers' ends is as before
@@ -180,11 +182,11 @@ module _ (follow : EventsFollowByName) (peers : ℕ) (small : peers ≤ 8) (ts :
   seen_as machine' s seen receiver_is dues_are q low high (inr apart) = (ap (λ (x : Sight). x.receiver) (seen.others q low high apart), ap (λ (x : Sight). x.dues) (seen.others q low high apart))
 
   -- the letter was posted
-  posted_held : (m3 : Mail) (machine' : Machine) (s : Sight) → Stands m3.world machine' → IsSeenAt peers g.held.machine machine' i s → m3.owed ≡ m2.owed → ((q : ℕ) → 1 ≤ q → q ≢ i → IsSameFor (channel m2 q) (channel m3 q)) → length m3.channels ≡ length m2.channels →
+  posted_held : (m3 : Mail) (machine' : Machine) (s : Sight) → Stands m3.world machine' → IsSeenAt peers g.held.machine machine' i s → standing machine' receiver ≡ standing g.held.machine receiver → m3.owed ≡ m2.owed → ((q : ℕ) → 1 ≤ q → q ≢ i → IsSameFor (channel m2 q) (channel m3 q)) → length m3.channels ≡ length m2.channels →
       channel m3 i ≡ sending l (channel m2 i) → IsKept i (owed_with m2.owed s) (sending l (channel m2 i)) (sent_letters i ts ++ l ∷ []) (placed_letters i ts ++ record { place = length (sent_letters i ts); letter = l } ∷ []) →
       s.receiver ≡ (sight_of g.held.machine [] i).receiver → s.dues ≡ (sight_of g.held.machine [] i).dues → ((q : ℕ) → 1 ≤ q → copied_of (channel m3 q) ≡ copied_of (channel m2 q)) →
       IsHeldAs peers (ts ++ record { call = Send i l.tag l.body; reply = IsSent } ∷ []) m2 m3 g.held.machine
-  posted_held m3 machine' s stands seen owed same long is kept receiver_is dues_are copied =
+  posted_held m3 machine' s stands seen standing_is owed same long is kept receiver_is dues_are copied =
       let t : Turn = record { call = Send i l.tag l.body; reply = IsSent } in
       let sent : IsKept i (owed_with m2.owed s) (sending l (channel m2 i)) (sent_letters i (ts ++ t ∷ [])) (placed_letters i ts ++ record { place = length (sent_letters i ts); letter = l } ∷ []) =
       subst (λ (ls : List Letter). IsKept i (owed_with m2.owed s) (sending l (channel m2 i)) ls (placed_letters i ts ++ record { place = length (sent_letters i ts); letter = l } ∷ [])) (sym (sent_here i l ts)) kept in
@@ -206,6 +208,7 @@ module _ (follow : EventsFollowByName) (peers : ℕ) (small : peers ≤ 8) (ts :
               (subst (λ (ds : List Due). AreOfSenders peers (m2.owed ++ ds)) (sym seen.standing_same) g.held.all.dues));
         };
         as_posted = λ q low high. let d = seen_as machine' s seen receiver_is dues_are q low high (one_or_not q i) in record { receiver_same = d.0; dues_same = d.1; owed_same = owed; copied_same = copied q low };
+        standing_same = standing_is;
       }
 
   -- ---- by the answer
@@ -241,10 +244,10 @@ module _ (follow : EventsFollowByName) (peers : ℕ) (small : peers ≤ 8) (ts :
   sent_now done = by leaves
     where
       goes : (machine' : Machine) (s : Sight) → s.receiver ≡ (sight_of g.held.machine [] i).receiver → s.dues ≡ (sight_of g.held.machine [] i).dues → Stands (asking (staged m i l) (send_event i (length (message_of i l)))).mail.world machine' → IsSeenAt peers g.held.machine machine' i s →
-          IsKept i (owed_with m2.owed s) (sending l (channel m2 i)) (sent_letters i ts ++ l ∷ []) (placed_letters i ts ++ record { place = length (sent_letters i ts); letter = l } ∷ []) →
+          standing machine' receiver ≡ standing g.held.machine receiver → IsKept i (owed_with m2.owed s) (sending l (channel m2 i)) (sent_letters i ts ++ l ∷ []) (placed_letters i ts ++ record { place = length (sent_letters i ts); letter = l } ∷ []) →
           IsHeldAs peers (ts ++ record { call = Send i l.tag l.body; reply = IsSent } ∷ []) m2 (with_channel (asking (staged m i l) (send_event i (length (message_of i l)))).mail i (sending l)) g.held.machine
-      goes machine' s receiver_is dues_are stands seen kept =
-          posted_held (with_channel (asking (staged m i l) (send_event i (length (message_of i l)))).mail i (sending l)) machine' s stands seen refl
+      goes machine' s receiver_is dues_are stands seen standing_is kept =
+          posted_held (with_channel (asking (staged m i l) (send_event i (length (message_of i l)))).mail i (sending l)) machine' s stands seen standing_is refl
           (λ q low apart. subst (λ (c : Channel). IsSameFor (channel m2 q) c) (sym (changed_elsewhere (asking (staged m i l) (send_event i (length (message_of i l)))).mail i there (sending l) q low (λ e. apart (sym e)))) (same_itself (channel m2 q)))
           (changed_long (asking (staged m i l) (send_event i (length (message_of i l)))).mail i there (sending l))
           (changed_there (asking (staged m i l) (send_event i (length (message_of i l)))).mail i there (sending l))
@@ -254,12 +257,15 @@ module _ (follow : EventsFollowByName) (peers : ℕ) (small : peers ≤ 8) (ts :
       opened : IsOpened g.held.machine i
       opened = g.held.all.opened i among.0 among.1
 
+      standing_is : standing (posted g.held.machine (sender_end i) (letter_request i l)) receiver ≡ standing g.held.machine receiver
+      standing_is = sent_standing peers small g.held.machine i among.1 opened (letter_request i l)
+
       either : Stands (asking (staged m i l) (send_event i (length (message_of i l)))).mail.world (posted g.held.machine (sender_end i) (letter_request i l)) →
           (((end_of g.held.machine (sender_end i)).ended ≡ true) × IsSeenAt peers g.held.machine (posted g.held.machine (sender_end i) (letter_request i l)) i (sight_of g.held.machine [] i))
           ⊎ (((end_of g.held.machine (sender_end i)).ended ≡ false) × IsSeenAt peers g.held.machine (posted g.held.machine (sender_end i) (letter_request i l)) i (with_sent peers small g.held.machine i among.1 opened (sent_as i l))) →
           IsHeldAs peers (ts ++ record { call = Send i l.tag l.body; reply = IsSent } ∷ []) m2 (with_channel (asking (staged m i l) (send_event i (length (message_of i l)))).mail i (sending l)) g.held.machine
-      either s (inl x) = goes _ (sight_of g.held.machine [] i) refl refl s x.1 (works_to _ (SendsEnded l is_letter x.0 in_slot))
-      either s (inr x) = goes _ (with_sent peers small g.held.machine i among.1 opened (sent_as i l)) refl refl s x.1 (works_to _ (Sends l is_letter x.0 in_slot))
+      either s (inl x) = goes _ (sight_of g.held.machine [] i) refl refl s x.1 standing_is (works_to _ (SendsEnded l is_letter x.0 in_slot))
+      either s (inr x) = goes _ (with_sent peers small g.held.machine i among.1 opened (sent_as i l)) refl refl s x.1 standing_is (works_to _ (Sends l is_letter x.0 in_slot))
 
       by : Posts g.held.machine (asking (staged m i l) (send_event i (length (message_of i l)))).answer (letter_request i l) i (asking (staged m i l) (send_event i (length (message_of i l)))).mail →
           IsHeldAs peers (ts ++ record { call = Send i l.tag l.body; reply = IsSent } ∷ []) m2 (with_channel (asking (staged m i l) (send_event i (length (message_of i l)))).mail i (sending l)) g.held.machine
@@ -288,6 +294,7 @@ module _ (follow : EventsFollowByName) (peers : ℕ) (small : peers ≤ 8) (ts :
       record {
         held = a.held;
         as_posted = λ q low high. as_both q m m2 (posts_letter m i l).mail h.machine g.held.machine a.held.machine (staged_as peers ts m h.machine i l g q) (a.as_posted q low high);
+        standing_same = a.standing_same ∙ standing_stays h.machine g.held.machine g.like receiver;
       }
 
 pub sends_kept : EventsFollowByName → SendsAreKept

@@ -23,7 +23,8 @@ use Rattle.law_letters.specs.Settled.{IsAhead, IsPostedLine, reach_of, with_sigh
 use Rattle.law_letters.specs.Works.{IsKeptLine, Line}
 use Rattle.law_letters.proofs.Ahead.{further, moves_are_ahead, stays}
 use Rattle.law_letters.proofs.AllSteps.{all_seen}
-use Rattle.law_letters.proofs.Held.{in_range, is_inner, no_parts, settling_of_network, unheard}
+use Rattle.law_letters.proofs.EachCall.{settling_of_network}
+use Rattle.law_letters.proofs.Held.{in_range, is_inner, no_parts, unheard}
 use Rattle.law_letters.proofs.Posted.{moves_keep_posted}
 use Rattle.law_letters.proofs.Seen.{enough_seen}
 use Rattle.law_letters.proofs.Steps.{moves_keep}
@@ -101,7 +102,7 @@ module _ (peers : ℕ) (follow : (e : WorldEvent) → AlwaysFollows e) (ts : Lis
         ahead = a.ahead;
       }
 
-  pub events_lead : (m : Mail) (machine : Machine) (es : List WorldEvent) → All (λ e. is_of_network e ≡ true) es → IsHeldIn peers ts m machine → LeadsTo peers ts m (with_world m (world_after m.world es)) machine
+  events_lead : (m : Mail) (machine : Machine) (es : List WorldEvent) → All (λ e. is_of_network e ≡ true) es → IsHeldIn peers ts m machine → LeadsTo peers ts m (with_world m (world_after m.world es)) machine
   unfolding world_after
   events_lead m machine [] net h = record { machine' = machine; held = h; ahead = λ i low high. stays (reach_of (line_of machine m ts i)) }
   events_lead m machine (e ∷ es) net h =

@@ -19,7 +19,7 @@ use Rattle.letter_rules.specs.declared.letters.Letter.{Letter}
 use Rattle.letter_rules.specs.Calls.{header_for, is_full, message_of, send_fault, staged, storing, untold_at}
 use Rattle.letter_rules.specs.Histories.{Turn}
 use Rattle.letter_rules.specs.Letters.{header_bytes, is_rendezvous}
-use Rattle.letter_rules.specs.Opening.{depth, place_bytes, sender_region, slot_address, staging_address}
+use Rattle.letter_rules.specs.Opening.{depth, place_bytes, receiver, sender_region, slot_address, staging_address}
 use Rattle.letter_rules.specs.State.{Channel, Mail, channel, context_at, is_away, is_sender, or_fresh}
 use Rattle.letter_rules.specs.Wanting.{AllStored, BodyStored, IsPartlyStored, NotStored}
 use Rattle.letter_rules.specs.Working.{asking, begun, most_steps, worked, working}
@@ -30,7 +30,7 @@ use Rattle.law_letters.proofs.Bytes.{cut_behind, cut_joined, cut_nothing}
 use Rattle.law_letters.proofs.Channels.{IsSender, sender_is}
 use Rattle.law_letters.proofs.PostedAs.{IsHeldAs, IsPostedAs, as_itself, like_as}
 use Rattle.law_letters.proofs.Stored.{IsStoredAt, store_held}
-use Rattle.law_letters.proofs.Storing.{IsLikeMachine, like_both, like_machine_itself}
+use Rattle.law_letters.proofs.Storing.{IsLikeMachine, like_both, like_machine_itself, standing_stays}
 use Rattle.law_letters.proofs.Worked.{works_kept}
 
 -- ---- why a letter may be sent
@@ -223,15 +223,19 @@ pub staged_as : (peers : ℕ) (ts : List Turn) (m : Mail) (machine : Machine) (i
 staged_as peers ts m machine i l s q = like_as m (staged m i l) machine s.held.machine s.like s.channels (staged_owed m i l) q
 
 pub stored_as : EventsFollowByName → (peers : ℕ) → peers ≤ 8 → (ts : List Turn) (m : Mail) (i : ℕ) (l : Letter) {m' : Mail} → MayBeSent l → (h : IsHeld peers ts m) → MaySend m i l.body → IsPartlyStored m i l m' → IsHeldAs peers ts m m' h.machine
-stored_as follow peers small ts m i l may h free NotStored = record { held = h; as_posted = λ q low high. as_itself q m h.machine }
+stored_as follow peers small ts m i l may h free NotStored = record { held = h; as_posted = λ q low high. as_itself q m h.machine; standing_same = refl }
 stored_as follow peers small ts m i l may h free (BodyStored long) =
     let among = sender_among peers ts m i h free.there in
     let s = body_stored follow peers small ts m h i among.0 among.1 l may free long in
-    record { held = s.held; as_posted = λ q low high. like_as m (storing m i slot_address l.body) h.machine s.held.machine s.like s.channels (storing_owed m i slot_address l.body) q }
+    record {
+      held = s.held;
+      as_posted = λ q low high. like_as m (storing m i slot_address l.body) h.machine s.held.machine s.like s.channels (storing_owed m i slot_address l.body) q;
+      standing_same = standing_stays h.machine s.held.machine s.like receiver;
+    }
 stored_as follow peers small ts m i l may h free AllStored =
     let among = sender_among peers ts m i h free.there in
     let s = is_staged follow peers small ts m h i among.0 among.1 l may free in
-    record { held = s.held; as_posted = λ q low high. staged_as peers ts m h.machine i l s q }
+    record { held = s.held; as_posted = λ q low high. staged_as peers ts m h.machine i l s q; standing_same = standing_stays h.machine s.held.machine s.like receiver }
 
 pub stores_kept : EventsFollowByName → StoresAreKept
 stores_kept follow peers small ts m i l m' may h fault stored = (stored_as follow peers small ts (working m) i l may (worked_before follow peers small ts m h) (may_send (working m) i l.body fault) stored).held

@@ -84,7 +84,7 @@ module _ (follow : EventsFollowByName) (peers : ℕ) (small : peers ≤ 8) (ts :
       }) in
       subst (λ (x : Sight). IsKept i x (channel m1 i) (sent_letters i ts) (placed_letters i ts)) seen flags
 
-  noted_held : IsHeld peers ts m1
+  pub noted_held : IsHeld peers ts m1
   noted_held = record {
     machine = p.machine';
     stands = subst (λ (w : World). Stands w p.machine') (sym noted.world) p.stands;

@@ -1,7 +1,9 @@
+pub mod AlwaysFew
 pub mod Answered
 pub mod Arrived
 pub mod Beginning
 pub mod Calls
+pub mod Few
 pub mod Finished
 pub mod Headers
 pub mod Held

@@ -1,12 +1,14 @@
-//! The laws of letters over moving connections, as far as they are proved.
+//! The laws of letters over moving connections.
 //!
 //! The functions do nothing. Each promises the law that it names.
 #![tactic(auto)]
 
+ghost use Rattle.law_letters.specs.AlwaysFew.{AllAreFew, BeginningIsFew, WorkAlwaysFindsRoom};
 ghost use Rattle.law_letters.specs.Answered.{EventsLeaveFurnished, FirstIsFurnished, SendsAreAnswered, SendsLeaveFurnished, StoresLeaveFurnished, WorksLeaveFurnished};
 ghost use Rattle.law_letters.specs.Arrived.{LettersAreGiven, OpenLettersWereSent};
 ghost use Rattle.law_letters.specs.Beginning.{BeginningIsHeld};
 ghost use Rattle.law_letters.specs.Calls.{SendsAreKept, StoresAreKept, WorksAreKept};
+ghost use Rattle.law_letters.specs.Few.{FewHaveRoom, StepsKeepFew, WorksKeepFew};
 ghost use Rattle.law_letters.specs.Finished.{AllIsGiven, BeginsSo, DuesAreSeen, EventsKeepSo, NoneIsFull, WorkingIsEnough, WorksAreSeen, WorksKeepSo};
 ghost use Rattle.law_letters.specs.Headers.{HeadersAreRead, MessagesAreRead};
 ghost use Rattle.law_letters.specs.Held.{KeepingIsEnough};
@@ -23,6 +25,7 @@ ghost use Rattle.law_letters.specs.Reached.{AllIsPosted, LettersAreHereAfterSett
 ghost use Rattle.law_letters.specs.Settled.{MovesAreAhead, MovesKeepPosted, ThreeRoundsAreEnough, WorkKeepsPosted, WorksGoAhead};
 ghost use Rattle.law_letters.specs.Whole.{AllIsKept, LettersAreTakenWhole};
 ghost use Rattle.law_letters.specs.Works.{WorkKeeps};
+ghost use Rattle.letter_rules.specs.Theorem.{LettersAreKept};
 
 use law_settling::steps::settling_is_named;
 use law_simulation::relation::starts;
@@ -57,9 +60,11 @@ pub fn keeping_is_enough()
 }
 
 /// What is held between calls is held before the first one, with 1 to 8 senders: the world stands for a machine in which each
-/// connection has its two ends, its regions and queues, and 16 receives at each end, nothing was sent, and nothing is due.
+/// connection has its two ends, its regions and queues, and 16 receives at each end, nothing was sent, and nothing is due; and no
+/// completion stands in the receiver's queue.
 pub fn beginning_is_held()
-    ensures { BeginningIsHeld }
+    ensures held { BeginningIsHeld }
+    ensures few { BeginningIsFew }
 {
     starts();
     steps_are_named();
@@ -306,6 +311,52 @@ pub fn steps_add_no_load()
     ensures { StepsAddNoLoad }
 {}
 
+/// An inner step of the machine keeps it so that few completions stand in the receiver's queue: those that it adds are of one
+/// connection, and complete receives and requests that its end had left.
+pub fn steps_keep_few()
+    ensures { StepsKeepFew }
+{}
+
+/// Any number of steps of work keep it that few completions stand in the receiver's queue and few of its places are reserved: a poll takes
+/// all completions that stand there, each message that is to be copied takes the place of one receive, and at most one long letter waits
+/// for its body, so that few requests are not told or are to be posted.
+pub fn works_keep_few()
+    ensures { WorksKeepFew }
+{
+    steps_are_named();
+}
+
+/// At most 18 places of the receiver's queue are taken or reserved for each sender: those of its 16 receives, and of two requests, since
+/// at most one long letter waits for its slot to be freed. So the queue has room.
+pub fn few_have_room()
+    ensures { FewHaveRoom }
+{}
+
+/// With 1 to 8 senders, after any calls few completions stand in the receiver's queue, and few places of it are reserved.
+pub fn few_stand_always()
+    ensures { AllAreFew }
+{
+    steps_keep_few();
+    works_keep_few();
+    beginning_is_held();
+    all_is_kept();
+    sends_are_answered_after_work();
+    work_stops_in_time();
+    steps_are_named();
+    events_follow();
+    settling_is_named();
+}
+
+/// So the work of each call finds room in that queue all the while.
+pub fn work_finds_room()
+    ensures { WorkAlwaysFindsRoom }
+{
+    few_stand_always();
+    works_keep_few();
+    few_have_room();
+    contexts_stay_furnished();
+}
+
 /// With 1 to 8 senders, where the work of each call finds room in the receiver's queue all the while, all is posted after any calls:
 /// a Read for each long letter that was copied, and a Send of no bytes for each body, unless one is still due or the receiver's end is
 /// over.
@@ -316,7 +367,6 @@ pub fn all_is_posted()
     sends_are_answered_after_work();
     all_is_kept();
     steps_are_named();
-    events_follow();
     settling_is_named();
     work_stops_in_time();
 }
@@ -337,4 +387,13 @@ pub fn letters_are_kept_where_work_finds_room()
 {
     letters_are_taken_whole();
     letters_are_here_after_settling();
+}
+
+/// The theorem on letters: with 1 to 8 senders, after any calls, letters are taken whole, once and in order; none is given exactly where
+/// its bytes are not here; and after settling and working three times everything is here.
+pub fn letters_are_kept()
+    ensures { LettersAreKept }
+{
+    work_finds_room();
+    letters_are_kept_where_work_finds_room();
 }

@@ -2,7 +2,7 @@ use Rattle.law_letters.proofs.Continuing.{begins_so, events_keep_so, works_keep_
 use Rattle.law_letters.proofs.posting_goes_on.Goals as goal
 
 pub returns-clause-begins : goal.returns-clause-begins
-returns-clause-begins c = begins_so c.beginning_is_held.ensures
+returns-clause-begins c = begins_so c.beginning_is_held.ensures.held
 
 pub returns-clause-events : goal.returns-clause-events
 returns-clause-events c = events_keep_so c.events_follow.ensures
