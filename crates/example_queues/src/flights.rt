@@ -26,7 +26,7 @@ fn datagram(alloc: Global, number: Option<u64>) -> Result<Sent, AllocError> {
 /// Sends it, where a number is left.
 fn send(fabric: &mut Fabric, s: Sent) {
     if fabric.next() < 1 << 63 {
-        fabric.send(ONE, s);
+        let _ = fabric.send(ONE, s);
     }
 }
 

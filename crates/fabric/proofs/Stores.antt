@@ -1,11 +1,11 @@
 -- The kept datagrams behind those that are not kept any more, and what the rules say of them.
-use Rattle.std.proofs.Common.{◌≡◌, ℕ, zero, suc, ◌+◌, ◌-◌, ◌<◌, ◌≤◌, ◌⊎◌, ◌&&◌, ◌||◌, not, if◌then◌else◌, true, false, List, [], ◌∷◌, ◌++◌, length, get_or, set, drop, replicate, Some, None, refl, sym, ap, ◌∙◌, arith, inl, inr, add-zero, length-append, length-drop, length-set}
-use Rattle.std.proofs.lemmas.Bool.{cases_Bool, and_from, and_parts, leb-true, ltb-true, le-leb, lt-ltb, false_from_ne_true, and_right}
+use Rattle.std.proofs.Common.{◌≡◌, ℕ, zero, suc, ◌+◌, ◌-◌, ◌<◌, ◌≤◌, ◌⊎◌, ◌&&◌, ◌||◌, not, nat_lt, if◌then◌else◌, true, false, List, [], ◌∷◌, ◌++◌, length, get_or, set, drop, replicate, Some, None, refl, sym, ap, ◌∙◌, arith, inl, inr, add-zero, length-append, length-drop, length-set}
+use Rattle.std.proofs.lemmas.Bool.{cases_Bool, and_from, and_parts, leb-true, ltb-true, ltb-false, le-leb, lt-ltb, false_from_ne_true, and_right}
 use Rattle.std.proofs.lemmas.List.{length-replicate, append_assoc, drop_at, drop-drop, drop-append-le}
 use Rattle.std.specs.List.{prefix_len, slice_get}
 use Rattle.protocol.specs.State.{Flight}
 use Rattle.protocol.specs.Fabric.{is_kept, kept_flight, changed_at, marked_taken, marked_lost, pending_from, first_of, pending}
-use Rattle.fabric.specs.Store.{blank, after_blanks, forgetting, is_settled, IsStore}
+use Rattle.fabric.specs.Store.{blank, after_blanks, forgetting, is_settled, oldest_of_full, IsStore}
 use Rattle.fabric.proofs.Prefixes.{prefix_within, prefix_from, prefix-set_passing, prefix-append_more, prefix-drop_fewer}
 
 -- ---- which are kept
@@ -60,6 +60,11 @@ length-after_blanks gone kept = omega (arith, length-append (replicate gone blan
 
 -- ---- the store's answers
 
+-- nothing was forgotten, or the store is full
+none_or_full : (gone n : ℕ) → (0 < gone → n ≡ 16384) → (gone ≡ 0) ⊎ (n ≡ 16384)
+none_or_full zero n h = inl refl
+none_or_full (suc gone) n h = inr (h (omega arith))
+
 -- a kept datagram
 pub kept_flight-here : (gone : ℕ) (kept : List Flight) (k i : ℕ) → length kept ≤ 16384 → (0 < gone → length kept ≡ 16384) → i < length kept → k ≡ gone + i + 1 → kept_flight (after_blanks gone kept) k ≡ slice_get kept i
 unfolding kept_flight
@@ -72,6 +77,22 @@ pub kept_flight-gone : (gone n : ℕ) (kept : List Flight) (k : ℕ) → (0 < go
 unfolding kept_flight
 kept_flight-gone gone n kept k full all (inl below) = rw (length-after_blanks gone kept, not_kept_before gone (length kept) k full below) refl
 kept_flight-gone gone n kept k full all (inr above) = rw (length-after_blanks gone kept, not_kept_after gone (length kept) k (omega arith)) refl
+
+-- the oldest one of a full store
+pub kept_flight-oldest : (gone : ℕ) (kept : List Flight) → length kept ≤ 16384 → (0 < gone → length kept ≡ 16384) → oldest_of_full kept ≡ kept_flight (after_blanks gone kept) (length (after_blanks gone kept) - 16383)
+kept_flight-oldest gone kept room full =
+    let all = length-after_blanks gone kept in
+    elim (cases_Bool (nat_lt (length kept) 16384)) [
+      | inl less ↦
+          let fewer = ltb-true (length kept) 16384 less in
+          let none : gone ≡ 0 = elim (none_or_full gone (length kept) full) [ inl none ↦ none | inr every ↦ absurd (omega arith) ] in
+          let place : length (after_blanks gone kept) - 16383 ≡ 0 = omega arith in
+          rw (less, place) (sym (kept_flight-gone gone (length kept) kept 0 full refl (inl (omega arith))))
+      | inr more ↦
+          let many = ltb-false (length kept) 16384 more in
+          let at : length (after_blanks gone kept) - 16383 ≡ gone + 0 + 1 = omega arith in
+          rw (more, at) (sym (kept_flight-here gone kept (gone + 0 + 1) 0 room full (omega arith) refl))
+    ]
 
 -- ---- the store changed
 
@@ -167,11 +188,6 @@ pending-none gone settled kept store all =
     rw (pending-kept gone kept store.full) (none_pending (gone + length kept) (gone + 1) kept (omega (arith, store.front)))
 
 -- ---- sending
-
--- nothing was forgotten, or the store is full
-none_or_full : (gone n : ℕ) → (0 < gone → n ≡ 16384) → (gone ≡ 0) ⊎ (n ≡ 16384)
-none_or_full zero n h = inl refl
-none_or_full (suc gone) n h = inr (h (omega arith))
 
 -- one more, and n oldest ones are forgotten: none where there is room, and one where there is not
 pub forgetting-send : (gone n : ℕ) (kept : List Flight) (f : Flight) → length kept ≤ 16384 → (0 < gone → length kept ≡ 16384) → n ≡ length kept + 1 - 16384 → after_blanks (gone + n) (drop n kept ++ f ∷ []) ≡ forgetting (after_blanks gone kept ++ f ∷ [])

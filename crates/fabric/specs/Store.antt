@@ -1,5 +1,5 @@
 -- What the network's store knows of the list of every datagram ever sent: it keeps the last 16,384.
-use Rattle.std.specs.Prelude.{ℕ, ◌≡◌, ◌+◌, ◌-◌, ◌^◌, ◌<◌, ◌≤◌, ◌&&◌, ◌||◌, not, Bool, false, List, [], ◌++◌, length, drop, replicate, Option, Some, None}
+use Rattle.std.specs.Prelude.{ℕ, ◌≡◌, ◌+◌, ◌-◌, ◌^◌, ◌<◌, ◌≤◌, ◌&&◌, ◌||◌, not, Bool, false, List, [], ◌++◌, length, drop, replicate, slice_get, nat_lt, if◌then◌else◌, Option, Some, None}
 use Rattle.std.specs.List.{prefix_len}
 use Rattle.rdma_types.specs.Limits.{most_flights}
 use Rattle.rdma_types.specs.Objects.{no_address}
@@ -17,6 +17,10 @@ after_blanks n kept = replicate n blank ++ kept
 -- every datagram ever sent, where those that are not kept any more are blank
 unfoldable pub forgetting : List Flight → List Flight
 forgetting sent = after_blanks (length sent - most_flights) (drop (length sent - most_flights) sent)
+
+-- the oldest of 16,384 datagrams, and none of fewer
+abbrev pub oldest_of_full : List Flight → Option Flight
+oldest_of_full kept = if nat_lt (length kept) 16384 then None else slice_get kept 0
 
 -- it is lost or taken, so it is not pending
 abbrev pub is_settled : Flight → Bool

@@ -7,7 +7,7 @@ ghost use Rattle.std.specs.List.{prefix_len};
 ghost use Rattle.std.specs.Option.{option_copied};
 ghost use Rattle.std.specs.VecDeque.{deque_capacity, deque_len};
 ghost use Rattle.protocol.specs.Fabric as rules;
-ghost use Rattle.fabric.specs.Store.{forgetting, is_pending, is_settled};
+ghost use Rattle.fabric.specs.Store.{forgetting, is_pending, is_settled, oldest_of_full};
 
 mod flights;
 mod laws;
@@ -69,20 +69,21 @@ impl Fabric {
         self.gone + self.ring.len() as u64 + 1
     }
 
-    /// Keeps a datagram from this address under the next number, which is the answer, and forgets the oldest one where
-    /// 16,384 are kept. The next number is below 2^63.
-    pub fn send(&mut self, from: Address, s: Sent) -> u64
+    /// Keeps a datagram from this address under the next number, and forgets the oldest one where 16,384 are kept; that
+    /// one is the answer. The next number is below 2^63. It takes no memory.
+    pub fn send(&mut self, from: Address, s: Sent) -> Option<Flight>
         requires { length self.old + 1 < 2 ^ 63 }
-        ensures number { result ≡ length self.old + 1 }
+        ensures forgotten { result ≡ rules.kept_flight self.old (length self.old - 16383) }
         ensures sent { self.new ≡ forgetting (rules.sending self.old from (s ∷ [])) }
         ensures count { length self.new ≡ length self.old + 1 }
     {
+        let count = (self.ring.len() + 1).saturating_sub(ROOM);
         let forgotten = forget_oldest(&mut self.ring);
-        self.gone += forgotten as u64;
-        self.settled = self.settled.saturating_sub(forgotten);
+        self.gone += count as u64;
+        self.settled = self.settled.saturating_sub(count);
         self.ring.push_back_reserved(Flight::new(from, s));
         self.settled = unsettled_from(&self.ring, self.settled);
-        self.gone + self.ring.len() as u64
+        forgotten
     }
 
     /// Datagram `k`, whether lost or not; None where it is not among the last 16,384.
@@ -163,18 +164,17 @@ fn place_of(k: u64, gone: u64, count: usize) -> Option<usize>
     }
 }
 
-/// Forgets the oldest datagram where the store is full, and says how many it forgot.
-fn forget_oldest(ring: &mut VecDeque<Flight>) -> usize
+/// Forgets the oldest datagram where the store is full, and gives it.
+fn forget_oldest(ring: &mut VecDeque<Flight>) -> Option<Flight>
     requires { length ring.old.items ≤ 16384 }
-    ensures count { result ≡ length ring.old.items + 1 - 16384 }
-    ensures rest { ring.new.items ≡ drop result ring.old.items }
+    ensures oldest { result ≡ oldest_of_full ring.old.items }
+    ensures rest { ring.new.items ≡ drop (length ring.old.items + 1 - 16384) ring.old.items }
     ensures room { deque_capacity ring.new ≡ deque_capacity ring.old }
 {
     if ring.len() < ROOM {
-        return 0;
+        return None;
     }
-    let _ = ring.pop_front();
-    1
+    ring.pop_front()
 }
 
 /// The first place from `from` on whose datagram is neither lost nor taken, or the end.

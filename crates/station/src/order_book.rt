@@ -48,7 +48,7 @@ fn send_all(fabric: &mut Fabric, from: Address, sent: Vec<Sent>)
     ensures { fabric.new ≡ forgetting (sending fabric.old from sent.items) }
 {
     for datagram in sent {
-        fabric.send(from, datagram);
+        let _ = fabric.send(from, datagram);
     }
 }
 
