@@ -86,7 +86,7 @@ impl Flight {
     }
 
     /// What it is where its receiver is at number `now`.
-    pub(crate) fn look(&self, now: u64) -> Look<'_>
+    pub fn look(&self, now: u64) -> Look<'_>
         ensures { told result ≡ look_at (Some self.now) now }
     {
         if self.lost {
