@@ -1,11 +1,13 @@
 -- A datagram that an end of a context takes.
-use Rattle.std.proofs.Common.{◌≡◌, ℕ, zero, suc, ◌≤◌, ◌^◌, true, false, List, [], ◌∷◌, length, refl, ap, sym, ◌∙◌, subst, arith}
-use Rattle.std.specs.Prelude.{Option, Some, None, IfSome, IsSome, is_none, map, option_map, slice_get}
+use Rattle.std.proofs.Common.{◌≡◌, ℕ, zero, suc, ◌≤◌, ◌^◌, Bool, true, false, List, [], ◌∷◌, length, refl, ap, sym, ◌∙◌, subst, arith}
+use Rattle.std.specs.Prelude.{◌==◌, ◌||◌, Option, Some, None, IfSome, IsSome, IsSomeAnd, is_none, map, option_map, slice_get}
 use Rattle.std.specs.Option.{option_map_or}
+use Rattle.std.specs.Bool.{OnTrue}
 use Rattle.std.specs.Map.{values_of}
 use Rattle.rdma_types.specs.declared.answers.Sent.{Sent}
 use Rattle.rdma_types.specs.declared.answers.Took.{Took}
 use Rattle.rdma_types.specs.declared.names.Name.{Name}
+use Rattle.rdma_types.specs.Objects.{Region}
 use Rattle.rdma_types.specs.Spans.{pieces}
 use Rattle.page_pool.specs.Pool.{Pool}
 use Rattle.completion_queue.specs.Queue.{Queue}
@@ -14,7 +16,7 @@ use Rattle.memory_keys.specs.Regions.{regions_of}
 use Rattle.protocol.specs.EndStep.{takes}
 use Rattle.protocol.specs.EndWords.{EndStep}
 use Rattle.protocol.specs.State.{Context, End, Link}
-use Rattle.protocol.specs.Wire.{Packet}
+use Rattle.protocol.specs.Wire.{Packet, is_request}
 use Rattle.endpoint_core.specs.declared.answers.DueRead.{DueRead}
 use Rattle.endpoint_core.specs.declared.answers.EndReply.{EndReply}
 use Rattle.endpoint_core.specs.declared.answers.EndReply.TheVariants.{Nothing, Acknowledge, ReadBytes, Old, ResumeAck}
@@ -24,10 +26,12 @@ use Rattle.endpoint_core.specs.Answers.{sent_by, sent_of, taken_at}
 use Rattle.endpoint_core.specs.Due.{WasDue, due_in, responses}
 use Rattle.endpoint_core.specs.Ends.{Names, link_in}
 use Rattle.endpoint_core.specs.Sites.{IsHome, EndWithMemory, end_at, home}
+use Rattle.context_core.specs.declared.datagrams.DatagramBuffer.{DatagramBuffer}
 use Rattle.context_core.specs.declared.state.EndSlot.{EndSlot}
-use Rattle.context_core.specs.Arriving.{AreReady, IsSentFor}
+use Rattle.context_core.specs.Arriving.{AreReady, HasRoom, IsRoomFor, IsSentFor}
 use Rattle.context_core.specs.Context.{Holding, context_in, end_of, names_in, site_in}
 use Rattle.context_core.specs.Heads.{link_at, link_by}
+use Rattle.context_core.specs.Sending.{IsDatagramBuffer}
 use Rattle.context_core.proofs.EndSteps.{after, site_after}
 use Rattle.context_core.proofs.EndStepCalls.{Steps, entry, entry-there}
 
@@ -85,6 +89,39 @@ few-sent new (Acknowledge number syndrome) read sent few is = let n = ap length 
 few-sent new (ReadBytes spot first count) read sent few is = subst (λ o. IfSome o (λ list. length list ≤ 2 ^ 32)) is few
 few-sent new (Old number value) read sent few is = let n = ap length is in let one = one-sent new (Old number value) new.end.link refl (λ l. omega arith) in omega (arith, n, one)
 few-sent new (ResumeAck count address) read sent few is = let n = ap length is in let one = one-sent new (ResumeAck count address) new.end.link refl (λ l. omega arith) in omega (arith, n, one)
+
+-- ---- memory for a reply
+
+gives-room : (r : EndReply) (room : Option DatagramBuffer) → IsSomeAnd room (λ b. IsDatagramBuffer b 92) → HasRoom r room
+gives-room Nothing room h = tt
+gives-room (Acknowledge number syndrome) room h = h
+gives-room (ReadBytes spot first count) room h = tt
+gives-room (Old number value) room h = h
+gives-room (ResumeAck count address) room h = h
+
+none-sent : (regions : List Region) (k : Link) (r : EndReply) (room : Option DatagramBuffer) → sent_by regions k r ≡ [] → HasRoom r room
+none-sent regions k Nothing room none = tt
+none-sent regions k (Acknowledge number syndrome) room none = absurd (cc)
+none-sent regions k (ReadBytes spot first count) room none = tt
+none-sent regions k (Old number value) room none = absurd (cc)
+none-sent regions k (ResumeAck count address) room none = absurd (cc)
+
+-- memory for a reply is there, where an end that is connected has one to send
+pub has-room : (opcode : ℕ) (new : EndWithMemory) (r : EndReply) (room : Option DatagramBuffer) → IsRoomFor opcode room → (is_request opcode ≡ false → (opcode == 0x1E) ≡ false → sent_of new r ≡ []) → IfSome new.end.link (λ _. HasRoom r room)
+has-room opcode new r room made none = by (is_request opcode) (opcode == 0x1E) refl refl made
+  where
+    linked : (o : Option EndLink) → option_map_or (λ l. sent_by (regions_of new.pool new.held) (link_in new.pool l) r) o [] ≡ [] → IfSome o (λ _. HasRoom r room)
+    linked None h = tt
+    linked (Some l) h = none-sent (regions_of new.pool new.held) (link_in new.pool l) r room h
+
+    any : (o : Option EndLink) → HasRoom r room → IfSome o (λ _. HasRoom r room)
+    any None h = tt
+    any (Some l) h = h
+
+    by : (a b : Bool) → is_request opcode ≡ a → (opcode == 0x1E) ≡ b → OnTrue (a || b) (IsSomeAnd room (λ x. IsDatagramBuffer x 92)) → IfSome new.end.link (λ _. HasRoom r room)
+    by true b p q h = any new.end.link (gives-room r room h)
+    by false true p q h = any new.end.link (gives-room r room h)
+    by false false p q h = linked new.end.link (none p q)
 
 -- ---- the rule
 

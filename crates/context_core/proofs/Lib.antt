@@ -53,3 +53,4 @@ pub mod NextEndFromImage
 pub mod ContextFromImage
 pub mod SettlingReaders
 pub mod CopiedEntries
+pub mod UnansweredDatagrams

@@ -96,6 +96,11 @@ payload-is pool held spot k mtu from count size bytes is taken all here whole in
     ∙ (piece-bytes pool held spot from count is inside
     ∙ (ap (λ n. cut (spot.off + n) count region.bytes) here ∙ ap (λ n. cut (spot.off + k * mtu) n region.bytes) whole)))
 
+-- a part of so many bytes has no more
+pub cut-few : (off count : ℕ) (xs : List ℕ) → length (cut off count xs) ≤ count
+unfolding cut
+cut-few off count xs = omega (arith, length-take count (drop off xs))
+
 -- .. are no more than the MTU
 pub payload-few : (off mtu size : ℕ) (bytes xs : List ℕ) → bytes ≡ cut off (min mtu size) xs → length bytes ≤ mtu
 unfolding cut

@@ -14,6 +14,7 @@ use Rattle.protocol.specs.Segments.{packet_of_piece}
 use Rattle.protocol.specs.State.{Link}
 use Rattle.protocol.specs.Wire.{Packet}
 use Rattle.context_core.specs.declared.datagrams.DatagramBuffer.{DatagramBuffer}
+use Rattle.context_core.specs.declared.datagrams.TwoBuffers.{TwoBuffers}
 
 -- the packet under a destination of 24 bits, as it is written
 abbrev pub addressed : Packet → Packet
@@ -25,6 +26,15 @@ pub record IsDatagramBuffer (r : DatagramBuffer) (most : ℕ) : Type 0 where
   pub one : 0 < vec_capacity r.sent
   pub empty : r.bytes.items ≡ []
   pub bytes : most ≤ vec_capacity r.bytes
+
+-- memory for one datagram of at most so many bytes, where few bytes have memory of their own
+pub record AreBuffers (r : TwoBuffers) (most : ℕ) : Type 0 where
+  pub none : r.sent.items ≡ []
+  pub one : 0 < vec_capacity r.sent
+  pub no_small : r.small.items ≡ []
+  pub few : 256 ≤ vec_capacity r.small
+  pub no_large : r.large.items ≡ []
+  pub many : most ≤ vec_capacity r.large
 
 -- the fields of a request are in their ranges
 pub record IsInRange (s : Shape) : Type 0 where

@@ -1,9 +1,10 @@
 //! Datagrams taken.
 
-ghost use Rattle.std.specs.Prelude.{ℕ, ◌≡◌, ◌+◌, ◌*◌, ◌<◌, ◌≤◌, ◌^◌, List, [], length, None, Some, IfNone, IfOk, IfSome, IsOk, OnErr, is_none, map, slice_get};
+ghost use Rattle.std.specs.Prelude.{ℕ, ◌≡◌, ◌+◌, ◌*◌, ◌<◌, ◌≤◌, ◌^◌, List, [], length, None, Some, IfNone, IfOk, IfSome, IsOk, OnErr, is_none, map, slice_get, vec_capacity};
 ghost use Rattle.std.specs.Option.{option_map_or};
 ghost use Rattle.rdma_types.specs.Limits.{AreTerms};
-ghost use Rattle.rdma_types.specs.Objects.{Region};
+ghost use Rattle.rdma_types.specs.Lists.{at};
+ghost use Rattle.rdma_types.specs.Objects.{Region, no_region};
 ghost use Rattle.rdma_types.specs.Memory.{cut};
 ghost use Rattle.rdma_types.specs.Spans.{piece_length, pieces};
 ghost use Rattle.page_pool.specs.Pool.{Pool};
@@ -19,14 +20,14 @@ ghost use Rattle.endpoint_core.specs.declared.answers.DueRead.{DueRead};
 ghost use Rattle.endpoint_core.specs.Answers.{IsReply, sent_by};
 ghost use Rattle.endpoint_core.specs.Due.{due_in, responses, telling};
 ghost use Rattle.endpoint_core.specs.Ends.{link_in};
-ghost use Rattle.context_core.specs.Arriving.{AreReady, HasNoBytes, IsSentFor, aeth_at, opcode_at};
+ghost use Rattle.context_core.specs.Arriving.{AreReady, HasNoBytes, HasRoom, IsRoomFor, IsSentFor, aeth_at, opcode_at};
 ghost use Rattle.context_core.specs.Context.{IsContext, Moves, context_in};
 ghost use Rattle.context_core.specs.Heads.{link_at};
-ghost use Rattle.context_core.specs.Sending.{IsDatagramBuffer, addressed};
+ghost use Rattle.context_core.specs.Sending.{addressed};
 
-use crate::ContextState;
-use crate::datagrams::{DatagramBuffer, answer, encoded, moving};
+use crate::datagrams::{DatagramBuffer, answer, memory_for, moving, written};
 use crate::sending::MOST_HEADERS;
+use crate::{Buffers, ContextState};
 use endpoint_core::{DueRead, EndLink, EndMemory, EndReply, Endpoint};
 use memory_keys::{Regions, Spot};
 use page_pool::PagePool;
@@ -34,7 +35,8 @@ use protocol::{Aeth, ResumeBody, Syndrome};
 use rdma_types::{Items, Name, Sent, Took};
 use roce_headers::Datagram;
 use roce_headers::opcodes::{
-    ACKNOWLEDGE, ATOMIC_ACKNOWLEDGE, READ_FIRST, READ_LAST, READ_MIDDLE, READ_ONLY, RESUME_ACK,
+    ACKNOWLEDGE, ATOMIC_ACKNOWLEDGE, READ_FIRST, READ_LAST, READ_MIDDLE, READ_ONLY, RESUME,
+    RESUME_ACK, is_request,
 };
 use segmenter::{piece_at, pieces_of};
 use std::alloc::{AllocError, Global};
@@ -46,10 +48,11 @@ pub struct ArrivalOutcome {
     pub sent: Items<Sent>,
 }
 
-/// What a datagram may be answered with: memory for one datagram, and the READ responses that are due.
+/// What a datagram may be answered with: memory for one datagram, which a response has none of, and the READ responses
+/// that are due.
 #[derive(Drop)]
 struct Replies {
-    room: DatagramBuffer,
+    room: Option<DatagramBuffer>,
     read: Option<Items<Sent>>,
 }
 
@@ -93,6 +96,7 @@ fn read_datagram<'a>(
     requires msn { msn < 2 ^ 24 }
     requires inside { k < count }
     requires bounded { length payload.now ≤ 4096 }
+    ensures loaded { (packet result).payload ≡ payload.now }
     ensures says { (pool : Pool) → packet result ≡ addressed (read_response (telling (link_in pool link.now) msn) n k count payload.now) }
     ensures fits { Fits (packet result) }
 {
@@ -102,31 +106,33 @@ fn read_datagram<'a>(
     answer(opcode, link.peer, start, n, aeth, None, payload)
 }
 
-/// READ response `k` of so many with these bytes, in memory of its own.
+/// READ response `k` of so many with these bytes, in this memory.
 fn response(
-    alloc: Global,
     link: &EndLink,
     due: &DueRead,
     k: u64,
     count: u64,
     payload: &[u8],
-) -> Result<Sent, AllocError>
+    memory: Vec<u8>,
+) -> Sent
     requires number { due.now.first < 2 ^ 62 }
     requires msn { due.now.msn < 2 ^ 24 }
     requires all { count ≡ pieces due.now.spot.length link.now.terms.mtu }
     requires bounded { count ≤ 2 ^ 32 }
     requires inside { k < count }
     requires few { length payload.now ≤ 4096 }
+    requires empty { memory.items ≡ [] }
+    requires room { length payload.now + 92 ≤ vec_capacity memory }
     ensures { (pool : Pool) (r : Region) → payload.now ≡ cut (due.now.spot.off + k * link.now.terms.mtu) (piece_length due.now.spot.length k link.now.terms.mtu) r.bytes
-        → IfOk result (λ s. s ≡ read_piece (telling (link_in pool link.now) due.now.msn) r due.now.spot.off due.now.spot.length due.now.first k) }
+        → result ≡ read_piece (telling (link_in pool link.now) due.now.msn) r due.now.spot.off due.now.spot.length due.now.first k }
 {
     let number = due.first + k;
     let d = read_datagram(link, due.msn, number, k, count, payload);
-    Ok(Sent {
+    Sent {
         to: link.moves.partner,
         number: Some(number),
-        bytes: encoded(alloc, &d)?,
-    })
+        bytes: written(&d, memory),
+    }
 }
 
 /// The bytes of a spot from its byte `from` on, as many as the memory has: where they lie, if that is in one page, and
@@ -160,9 +166,41 @@ fn count_of(length: u32, mtu: u32) -> u64
     pieces_of(length, mtu)
 }
 
+/// READ response `k` of the so many that are due. Its bytes are read into the page, where they lie in two, and it is in
+/// the memory.
+fn piece_sent(
+    pool: &PagePool,
+    regions: &Regions,
+    link: &EndLink,
+    due: &DueRead,
+    k: u64,
+    count: u64,
+    page: &mut [u8],
+    memory: Vec<u8>,
+) -> Sent
+    requires held { AreHeld pool.now regions.now }
+    requires terms { AreTerms link.now.terms }
+    requires spot { IsSpot regions.now due.now.spot }
+    requires number { due.now.first < 2 ^ 62 }
+    requires msn { due.now.msn < 2 ^ 24 }
+    requires all { count ≡ pieces due.now.spot.length link.now.terms.mtu }
+    requires bounded { count ≤ 2 ^ 32 }
+    requires inside { k < count }
+    requires page { length page.old ≡ 4096 }
+    requires empty { memory.items ≡ [] }
+    requires room { piece_length due.now.spot.length k link.now.terms.mtu + 92 ≤ vec_capacity memory }
+    ensures { result ≡ read_piece (telling (link_in pool.now link.now) due.now.msn) (at (λ r. r.keys.local) no_region due.now.spot.region (regions_of pool.now regions.now)) due.now.spot.off due.now.spot.length due.now.first k }
+{
+    let spot = due.spot;
+    let (from, length) = piece_at(spot.length, k, link.terms.mtu);
+    let payload = bytes_of(pool, regions, spot, from, &mut page[..length as usize]);
+    response(link, due, k, count, payload, memory)
+}
+
 /// The READ responses that are due.
 fn responses(
     alloc: Global,
+    buffers: &mut Buffers,
     pool: &PagePool,
     regions: &Regions,
     link: &EndLink,
@@ -177,21 +215,35 @@ fn responses(
     ensures bounded { IfOk result (λ list. length list ≤ 2 ^ 32) }
 {
     let (spot, mtu) = (due.spot, link.terms.mtu);
-    let mut memory = vec![in alloc; 0; spot.length.min(mtu) as usize]?;
     let count = count_of(spot.length, mtu);
     let mut sent = Items::new(Vec::with_capacity(alloc, count as usize)?);
     for k in 0..count {
-        let (from, length) = piece_at(spot.length, k, mtu);
-        let payload = bytes_of(pool, regions, spot, from, &mut memory[..length as usize]);
-        sent.push(response(alloc, link, due, k, count, payload)?)?;
+        let (_, length) = piece_at(spot.length, k, mtu);
+        let memory = memory_for(alloc, buffers, length as usize + MOST_HEADERS)?;
+        let page = &mut buffers.payload[..];
+        let response = piece_sent(pool, regions, link, due, k, count, page, memory);
+        sent.push(response)?;
     }
     Ok(sent)
 }
 
+/// Memory for a reply to a datagram of that opcode, where it may have one.
+fn room_for(alloc: Global, opcode: u8) -> Result<Option<DatagramBuffer>, AllocError>
+    ensures { IfOk result (IsRoomFor opcode) }
+{
+    if is_request(opcode) || opcode == RESUME {
+        Ok(Some(DatagramBuffer::make(alloc, MOST_HEADERS)?))
+    } else {
+        Ok(None)
+    }
+}
+
 impl Replies {
-    /// Memory for each reply to a datagram, and the READ responses that are due for it.
+    /// Memory for each reply to a datagram, and the READ responses that are due for it. A response has no reply, and
+    /// no memory is taken for it.
     fn make(
         alloc: Global,
+        buffers: &mut Buffers,
         pool: &PagePool,
         regions: &Regions,
         domain: Name,
@@ -201,22 +253,22 @@ impl Replies {
         requires held { AreHeld pool.now regions.now }
         requires terms { AreTerms link.now.terms }
         requires fits { Fits (packet d.now) }
-        ensures room { IfOk result (λ r. IsDatagramBuffer r.room 92) }
+        ensures room { IfOk result (λ r. IsRoomFor d.now.opcode r.room) }
         ensures bounded { IfOk result (λ r. IfSome r.read (λ list. length list ≤ 2 ^ 32)) }
         ensures read { (due : DueRead) → due_in link.now (regions_of pool.now regions.now) domain (packet d.now) ≡ Some due
             → IfOk result (λ r. r.read ≡ Some (responses pool.now (regions_of pool.now regions.now) link.now due (pieces due.spot.length link.now.terms.mtu))) }
     {
-        let room = DatagramBuffer::make(alloc, MOST_HEADERS)?;
+        let room = room_for(alloc, d.opcode)?;
         let Some(due) = link.due(regions, domain, d) else {
             return Ok(Replies { room, read: None });
         };
-        let read = Some(responses(alloc, pool, regions, link, &due)?);
+        let read = Some(responses(alloc, buffers, pool, regions, link, &due)?);
         Ok(Replies { room, read })
     }
 
     /// What is sent for a reply of an end. It takes no memory.
     fn sent(self, alloc: Global, endpoint: &Endpoint, reply: EndReply) -> Items<Sent>
-        requires room { IsDatagramBuffer self.room 92 }
+        requires room { IfSome endpoint.now.link (λ _. HasRoom reply self.room) }
         requires ready { AreReady reply self.read }
         requires reply { (held : List Held) × IfSome endpoint.now.link (λ l. IsReply held l reply) }
         ensures { (pool : Pool) (regions : List Region)
@@ -234,8 +286,13 @@ impl Replies {
 }
 
 /// What is sent for a reply without bytes, to the recorded place of the partner.
-fn reply_sent(alloc: Global, room: DatagramBuffer, link: &EndLink, reply: EndReply) -> Items<Sent>
-    requires room { IsDatagramBuffer room 92 }
+fn reply_sent(
+    alloc: Global,
+    room: Option<DatagramBuffer>,
+    link: &EndLink,
+    reply: EndReply,
+) -> Items<Sent>
+    requires room { HasRoom reply room }
     requires reply { (held : List Held) × IsReply held link.now reply }
     requires bare { HasNoBytes reply }
     ensures { (pool : Pool) (regions : List Region) → result ≡ sent_by regions (link_in pool link.now) reply }
@@ -247,18 +304,18 @@ fn reply_sent(alloc: Global, room: DatagramBuffer, link: &EndLink, reply: EndRep
         EndReply::Acknowledge { number, syndrome } => {
             let aeth = Some(Aeth { syndrome, msn });
             let d = answer(ACKNOWLEDGE, peer, start, number, aeth, None, &[]);
-            room.fill(MOST_HEADERS, to, Some(number), &d)
+            room.unwrap().fill(MOST_HEADERS, to, Some(number), &d)
         }
         EndReply::Old { number, old } => {
             let syndrome = Syndrome::Ack;
             let aeth = Some(Aeth { syndrome, msn });
             let old = Some(old);
             let d = answer(ATOMIC_ACKNOWLEDGE, peer, start, number, aeth, old, &[]);
-            room.fill(MOST_HEADERS, to, Some(number), &d)
+            room.unwrap().fill(MOST_HEADERS, to, Some(number), &d)
         }
         EndReply::ResumeAck { count, address } => {
             let d = moving(RESUME_ACK, peer, ResumeBody { count, address });
-            room.fill(MOST_HEADERS, to, None, &d)
+            room.unwrap().fill(MOST_HEADERS, to, None, &d)
         }
         EndReply::ReadBytes { .. } => unreachable!(),
     }
@@ -271,6 +328,7 @@ impl ContextState {
     pub fn take(
         &mut self,
         alloc: Global,
+        buffers: &mut Buffers,
         pool: &mut PagePool,
         place: usize,
         d: &Datagram<'_>,
@@ -297,7 +355,7 @@ impl ContextState {
             return Ok(None);
         };
         let domain = slot.endpoint.domain;
-        let replies = Replies::make(alloc, pool, &self.regions, domain, link, d)?;
+        let replies = Replies::make(alloc, buffers, pool, &self.regions, domain, link, d)?;
         let slot = self.ends.get_index_mut(place).unwrap();
         let memory = EndMemory {
             pool,

@@ -7,8 +7,9 @@ ghost use Rattle.protocol.specs.Numbers.{wire_number};
 ghost use Rattle.protocol.specs.Wire.{Fits, fits_syndrome, plain, wire_of};
 ghost use Rattle.roce_headers.specs.Packets.{packet};
 ghost use Rattle.segmenter.specs.Heads.{has_atomic, has_reth, packet_with};
-ghost use Rattle.context_core.specs.Sending.{IsDatagramBuffer};
+ghost use Rattle.context_core.specs.Sending.{AreBuffers, IsDatagramBuffer};
 
+use crate::Buffers;
 use crate::sending::MOST_HEADERS;
 use protocol::{Aeth, AtomicEth, ResumeBody, Reth};
 use psn_math::{WIRE_NUMBERS, wire_of};
@@ -19,6 +20,9 @@ use std::alloc::{AllocError, Global};
 
 /// How many queue pair numbers there are: they have 24 bits.
 const QP_NUMBERS: u32 = 16_777_216;
+
+/// Datagrams of at most so many bytes are kept in memory of their own size.
+const FEW_BYTES: usize = 256;
 
 /// Memory for one datagram.
 #[derive(Drop)]
@@ -51,9 +55,7 @@ impl DatagramBuffer {
         ensures { result ≡ record { to = to; number = number; bytes = wire_of (packet d.now) } ∷ [] }
     {
         let DatagramBuffer { mut sent, bytes } = self;
-        let mut bytes = encode_in(d, bytes);
-        give_back(&mut bytes);
-        let bytes = Items::new(bytes);
+        let bytes = written(d, bytes);
         if sent.push(Sent { to, number, bytes }).is_err() {
             unreachable!()
         }
@@ -61,32 +63,98 @@ impl DatagramBuffer {
     }
 }
 
-/// So many zeros, in memory that is taken before. It takes no other.
-pub fn zeros_in(mut memory: Vec<u8>, count: usize) -> Vec<u8>
-    requires empty { memory.items ≡ [] }
-    requires room { count ≤ vec_capacity memory }
-    ensures { length result.items ≡ count }
-{
-    memory.resize(count, 0).unwrap();
-    memory
+/// Memory for one datagram, where few bytes have memory of their own.
+#[derive(Drop)]
+pub struct TwoBuffers {
+    sent: Vec<Sent>,
+    small: Vec<u8>,
+    large: Vec<u8>,
 }
 
-/// Gives back the memory that is not used, where it is more than headers take.
+/// What is sent, and the memory that was not used.
+#[derive(Drop)]
+pub struct Filled {
+    pub sent: Items<Sent>,
+    pub unused: Vec<u8>,
+}
+
+impl TwoBuffers {
+    /// Memory for a datagram of at most so many bytes. Errors: `AllocError` when out of memory.
+    pub fn make(alloc: Global, buffers: &mut Buffers, most: usize) -> Result<TwoBuffers, AllocError>
+        ensures { IfOk result (λ r. AreBuffers r most) }
+    {
+        let sent = Vec::with_capacity(alloc, 1)?;
+        let small = Vec::with_capacity(alloc, FEW_BYTES)?;
+        let large = buffers.take(alloc, most)?;
+        Ok(TwoBuffers { sent, small, large })
+    }
+
+    /// A datagram in this memory. It takes no other.
+    pub fn fill(self, most: usize, to: Address, number: Option<u64>, d: &Datagram<'_>) -> Filled
+        requires room { AreBuffers self most }
+        requires fits { Fits (packet d.now) }
+        requires short { length (wire_of (packet d.now)) ≤ most }
+        ensures { result.sent ≡ record { to = to; number = number; bytes = wire_of (packet d.now) } ∷ [] }
+    {
+        let TwoBuffers { sent, small, large } = self;
+        if encoded_len(d) <= FEW_BYTES {
+            let room = DatagramBuffer { sent, bytes: small };
+            let sent = room.fill(FEW_BYTES, to, number, d);
+            return Filled {
+                sent,
+                unused: large,
+            };
+        }
+        let room = DatagramBuffer { sent, bytes: large };
+        let sent = room.fill(most, to, number, d);
+        Filled {
+            sent,
+            unused: small,
+        }
+    }
+
+    /// No datagram.
+    pub fn leave(self) -> Filled
+        requires { self.sent.items ≡ [] }
+        ensures { result.sent ≡ [] }
+    {
+        let TwoBuffers { sent, large, .. } = self;
+        Filled {
+            sent: Items::new(sent),
+            unused: large,
+        }
+    }
+}
+
+/// The bytes of a datagram in this memory. It takes no other, and gives back what is not used where it is much.
+pub fn written(d: &Datagram<'_>, memory: Vec<u8>) -> Items<u8>
+    requires fits { Fits (packet d.now) }
+    requires empty { memory.items ≡ [] }
+    requires room { length (wire_of (packet d.now)) ≤ vec_capacity memory }
+    ensures { result ≡ wire_of (packet d.now) }
+{
+    let mut bytes = encode_in(d, memory);
+    give_back(&mut bytes);
+    Items::new(bytes)
+}
+
+/// Gives back the memory that is not used, where it is more than headers take and the bytes are not few.
 fn give_back(bytes: &mut Vec<u8>)
     ensures { bytes.new.items ≡ bytes.old.items }
 {
-    if bytes.capacity() - bytes.len() > MOST_HEADERS {
+    if bytes.capacity() > FEW_BYTES && bytes.capacity() - bytes.len() > MOST_HEADERS {
         bytes.shrink_to_fit();
     }
 }
 
-/// The bytes of a datagram, in memory of their own. Errors: `AllocError` when out of memory.
-pub fn encoded(alloc: Global, d: &Datagram<'_>) -> Result<Items<u8>, AllocError>
-    requires { Fits (packet d.now) }
-    ensures { IfOk result (λ bytes. bytes ≡ wire_of (packet d.now)) }
+/// Memory for the bytes of a datagram of at most so many. Errors: `AllocError` when out of memory.
+pub fn memory_for(alloc: Global, buffers: &mut Buffers, most: usize) -> Result<Vec<u8>, AllocError>
+    ensures { IfOk result (λ v. (v.items ≡ []) × (most ≤ vec_capacity v)) }
 {
-    let memory = Vec::with_capacity(alloc, encoded_len(d))?;
-    Ok(Items::new(encode_in(d, memory)))
+    if most <= FEW_BYTES {
+        return Vec::with_capacity(alloc, most);
+    }
+    buffers.take(alloc, most)
 }
 
 /// A response, an acknowledge or a NAK, of number `n`.

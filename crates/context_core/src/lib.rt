@@ -7,6 +7,7 @@ ghost use Rattle.context_core.specs.Faults.{fault_of};
 ghost use Rattle.context_core.specs.declared.ContextFault.TheVariants.{OutOfMemory, Refused};
 
 mod arriving;
+mod buffers;
 mod coming;
 mod copies;
 mod counting;
@@ -40,6 +41,7 @@ mod state;
 mod timers;
 
 pub use arriving::ArrivalOutcome;
+pub use buffers::Buffers;
 pub use heads::{EndHead, LinkHead};
 pub use laws::a_context_looks_at_its_own_lists;
 pub use lives::{LinkView, LiveEnd};

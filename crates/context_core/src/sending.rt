@@ -1,6 +1,6 @@
 //! What an end sends by itself.
 
-ghost use Rattle.std.specs.Prelude.{ℕ, ◌≡◌, ◌+◌, ◌-◌, ◌<◌, ◌≤◌, ◌^◌, [], IfOk, IfSome, IsSome, OnErr, Some, length, map, min, slice_get, vec_capacity};
+ghost use Rattle.std.specs.Prelude.{ℕ, ◌≡◌, ◌+◌, ◌-◌, ◌<◌, ◌≤◌, ◌^◌, [], IfOk, IfSome, IsSome, OnErr, Some, length, map, min, slice_get};
 ghost use Rattle.std.specs.Result.{result_err};
 ghost use Rattle.rdma_types.specs.Causes.{first_cause};
 ghost use Rattle.rdma_types.specs.declared.names.Name.{Name};
@@ -18,11 +18,11 @@ ghost use Rattle.endpoint_core.specs.Ends.{link_in, untold_by};
 ghost use Rattle.requester.specs.declared.answers.Transmit.TheVariants as transmission;
 ghost use Rattle.context_core.specs.Context.{IsContext, context_in, lists_of};
 ghost use Rattle.context_core.specs.Faults.{refusal_of};
-ghost use Rattle.context_core.specs.Sending.{IsInRange, IsDatagramBuffer, row_answer, row_sent};
+ghost use Rattle.context_core.specs.Sending.{AreBuffers, IsInRange, row_answer, row_sent};
 ghost use Rattle.context_core.specs.Transmitting.{IsSending, IsRoute};
 
-use crate::datagrams::{DatagramBuffer, moving, request, zeros_in};
-use crate::{ContextFault, ContextState, EndSlot, ends};
+use crate::datagrams::{Filled, TwoBuffers, moving, request};
+use crate::{Buffers, ContextFault, ContextState, EndSlot, ends};
 use endpoint_core::{EndSend, Endpoint};
 use indexmap::IndexMap;
 use page_pool::{PagePool, Payload};
@@ -32,7 +32,7 @@ use rdma_types::{Address, Answer, Items, Name, Sent, Shape};
 use requester::Transmit;
 use roce_headers::opcodes::RESUME;
 use segmenter::PacketHead;
-use std::alloc::{AllocError, Global};
+use std::alloc::Global;
 use work_queues::QueuedRequest;
 
 /// More bytes than a datagram has besides its payload.
@@ -71,25 +71,6 @@ fn way_at(ends: &IndexMap<Name, EndSlot>, place: usize) -> Route
         mtu: link.terms.mtu,
         start: link.terms.own_start,
     }
-}
-
-/// Memory for the bytes of a request's packet, and for its datagram.
-#[derive(Drop)]
-struct Store {
-    payload: Vec<u8>,
-    room: DatagramBuffer,
-}
-
-/// Memory for a packet with at most so many bytes.
-fn store_for(alloc: Global, most: usize) -> Result<Store, AllocError>
-    requires { most ≤ 4096 }
-    ensures empty { IfOk result (λ s. s.payload.items ≡ []) }
-    ensures payload { IfOk result (λ s. most ≤ vec_capacity s.payload) }
-    ensures room { IfOk result (λ s. IsDatagramBuffer s.room (most + 92)) }
-{
-    let payload = Vec::with_capacity(alloc, most)?;
-    let room = DatagramBuffer::make(alloc, most + MOST_HEADERS)?;
-    Ok(Store { payload, room })
 }
 
 /// The fields of a request are in the ranges of their types. It does nothing else than say so.
@@ -150,18 +131,40 @@ fn piece_in<'a>(pool: &'a PagePool, payload: &Payload, head: &PacketHead) -> Opt
     Some(&piece[..count as usize])
 }
 
-/// The bytes of a packet, as many as the request has there, in this memory.
-fn payload_in(pool: &PagePool, payload: &Payload, head: &PacketHead, memory: Vec<u8>) -> Vec<u8>
+/// The bytes of a packet, as many as the request has there, read into this memory.
+fn read_in<'a>(
+    pool: &PagePool,
+    payload: &Payload,
+    head: &PacketHead,
+    memory: &'a mut [u8],
+) -> &'a [u8]
     requires held { HoldsPayload pool.now payload.now }
-    requires empty { memory.items ≡ [] }
-    requires room { length (bytes_at head.now.off head.now.length (payload_bytes pool.now payload.now)) ≤ vec_capacity memory }
-    ensures { result.items ≡ bytes_at head.now.off head.now.length (payload_bytes pool.now payload.now) }
+    requires room { length (bytes_at head.now.off head.now.length (payload_bytes pool.now payload.now)) ≤ length memory.old }
+    ensures { result.now ≡ bytes_at head.now.off head.now.length (payload_bytes pool.now payload.now) }
 {
     let (off, count) = span_in(payload, head);
-    let mut out = zeros_in(memory, count as usize);
     let at = u64::from(payload.first) + u64::from(off);
-    pool.read(&payload.list, at, &mut out);
+    let out = &mut memory[..count as usize];
+    pool.read(&payload.list, at, out);
     out
+}
+
+/// The bytes of a packet, as many as the request has there: where they lie, if that is in one page, and else in this
+/// memory.
+fn bytes_for<'a>(
+    pool: &'a PagePool,
+    payload: &Payload,
+    head: &PacketHead,
+    memory: &'a mut [u8],
+) -> &'a [u8]
+    requires held { HoldsPayload pool.now payload.now }
+    requires room { length (bytes_at head.now.off head.now.length (payload_bytes pool.now payload.now)) ≤ length memory.old }
+    ensures { result.now ≡ bytes_at head.now.off head.now.length (payload_bytes pool.now payload.now) }
+{
+    match piece_in(pool, payload, head) {
+        Some(bytes) => bytes,
+        None => read_in(pool, payload, head, memory),
+    }
 }
 
 /// A packet of a request, with the bytes that the request took.
@@ -169,67 +172,61 @@ fn request_sent(
     pool: &PagePool,
     endpoint: &Endpoint,
     way: &Route,
-    store: Store,
+    memory: &mut [u8],
+    room: TwoBuffers,
     number: u64,
     index: usize,
     head: &PacketHead,
-) -> Items<Sent>
+) -> Filled
     requires sending { (l : EndLink) × IsSending pool.now endpoint.now way.now (send.Transmit (transmission.Sent number index head.now)) l }
-    requires empty { store.payload.items ≡ [] }
-    requires payload { way.now.mtu ≤ vec_capacity store.payload }
-    requires room { IsDatagramBuffer store.room (way.now.mtu + 92) }
+    requires payload { way.now.mtu ≤ length memory.old }
+    requires room { AreBuffers room (way.now.mtu + 92) }
     ensures { (l : EndLink) (own : Address) → IsSending pool.now endpoint.now way.now (send.Transmit (transmission.Sent number index head.now)) l
-        → result ≡ row_sent (link_in pool.now l) own (row_in pool.now (Some l) (send.Transmit (transmission.Sent number index head.now))) }
+        → result.sent ≡ row_sent (link_in pool.now l) own (row_in pool.now (Some l) (send.Transmit (transmission.Sent number index head.now))) }
 {
-    let Store { payload, room } = store;
     let posted = posted_at(endpoint, index);
     are_in_range(posted.request.shape);
     let psn = wire_of(number, way.start);
+    let bytes = bytes_for(pool, &posted.payload, head, memory);
+    let d = request(head, &posted.request.shape, way.peer, psn, bytes);
     let most = way.mtu as usize + MOST_HEADERS;
-    if let Some(bytes) = piece_in(pool, &posted.payload, head) {
-        let d = request(head, &posted.request.shape, way.peer, psn, bytes);
-        return room.fill(most, way.to, Some(number), &d);
-    }
-    let bytes = payload_in(pool, &posted.payload, head, payload);
-    let d = request(head, &posted.request.shape, way.peer, psn, &bytes);
     room.fill(most, way.to, Some(number), &d)
 }
 
-/// What a transmission sends.
+/// What a transmission sends, in this memory. It takes no other.
 fn sent_for(
-    alloc: Global,
     pool: &PagePool,
     endpoint: &Endpoint,
     way: &Route,
     own: Address,
-    store: Store,
+    memory: &mut [u8],
+    room: TwoBuffers,
     send: EndSend,
-) -> Items<Sent>
+) -> Filled
     requires sending { (l : EndLink) × IsSending pool.now endpoint.now way.now send l }
-    requires empty { store.payload.items ≡ [] }
-    requires payload { way.now.mtu ≤ vec_capacity store.payload }
-    requires room { IsDatagramBuffer store.room (way.now.mtu + 92) }
+    requires payload { way.now.mtu ≤ length memory.old }
+    requires room { AreBuffers room (way.now.mtu + 92) }
     ensures { (l : EndLink) → IsSending pool.now endpoint.now way.now send l
-        → result ≡ row_sent (link_in pool.now l) own (row_in pool.now (Some l) send) }
+        → result.sent ≡ row_sent (link_in pool.now l) own (row_in pool.now (Some l) send) }
 {
     match send {
         EndSend::Resume { count } => {
             let address = own;
             let d = moving(RESUME, way.peer, ResumeBody { count, address });
             let most = way.mtu as usize + MOST_HEADERS;
-            store.room.fill(most, way.to, None, &d)
+            room.fill(most, way.to, None, &d)
         }
         EndSend::Transmit(transmit) => match transmit {
             Transmit::Sent {
                 number,
                 index,
                 head,
-            } => request_sent(pool, endpoint, way, store, number, index, &head),
+            } => request_sent(pool, endpoint, way, memory, room, number, index, &head),
             Transmit::Idle
             | Transmit::WindowFull
             | Transmit::ReadsFull
             | Transmit::Fenced
-            | Transmit::Waiting => Items::new(Vec::new(alloc)),
+            | Transmit::Waiting => room.leave(),
         },
     }
 }
@@ -241,6 +238,7 @@ impl ContextState {
     pub fn transmit(
         &mut self,
         alloc: Global,
+        buffers: &mut Buffers,
         pool: &PagePool,
         name: Name,
         own: Address,
@@ -258,11 +256,14 @@ impl ContextState {
     {
         let place = ends::connected(&self.ends, name)?;
         let way = way_at(&self.ends, place);
-        let store = store_for(alloc, way.mtu as usize)?;
+        let room = TwoBuffers::make(alloc, buffers, way.mtu as usize + MOST_HEADERS)?;
         let slot = self.ends.get_index_mut(place).unwrap();
         let send = slot.endpoint.transmit();
         let answer = answer_of(send);
-        let sent = sent_for(alloc, pool, &slot.endpoint, &way, own, store, send);
+        let memory = &mut buffers.payload[..];
+        let filled = sent_for(pool, &slot.endpoint, &way, own, memory, room, send);
+        buffers.give(filled.unused);
+        let sent = filled.sent;
         Ok(Answered { answer, sent })
     }
 }

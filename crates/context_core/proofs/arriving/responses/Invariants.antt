@@ -1,11 +1,8 @@
 use Rattle.std.proofs.Common.{◌≡◌, ◌-◌, ◌++◌}
-use Rattle.std.specs.Prelude.{min}
-use Rattle.std.specs.Vec.{vec_len}
 use Rattle.memory_keys.specs.Regions.{regions_of}
 use Rattle.endpoint_core.specs.Due.{responses}
 use Rattle.context_core.proofs.arriving.responses.Given as goal
 
 abbrev pub invariant-loop-k : goal.invariant-loop-k
 invariant-loop-k l =
-    (vec_len l.memory ≡ min l.due.spot.length l.link.terms.mtu)
-    × (l.sent ++ responses l.pool (regions_of l.pool l.regions) l.link l.due (l.count - l.k) ≡ responses l.pool (regions_of l.pool l.regions) l.link l.due l.count)
+    l.sent ++ responses l.pool (regions_of l.pool l.regions) l.link l.due (l.count - l.k) ≡ responses l.pool (regions_of l.pool l.regions) l.link l.due l.count

@@ -10,10 +10,11 @@ use Rattle.endpoint_core.specs.Due.{due_in}
 use Rattle.endpoint_core.specs.Queues.{nothing}
 use Rattle.endpoint_core.proofs.Frames.{link-of}
 use Rattle.context_core.specs.declared.state.EndSlot.{EndSlot}
-use Rattle.context_core.specs.Context.{IsContext, site_in}
-use Rattle.context_core.proofs.ArrivingDatagrams.{are-ready, few-sent, none-linked, none-there, sent-for, some-linked, takes-is}
+use Rattle.context_core.specs.Context.{IsContext, context_in, names_in, site_in}
+use Rattle.context_core.proofs.ArrivingDatagrams.{are-ready, few-sent, has-room, none-linked, none-there, sent-for, some-linked, takes-is}
 use Rattle.context_core.proofs.EndSteps.{site_after}
 use Rattle.context_core.proofs.EndStepCalls.{steps, end-sound, entry, entry-there}
+use Rattle.context_core.proofs.UnansweredDatagrams.{unanswered}
 use Rattle.context_core.proofs.state.ContextState.take.Goals as goal
 
 pub returns-in_default-clause-none : goal.returns-in_default-clause-none
@@ -55,6 +56,15 @@ sent-sent-requires-clause-ready c =
     let link : c.unwrap-slot.result.now.endpoint.link ≡ Some c.in-Some-link.link = ap (λ (v : EndSlot). v.endpoint.link) (sym same) ∙ c.in-Some-link.is in
     let made = λ (due : DueRead) (h : due_in c.in-Some-link.link (regions_of c.args.pool.now c.self.inside.regions) c.unwrap-slot.result.now.endpoint.domain (packet c.args.d.now) ≡ Some due). c.in_ok-replies.ensures.read due (subst (λ (v : EndSlot). due_in c.in-Some-link.link (regions_of c.args.pool.now c.self.inside.regions) v.endpoint.domain (packet c.args.d.now) ≡ Some due) (sym same) h) in
     are-ready (site_in c.args.pool.now (record { domains = c.self.inside.domains.keys; regions = c.self.inside.regions; queues = c.self.inside.queues.entries; ends = c.self.inside.ends.entries }) (entry c.self.inside.ends.entries c.args.place c.unwrap-slot.result.now)) (site_after c.take-done.new.memory.0 (entry c.self.inside.ends.entries c.args.place c.unwrap-slot.result.now) c.take-done.new.memory.1.0 c.take-done.new.memory.1.1.0.entries c.take-done.new.self) c.in-Some-link.link (packet c.args.d.now) c.take-done.result.reply c.in_ok-replies.replies.read (c.take-done.ensures.due c.in-Some-link.link link) made
+
+pub sent-sent-requires-clause-room : goal.sent-sent-requires-clause-room
+sent-sent-requires-clause-room c =
+    let is = subst (IsContext c.args.pool.now) (sym c.self.view_is) c.requires.is in
+    let value = sym c.get_index_mut.ensures.value ∙ ap option_copied_mut c.unwrap-slot.ensures in
+    let st = steps c.args.pool.now c.take-done.new.memory.0 (record { domains = c.self.inside.domains.keys; regions = c.self.inside.regions; queues = c.self.inside.queues.entries; ends = c.self.inside.ends.entries }) c.args.place c.unwrap-slot.result.now c.take-done.new.memory.1.0 c.take-done.new.memory.1.1.0.entries c.take-done.new.self is value c.take-done.ensures.keeps c.take-done.ensures.sound in
+    let n = c.unwrap-slot.result.now.endpoint.domain in
+    has-room c.args.d.now.opcode (site_after c.take-done.new.memory.0 (entry c.self.inside.ends.entries c.args.place c.unwrap-slot.result.now) c.take-done.new.memory.1.0 c.take-done.new.memory.1.1.0.entries c.take-done.new.self) c.take-done.result.reply c.in_ok-replies.replies.room c.in_ok-replies.ensures.room (λ a b.
+    sym (c.take-done.ensures.sent (context_in c.args.pool.now n (record { domains = c.self.inside.domains.keys; regions = c.self.inside.regions; queues = c.self.inside.queues.entries; ends = c.self.inside.ends.entries })) (names_in c.self.inside.queues.entries (entry c.self.inside.ends.entries c.args.place c.unwrap-slot.result.now)) (st.stands n)) ∙ unanswered _ _ _ (packet c.args.d.now) a b)
 
 pub sent-sent-requires-clause-reply : goal.sent-sent-requires-clause-reply
 sent-sent-requires-clause-reply c = (c.take-done.new.memory.1.0, c.take-done.ensures.reply)
