@@ -29,6 +29,16 @@ link_head l = record {
 abbrev pub head_of : End → EndHead
 head_of e = record { name = e.name; number = e.number; link = option_map link_head e.link }
 
+-- the number of the next packet to execute and one past the highest number sent, where an end is connected
+abbrev pub link_marks : Option LinkHead → Option (ℕ × ℕ)
+link_marks None = None
+link_marks (Some l) = Some (l.expected, l.top)
+
+-- .. where it is there
+abbrev pub head_marks : Option EndHead → Option (ℕ × ℕ)
+head_marks None = None
+head_marks (Some h) = link_marks h.link
+
 -- the connection of an end, where it is there
 abbrev pub link_by : Option End → Option Link
 link_by None = None

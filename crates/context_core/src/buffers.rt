@@ -29,8 +29,8 @@ impl Buffers {
         Ok(Buffers { spare, payload })
     }
 
-    /// An empty buffer for at least so many bytes: the last spare one, if it is large enough, and else a new one.
-    /// Errors: `AllocError` when out of memory.
+    /// An empty buffer for at least so many bytes: the last spare one, if it is large enough; else that one is freed, and
+    /// a new one is made. Errors: `AllocError` when out of memory.
     pub(crate) fn take(&mut self, alloc: Global, most: usize) -> Result<Vec<u8>, AllocError>
         ensures { IfOk result (λ v. (v.items ≡ []) × (most ≤ vec_capacity v)) }
     {

@@ -21,7 +21,7 @@ use std::alloc::{AllocError, Global};
 /// How many queue pair numbers there are: they have 24 bits.
 const QP_NUMBERS: u32 = 16_777_216;
 
-/// Datagrams of at most so many bytes are kept in memory of their own size.
+/// A datagram of at most so many bytes is written into memory of its own, and not into a large buffer.
 const FEW_BYTES: usize = 256;
 
 /// Memory for one datagram.

@@ -1,6 +1,6 @@
 //! What is told of a queue pair.
 
-ghost use Rattle.std.specs.Prelude.{◌≡◌, List, map, slice_get};
+ghost use Rattle.std.specs.Prelude.{◌≡◌, List, Some, map, slice_get};
 ghost use Rattle.std.specs.List.{list_any};
 ghost use Rattle.std.specs.Option.{option_map};
 ghost use Rattle.indexmap.specs.IndexMap.{values};
@@ -12,7 +12,7 @@ ghost use Rattle.protocol.specs.EndWords.{is_paused_link};
 ghost use Rattle.protocol.specs.Refusals.{has_moved_out as link_has_moved_out, links_of};
 ghost use Rattle.endpoint_core.specs.Ends.{link_in};
 ghost use Rattle.context_core.specs.Context.{context_in, end_of};
-ghost use Rattle.context_core.specs.Heads.{head_of, is_moved_out_by, is_paused_by, link_head as head_of_link};
+ghost use Rattle.context_core.specs.Heads.{head_marks, head_of, is_moved_out_by, is_paused_by, link_head as head_of_link, link_marks};
 
 use crate::image_links::{is_paused, is_resuming};
 use crate::{ContextState, EndSlot};
@@ -77,6 +77,13 @@ pub(crate) fn link_head(link: &EndLink) -> LinkHead
     }
 }
 
+/// The number of the next packet to execute of a connection, and one past the highest number sent.
+fn marks(link: &EndLink) -> (u64, u64)
+    ensures { (pool : Pool) → Some result ≡ link_marks (Some (head_of_link (link_in pool link.now))) }
+{
+    (link.expected(), link.requester.parts().top)
+}
+
 /// What is told of a queue pair of that name.
 fn end_head(name: Name, slot: &EndSlot) -> EndHead
     ensures { (pool : Pool) (queues : List (Name × Queue)) → result ≡ head_of (end_of pool queues (name, slot.now)) }
@@ -133,6 +140,20 @@ impl ContextState {
     {
         let (name, slot) = self.ends.get_index(place)?;
         Some(end_head(*name, slot))
+    }
+
+    /// The number of the next packet to execute, and one past the highest number sent, of the connected queue pair at a
+    /// place; None where there is none.
+    pub fn marks_at(&self, place: usize) -> Option<(u64, u64)>
+        ensures { (pool : Pool) (n : Name) → result ≡ head_marks (option_map head_of (slice_get (context_in pool n self.now).ends place)) }
+    {
+        let Some((_, slot)) = self.ends.get_index(place) else {
+            return None;
+        };
+        match &slot.endpoint.link {
+            None => None,
+            Some(link) => Some(marks(link)),
+        }
     }
 
     /// Whether an end is connected, not in Error, and Paused.
