@@ -5,7 +5,6 @@ use Rattle.std.specs.Result.{result_err}
 use Rattle.rdma_types.specs.Causes.{Cause, first_cause}
 use Rattle.rdma_types.specs.declared.answers.Refusal.{Refusal}
 use Rattle.rdma_types.specs.declared.names.Name.{Name}
-use Rattle.rdma_types.specs.declared.requests.Address.{Address}
 use Rattle.page_pool.specs.Pool.{Pool}
 use Rattle.protocol.specs.declared.events.Event.{Event}
 use Rattle.protocol.specs.declared.events.Event.TheVariants as event
@@ -28,19 +27,19 @@ use Rattle.device_core.proofs.Helds.{moves-plainly}
 pub plain-turn : (pool : Pool) (n : Name) (s s' : Holding) → lists_of s' ≡ lists_of s → ((m : Name) → pages_of_context (context_in pool m s') ≡ pages_of_context (context_in pool m s)) → IsContext pool s' → numbers_of (context_in pool n s') ≡ numbers_of (context_in pool n s) → Turn pool pool n s s'
 plain-turn pool n s s' lists pages is numbers = record { moves = moves-plainly pool s s' lists pages; is = is; numbers = numbers }
 
-module _ (own : Address) (e : Event) (n : Name) (pool pool' : Pool) (s s' : Holding) (causes : Device → Context → List Cause) (same : (d : Device) → first_cause (causes_of d e) ≡ first_cause (within d n (causes d)))
+module _ (e : Event) (n : Name) (pool pool' : Pool) (s s' : Holding) (causes : Device → Context → List Cause) (same : (d : Device) → first_cause (causes_of d e) ≡ first_cause (within d n (causes d)))
     (act : Device → Context → Step) (does : (d : Device) → done_by d e ≡ act d (context_at d n)) {T : Type 0} (tell : T → Outcome) (told : Result Outcome ContextFault) where
-  done_there : (d : Device) → Lives d own pool n s → {x : Outcome} → act d (context_in pool n s) ≡ record { device = with_context d (context_in pool' n s'); outcome = x } → done_by d e ≡ record { device = with_context d (context_in pool' n s'); outcome = x }
+  done_there : (d : Device) → Lives d pool n s → {x : Outcome} → act d (context_in pool n s) ≡ record { device = with_context d (context_in pool' n s'); outcome = x } → done_by d e ≡ record { device = with_context d (context_in pool' n s'); outcome = x }
   done_there d l h = does d ∙ (ap (act d) l.at ∙ h)
 
-  same_there : (d : Device) → Lives d own pool n s → s' ≡ s → pool' ≡ pool → with_context d (context_in pool' n s') ≡ d
+  same_there : (d : Device) → Lives d pool n s → s' ≡ s → pool' ≡ pool → with_context d (context_in pool' n s') ≡ d
   same_there d l state pages = (λ i. with_context d (context_in (pages i) n (state i))) ∙ l.same
 
   -- it may be refused or run out of memory
   pub acts : (r : Result T ContextFault) → told ≡ told_by tell r → Turn pool pool' n s s'
-      → ((d : Device) → Lives d own pool n s → refusal_of r ≡ first_cause (causes d (context_in pool n s)))
-      → ((d : Device) → Lives d own pool n s → IfOk r (λ x. act d (context_in pool n s) ≡ record { device = with_context d (context_in pool' n s'); outcome = tell x }))
-      → OnErr r (s' ≡ s) → OnErr r (pool' ≡ pool) → Acts own e pool pool' s s' told n
+      → ((d : Device) → Lives d pool n s → refusal_of r ≡ first_cause (causes d (context_in pool n s)))
+      → ((d : Device) → Lives d pool n s → IfOk r (λ x. act d (context_in pool n s) ≡ record { device = with_context d (context_in pool' n s'); outcome = tell x }))
+      → OnErr r (s' ≡ s) → OnErr r (pool' ≡ pool) → Acts e pool pool' s s' told n
   acts r is turn refused ok state pages = record {
     turn = turn;
     done = λ d l.
@@ -49,19 +48,19 @@ module _ (own : Address) (e : Event) (n : Name) (pool pool' : Pool) (s s' : Hold
         (done_where d l r (ok d l)) (same_where d l r state pages);
   }
     where
-      done_where : (d : Device) → Lives d own pool n s → (x : Result T ContextFault) → IfOk x (λ y. act d (context_in pool n s) ≡ record { device = with_context d (context_in pool' n s'); outcome = tell y }) → IfOk x (λ y. done_by d e ≡ record { device = with_context d (context_in pool' n s'); outcome = tell y })
+      done_where : (d : Device) → Lives d pool n s → (x : Result T ContextFault) → IfOk x (λ y. act d (context_in pool n s) ≡ record { device = with_context d (context_in pool' n s'); outcome = tell y }) → IfOk x (λ y. done_by d e ≡ record { device = with_context d (context_in pool' n s'); outcome = tell y })
       done_where d l (Ok y) h = done_there d l h
       done_where d l (Err f) h = tt
 
-      same_where : (d : Device) → Lives d own pool n s → (x : Result T ContextFault) → OnErr x (s' ≡ s) → OnErr x (pool' ≡ pool) → OnErr x (with_context d (context_in pool' n s') ≡ d)
+      same_where : (d : Device) → Lives d pool n s → (x : Result T ContextFault) → OnErr x (s' ≡ s) → OnErr x (pool' ≡ pool) → OnErr x (with_context d (context_in pool' n s') ≡ d)
       same_where d l (Ok y) a b = tt
       same_where d l (Err f) a b = same_there d l a b
 
   -- it takes no memory
   pub acts-plainly : (r : Result T Refusal) → told ≡ told_plainly tell r → Turn pool pool' n s s'
-      → ((d : Device) → Lives d own pool n s → result_err r ≡ first_cause (causes d (context_in pool n s)))
-      → ((d : Device) → Lives d own pool n s → IfOk r (λ x. act d (context_in pool n s) ≡ record { device = with_context d (context_in pool' n s'); outcome = tell x }))
-      → OnErr r (s' ≡ s) → OnErr r (pool' ≡ pool) → Acts own e pool pool' s s' told n
+      → ((d : Device) → Lives d pool n s → result_err r ≡ first_cause (causes d (context_in pool n s)))
+      → ((d : Device) → Lives d pool n s → IfOk r (λ x. act d (context_in pool n s) ≡ record { device = with_context d (context_in pool' n s'); outcome = tell x }))
+      → OnErr r (s' ≡ s) → OnErr r (pool' ≡ pool) → Acts e pool pool' s s' told n
   acts-plainly r is turn refused ok state pages = record {
     turn = turn;
     done = λ d l.
@@ -70,11 +69,11 @@ module _ (own : Address) (e : Event) (n : Name) (pool pool' : Pool) (s s' : Hold
         (done_where d l r (ok d l)) (same_where d l r state pages);
   }
     where
-      done_where : (d : Device) → Lives d own pool n s → (x : Result T Refusal) → IfOk x (λ y. act d (context_in pool n s) ≡ record { device = with_context d (context_in pool' n s'); outcome = tell y }) → IfOk x (λ y. done_by d e ≡ record { device = with_context d (context_in pool' n s'); outcome = tell y })
+      done_where : (d : Device) → Lives d pool n s → (x : Result T Refusal) → IfOk x (λ y. act d (context_in pool n s) ≡ record { device = with_context d (context_in pool' n s'); outcome = tell y }) → IfOk x (λ y. done_by d e ≡ record { device = with_context d (context_in pool' n s'); outcome = tell y })
       done_where d l (Ok y) h = done_there d l h
       done_where d l (Err f) h = tt
 
-      same_where : (d : Device) → Lives d own pool n s → (x : Result T Refusal) → OnErr x (s' ≡ s) → OnErr x (pool' ≡ pool) → OnErr x (with_context d (context_in pool' n s') ≡ d)
+      same_where : (d : Device) → Lives d pool n s → (x : Result T Refusal) → OnErr x (s' ≡ s) → OnErr x (pool' ≡ pool) → OnErr x (with_context d (context_in pool' n s') ≡ d)
       same_where d l (Ok y) a b = tt
       same_where d l (Err f) a b = same_there d l a b
 
@@ -84,13 +83,13 @@ err-same (Ok y) x = tt
 err-same (Err f) x = refl
 
 -- .. of the event that was asked for
-pub for-event : {asked e : Event} {own : Address} {pool pool' : Pool} {s s' : Holding} {told : Result Outcome ContextFault} {n : Name} → asked ≡ e → context_named e ≡ Some n → Acts own e pool pool' s s' told n → IfSome (context_named asked) (Acts own asked pool pool' s s' told)
-for-event {asked} {e} {own} {pool} {pool'} {s} {s'} {told} is named acts = subst (λ x. IfSome (context_named x) (Acts own x pool pool' s s' told)) (sym is) (subst (λ o. IfSome o (Acts own e pool pool' s s' told)) (sym named) acts)
+pub for-event : {asked e : Event} {pool pool' : Pool} {s s' : Holding} {told : Result Outcome ContextFault} {n : Name} → asked ≡ e → context_named e ≡ Some n → Acts e pool pool' s s' told n → IfSome (context_named asked) (Acts asked pool pool' s s' told)
+for-event {asked} {e} {pool} {pool'} {s} {s'} {told} is named acts = subst (λ x. IfSome (context_named x) (Acts x pool pool' s s' told)) (sym is) (subst (λ o. IfSome o (Acts e pool pool' s s' told)) (sym named) acts)
 
 -- a call that only reads
-pub kept-there : {T E : Type 0} (d : Device) (own : Address) (pool : Pool) (n : Name) (s : Holding) → Lives d own pool n s → (step : Step) (tell : T → Outcome) (r : Result T E) → IfOk r (λ x. step ≡ record { device = d; outcome = tell x }) → IfOk r (λ x. step ≡ record { device = with_context d (context_in pool n s); outcome = tell x })
-kept-there d own pool n s l step tell (Ok x) h = h ∙ ap (λ k. record { device = k; outcome = tell x }) (sym l.same)
-kept-there d own pool n s l step tell (Err f) h = tt
+pub kept-there : {T E : Type 0} (d : Device) (pool : Pool) (n : Name) (s : Holding) → Lives d pool n s → (step : Step) (tell : T → Outcome) (r : Result T E) → IfOk r (λ x. step ≡ record { device = d; outcome = tell x }) → IfOk r (λ x. step ≡ record { device = with_context d (context_in pool n s); outcome = tell x })
+kept-there d pool n s l step tell (Ok x) h = h ∙ ap (λ k. record { device = k; outcome = tell x }) (sym l.same)
+kept-there d pool n s l step tell (Err f) h = tt
 
 -- the causes of such an event speak of its context
 abbrev pub Speaks : Event → Name → Type 0
@@ -106,7 +105,6 @@ named_speaks (event.Load o at count) = (λ d c. range_causes c o.name at count, 
 named_speaks (event.PostSend o r) = (λ d c. end_causes c o.name (send_causes d c (end_at c o.name) r), λ d. refl)
 named_speaks (event.PostRecv o r) = (λ d c. end_causes c o.name (recv_causes c (end_at c o.name) r), λ d. refl)
 named_speaks (event.Poll o most) = (λ d c. poll_causes c o.name, λ d. refl)
-named_speaks (event.Transmit o) = (λ d c. connected_causes c o.name, λ d. refl)
 named_speaks (event.Expire o) = (λ d c. connected_causes c o.name, λ d. refl)
 named_speaks (event.RnrOver o) = (λ d c. connected_causes c o.name, λ d. refl)
 named_speaks e = tt

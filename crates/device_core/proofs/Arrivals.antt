@@ -11,19 +11,17 @@ use Rattle.rdma_types.specs.declared.names.Name.{Name}
 use Rattle.rdma_types.specs.declared.requests.Address.{Address}
 use Rattle.page_pool.specs.Pool.{Pool}
 use Rattle.protocol.specs.declared.events.Event.TheVariants as event
-use Rattle.protocol.specs.declared.images.Outcome.{Outcome}
 use Rattle.protocol.specs.DeviceStep.{Step, arrives, arrives_packet, device_step, at_found, at_husk, ended_step, found_in, found_link, husk_entries, with_context}
 use Rattle.protocol.specs.EndStep.{takes}
 use Rattle.protocol.specs.Refusals.{causes_of, has_context, has_husk}
 use Rattle.protocol.specs.State.{Context, Device, End, HuskEntry as Entry, Link, context_at}
 use Rattle.protocol.specs.Wire.{Packet, is_control, packet_of}
 use Rattle.context_core.specs.declared.arriving.ArrivalOutcome.{ArrivalOutcome}
-use Rattle.context_core.specs.declared.ContextFault.{ContextFault}
 use Rattle.context_core.specs.Context.{Holding, context_in}
 use Rattle.context_core.specs.Heads.{link_at, link_by}
 use Rattle.device_core.specs.declared.husks.HuskEntry.{HuskEntry}
 use Rattle.device_core.specs.declared.index.EndLocation.{EndLocation}
-use Rattle.device_core.specs.Done.{IsDone, silent, taking, told_memory, told_taken}
+use Rattle.device_core.specs.Done.{IsDone, silent, taking, told_arrival, told_memory, told_taken}
 use Rattle.device_core.specs.Held.{IsHeld}
 use Rattle.device_core.specs.Index.{IsEndAt, IsEntryAt, IsIndex, husk_at}
 use Rattle.device_core.specs.Parts.{device_of}
@@ -63,13 +61,13 @@ not-refused d from bytes = refl
 -- a datagram reaches an entry of a husk
 pub husk-arrived : (index : ℕ → Option EndLocation) (d : Device) → IsIndex index d → AllPairs (λ a b. a ≢ b) (map (λ c. c.name) d.contexts) → AllPairs (λ a b. a ≢ b) (map (λ h. h.name) d.husks)
     → (n : Name) (place : ℕ) (from : Address) (bytes : List ℕ) (p : Packet) → packet_of bytes ≡ Some p → IsEntryAt d n place p.dest → has_context d n ≡ false
-    → (r : Result Outcome AllocError) (told : Result Outcome ContextFault) → told ≡ told_memory r → IfOk r (λ o. (h : Entry) → slice_get (husk_at d n).entries place ≡ Some h → at_husk d from p (h ∷ []) ≡ record { device = d; outcome = o })
-    → IsDone d (event.Arrive from bytes) d told
-husk-arrived index d i names husk_names n place from bytes p is entry gone r told tells done = subst (IsDone d (event.Arrive from bytes) d) (sym tells) (by_result r done)
+    → (r : Result ArrivalOutcome AllocError) → IfOk r (λ t. (h : Entry) → slice_get (husk_at d n).entries place ≡ Some h → at_husk d from p (h ∷ []) ≡ record { device = d; outcome = taking t })
+    → IsDone d (event.Arrive from bytes) d (told_memory (told_arrival r))
+husk-arrived index d i names husk_names n place from bytes p is entry gone r done = by_result r done
   where
-    by_result : (x : Result Outcome AllocError) → IfOk x (λ o. (h : Entry) → slice_get (husk_at d n).entries place ≡ Some h → at_husk d from p (h ∷ []) ≡ record { device = d; outcome = o }) → IsDone d (event.Arrive from bytes) d (told_memory x)
+    by_result : (x : Result ArrivalOutcome AllocError) → IfOk x (λ t. (h : Entry) → slice_get (husk_at d n).entries place ≡ Some h → at_husk d from p (h ∷ []) ≡ record { device = d; outcome = taking t }) → IsDone d (event.Arrive from bytes) d (told_memory (told_arrival x))
     by_result (Err e) h = (refl, not-refused d from bytes)
-    by_result (Ok o) h =
+    by_result (Ok t) h =
         arrives-packet d from bytes p is _
         (ap (at_found d from p) (found-none index d i names husk_names p.dest n place entry gone)
         ∙ (ap (at_husk d from p) (left-one index d i names husk_names p.dest n place entry) ∙ h entry.entry entry.there))
@@ -77,10 +75,10 @@ husk-arrived index d i names husk_names n place from bytes p is entry gone r tol
 -- .. of a device that is the same
 pub husk-arrived-at : (index : ℕ → Option EndLocation) (d d' : Device) → d ≡ d' → IsIndex index d → AllPairs (λ a b. a ≢ b) (map (λ c. c.name) d.contexts) → AllPairs (λ a b. a ≢ b) (map (λ h. h.name) d.husks)
     → (n : Name) (place : ℕ) (from : Address) (bytes : List ℕ) (p : Packet) → packet_of bytes ≡ Some p → IsEntryAt d' n place p.dest → has_context d' n ≡ false
-    → (r : Result Outcome AllocError) (told : Result Outcome ContextFault) → told ≡ told_memory r → IfOk r (λ o. (h : Entry) → slice_get (husk_at d' n).entries place ≡ Some h → at_husk d' from p (h ∷ []) ≡ record { device = d'; outcome = o })
-    → IsDone d' (event.Arrive from bytes) d' told
-husk-arrived-at index d d' same i names husk_names n place from bytes p is entry gone r told tells done =
-    husk-arrived index d' (subst (IsIndex index) same i) (subst (λ (x : Device). AllPairs (λ a b. a ≢ b) (map (λ c. c.name) x.contexts)) same names) (subst (λ (x : Device). AllPairs (λ a b. a ≢ b) (map (λ h. h.name) x.husks)) same husk_names) n place from bytes p is entry gone r told tells done
+    → (r : Result ArrivalOutcome AllocError) → IfOk r (λ t. (h : Entry) → slice_get (husk_at d' n).entries place ≡ Some h → at_husk d' from p (h ∷ []) ≡ record { device = d'; outcome = taking t })
+    → IsDone d' (event.Arrive from bytes) d' (told_memory (told_arrival r))
+husk-arrived-at index d d' same i names husk_names n place from bytes p is entry gone r done =
+    husk-arrived index d' (subst (IsIndex index) same i) (subst (λ (x : Device). AllPairs (λ a b. a ≢ b) (map (λ c. c.name) x.contexts)) same names) (subst (λ (x : Device). AllPairs (λ a b. a ≢ b) (map (λ h. h.name) x.husks)) same husk_names) n place from bytes p is entry gone r done
 
 -- a packet for nobody that reaches an entry of a husk is a message of moving
 pub left-control : (index : ℕ → Option EndLocation) (d : Device) → IsIndex index d → AllPairs (λ a b. a ≢ b) (map (λ c. c.name) d.contexts) → AllPairs (λ a b. a ≢ b) (map (λ h. h.name) d.husks)
@@ -105,12 +103,12 @@ module _ (id : ℕ) (address : Address) (qp key : ℕ) (pool : Pool) (es : List 
     (n : Name) (s : Holding) (found : lookup (bytes_eq n) es ≡ Some s) (pool' : Pool) (s' : Holding) (turn : Turn pool pool' n s s') (es' : List (Name × Holding)) (set : es' ≡ set_value (bytes_eq n) es s') (from : Address) (bytes : List ℕ) (p : Packet) (is : packet_of bytes ≡ Some p)
     (place : ℕ) (end : IsEndAt (device_of id address qp key pool es husks) n place p.dest) where
   -- it does what the end does, or nothing where the end is not connected
-  taken-step : (told : Result Outcome ContextFault) (r : Result (Option ArrivalOutcome) AllocError) → told ≡ told_taken r
+  taken-step : (told : Result ArrivalOutcome AllocError) (r : Result (Option ArrivalOutcome) AllocError) → told ≡ told_taken r
       → IfOk r (λ o. is_none o ≡ is_none (link_at (context_in pool n s) place))
       → ((e : End) (l : Link) → slice_get (context_in pool n s).ends place ≡ Some e → e.link ≡ Some l → IfOk r (λ o. IfSome o (λ t. takes (context_in pool n s) e l p ≡ record { context = context_in pool' n s'; took = t.took; sent = t.sent })))
       → IfOk r (λ o. IfNone o (s' ≡ s)) → IfOk r (λ o. IfNone o (pool' ≡ pool)) → OnErr r (s' ≡ s) → OnErr r (pool' ≡ pool)
-      → IsDone (device_of id address qp key pool es husks) (event.Arrive from bytes) (device_of id address qp key pool' es' husks) told
-  taken-step told r tells none took nothing nothing_pool err err_pool = subst (IsDone (device_of id address qp key pool es husks) (event.Arrive from bytes) (device_of id address qp key pool' es' husks)) (sym tells) (by_result r none took nothing nothing_pool err err_pool end.end.link refl)
+      → IsDone (device_of id address qp key pool es husks) (event.Arrive from bytes) (device_of id address qp key pool' es' husks) (told_memory (told_arrival told))
+  taken-step told r tells none took nothing nothing_pool err err_pool = subst (λ x. IsDone (device_of id address qp key pool es husks) (event.Arrive from bytes) (device_of id address qp key pool' es' husks) (told_memory (told_arrival x))) (sym tells) (by_result r none took nothing nothing_pool err err_pool end.end.link refl)
     where
       here : slice_get (context_in pool n s).ends place ≡ Some end.end
       here = ap (λ (c : Context). slice_get c.ends place) (sym (context-is id address qp key pool es husks index held n s found)) ∙ end.there
@@ -139,17 +137,17 @@ module _ (id : ℕ) (address : Address) (qp key : ℕ) (pool : Pool) (es : List 
           → IfOk x (λ o. is_none o ≡ is_none (link_at (context_in pool n s) place))
           → ((e : End) (l : Link) → slice_get (context_in pool n s).ends place ≡ Some e → e.link ≡ Some l → IfOk x (λ o. IfSome o (λ t. takes (context_in pool n s) e l p ≡ record { context = context_in pool' n s'; took = t.took; sent = t.sent })))
           → IfOk x (λ o. IfNone o (s' ≡ s)) → IfOk x (λ o. IfNone o (pool' ≡ pool)) → OnErr x (s' ≡ s) → OnErr x (pool' ≡ pool)
-          → (l : Option Link) → end.end.link ≡ l → IsDone (device_of id address qp key pool es husks) (event.Arrive from bytes) (device_of id address qp key pool' es' husks) (told_taken x)
+          → (l : Option Link) → end.end.link ≡ l → IsDone (device_of id address qp key pool es husks) (event.Arrive from bytes) (device_of id address qp key pool' es' husks) (told_memory (told_arrival (told_taken x)))
       by_result (Err e) agree tk nt ntp er erp l at = (same er erp, not-refused (device_of id address qp key pool es husks) from bytes)
       by_result (Ok None) agree tk nt ntp er erp None at = arrives-packet (device_of id address qp key pool es husks) from bytes p is _ (unlinked at) ∙ ap (λ k. record { device = k; outcome = silent why.Unknown }) (sym (same nt ntp))
       by_result (Ok None) agree tk nt ntp er erp (Some l) at = absurd (cc (agree, ap (λ e. is_none (link_by e)) here, ap is_none at))
       by_result (Ok (Some t)) agree tk nt ntp er erp None at = absurd (cc (agree, ap (λ e. is_none (link_by e)) here, ap is_none at))
       by_result (Ok (Some t)) agree tk nt ntp er erp (Some l) at = arrives-packet (device_of id address qp key pool es husks) from bytes p is _ (linked l t at (tk end.end l here at))
 
-  pub arrived : (told : Result Outcome ContextFault) (r : Result (Option ArrivalOutcome) AllocError) → told ≡ told_taken r
+  pub arrived : (told : Result ArrivalOutcome AllocError) (r : Result (Option ArrivalOutcome) AllocError) → told ≡ told_taken r
       → IfOk r (λ o. is_none o ≡ is_none (link_at (context_in pool n s) place))
       → ((e : End) (l : Link) → slice_get (context_in pool n s).ends place ≡ Some e → e.link ≡ Some l → IfOk r (λ o. IfSome o (λ t. takes (context_in pool n s) e l p ≡ record { context = context_in pool' n s'; took = t.took; sent = t.sent })))
       → IfOk r (λ o. IfNone o (s' ≡ s)) → IfOk r (λ o. IfNone o (pool' ≡ pool)) → OnErr r (s' ≡ s) → OnErr r (pool' ≡ pool)
-      → Stepped (device_of id address qp key pool es husks) (event.Arrive from bytes) pool' es' index (device_of id address qp key pool' es' husks) told
+      → Stepped (device_of id address qp key pool es husks) (event.Arrive from bytes) pool' es' index (device_of id address qp key pool' es' husks) (told_memory (told_arrival told))
   arrived told r tells none took nothing nothing_pool err err_pool =
-      kept id address qp key pool es husks index held n s found pool' s' turn es' set qp key (omega arith) (event.Arrive from bytes) told (taken-step told r tells none took nothing nothing_pool err err_pool)
+      kept id address qp key pool es husks index held n s found pool' s' turn es' set qp key (omega arith) (event.Arrive from bytes) (told_memory (told_arrival told)) (taken-step told r tells none took nothing nothing_pool err err_pool)

@@ -23,6 +23,7 @@ mod Departures
 mod Brought
 mod Restores
 mod Steps
+mod Transmissions
 mod Seen
 mod LiveEnds
 mod Copied

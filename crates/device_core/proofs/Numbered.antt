@@ -1,7 +1,6 @@
 -- The view of the connected end with a queue pair number.
 use Rattle.std.proofs.Common.{◌≡◌, ◌∙◌, ℕ, [], refl, sym, ap}
 use Rattle.std.specs.Prelude.{Option, Some, None, option_map}
-use Rattle.rdma_types.specs.declared.answers.EndView.{EndView}
 use Rattle.protocol.specs.DeviceStep.{found_in, found_link}
 use Rattle.protocol.specs.Readers.{view_of}
 use Rattle.protocol.specs.State.{Context, Device, End, Link}

@@ -68,9 +68,9 @@ module _ (id : ℕ) (address : Address) (qp key : ℕ) (pool : Pool) (es : List 
   }
 
   -- .. as an event of the context asks for it
-  pub acted : (e : Event) (told : Result Outcome ContextFault) → Acts address e pool pool' s s' told n → qp' ≡ qp → key' ≡ key → Stepped (device_of id address qp key pool es husks) e pool' es' index (device_of id address qp' key' pool' es' husks) told
+  pub acted : (e : Event) (told : Result Outcome ContextFault) → Acts e pool pool' s s' told n → qp' ≡ qp → key' ≡ key → Stepped (device_of id address qp key pool es husks) e pool' es' index (device_of id address qp' key' pool' es' husks) told
   acted e told acts same_qp same_key =
-      let lives : Lives (device_of id address qp key pool es husks) address pool n s = record { lives = there-is id address qp key pool es husks index held n s found; at = context-is id address qp key pool es husks index held n s found; same = same-device id address qp key pool es husks index held n s found; free = free-is id address qp key pool es husks index held; address = refl } in
+      let lives : Lives (device_of id address qp key pool es husks) pool n s = record { lives = there-is id address qp key pool es husks index held n s found; at = context-is id address qp key pool es husks index held n s found; same = same-device id address qp key pool es husks index held n s found; free = free-is id address qp key pool es husks index held } in
       let same : with_context (device_of id address qp key pool es husks) (context_in pool' n s') ≡ device_of id address qp' key' pool' es' husks = sym (new-is ∙ λ i. with_context (record (device_of id address qp key pool es husks) { qp_count = same_qp i; key_count = same_key i }) (context_in pool' n s')) in
       kept e told (subst (λ x. IsDone (device_of id address qp key pool es husks) e x told) same (acts.done (device_of id address qp key pool es husks) lives))
 

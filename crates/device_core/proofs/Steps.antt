@@ -1,6 +1,6 @@
 -- What a step keeps, whatever the event.
-use Rattle.std.proofs.Common.{arith, ◌≡◌, ◌≤◌, ◌^◌, ◌==◌, List, [], ◌∷◌, length, true, false, Bool, refl, sym, ap, ◌∙◌, subst}
-use Rattle.std.specs.Prelude.{IfSome, IsOk, Option, Some, None, Result, Ok, Err, IfOk, OnErr, if◌then◌else◌}
+use Rattle.std.proofs.Common.{arith, ℕ, ◌≡◌, ◌≤◌, ◌^◌, ◌==◌, List, [], ◌∷◌, length, true, false, Bool, refl, sym, ap, ◌∙◌, subst}
+use Rattle.std.specs.Prelude.{IfSome, IsOk, Option, Some, None, Result, Ok, Err, IfOk, OnErr, alloc_error, if◌then◌else◌}
 use Rattle.std.specs.declared.alloc.AllocError.{AllocError}
 use Rattle.rdma_types.specs.Causes.{first_cause}
 use Rattle.rdma_types.specs.declared.answers.Answer.TheVariants as answer
@@ -21,8 +21,11 @@ use Rattle.protocol.specs.Wire.{Packet, is_control, packet_of}
 use Rattle.context_core.specs.declared.ContextFault.{ContextFault}
 use Rattle.context_core.specs.declared.ContextFault.TheVariants.{Refused, OutOfMemory}
 use Rattle.rdma_types.specs.declared.names.Name.{Name}
+use Rattle.rdma_types.specs.declared.names.ObjName.{ObjName}
+use Rattle.context_core.specs.declared.arriving.ArrivalOutcome.{ArrivalOutcome}
+use Rattle.context_core.specs.declared.sending.Answered.{Answered}
 use Rattle.device_core.specs.Acting.{context_named}
-use Rattle.device_core.specs.Done.{AreFew, AreLawful, IsDone, IsNotOutOfMemory, told_step}
+use Rattle.device_core.specs.Done.{AreFew, AreLawful, IsDone, IsNotOutOfMemory, sending, told_arrival, told_by, told_memory, told_sent, told_step, told_transmission}
 
 -- an event that is no arrival
 abbrev pub IsQuiet : Event → Type 0
@@ -154,6 +157,77 @@ told d new e r t tells done few = subst (Told d new e) (sym tells) (by_result r 
       refused_first = h.1;
     }
 
+-- .. of a step that may only run out of memory
+pub told-memory : (d new : Device) (e : Event) (t : Result Outcome AllocError) → IsDone d e new (told_memory t) → IfOk t (λ o. length o.sent ≤ 2 ^ 32) → Told d new e t
+told-memory d new e (Ok o) done few = told d new e (Ok o) (Ok o) refl done few
+told-memory d new e (Err x) done few = told d new e (Err OutOfMemory) (Err x) refl done tt
+
+-- .. of a datagram that arrives
+pub told-arrived : (d new : Device) (e : Event) (r : Result ArrivalOutcome AllocError) (t : Result Outcome AllocError) → t ≡ told_arrival r → IsDone d e new (told_memory (told_arrival r)) → IfOk r (λ a. length a.sent ≤ 2 ^ 32) → Told d new e t
+told-arrived d new e r t tells done few = subst (Told d new e) (sym tells) (told-memory d new e (told_arrival r) done (few_of r few))
+  where
+    few_of : (x : Result ArrivalOutcome AllocError) → IfOk x (λ a. length a.sent ≤ 2 ^ 32) → IfOk (told_arrival x) (λ o. length o.sent ≤ 2 ^ 32)
+    few_of (Ok a) h = h
+    few_of (Err x) h = tt
+
+pub arrived-is_ok : (r : Result ArrivalOutcome AllocError) (t : Result Outcome AllocError) → t ≡ told_arrival r → IsOk r → IsOk t
+arrived-is_ok r t tells sure = subst IsOk (sym tells) (by_result r sure)
+  where
+    by_result : (x : Result ArrivalOutcome AllocError) → IsOk x → IsOk (told_arrival x)
+    by_result (Ok a) s = refl
+    by_result (Err e) s = absurd (cc s)
+
+-- .. of a transmission
+pub record Transmitted (d new : Device) (o : ObjName) (told : Result Answered AllocError) : Type 0 where
+  pub ok : IfOk told (λ a. device_step d (event.Transmit o) ≡ record { device = new; outcome = sending a })
+  pub few : IfOk told (λ a. length a.sent ≤ 2 ^ 32)
+  pub id : new.id ≡ d.id
+  pub address : new.address ≡ d.address
+  pub err : OnErr told (new ≡ d)
+  pub refused_first : OnErr told (refusal_of d (event.Transmit o) ≡ None)
+
+pub told-transmitted : (d new : Device) (o : ObjName) (r : Result Answered ContextFault) (t : Result Answered AllocError) → t ≡ told_transmission r → IsDone d (event.Transmit o) new (told_by sending r) → Transmitted d new o t
+told-transmitted d new o r t tells done = subst (Transmitted d new o) (sym tells) (by_result r done)
+  where
+    of_told : (x : Result Answered AllocError) → Told d new (event.Transmit o) (told_sent x) → Transmitted d new o x
+    of_told (Ok a) h = record { ok = h.ok; few = h.few; id = h.id; address = h.address; err = h.err; refused_first = h.refused_first }
+    of_told (Err e) h = record { ok = tt; few = tt; id = h.id; address = h.address; err = h.err; refused_first = h.refused_first }
+
+    by_result : (x : Result Answered ContextFault) → IsDone d (event.Transmit o) new (told_by sending x) → Transmitted d new o (told_transmission x)
+    by_result (Ok a) h = of_told (Ok a) (told d new (event.Transmit o) (Ok (sending a)) _ refl h (few-sent d new (event.Transmit o) (Ok (sending a)) tt h))
+    by_result (Err (Refused w)) h = of_told (Ok (record { answer = answer.Refused w; sent = [] })) (told d new (event.Transmit o) (Err (Refused w)) _ refl h tt)
+    by_result (Err OutOfMemory) h = of_told (Err alloc_error) (told d new (event.Transmit o) (Err OutOfMemory) _ refl h tt)
+
+-- what such a step tells of the event
+pub done-memory : (d new : Device) (e : Event) (t : Result Outcome AllocError) (r : Result Outcome ContextFault) → r ≡ told_memory t → IfOk t (λ o. device_step d e ≡ record { device = new; outcome = o }) → OnErr t (refusal_of d e ≡ None) → OnErr t (new ≡ d) → IsDone d e new r
+unfolding refusal_of
+done-memory d new e t r tells ok refused err = subst (IsDone d e new) (sym tells) (by_result t ok refused err)
+  where
+    by_result : (x : Result Outcome AllocError) → IfOk x (λ o. device_step d e ≡ record { device = new; outcome = o }) → OnErr x (refusal_of d e ≡ None) → OnErr x (new ≡ d) → IsDone d e new (told_memory x)
+    by_result (Ok o) ok refused err = ok
+    by_result (Err x) ok refused err = (err, refused)
+
+-- .. of a transmission
+pub done-transmitted : (d new : Device) (o : ObjName) (t : Result Answered AllocError) (r : Result Outcome ContextFault) → r ≡ told_memory (told_sent t) → IfOk t (λ a. device_step d (event.Transmit o) ≡ record { device = new; outcome = sending a }) → OnErr t (refusal_of d (event.Transmit o) ≡ None) → OnErr t (new ≡ d) → IsDone d (event.Transmit o) new r
+done-transmitted d new o t r tells ok refused err = done-memory d new (event.Transmit o) (told_sent t) r tells (sent_ok t ok) (sent_err _ t refused) (sent_err _ t err)
+  where
+    sent_ok : (x : Result Answered AllocError) → IfOk x (λ a. device_step d (event.Transmit o) ≡ record { device = new; outcome = sending a }) → IfOk (told_sent x) (λ y. device_step d (event.Transmit o) ≡ record { device = new; outcome = y })
+    sent_ok (Ok a) h = h
+    sent_ok (Err e) h = tt
+
+    sent_err : (P : Type 0) (x : Result Answered AllocError) → OnErr x P → OnErr (told_sent x) P
+    sent_err P (Ok a) h = tt
+    sent_err P (Err e) h = h
+
+-- .. of an arrival, which is never refused
+pub done-arrived : (d new : Device) (from : Address) (bytes : List ℕ) (t : Result Outcome AllocError) (r : Result Outcome ContextFault) → r ≡ told_memory t → IfOk t (λ o. device_step d (event.Arrive from bytes) ≡ record { device = new; outcome = o }) → OnErr t (new ≡ d) → IsDone d (event.Arrive from bytes) new r
+unfolding refusal_of first_cause
+done-arrived d new from bytes t r tells ok err = done-memory d new (event.Arrive from bytes) t r tells ok (never t) err
+  where
+    never : (x : Result Outcome AllocError) → OnErr x (refusal_of d (event.Arrive from bytes) ≡ None)
+    never (Ok o) = tt
+    never (Err e) = refl
+
 pub told-not_out_of_memory : (r : Result Outcome ContextFault) (t : Result Outcome AllocError) → t ≡ told_step r → IsNotOutOfMemory r → IsOk t
 told-not_out_of_memory r t tells sure = subst IsOk (sym tells) (by_result r sure)
   where
@@ -192,7 +266,6 @@ named_is_neither (event.Load o at count) = (tt, tt)
 named_is_neither (event.PostSend o r) = (tt, tt)
 named_is_neither (event.PostRecv o r) = (tt, tt)
 named_is_neither (event.Poll o most) = (tt, tt)
-named_is_neither (event.Transmit o) = (tt, tt)
 named_is_neither (event.Expire o) = (tt, tt)
 named_is_neither (event.RnrOver o) = (tt, tt)
 named_is_neither e = tt

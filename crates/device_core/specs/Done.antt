@@ -13,6 +13,7 @@ use Rattle.rdma_types.specs.declared.requests.Keys.{Keys}
 use Rattle.rdma_types.specs.declared.names.Name.{Name}
 use Rattle.rdma_types.specs.Causes.{first_cause}
 use Rattle.context_core.specs.declared.making.NewEnd.{NewEnd}
+use Rattle.context_core.specs.declared.sending.Answered.{Answered}
 use Rattle.protocol.specs.declared.events.Event.{Event}
 use Rattle.protocol.specs.declared.events.Event.TheVariants as event
 use Rattle.protocol.specs.declared.images.Outcome.{Outcome}
@@ -61,15 +62,39 @@ number_answer (Some number) = answer.Qp number
 abbrev pub silent : SilentWhy → Outcome
 silent why = plain (answer.Took (took.Silent why) 0 0)
 
--- what an end did with a datagram
+-- .. as what a datagram did
+abbrev pub silent_arrival : SilentWhy → ArrivalOutcome
+silent_arrival why = record { took = took.Silent why; sent = [] }
+
+-- what a datagram did, and what is sent for it
 abbrev pub taking : ArrivalOutcome → Outcome
 taking t = giving (answer.Took t.took 0 (length t.sent)) t.sent
 
--- .. where it may have taken none
-abbrev pub told_taken : Result (Option ArrivalOutcome) AllocError → Result Outcome ContextFault
-told_taken (Ok None) = Ok (silent why.Unknown)
-told_taken (Ok (Some t)) = Ok (taking t)
-told_taken (Err e) = Err OutOfMemory
+-- .. where an end may have taken none
+abbrev pub told_taken : Result (Option ArrivalOutcome) AllocError → Result ArrivalOutcome AllocError
+told_taken (Ok None) = Ok (silent_arrival why.Unknown)
+told_taken (Ok (Some t)) = Ok t
+told_taken (Err e) = Err e
+
+-- .. as an outcome
+abbrev pub told_arrival : Result ArrivalOutcome AllocError → Result Outcome AllocError
+told_arrival (Ok t) = Ok (taking t)
+told_arrival (Err e) = Err e
+
+-- an answer and what is sent, as an outcome
+abbrev pub sending : Answered → Outcome
+sending a = giving a.answer a.sent
+
+-- what is told of a transmission: a refusal is an answer
+abbrev pub told_transmission : Result Answered ContextFault → Result Answered AllocError
+told_transmission (Ok a) = Ok a
+told_transmission (Err (Refused r)) = Ok (record { answer = answer.Refused r; sent = [] })
+told_transmission (Err OutOfMemory) = Err alloc_error
+
+-- .. as an outcome
+abbrev pub told_sent : Result Answered AllocError → Result Outcome AllocError
+told_sent (Ok a) = Ok (sending a)
+told_sent (Err e) = Err e
 
 -- a step that may run out of memory
 abbrev pub told_memory : Result Outcome AllocError → Result Outcome ContextFault

@@ -6,18 +6,17 @@ ghost use Rattle.protocol.specs.Moves.{nak_stopped};
 ghost use Rattle.protocol.specs.State.{HuskEntry as Entry};
 ghost use Rattle.protocol.specs.Wire.{Fits, is_control as is_control_packet, is_nak_stopped, packet_of, wire_of};
 ghost use Rattle.roce_headers.specs.Packets.{packet};
-ghost use Rattle.device_core.specs.Done.{AreFew, IsDone, IsNotOutOfMemory, silent as silent_outcome, told_memory as memory_told, told_taken as taken_told};
+ghost use Rattle.device_core.specs.Done.{IsDone, silent_arrival, taking, told_arrival, told_memory, told_taken as taken_told};
 ghost use Rattle.device_core.specs.Index.{IsEndAt, IsEntryAt, husk_at};
 ghost use Rattle.device_core.specs.Parts.{entry_of};
 ghost use Rattle.device_core.specs.Readings.{DoNothing};
 
 use crate::Device;
-use crate::device::answered;
 use crate::husks::HuskEntry;
 use crate::index::EndLocation;
-use context_core::{ArrivalOutcome, ContextFault};
-use protocol::{Aeth, Event, Outcome, Syndrome};
-use rdma_types::{Address, Answer, Items, Sent, SilentWhy, Took};
+use context_core::ArrivalOutcome;
+use protocol::{Aeth, Event, Syndrome};
+use rdma_types::{Address, Items, Sent, SilentWhy, Took};
 use roce_headers::opcodes::ACKNOWLEDGE;
 use roce_headers::{Datagram, decode, encode, encoded_len};
 use std::alloc::{AllocError, Global};
@@ -26,41 +25,29 @@ use std::alloc::{AllocError, Global};
 const STOPPED: u8 = 5;
 
 /// A datagram without effect.
-fn silent(alloc: Global, why: SilentWhy) -> Outcome
-    ensures { result ≡ silent_outcome why }
+fn silent(alloc: Global, why: SilentWhy) -> ArrivalOutcome
+    ensures { result ≡ silent_arrival why }
 {
-    answered(
-        alloc,
-        Answer::Took {
-            took: Took::Silent(why),
-            first: 0,
-            count: 0,
-        },
-    )
+    ArrivalOutcome {
+        took: Took::Silent(why),
+        sent: Items::new(Vec::new(alloc)),
+    }
 }
 
 /// What is told where an end may have taken a datagram.
 fn told_taken(
     alloc: Global,
     taken: Result<Option<ArrivalOutcome>, AllocError>,
-) -> Result<Outcome, ContextFault>
+) -> Result<ArrivalOutcome, AllocError>
     requires { IfOk taken (λ r. IfSome r (λ t. length t.sent ≤ 2 ^ 32)) }
     ensures told { result ≡ taken_told taken }
-    ensures bounded { AreFew result }
-    ensures never_out_of_memory { IsOk taken → IsNotOutOfMemory result }
+    ensures bounded { IfOk result (λ t. length t.sent ≤ 2 ^ 32) }
+    ensures never_out_of_memory { IsOk taken → IsOk result }
 {
     match taken {
-        Ok(Some(ArrivalOutcome { took, sent })) => Ok(Outcome {
-            answer: Answer::Took {
-                took,
-                first: 0,
-                count: sent.len() as u64,
-            },
-            sent,
-            image: None,
-        }),
+        Ok(Some(arrived)) => Ok(arrived),
         Ok(None) => Ok(silent(alloc, SilentWhy::Unknown)),
-        Err(_) => Err(ContextFault::OutOfMemory),
+        Err(fault) => Err(fault),
     }
 }
 
@@ -87,18 +74,6 @@ fn stopped_datagram(entry: &HuskEntry, psn: u32) -> Datagram<'static>
         old: None,
         resume: None,
         payload: &[],
-    }
-}
-
-/// A step that may run out of memory.
-fn told_memory(done: Result<Outcome, AllocError>) -> Result<Outcome, ContextFault>
-    ensures told { result ≡ memory_told done }
-    ensures bounded { IfOk done (λ o. length o.sent ≤ 2 ^ 32) → AreFew result }
-    ensures never_out_of_memory { IsOk done → IsNotOutOfMemory result }
-{
-    match done {
-        Ok(outcome) => Ok(outcome),
-        Err(_) => Err(ContextFault::OutOfMemory),
     }
 }
 
@@ -175,11 +150,11 @@ impl Device {
         from: Address,
         d: &Datagram<'_>,
         spot: &EndLocation,
-    ) -> Result<Outcome, AllocError>
+    ) -> Result<ArrivalOutcome, AllocError>
         requires entry { IsEntryAt self.now spot.now.context spot.now.place d.now.dest }
         requires psn { d.now.psn < 2 ^ 24 }
-        ensures bounded { IfOk result (λ o. length o.sent ≤ 2 ^ 32) }
-        ensures done { IfOk result (λ o. (h : Entry) → slice_get (husk_at self.now spot.now.context).entries spot.now.place ≡ Some h → at_husk self.now from (packet d.now) (h ∷ []) ≡ record { device = self.now; outcome = o }) }
+        ensures bounded { IfOk result (λ t. length t.sent ≤ 2 ^ 32) }
+        ensures done { IfOk result (λ t. (h : Entry) → slice_get (husk_at self.now spot.now.context).entries spot.now.place ≡ Some h → at_husk self.now from (packet d.now) (h ∷ []) ≡ record { device = self.now; outcome = taking t }) }
         ensures never_out_of_memory { is_control_packet (packet d.now) ≡ true → IsOk result }
     {
         if is_control(d) {
@@ -188,14 +163,9 @@ impl Device {
         let entry = self.entry_at(spot);
         let datagram = stopped_datagram(&entry, d.psn);
         let sent = sent_to(alloc, from, &datagram)?;
-        Ok(Outcome {
-            answer: Answer::Took {
-                took: Took::Stopped,
-                first: 0,
-                count: 1,
-            },
+        Ok(ArrivalOutcome {
+            took: Took::Stopped,
             sent,
-            image: None,
         })
     }
 
@@ -205,10 +175,10 @@ impl Device {
         alloc: Global,
         from: Address,
         bytes: &[u8],
-    ) -> Result<Outcome, ContextFault>
-        ensures done { IsDone self.old (Event.Arrive from bytes.now) self.new result }
-        ensures bounded { AreFew result }
-        ensures never_out_of_memory { DoNothing self.old (packet_of bytes.now) → IsNotOutOfMemory result }
+    ) -> Result<ArrivalOutcome, AllocError>
+        ensures done { IsDone self.old (Event.Arrive from bytes.now) self.new (told_memory (told_arrival result)) }
+        ensures bounded { IfOk result (λ t. length t.sent ≤ 2 ^ 32) }
+        ensures never_out_of_memory { DoNothing self.old (packet_of bytes.now) → IsOk result }
     {
         let Ok(d) = decode(bytes) else {
             return Ok(silent(alloc, SilentWhy::Malformed));
@@ -217,7 +187,7 @@ impl Device {
             return Ok(silent(alloc, SilentWhy::Unknown));
         };
         let Some(state) = self.contexts.get_mut(&spot.context) else {
-            return told_memory(self.answer_stopped(alloc, from, &d, &spot));
+            return self.answer_stopped(alloc, from, &d, &spot);
         };
         let taken = state.take(alloc, &mut self.pool, spot.place, &d);
         told_taken(alloc, taken)

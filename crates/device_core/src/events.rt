@@ -10,26 +10,25 @@ ghost use Rattle.device_core.specs.Readings.{TakesNoMemory};
 
 use crate::Device;
 use crate::telling::{
-    counted, outcome_of_done, told, told_answer, told_bytes, told_keys, told_polled, told_sent,
+    counted, outcome_of_done, told, told_answer, told_bytes, told_keys, told_polled,
 };
 use context_core::{ContextFault, ContextState, NewRegion};
 use page_pool::PagePool;
 use protocol::{Event, Outcome};
-use rdma_types::{Address, Answer, Name, ObjName, Rights};
+use rdma_types::{Answer, Name, ObjName, Rights};
 use std::alloc::Global;
 
-/// What an event does in its context, which lives on the device with an address and with these pages.
+/// What an event does in its context, whose bytes lie in these pages.
 fn act_in(
     state: &mut ContextState,
     pool: &mut PagePool,
     alloc: Global,
-    own: Address,
     event: &Event,
 ) -> Result<Outcome, ContextFault>
     requires is { IsContext pool.old state.old }
     requires named { IsSome (context_named event.now) }
     requires lawful { IsLawfulEvent event.now }
-    ensures acts { IfSome (context_named event.now) (Acts own event.now pool.old pool.new state.old state.new result) }
+    ensures acts { IfSome (context_named event.now) (Acts event.now pool.old pool.new state.old state.new result) }
     ensures names { GivesNames event.now }
     ensures never_out_of_memory { TakesNoMemory event.now → IsNotOutOfMemory result }
 {
@@ -70,7 +69,6 @@ fn act_in(
             outcome_of_done(alloc, state.post_recv(pool, end.name, receive))
         }
         Event::Poll { cq, max } => told_polled(alloc, state.poll(alloc, cq.name, *max)),
-        Event::Transmit { end } => told_sent(state.transmit(alloc, pool, end.name, own)),
         Event::Expire { end } => told_answer(alloc, state.expire(pool, end.name)),
         Event::RnrOver { end } => told_answer(alloc, state.rnr_over(end.name)),
         _ => unreachable!(),
@@ -95,7 +93,7 @@ impl Device {
         let Some(state) = self.contexts.get_mut(&name) else {
             return Err(ContextFault::Refused(self.missing(name)));
         };
-        act_in(state, &mut self.pool, alloc, self.address, event)
+        act_in(state, &mut self.pool, alloc, event)
     }
 
     /// A memory region of zeros, with the device's next keys.

@@ -19,7 +19,7 @@ mod readers;
 mod running;
 mod telling;
 
-pub use context_core::{LinkView, LiveEnd};
+pub use context_core::{Answered, LinkView, LiveEnd};
 pub use device::Device;
 pub use protocol::{ContextImage, Event, Outcome};
 pub use rdma_types::{Address, EndView, Name, ObjName, Sent};

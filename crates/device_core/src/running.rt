@@ -14,10 +14,11 @@ ghost use Rattle.device_core.specs.Readings.{DoNothing, TakesNoMemoryAt};
 
 use crate::Device;
 use crate::device::answered;
-use context_core::{ContextFault, NewEnd};
+use crate::telling::{refused, told_arrival, told_memory, told_sent, told_transmission};
+use context_core::{Answered, ContextFault, NewEnd};
 use law_arrivals::turns_change_what_arrivals_may;
 use protocol::{ContextImage, Event, Outcome};
-use rdma_types::{Address, Answer};
+use rdma_types::{Address, Answer, Items, ObjName};
 use std::alloc::{AllocError, Global};
 
 /// What is told of a step: a refusal is an answer.
@@ -67,7 +68,10 @@ impl Device {
                 };
                 self.make_qp(alloc, name.context, &asked)
             }
-            Event::Arrive { from, bytes } => self.take_bytes(alloc, *from, bytes.as_slice()),
+            Event::Transmit { end } => told_sent(self.transmit(alloc, end)),
+            Event::Arrive { from, bytes } => {
+                told_memory(self.arrive(alloc, *from, bytes.as_slice()))
+            }
             Event::Stop { context, alone } => self.stop(alloc, *context, *alone),
             Event::Restore { image } => self.put_image(alloc, image),
             Event::Release { context } => self.release(alloc, *context),
@@ -80,7 +84,6 @@ impl Device {
             Event::Connect { end, .. }
             | Event::PostSend { end, .. }
             | Event::PostRecv { end, .. }
-            | Event::Transmit { end }
             | Event::Expire { end }
             | Event::RnrOver { end } => self.act(alloc, end.context, event),
         }
@@ -95,9 +98,9 @@ impl Device {
     }
 
     /// One step on an event. A refusal is an answer, and the device is then as before. Errors: `AllocError` when out of
-    /// memory, and then no refusal is due; the device is as before. Connect, DropRegion, Store, PostRecv, Expire, RnrOver, Release and bytes that
-    /// do nothing (as at `arrive`) take no memory. Transmit, Expire and RnrOver change no byte of a region, and Arrive only
-    /// those that `arrive` may change.
+    /// memory, and then no refusal is due; the device is as before. Connect, DropRegion, Store, PostRecv, Expire, RnrOver,
+    /// Release and bytes that do nothing (as at `arrive`) take no memory. Transmit, Expire and RnrOver change no byte of a
+    /// region, and Arrive only those that `arrive` may change.
     pub fn step(&mut self, alloc: Global, event: &Event) -> Result<Outcome, AllocError>
         requires { IsLawfulEvent event.now }
         ensures ok { IfOk result (λ o. device_step self.old event.now ≡ record { device = self.new; outcome = o }) }
@@ -149,7 +152,32 @@ impl Device {
         ensures err { OnErr result (self.new ≡ self.old) }
     {
         self.bounds_turns();
-        let done = self.take_bytes(alloc, from, bytes);
-        told_step(alloc, done)
+        let arrived = self.take_bytes(alloc, from, bytes);
+        told_arrival(arrived)
+    }
+
+    /// The step on `Event::Transmit`: the next packet of an end, where it may send one. A refusal is an answer, and the
+    /// device is then as before. Errors: `AllocError` when out of memory, and then no refusal is due; the device is as
+    /// before.
+    pub fn transmit(&mut self, alloc: Global, end: &ObjName) -> Result<Answered, AllocError>
+        ensures ok { IfOk result (λ a. device_step self.old (Event.Transmit end.now) ≡ record { device = self.new; outcome = record { answer = a.answer; sent = a.sent; image = None } }) }
+        ensures bounded { IfOk result (λ a. length a.sent ≤ 2 ^ 32) }
+        ensures id { self.new.id ≡ self.old.id }
+        ensures address { self.new.address ≡ self.old.address }
+        ensures refused_first { OnErr result (refusal_of self.old (Event.Transmit end.now) ≡ None) }
+        ensures err { OnErr result (self.new ≡ self.old) }
+    {
+        let Some(state) = self.contexts.get_mut(&end.context) else {
+            return Ok(refused(alloc, self.missing(end.context)));
+        };
+        let sent = state.transmit(alloc, &self.pool, end.name, self.address);
+        told_transmission(alloc, sent)
+    }
+
+    /// Takes the memory of a datagram back, to be filled again.
+    pub fn give_back(&mut self, bytes: Items<u8>)
+        ensures { self.new ≡ self.old }
+    {
+        drop(bytes);
     }
 }

@@ -1,13 +1,13 @@
 //! What is told of a call of a context.
 
-ghost use Rattle.std.specs.Prelude.{◌≡◌, ◌+◌, ◌<◌, ◌^◌, Some, None, is_ok, if◌then◌else◌};
-ghost use Rattle.device_core.specs.Done.{IsNotOutOfMemory, giving, plain, region_answer, number_answer, told_by, told_plainly};
+ghost use Rattle.std.specs.Prelude.{◌≡◌, ◌+◌, ◌<◌, ◌≤◌, ◌^◌, [], Some, None, IfOk, IsOk, is_ok, length, if◌then◌else◌};
+ghost use Rattle.device_core.specs.Done.{AreFew, IsNotOutOfMemory, plain, region_answer, number_answer, told_arrival as arrival_told, told_by, told_memory as memory_told, told_plainly, told_sent as sent_told, told_transmission as transmission_told};
 
 use crate::device::answered;
-use context_core::{Answered, ContextFault};
+use context_core::{Answered, ArrivalOutcome, ContextFault};
 use protocol::Outcome;
 use rdma_types::{Answer, Completion, Items, Keys, Refusal};
-use std::alloc::Global;
+use std::alloc::{AllocError, Global};
 
 /// One more, where a thing was made.
 pub(crate) fn counted(count: u32, made: &Result<(), ContextFault>) -> u32
@@ -105,9 +105,33 @@ pub(crate) fn told_polled(
     }
 }
 
+/// What is told of a transmission: a refusal is an answer.
+pub(crate) fn told_transmission(
+    alloc: Global,
+    sent: Result<Answered, ContextFault>,
+) -> Result<Answered, AllocError>
+    ensures { result ≡ transmission_told sent }
+{
+    match sent {
+        Ok(answered) => Ok(answered),
+        Err(ContextFault::Refused(refusal)) => Ok(refused(alloc, refusal)),
+        Err(ContextFault::OutOfMemory) => Err(AllocError),
+    }
+}
+
+/// A refusal as an answer.
+pub(crate) fn refused(alloc: Global, refusal: Refusal) -> Answered
+    ensures { result ≡ record { answer = Answer.Refused refusal; sent = [] } }
+{
+    Answered {
+        answer: Answer::Refused(refusal),
+        sent: Items::new(Vec::new(alloc)),
+    }
+}
+
 /// What is sent, and its answer.
-pub(crate) fn told_sent(sent: Result<Answered, ContextFault>) -> Result<Outcome, ContextFault>
-    ensures { result ≡ told_by (λ a. giving a.answer a.sent) sent }
+pub(crate) fn told_sent(sent: Result<Answered, AllocError>) -> Result<Outcome, ContextFault>
+    ensures { result ≡ memory_told (sent_told sent) }
 {
     match sent {
         Ok(Answered { answer, sent }) => Ok(Outcome {
@@ -115,6 +139,38 @@ pub(crate) fn told_sent(sent: Result<Answered, ContextFault>) -> Result<Outcome,
             sent,
             image: None,
         }),
+        Err(_) => Err(ContextFault::OutOfMemory),
+    }
+}
+
+/// What a datagram did, and what is sent for it.
+pub(crate) fn told_arrival(
+    arrived: Result<ArrivalOutcome, AllocError>,
+) -> Result<Outcome, AllocError>
+    ensures { result ≡ arrival_told arrived }
+{
+    match arrived {
+        Ok(ArrivalOutcome { took, sent }) => Ok(Outcome {
+            answer: Answer::Took {
+                took,
+                first: 0,
+                count: sent.len() as u64,
+            },
+            sent,
+            image: None,
+        }),
         Err(fault) => Err(fault),
+    }
+}
+
+/// A step that may run out of memory.
+pub(crate) fn told_memory(done: Result<Outcome, AllocError>) -> Result<Outcome, ContextFault>
+    ensures told { result ≡ memory_told done }
+    ensures bounded { IfOk done (λ o. length o.sent ≤ 2 ^ 32) → AreFew result }
+    ensures never_out_of_memory { IsOk done → IsNotOutOfMemory result }
+{
+    match done {
+        Ok(outcome) => Ok(outcome),
+        Err(_) => Err(ContextFault::OutOfMemory),
     }
 }

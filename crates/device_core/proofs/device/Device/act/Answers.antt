@@ -35,7 +35,7 @@ invariant_of-self-2 c =
     let s = c.in-Some.state.now in
     let s' = c.act_in.new.state in
     let found : lookup (bytes_eq n) x.contexts.entries ≡ Some s = found-mut c.get_mut.result c.in-Some.state (lookup (bytes_eq n) x.contexts.entries) c.in-Some.is c.get_mut.ensures.value in
-    let acts : Acts x.address c.args.event.now x.pool c.act_in.new.pool s s' c.act_in.result n = subst (λ o. IfSome o (Acts x.address c.args.event.now x.pool c.act_in.new.pool s s' c.act_in.result)) c.requires.named c.act_in.ensures.acts in
+    let acts : Acts c.args.event.now x.pool c.act_in.new.pool s s' c.act_in.result n = subst (λ o. IfSome o (Acts c.args.event.now x.pool c.act_in.new.pool s s' c.act_in.result)) c.requires.named c.act_in.ensures.acts in
     (acted x.id x.address x.qp_count x.key_count x.pool x.contexts.entries x.husks.entries _ c.self.invariant n s found c.act_in.new.pool s' acts.turn (c.get_mut.follows.lender s').entries (c.get_mut.follows.holds s').0 x.qp_count x.key_count (omega arith)
     c.args.event.now c.act_in.result acts refl refl).held c.requires.lawful c.act_in.ensures.names
 
@@ -46,7 +46,7 @@ returns-clause-done c =
     let s = c.in-Some.state.now in
     let s' = c.act_in.new.state in
     let found : lookup (bytes_eq n) x.contexts.entries ≡ Some s = found-mut c.get_mut.result c.in-Some.state (lookup (bytes_eq n) x.contexts.entries) c.in-Some.is c.get_mut.ensures.value in
-    let acts : Acts x.address c.args.event.now x.pool c.act_in.new.pool s s' c.act_in.result n = subst (λ o. IfSome o (Acts x.address c.args.event.now x.pool c.act_in.new.pool s s' c.act_in.result)) c.requires.named c.act_in.ensures.acts in
+    let acts : Acts c.args.event.now x.pool c.act_in.new.pool s s' c.act_in.result n = subst (λ o. IfSome o (Acts c.args.event.now x.pool c.act_in.new.pool s s' c.act_in.result)) c.requires.named c.act_in.ensures.acts in
     done-at c.self.view_is (acted x.id x.address x.qp_count x.key_count x.pool x.contexts.entries x.husks.entries _ c.self.invariant n s found c.act_in.new.pool s' acts.turn (c.get_mut.follows.lender s').entries (c.get_mut.follows.holds s').0 x.qp_count x.key_count (omega arith)
     c.args.event.now c.act_in.result acts refl refl)
 

@@ -1,14 +1,22 @@
 -- What is told of the event.
 use Rattle.protocol.specs.declared.events.Event.TheVariants as event
-use Rattle.device_core.proofs.Steps.{told}
+use Rattle.device_core.specs.Done.{told_arrival, told_memory}
+use Rattle.device_core.proofs.Steps.{arrived-is_ok, told-arrived}
 use Rattle.device_core.proofs.Within.{stepped-within}
 use Rattle.device_core.proofs.device.Device.arrive.Goals as goal
 
-pub returns-clause-id : goal.returns-clause-id
-returns-clause-id c = (told c.args.self.now c.take_bytes-done.new.self (event.Arrive c.args.from c.args.bytes.now) c.take_bytes-done.result c.told_step.result c.told_step.ensures c.take_bytes-done.ensures.done c.take_bytes-done.ensures.bounded).id
-
-pub returns-clause-address : goal.returns-clause-address
-returns-clause-address c = (told c.args.self.now c.take_bytes-done.new.self (event.Arrive c.args.from c.args.bytes.now) c.take_bytes-done.result c.told_step.result c.told_step.ensures c.take_bytes-done.ensures.done c.take_bytes-done.ensures.bounded).address
-
-pub returns-clause-touched : goal.returns-clause-touched
-returns-clause-touched c = stepped-within c.args.self.now c.take_bytes-done.new.self (event.Arrive c.args.from c.args.bytes.now) c.take_bytes-done.result c.bounds_turns.ensures c.take_bytes-done.ensures.done tt
+pub returns : goal.returns
+returns c =
+    let e = c.take_bytes-arrived.ensures in
+    let new = c.take_bytes-arrived.new.self in
+    let done = event.Arrive c.args.from c.args.bytes.now in
+    let told = told-arrived c.args.self.now new done c.take_bytes-arrived.result c.told_arrival.result c.told_arrival.ensures e.done e.bounded in
+    record {
+      ok = told.ok;
+      bounded = told.few;
+      id = told.id;
+      address = told.address;
+      never_out_of_memory = λ nothing. arrived-is_ok c.take_bytes-arrived.result c.told_arrival.result c.told_arrival.ensures (e.never_out_of_memory nothing);
+      touched = stepped-within c.args.self.now new done (told_memory (told_arrival c.take_bytes-arrived.result)) c.bounds_turns.ensures e.done tt;
+      err = told.err;
+    }

@@ -6,7 +6,7 @@ use Rattle.protocol.specs.declared.events.Event.TheVariants as event
 use Rattle.protocol.specs.Refusals.{has_context}
 use Rattle.protocol.specs.State.{Device}
 use Rattle.roce_headers.specs.Packets.{packet}
-use Rattle.device_core.specs.Done.{IsDone}
+use Rattle.device_core.specs.Done.{IsDone, taking, told_arrival, told_memory}
 use Rattle.device_core.specs.Index.{IsEndAt, IsEntryAt}
 use Rattle.device_core.specs.Parts.{device_of}
 use Rattle.device_core.specs.Readings.{DoNothing}
@@ -19,13 +19,13 @@ use Rattle.device_core.proofs.Stepping.{done-at, found-mut}
 use Rattle.device_core.proofs.device.Device.take_bytes.Goals as goal
 
 pub returns-in_default-clause-done : goal.returns-in_default-clause-done
-returns-in_default-clause-done c = arrives-nothing c.args.self.now c.args.from c.args.bytes.now c.in_default.ensures.nothing ∙ ap (λ o. record { device = c.args.self.now; outcome = o }) (sym c.silent.ensures)
+returns-in_default-clause-done c = arrives-nothing c.args.self.now c.args.from c.args.bytes.now c.in_default.ensures.nothing ∙ ap (λ t. record { device = c.args.self.now; outcome = taking t }) (sym c.silent.ensures)
 
 pub returns-in_default-location_of-clause-done : goal.returns-in_default-location_of-clause-done
 returns-in_default-location_of-clause-done c =
     let away = c.in_default-location_of.ensures.nowhere in
     arrives-packet c.args.self.now c.args.from c.args.bytes.now (packet c.in-Ok.d) c.in-Ok.ensures.exact _ (found-nowhere c.args.self.now c.args.from (packet c.in-Ok.d) away.0 away.1)
-    ∙ ap (λ o. record { device = c.args.self.now; outcome = o }) (sym c.silent-in_default-location_of.ensures)
+    ∙ ap (λ t. record { device = c.args.self.now; outcome = taking t }) (sym c.silent-in_default-location_of.ensures)
 
 pub invariant_of-self : goal.invariant_of-self
 invariant_of-self c = held-kept c.self.inside.id c.self.inside.address c.self.inside.qp_count c.self.inside.key_count c.self.inside.pool c.self.inside.contexts.entries c.get_mut.follows.lender-at-none.entries c.self.inside.husks.entries _ (λ i. (c.get_mut.follows.holds-at-none i).entries) c.self.invariant
@@ -51,8 +51,8 @@ returns-in_default-get_mut-clause-done c =
     let gone : has_context d n ≡ false = gone-kept x.id x.address x.qp_count x.key_count x.pool x.contexts.entries c.get_mut.follows.lender-at-none.entries x.husks.entries n kept (none-mut c.get_mut.result (lookup (bytes_eq n) x.contexts.entries) c.in_default-get_mut.is c.get_mut.ensures.value) in
     let entry : IsEntryAt d n c.in-Some.spot.place c.in-Ok.d.dest = stays-there d n c.in-Some.spot.place c.in-Ok.d.dest gone (subst (λ (k : Device). IsEndAt k n c.in-Some.spot.place c.in-Ok.d.dest ⊎ IsEntryAt k n c.in-Some.spot.place c.in-Ok.d.dest) (sym same) c.in-Some.ensures.there) in
     let h = held-kept x.id x.address x.qp_count x.key_count x.pool x.contexts.entries c.get_mut.follows.lender-at-none.entries x.husks.entries _ kept c.self.invariant in
-    subst (λ k. IsDone k (event.Arrive c.args.from c.args.bytes.now) d c.told_memory.result) same
-    (husk-arrived-at _ d d refl h.indexed h.names h.husk_names n c.in-Some.spot.place c.args.from c.args.bytes.now (packet c.in-Ok.d) c.in-Ok.ensures.exact entry gone c.answer_stopped.result c.told_memory.result c.told_memory.ensures.told c.answer_stopped.ensures.done)
+    subst (λ k. IsDone k (event.Arrive c.args.from c.args.bytes.now) d (told_memory (told_arrival c.answer_stopped.result))) same
+    (husk-arrived-at _ d d refl h.indexed h.names h.husk_names n c.in-Some.spot.place c.args.from c.args.bytes.now (packet c.in-Ok.d) c.in-Ok.ensures.exact entry gone c.answer_stopped.result c.answer_stopped.ensures.done)
 
 pub take-taken-requires-clause-is : goal.take-taken-requires-clause-is
 take-taken-requires-clause-is c = is-context c.self.inside.id c.self.inside.address c.self.inside.qp_count c.self.inside.key_count c.self.inside.pool c.self.inside.contexts.entries c.self.inside.husks.entries _ c.self.invariant c.in-Some.spot.context c.in-Some-get_mut.state.now (found-mut c.get_mut.result c.in-Some-get_mut.state (lookup (bytes_eq c.in-Some.spot.context) c.self.inside.contexts.entries) c.in-Some-get_mut.is c.get_mut.ensures.value)
@@ -104,7 +104,7 @@ returns-in_default-get_mut-clause-never_out_of_memory c nothing =
     let entry : IsEntryAt d n c.in-Some.spot.place c.in-Ok.d.dest = stays-there d n c.in-Some.spot.place c.in-Ok.d.dest gone (subst (λ (k : Device). IsEndAt k n c.in-Some.spot.place c.in-Ok.d.dest ⊎ IsEntryAt k n c.in-Some.spot.place c.in-Ok.d.dest) (sym same) c.in-Some.ensures.there) in
     let h = held-kept x.id x.address x.qp_count x.key_count x.pool x.contexts.entries c.get_mut.follows.lender-at-none.entries x.husks.entries _ kept c.self.invariant in
     let nobody : DoNothing d (Some (packet c.in-Ok.d)) = subst (λ (k : Device). DoNothing k (Some (packet c.in-Ok.d))) (sym same) (subst (DoNothing c.args.self.now) c.in-Ok.ensures.exact nothing) in
-    c.told_memory.ensures.never_out_of_memory (c.answer_stopped.ensures.never_out_of_memory (left-control _ d h.indexed h.names h.husk_names n c.in-Some.spot.place (packet c.in-Ok.d) entry nobody.1))
+    c.answer_stopped.ensures.never_out_of_memory (left-control _ d h.indexed h.names h.husk_names n c.in-Some.spot.place (packet c.in-Ok.d) entry nobody.1)
 
 pub returns-clause-never_out_of_memory : goal.returns-clause-never_out_of_memory
 returns-clause-never_out_of_memory c nothing =
