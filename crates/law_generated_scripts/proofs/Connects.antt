@@ -11,7 +11,8 @@ use Rattle.workload_gen.specs.Plan as plan
 use Rattle.workload_gen.specs.Plan.{terms_text}
 use Rattle.law_generated_scripts.proofs.Cutting.{AreGoodLines}
 use Rattle.law_generated_scripts.proofs.Reading.{AreSaid, words_good}
-use Rattle.law_generated_scripts.proofs.Spelled.{AreReadBack, end_a_read, end_a_word, end_b_read, end_b_word, number_word, word}
+use Rattle.law_generated_scripts.proofs.Spelled.{AreReadBack, end_a_read, end_a_word, end_b_read, end_b_word}
+use Rattle.law_generated_scripts.proofs.Words.{number_word, word}
 
 -- the words behind the first
 abbrev behind_connect : ℕ → List (List ℕ)

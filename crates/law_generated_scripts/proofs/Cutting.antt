@@ -1,12 +1,13 @@
 -- Whole lines before a text, whose lines are then good where those of the text are.
 use Rattle.std.proofs.Common.{◌≡◌, ℕ, ◌-◌, ◌<◌, ◌==◌, true, false, List, [], ◌∷◌, ◌++◌, length, get_or, Result, Ok, Err, refl, sym, ap, ◌∙◌, append_assoc, arith, subst}
-use Rattle.std.specs.List.{All, list_all, slice_split}
+use Rattle.std.specs.List.{list_all, slice_split}
 use Rattle.std.proofs.lemmas.Bool.Decides.{nat_tests}
 use Rattle.std.proofs.lemmas.List.{append-nil}
 use Rattle.std.proofs.lemmas.List.Splits.{slice_split_at, length-slice_split}
 use Rattle.std.proofs.lemmas.List.Sums.{AllPass-from_list_all}
 use Rattle.script_lang.specs.Lines.{is_printable, reading_of}
 use Rattle.script_lang.specs.Scripts.{is_newline, without_return, lines_in, lines_of}
+use Rattle.law_words.proofs.Spoken.{no_newlines}
 
 -- there is a value
 abbrev pub IsGood : {A E : Type 0} → Result A E → Type 0
@@ -42,14 +43,8 @@ all_good text a = subst (λ (t : List ℕ). AreGood (lines_of t)) (append-nil te
 
 -- ---- one line
 
-printable_no_newline : (b : ℕ) → is_printable b ≡ true → is_newline b ≡ false
-printable_no_newline b h = grind (arith, nat_tests)
-
 printable_no_return : (b : ℕ) → is_printable b ≡ true → (b == 13) ≡ false
 printable_no_return b h = grind (arith, nat_tests)
-
-no_newlines : (bs : List ℕ) → list_all is_printable bs ≡ true → All (λ b. is_newline b ≡ false) bs
-no_newlines bs h = λ k d l. printable_no_newline (get_or bs k d) (AllPass-from_list_all is_printable bs h k d l)
 
 no_return : (bs : List ℕ) → list_all is_printable bs ≡ true → without_return bs ≡ bs
 no_return [] h = refl

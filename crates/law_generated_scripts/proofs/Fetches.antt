@@ -10,7 +10,8 @@ use Rattle.workload_gen.specs.Plan as plan
 use Rattle.workload_gen.specs.declared.message.Message.{Message}
 use Rattle.law_generated_scripts.proofs.Cutting.{AreGoodLines}
 use Rattle.law_generated_scripts.proofs.Reading.{AreSaid, words_good}
-use Rattle.law_generated_scripts.proofs.Spelled.{AreReadBack, IsSmall, end_a_read, end_a_word, keys_read, long_read, number_word, short_read, word}
+use Rattle.law_generated_scripts.proofs.Spelled.{AreReadBack, IsSmall, end_a_read, end_a_word, keys_read, long_read, short_read}
+use Rattle.law_generated_scripts.proofs.Words.{number_word, word}
 
 -- the words behind the first
 abbrev behind_read : Message → List (List ℕ)

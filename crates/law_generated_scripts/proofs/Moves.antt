@@ -12,7 +12,8 @@ use Rattle.workload_gen.specs.declared.plan.Mix.{Mix}
 use Rattle.law_generated_scripts.proofs.Cutting.{AreGoodLines, both_good, none_good}
 use Rattle.law_generated_scripts.proofs.Reading.{AreSaid, words_good}
 use Rattle.law_generated_scripts.proofs.Schedule.{either_good}
-use Rattle.law_generated_scripts.proofs.Spelled.{AreReadBack, number_word, word}
+use Rattle.law_generated_scripts.proofs.Spelled.{AreReadBack}
+use Rattle.law_generated_scripts.proofs.Words.{number_word, word}
 use Rattle.law_generated_scripts.proofs.Fixed.{settle_good, stop_good}
 
 abbrev placed_words : ℕ → List (List ℕ)

@@ -11,7 +11,8 @@ use Rattle.workload_gen.specs.Lines.{end_a, end_b}
 use Rattle.workload_gen.specs.Plan.{qp_a_line, qp_b_line}
 use Rattle.law_generated_scripts.proofs.Cutting.{AreGoodLines}
 use Rattle.law_generated_scripts.proofs.Reading.{AreSaid, words_good}
-use Rattle.law_generated_scripts.proofs.Spelled.{AreReadBack, end_a_read, end_a_word, end_b_read, end_b_word, word}
+use Rattle.law_generated_scripts.proofs.Spelled.{AreReadBack, end_a_read, end_a_word, end_b_read, end_b_word}
+use Rattle.law_generated_scripts.proofs.Words.{word}
 
 -- the words behind the first, in the first context and in the second
 abbrev behind_pair_a : ℕ → List (List ℕ)

@@ -11,7 +11,8 @@ use Rattle.workload_gen.specs.Plan as plan
 use Rattle.workload_gen.specs.declared.message.Message.{Message}
 use Rattle.law_generated_scripts.proofs.Cutting.{AreGoodLines}
 use Rattle.law_generated_scripts.proofs.Reading.{AreSaid, words_good}
-use Rattle.law_generated_scripts.proofs.Spelled.{AreReadBack, IsSmall, end_b_read, end_b_word, keys_read, long_read, number_word, word}
+use Rattle.law_generated_scripts.proofs.Spelled.{AreReadBack, IsSmall, end_b_read, end_b_word, keys_read, long_read}
+use Rattle.law_generated_scripts.proofs.Words.{number_word, word}
 
 -- the words behind the first
 abbrev behind_receive : Message → List (List ℕ)

@@ -8,7 +8,8 @@ use Rattle.workload_gen.specs.Lines.{end_a}
 use Rattle.workload_gen.specs.Plan.{closing_lines, expire_line, go_line, polling_lines, sending_lines}
 use Rattle.law_generated_scripts.proofs.Cutting.{AreGoodLines, both_good, none_good}
 use Rattle.law_generated_scripts.proofs.Reading.{AreSaid, words_good}
-use Rattle.law_generated_scripts.proofs.Spelled.{AreReadBack, end_a_read, end_a_word, word}
+use Rattle.law_generated_scripts.proofs.Spelled.{AreReadBack, end_a_read, end_a_word}
+use Rattle.law_generated_scripts.proofs.Words.{word}
 use Rattle.law_generated_scripts.proofs.Fixed.{closing_good, settle_good}
 
 go_said : AreReadBack → (i : ℕ) → i ≤ 8 → AreSaid (codes "go" ∷ end_a i ∷ [])

@@ -1,16 +1,17 @@
--- Numbers and names of ends, as a generated script spells them, are words, and are read back.
-use Rattle.std.proofs.Common.{rules, ◌≡◌, ℕ, ◌≤◌, ◌<◌, ◌^◌, ◌&&◌, Bool, true, nat_le, nat_lt, List, [], ◌∷◌, ◌++◌, length, Some, refl, arith, codes}
+-- Names of ends, as a generated script spells them, are words; these and numbers are read back.
+use Rattle.std.proofs.Common.{◌≡◌, ℕ, ◌≤◌, ◌<◌, ◌^◌, true, nat_le, List, ◌∷◌, ◌++◌, length, Some, refl, arith, codes}
 use Rattle.std.specs.Fmt.{decimal}
 use Rattle.std.specs.List.{list_all}
 use Rattle.std.proofs.lemmas.Bool.Decides.{nat_tests}
-use Rattle.std.proofs.lemmas.Fmt.{digits_decimal, decimal_nonempty, length-decimal-le}
-use Rattle.std.proofs.lemmas.Str.Parse.{IsNumeralModel, numerals_by_fold}
+use Rattle.std.proofs.lemmas.Fmt.{length-decimal-le}
 use Rattle.hex.specs.Hex.{decode_pairs}
 use Rattle.rdma_types.specs.Spelled.{is_name, is_name_byte}
-use Rattle.script_lang.specs.Texts.{is_digit, digits_after, greatest_u32, greatest_u64, hex_number, number_in, object_of}
+use Rattle.script_lang.specs.Texts.{is_digit, greatest_u32, greatest_u64, hex_number, number_in, object_of}
 use Rattle.workload_gen.specs.Lines.{end_a, end_b}
 use Rattle.workload_gen.specs.declared.message.Message.{Message}
-use Rattle.law_generated_scripts.proofs.Words.{IsWord, is_glyph, left, right}
+use Rattle.law_words.proofs.Numbers.{decimal_glyphs, decimal_short, number_digits}
+use Rattle.law_words.proofs.Spoken.{weaker}
+use Rattle.law_generated_scripts.proofs.Words.{IsShortWord}
 
 -- what is known of printed numbers and of names of objects
 pub record AreReadBack : Type 0 where
@@ -26,62 +27,20 @@ pub record IsSmall (m : Message) : Type 0 where
 
 -- ---- words
 
--- bytes that make a word, by a test
-abbrev pub is_word : List ℕ → Bool
-is_word text = (nat_lt 0 (length text) && nat_le (length text) 24) && list_all is_glyph text
-
-tested : (n : ℕ) (g : Bool) → ((nat_lt 0 n && nat_le n 24) && g) ≡ true → (0 < n) × (n ≤ 24) × (g ≡ true)
-tested n g h = grind (arith, nat_tests)
-
--- bytes that pass the test
-pub word : (text : List ℕ) → is_word text ≡ true → IsWord text
-word text h =
-    let t = tested (length text) (list_all is_glyph text) h in
-    record { some = t.0; short = t.1; glyphs = t.2 }
-
-own : IsNumeralModel (λ ds. list_all is_digit ds ≡ true) (digits_after 0)
-own = numerals_by_fold _ (search rules) digits_after (search rules)
-
-weaker : (p q : ℕ → Bool) → ((b : ℕ) → p b ≡ true → q b ≡ true) → (bs : List ℕ) → list_all p bs ≡ true → list_all q bs ≡ true
-weaker p q imp [] h = refl
-weaker p q imp (b ∷ bs) h = rw (imp b (left (p b) (list_all p bs) h), weaker p q imp bs (right (p b) (list_all p bs) h)) refl
-
-digit_glyph : (b : ℕ) → is_digit b ≡ true → is_glyph b ≡ true
-digit_glyph b h = grind (arith, nat_tests)
-
 digit_name : (b : ℕ) → is_digit b ≡ true → is_name_byte b ≡ true
 digit_name b h = grind (arith, nat_tests)
 
-digits : (n : ℕ) → n < 2 ^ 64 → list_all is_digit (decimal n) ≡ true
-digits n small = digits_decimal own n small
-
-decimal_glyphs : (n : ℕ) → n < 2 ^ 64 → list_all is_glyph (decimal n) ≡ true
-decimal_glyphs n small = weaker is_digit is_glyph digit_glyph (decimal n) (digits n small)
-
-decimal_short : (n : ℕ) → n < 2 ^ 64 → length (decimal n) ≤ 20
-decimal_short n small = length-decimal-le 20 n (omega arith) (omega arith) small
-
--- a printed number is a word
-pub number_word : (n : ℕ) → n < 2 ^ 64 → IsWord (decimal n)
-number_word n small = record {
-  some = decimal_nonempty n small;
-  short = omega (arith, decimal_short n small);
-  glyphs = decimal_glyphs n small;
-}
-
--- the name of an end is one
-pub end_a_word : (i : ℕ) → i ≤ 8 → IsWord (end_a i)
+-- the name of an end is a short word
+pub end_a_word : (i : ℕ) → i ≤ 8 → IsShortWord (end_a i)
 end_a_word i few = record {
-  some = omega arith;
+  word = record { some = omega arith; glyphs = decimal_glyphs i (omega arith) };
   short = omega (arith, decimal_short i (omega arith));
-  glyphs = decimal_glyphs i (omega arith);
 }
 
-pub end_b_word : (i : ℕ) → i ≤ 8 → IsWord (end_b i)
+pub end_b_word : (i : ℕ) → i ≤ 8 → IsShortWord (end_b i)
 end_b_word i few = record {
-  some = omega arith;
+  word = record { some = omega arith; glyphs = decimal_glyphs i (omega arith) };
   short = omega (arith, decimal_short i (omega arith));
-  glyphs = decimal_glyphs i (omega arith);
 }
 
 -- ---- what they are read as
@@ -100,7 +59,7 @@ short_name bs h short =
 
 own_end : (i : ℕ) → i ≤ 8 → is_name (113 ∷ decimal i) ≡ true
 own_end i few =
-    short_name (decimal i) (weaker is_digit is_name_byte digit_name (decimal i) (digits i (omega arith)))
+    short_name (decimal i) (weaker is_digit is_name_byte digit_name (decimal i) (number_digits i (omega arith)))
     (omega (arith, length-decimal-le 15 i (omega arith) (omega arith) (omega arith)))
 
 -- the name of an end

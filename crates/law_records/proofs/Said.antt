@@ -37,11 +37,13 @@ use Rattle.trace_audit.specs.Lines.{leader_of, trace_line, traced_reading}
 use Rattle.trace_audit.specs.Traces.{Made, Spoken, Traced}
 use Rattle.trace_writer.specs.Written.{answer_lines, answer_text, lowered, made_text, step_text, step_words, steps_text, verb_text}
 use Rattle.law_traces.specs.Recording.{Written, begins_with, last_line, line_steps, machine_past, recorded_from, recorded_of, recorded_reading, recorded_text, spoken_of, spoken_text, text_from, trace_text, traced_from, traced_of, world_past}
+use Rattle.law_words.specs.Spoken.{AreWords, spoken}
+use Rattle.law_words.proofs.Spoken.{line_by, spoken_printable}
 use Rattle.law_records.specs.Said.{AreShort, IsShort, RecordsAreSaid}
 use Rattle.law_records.proofs.SaidAnswers.{AreAnswerLines, answer_said_in}
 use Rattle.law_records.proofs.SaidCalls.{IsTraced, context_traced, verb_traced}
 use Rattle.law_records.proofs.SaidFits.{IsCalled, IsFitLine, IsMemory, also_read, answer_fits, line_fits}
-use Rattle.law_records.proofs.SaidLines.{AreWords, line_by, line_cut, spoken, spoken_printable}
+use Rattle.law_records.proofs.SaidLines.{line_cut}
 use Rattle.law_records.proofs.SaidMachine.{AreFitSteps, IsFit, IsFitContext, IsFitVerb, IsInner, after_fits, effect_fits, enabled_named}
 use Rattle.law_records.proofs.SaidSteps.{AreReadBack, IsNamed, step_line_words, step_traced}
 

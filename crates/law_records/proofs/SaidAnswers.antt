@@ -26,9 +26,12 @@ use Rattle.script_lang.specs.Words.{a_word, an_option, the_end}
 use Rattle.trace_audit.specs.Answers.{answer_form, answer_of_line, answer_said, bytes_said, entry_said, if_printed, keys_said, kind_of_word, number_said, refusal_of_word, refusal_said, status_of_word, words_said}
 use Rattle.trace_writer.specs.Written.{answer_lines, but_last, ended_lines}
 use Rattle.trace_writer.proofs.Writing.{lines_of_cut}
-use Rattle.law_records.proofs.SaidLines.{AreWords, IsWord, columned, is_glyph, line_by, line_cut, spoken, spoken_printable, words_spoken}
+use Rattle.law_words.specs.Spoken.{AreWords, IsWord, columned, is_glyph, spoken}
+use Rattle.law_words.proofs.Spoken.{line_by, spoken_printable, word, words_read}
+use Rattle.law_words.proofs.Numbers.{number_word}
+use Rattle.law_records.proofs.SaidLines.{line_cut}
 use Rattle.law_records.proofs.SaidMachine.{IsFitEntry}
-use Rattle.law_records.proofs.SaidSteps.{AreReadBack, number_word, word}
+use Rattle.law_records.proofs.SaidSteps.{AreReadBack}
 
 -- ---- a line
 
@@ -43,7 +46,7 @@ unfolding answer_of_line
 words_answer first ws a are says prints =
     let text : List ℕ = spoken first ws in
     let same : bytes_eq (printed a) (text ++ 10 ∷ []) ≡ true = (bytes_eq-Decides (printed a) (text ++ 10 ∷ [])).1 (prints ∙ line_by first ws) in
-    ap (λ ws'. is_some (if_printed text (said (whole words_said (record { words = ws'; past = length text + 1 }))))) (words_spoken 1 first ws are)
+    ap (λ ws'. is_some (if_printed text (said (whole words_said (record { words = ws'; past = length text + 1 }))))) (words_read 1 first ws are)
     ∙ ap (λ r. is_some (if_printed text r)) says
     ∙ ap (λ b. is_some (if b then Some a else None)) same
 

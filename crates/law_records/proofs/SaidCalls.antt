@@ -2,6 +2,7 @@
 use Rattle.std.proofs.Common.{arith, ◌≡◌, ℕ, ◌+◌, ◌≤◌, ◌<◌, ◌==◌, ◌&&◌, Bool, true, false, List, [], ◌∷◌, length, map, Option, Some, None, Result, Ok, if◌then◌else◌, nat_le, nat_lt, refl, sym, ◌∙◌, subst, codes, length-append}
 use Rattle.std.specs.Prelude.{slice_index}
 use Rattle.std.specs.List.{list_all, onto_first, slice_split}
+use Rattle.std.proofs.lemmas.Bool.{and_from}
 use Rattle.std.proofs.lemmas.Bool.Decides.{nat_tests}
 use Rattle.std.proofs.lemmas.List.{length-map}
 use Rattle.rdma_types.specs.declared.names.Name.{Name}
@@ -23,9 +24,11 @@ use Rattle.trace_audit.specs.Lines as audit_lines
 use Rattle.trace_audit.specs.Lines.{context_verb, leader_of, made_of, spoken_form, trace_line, traced_reading}
 use Rattle.trace_writer.specs.Written.{lower, lowered, made_text}
 use Rattle.law_traces.specs.Recording.{recorded_form, recorded_reading}
-use Rattle.law_records.proofs.SaidLines.{AreWords, IsWord, behind, both, columned, is_glyph, left, right, spoken, words_traced}
+use Rattle.law_words.specs.Spoken.{AreWords, IsWord, behind, columned, is_glyph, spoken}
+use Rattle.law_words.proofs.Spoken.{left, right, word}
+use Rattle.law_records.proofs.SaidLines.{words_traced}
 use Rattle.law_records.proofs.SaidReaders.{texts}
-use Rattle.law_records.proofs.SaidSteps.{AreReadBack, length-behind, name_text, name_word, room, word}
+use Rattle.law_records.proofs.SaidSteps.{AreReadBack, length-behind, name_text, name_word, room}
 use Rattle.law_records.proofs.SaidVerbs.{IsSpoken, form_kept, line_spoken, words_said}
 
 -- ---- the words of a line
@@ -91,7 +94,7 @@ lower_glyph b h = by (nat_le 65 b && nat_le b 70) refl
 lower_glyphs : (text : List ℕ) → list_all is_glyph text ≡ true → list_all is_glyph (map lower text) ≡ true
 lower_glyphs [] h = refl
 lower_glyphs (b ∷ bs) h =
-    both (is_glyph (lower b)) (list_all is_glyph (map lower bs)) (lower_glyph b (left (is_glyph b) (list_all is_glyph bs) h)) (lower_glyphs bs (right (is_glyph b) (list_all is_glyph bs) h))
+    and_from (is_glyph (lower b)) (list_all is_glyph (map lower bs)) (lower_glyph b (left (is_glyph b) (list_all is_glyph bs) h)) (lower_glyphs bs (right (is_glyph b) (list_all is_glyph bs) h))
 
 -- .. also in lower case
 low_words : (ws : List Word) → AreWords (texts ws) → AreWords (lowered ws)

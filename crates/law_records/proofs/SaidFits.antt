@@ -34,8 +34,8 @@ use Rattle.script_lang.specs.Verbs.{add_line, cas_line, cq_line, domain_line, dr
 use Rattle.script_lang.specs.Words.{Input, Read, Word, an_option, the_end, words_from}
 use Rattle.law_headline.proofs.Tells.{Tells, any, bind, field, gives, long, number}
 use Rattle.law_traces.specs.Recording.{recorded_form, recorded_reading, without_settle}
+use Rattle.law_words.proofs.Spoken.{left, right}
 use Rattle.law_records.proofs.SaidAnswers.{IsFitAnswer, is_known}
-use Rattle.law_records.proofs.SaidLines.{left, right}
 use Rattle.law_records.proofs.SaidMachine.{IsFit, IsFitEntry, IsFitVerb, queue_fits}
 use Rattle.law_records.proofs.SaidSteps.{IsSpelled}
 use Rattle.law_records.proofs.SaidVerbs.{form_kept}

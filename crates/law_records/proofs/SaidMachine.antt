@@ -36,7 +36,7 @@ use Rattle.ideal_model.specs.Verbs as verbal
 use Rattle.ideal_model.specs.Verbs.{after_answer, connected_pair, done, joined, made_end, made_queue, made_region, polled, posted, received, refusal_of, stored, taken, with_domain}
 use Rattle.ideal_model.proofs.Places.{has_name_is, replaced_nowhere}
 use Rattle.law_simulation.proofs.relation.Tables.{All-named, All-store, name-named_there, named-absent, replaced-stored}
-use Rattle.law_records.proofs.SaidLines.{left}
+use Rattle.law_words.proofs.Spoken.{left}
 use Rattle.law_records.proofs.SaidSteps.{IsNamed, IsSpelled}
 
 -- ---- what is claimed

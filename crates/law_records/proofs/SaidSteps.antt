@@ -1,11 +1,9 @@
 -- The line of an inner step is read as that step.
-use Rattle.std.proofs.Common.{rules, ◌≡◌, ℕ, ◌+◌, ◌≤◌, ◌<◌, ◌^◌, ◌&&◌, Bool, true, nat_le, List, [], ◌∷◌, ◌++◌, length, Ok, Some, refl, ◌∙◌, arith, length-append, codes}
+use Rattle.std.proofs.Common.{◌≡◌, ℕ, ◌+◌, ◌≤◌, ◌<◌, ◌^◌, ◌&&◌, true, nat_le, List, [], ◌∷◌, ◌++◌, length, Ok, Some, refl, ◌∙◌, arith, length-append, codes}
 use Rattle.std.specs.Fmt.{decimal}
 use Rattle.std.specs.List.{list_all}
 use Rattle.std.proofs.lemmas.Bool.Decides.{nat_tests}
-use Rattle.std.proofs.lemmas.Fmt.{digits_decimal, decimal_nonempty, length-decimal-le}
 use Rattle.std.proofs.lemmas.List.Folds.{list_all-append}
-use Rattle.std.proofs.lemmas.Str.Parse.{IsNumeralModel, numerals_by_fold}
 use Rattle.byteorder.specs.Endian.{big_bytes}
 use Rattle.hex.specs.Hex.{IsBytes, encode_lower}
 use Rattle.rdma_types.specs.declared.answers.Why.{Why}
@@ -17,13 +15,16 @@ use Rattle.ideal_model.specs.declared.steps.IdealStep.TheVariants as steps
 use Rattle.script_lang.specs.Fields.{a_number, an_object}
 use Rattle.script_lang.specs.Lines.{said, whole}
 use Rattle.script_lang.specs.Printed.{object_text, why_text}
-use Rattle.script_lang.specs.Texts.{bytes_of, digits_after, greatest_u32, hex_number, is_digit, number_in, object_of}
+use Rattle.script_lang.specs.Texts.{bytes_of, greatest_u32, hex_number, number_in, object_of}
 use Rattle.script_lang.specs.Words.{a_word, the_end}
 use Rattle.trace_audit.specs.declared.lines.TraceLine.TheVariants as trace_lines
 use Rattle.trace_audit.specs.Lines.{inner_step, leader_of, offer_step, refuse_step, step_form, step_line, trace_line, traced_reading, why_of}
 use Rattle.trace_writer.specs.Written.{step_words}
+use Rattle.law_words.specs.Spoken.{AreWords, IsWord, behind, columned, is_glyph, spoken}
+use Rattle.law_words.proofs.Spoken.{left, right, weaker, word}
+use Rattle.law_words.proofs.Numbers.{decimal_short, number_word}
 use Rattle.law_records.specs.Said.{IsShort}
-use Rattle.law_records.proofs.SaidLines.{AreWords, IsWord, behind, columned, is_glyph, left, right, spoken, weaker, words_traced}
+use Rattle.law_records.proofs.SaidLines.{words_traced}
 
 -- what is known of printed numbers and bytes, and of names of objects
 pub record AreReadBack : Type 0 where
@@ -65,35 +66,6 @@ room (w ∷ ws) = length w + 1 + room ws
 pub length-behind : (ws : List (List ℕ)) → length (behind ws) ≡ room ws
 length-behind [] = refl
 length-behind (w ∷ ws) = omega (arith, length-append w (behind ws), length-behind ws)
-
--- bytes that make a word, by a test
-abbrev pub is_word : List ℕ → Bool
-is_word text = (nat_le 1 (length text) && nat_le (length text) 24) && list_all is_glyph text
-
-tested : (n : ℕ) (g : Bool) → ((nat_le 1 n && nat_le n 24) && g) ≡ true → (0 < n) × (n ≤ 24) × (g ≡ true)
-tested n g h = grind (arith, nat_tests)
-
--- bytes that pass the test
-pub word : (text : List ℕ) → is_word text ≡ true → IsWord text
-word text h =
-    let t = tested (length text) (list_all is_glyph text) h in
-    record { some = t.0; glyphs = t.2 }
-
-own : IsNumeralModel (λ ds. list_all is_digit ds ≡ true) (digits_after 0)
-own = numerals_by_fold _ (search rules) digits_after (search rules)
-
-digit_glyph : (b : ℕ) → is_digit b ≡ true → is_glyph b ≡ true
-digit_glyph b h = grind (arith, nat_tests)
-
-pub decimal_short : (n : ℕ) → n < 2 ^ 64 → length (decimal n) ≤ 20
-decimal_short n small = length-decimal-le 20 n (omega arith) (omega arith) small
-
--- a printed number is a word
-pub number_word : (n : ℕ) → n < 2 ^ 64 → IsWord (decimal n)
-number_word n small = record {
-  some = decimal_nonempty n small;
-  glyphs = weaker is_digit is_glyph digit_glyph (decimal n) (digits_decimal own n small);
-}
 
 name_glyph : (b : ℕ) → is_name_byte b ≡ true → is_glyph b ≡ true
 name_glyph b h = grind (arith, nat_tests)

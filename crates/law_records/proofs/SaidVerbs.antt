@@ -28,7 +28,8 @@ use Rattle.trace_writer.specs.Written.{lower, lowered}
 use Rattle.law_headline.proofs.Tells.{Tells}
 use Rattle.law_headline.proofs.Tells as tells
 use Rattle.law_traces.specs.Recording.{recorded_form, without_settle}
-use Rattle.law_records.proofs.SaidLines.{columned, left, right}
+use Rattle.law_words.specs.Spoken.{columned}
+use Rattle.law_words.proofs.Spoken.{left, right}
 use Rattle.law_records.proofs.SaidReaders.{AreLow, IsAlso, Lowers, LowersAll, at_most, bind, bytes, ends, gives, immediate, key, none_low, number, object, options, own, rights, takes_all, terms, texts}
 use Rattle.law_records.proofs.SaidSteps.{AreReadBack}
 use Rattle.law_records.proofs.SaidWords.{IsFixed, found_fixed}

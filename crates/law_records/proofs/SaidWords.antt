@@ -1,16 +1,14 @@
 -- What a word of a line spells, it spells with the digits A to F in lower case, and no such word but bytes is long.
-use Rattle.std.proofs.Common.{rules, arith, ◌≡◌, ℕ, suc, ◌+◌, ◌-◌, ◌*◌, ◌≤◌, ◌<◌, ◌^◌, ◌==◌, ◌&&◌, ◌||◌, ◌⊎◌, inl, inr, Bool, true, false, List, [], ◌∷◌, ◌++◌, length, take, drop, map, Option, Some, None, Ok, nat_le, nat_lt, if◌then◌else◌, refl, sym, ap, ◌∙◌, subst, length-append, one-add, codes}
+use Rattle.std.proofs.Common.{arith, ◌≡◌, ℕ, suc, ◌+◌, ◌-◌, ◌*◌, ◌≤◌, ◌<◌, ◌^◌, ◌==◌, ◌&&◌, ◌||◌, ◌⊎◌, inl, inr, Bool, true, false, List, [], ◌∷◌, ◌++◌, length, take, drop, map, Option, Some, None, Ok, nat_le, nat_lt, if◌then◌else◌, refl, sym, ap, ◌∙◌, subst, length-append, one-add, codes}
 use Rattle.std.specs.Prelude.{option_and_then}
 use Rattle.std.specs.Fmt.{decimal}
 use Rattle.std.specs.List.{list_all, position_or_len}
 use Rattle.std.specs.Map.{lookup}
 use Rattle.std.specs.Str.{bytes_eq}
 use Rattle.std.proofs.lemmas.Bool.Decides.{nat_tests, eqb_tells}
-use Rattle.std.proofs.lemmas.Fmt.{digits_decimal}
 use Rattle.std.proofs.lemmas.List.{length-map}
 use Rattle.std.proofs.lemmas.List.Folds.{list_all-append}
 use Rattle.std.proofs.lemmas.Slice.Eq.{bytes_eq-Decides}
-use Rattle.std.proofs.lemmas.Str.Parse.{IsNumeralModel, numerals_by_fold}
 use Rattle.byteorder.specs.Endian.{big_number}
 use Rattle.hex.specs.Hex.{decode_of, decode_pairs, digit_or_error, hex_digit_value, value_at}
 use Rattle.rdma_types.specs.declared.names.Name.{Name}
@@ -21,8 +19,9 @@ use Rattle.script_lang.specs.Fields.{same_text}
 use Rattle.script_lang.specs.Printed.{object_text}
 use Rattle.script_lang.specs.Texts.{Letters, bytes_of, cut_at, digits_after, hex_number, hex_of, if_decoded, is_digit, is_decimal, letters_of, mtu_if, mtu_of, name_of, number_in, object_of, rights_of, with_letter}
 use Rattle.trace_writer.specs.Written.{lower}
-use Rattle.law_records.proofs.SaidLines.{left, right}
-use Rattle.law_records.proofs.SaidSteps.{AreReadBack, IsSpelled, decimal_short, name_text}
+use Rattle.law_words.proofs.Spoken.{left, right}
+use Rattle.law_words.proofs.Numbers.{decimal_short, number_digits}
+use Rattle.law_records.proofs.SaidSteps.{AreReadBack, IsSpelled, name_text}
 
 -- a short text without the digits A to F
 pub record IsFixed (most : ℕ) (text : List ℕ) : Type 0 where
@@ -52,9 +51,6 @@ kept_text p each (b ∷ bs) h = rw (each b (left (p b) (list_all p bs) h), kept_
 
 -- ---- numbers
 
-own : IsNumeralModel (λ ds. list_all is_digit ds ≡ true) (digits_after 0)
-own = numerals_by_fold _ (search rules) digits_after (search rules)
-
 guarded : (a b c : Bool) (m n : ℕ) → (if a && (b && c) then Some m else None) ≡ Some n → (m ≡ n) × (c ≡ true)
 guarded true true true m n h = (cc h, refl)
 guarded true true false m n h = cc h
@@ -75,7 +71,7 @@ number_fixed law low high n text small h =
     let within : n ≤ high = number_within low high n text h in
     let below : n < 2 ^ 64 = omega arith in
     let is : text ≡ decimal n = law.one_way low high n text small h in
-    subst (λ t. IsFixed 20 t) (sym is) (record { same = kept_text is_digit digit_kept (decimal n) (digits_decimal own n below); short = decimal_short n below })
+    subst (λ t. IsFixed 20 t) (sym is) (record { same = kept_text is_digit digit_kept (decimal n) (number_digits n below); short = decimal_short n below })
 
 -- a value, and what follows it
 record IsThen {A B : Type 0} (o : Option A) (f : A → Option B) (y : B) : Type 0 where
