@@ -28,7 +28,13 @@ pub record IsNowhere (d : Device) (k : ℕ) : Type 0 where
   pub none : found_in k d.contexts ≡ []
   pub lacks : (n : Name) (place : ℕ) → IsEndAt d n place k → ⊥
 
--- the end at a place of a context has the number, and its head was read
+-- the end at a place of a context has the number
+pub record HasEnd (d : Device) (k : ℕ) (n : Name) (place : ℕ) (x : Context) : Type 0 where
+  pub context : context_at d n ≡ x
+  pub end : IsEndAt d n place k
+  pub found : found_in k d.contexts ≡ found_link (context_at d n) end.end end.end.link []
+
+-- .. and its head was read
 pub record HasHead (d : Device) (k : ℕ) (n : Name) (place : ℕ) (x : Context) (read : Option EndHead) : Type 0 where
   pub context : context_at d n ≡ x
   pub end : IsEndAt d n place k
@@ -54,12 +60,11 @@ module _ {pool : Pool} {es : List (Name × Holding)} {index : ℕ → Option End
         entry = stays-there d b.now.context b.now.place k gone (held.indexed.exact b.now.context b.now.place k (found-ref spot b (index k) is noted))
 
     -- .. where it is held
-    pub lives : {s : Bor Holding} → state ≡ Some s → {read : Option EndHead} → ((q : Pool) (n : Name) → read ≡ option_map head_of (slice_get (context_in q n s.now).ends b.now.place)) → HasHead d k b.now.context b.now.place (context_in pool b.now.context s.now) read
-    lives {s = s} some reads = record {
+    pub stands : {s : Bor Holding} → state ≡ Some s → HasEnd d k b.now.context b.now.place (context_in pool b.now.context s.now)
+    stands {s = s} some = record {
       context = at;
       end = end;
       found = found-live index d held.indexed held.names held.husk_names k b.now.context b.now.place end;
-      head = reads pool b.now.context ∙ (ap (λ (c : Context). option_map head_of (slice_get c.ends b.now.place)) (sym at) ∙ ap (option_map head_of) end.there);
     }
       where
         stored : lookup (bytes_eq b.now.context) es ≡ Some s.now
@@ -70,3 +75,14 @@ module _ {pool : Pool} {es : List (Name × Holding)} {index : ℕ → Option End
 
         end : IsEndAt d b.now.context b.now.place k
         end = lives-there d b.now.context b.now.place k (ap (has_name (λ c. c.name) b.now.context) here ∙ lookup-there pool b.now.context es s.now stored) (held.either b.now.context) (held.indexed.exact b.now.context b.now.place k (found-ref spot b (index k) is noted))
+
+    -- .. and its head is read
+    pub lives : {s : Bor Holding} → state ≡ Some s → {read : Option EndHead} → ((q : Pool) (n : Name) → read ≡ option_map head_of (slice_get (context_in q n s.now).ends b.now.place)) → HasHead d k b.now.context b.now.place (context_in pool b.now.context s.now) read
+    lives some reads =
+        let e = stands some in
+        record {
+          context = e.context;
+          end = e.end;
+          found = e.found;
+          head = reads pool b.now.context ∙ (ap (λ (c : Context). option_map head_of (slice_get c.ends b.now.place)) (sym e.context) ∙ ap (option_map head_of) e.end.there);
+        }

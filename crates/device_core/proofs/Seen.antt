@@ -16,14 +16,14 @@ use Rattle.protocol.specs.EndWords.{is_in_error, is_paused, is_resuming, is_resu
 use Rattle.protocol.specs.Readers.{end_view, marks_by, marks_of, view_of}
 use Rattle.protocol.specs.Refusals.{has_context, has_end}
 use Rattle.protocol.specs.State.{Context, Device, End, Link, Paused, Phase, Resuming, Running, context_at, end_at, no_context, no_end}
-use Rattle.context_core.specs.Heads.{head_of, link_head}
+use Rattle.context_core.specs.Heads.{head_of, link_head, head_marks, link_marks}
 use Rattle.context_core.specs.declared.heads.EndHead.{EndHead}
 use Rattle.law_device_sound.specs.Sound.{IsSoundContext, IsSoundDevice, IsSoundEnd}
 use Rattle.law_device_sound.proofs.Regions.{All-at}
 use Rattle.law_device_sound.proofs.Tables.{All-named}
 use Rattle.device_core.specs.declared.index.EndLocation.{EndLocation}
 use Rattle.device_core.specs.Index.{IsEndAt, IsEntryAt, IsIndex}
-use Rattle.device_core.specs.Readings.{end_named, has_ended_end, has_resuming_end, head_ended, head_marks, head_resumes, head_view, link_ended, link_marks, link_resumes, mark_pair, marks_at}
+use Rattle.device_core.specs.Readings.{end_named, has_ended_end, has_resuming_end, head_ended, head_resumes, head_view, link_ended, link_resumes, mark_pair, marks_at}
 use Rattle.device_core.proofs.Brought.{number_same, same_number, some-at, some-place}
 use Rattle.device_core.proofs.FoundEnds.{end-of, named_here, place_of_name}
 use Rattle.device_core.proofs.HuskNames.{bytes_eq_sym}

@@ -71,16 +71,6 @@ head_view_by n h (Some l) = record { name = record { context = n; name = h.name 
 abbrev pub head_view : Name → EndHead → EndView
 head_view n h = head_view_by n h h.link
 
--- the marks of an end, where it is connected
-abbrev pub link_marks : Option LinkHead → Option (ℕ × ℕ)
-link_marks None = None
-link_marks (Some l) = Some (l.expected, l.top)
-
--- .. where it is there
-abbrev pub head_marks : Option EndHead → Option (ℕ × ℕ)
-head_marks None = None
-head_marks (Some h) = link_marks h.link
-
 -- an end is in Rts and Resuming
 abbrev pub link_resumes : Option LinkHead → Bool
 link_resumes None = false

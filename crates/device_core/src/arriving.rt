@@ -189,7 +189,8 @@ impl Device {
         let Some(state) = self.contexts.get_mut(&spot.context) else {
             return self.answer_stopped(alloc, from, &d, &spot);
         };
-        let taken = state.take(alloc, &mut self.pool, spot.place, &d);
+        let (buffers, pool) = (&mut self.buffers, &mut self.pool);
+        let taken = state.take(alloc, buffers, pool, spot.place, &d);
         told_taken(alloc, taken)
     }
 }

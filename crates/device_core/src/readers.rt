@@ -6,7 +6,7 @@ ghost use Rattle.protocol.specs.Refusals as refusals;
 ghost use Rattle.protocol.specs.State as state;
 ghost use Rattle.device_core.specs.Numbered.{numbered_view};
 ghost use Rattle.device_core.specs.Readings as readings;
-ghost use Rattle.device_core.specs.Readings.{head_ended, head_marks, head_resumes, head_state, head_view};
+ghost use Rattle.device_core.specs.Readings.{head_ended, head_resumes, head_state, head_view};
 
 use crate::Device;
 use context_core::{EndHead, LinkHead};
@@ -140,7 +140,6 @@ impl Device {
 
     /// What is told of the live queue pair with a number.
     fn live_end(&self, number: u32) -> Option<EndHead>
-        ensures marks { readings.marks_at self.now number ≡ head_marks result }
         ensures resumes { readings.has_resuming_end self.now number ≡ head_resumes result }
         ensures ended { readings.has_ended_end self.now number ≡ head_ended result }
     {
@@ -177,13 +176,13 @@ impl Device {
     pub fn marks(&self, number: u32) -> Option<(u64, u64)>
         ensures { result ≡ readings.marks_at self.now number }
     {
-        let Some(end) = self.live_end(number) else {
+        let Some(spot) = self.index.get(&number) else {
             return None;
         };
-        let Some(link) = end.link else {
+        let Some(held) = self.contexts.get(&spot.context) else {
             return None;
         };
-        Some((link.expected, link.top))
+        held.marks_at(spot.place)
     }
 
     /// Whether the live queue pair with a number is Resuming.

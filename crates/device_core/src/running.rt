@@ -170,7 +170,8 @@ impl Device {
         let Some(state) = self.contexts.get_mut(&end.context) else {
             return Ok(refused(alloc, self.missing(end.context)));
         };
-        let sent = state.transmit(alloc, &self.pool, end.name, self.address);
+        let own = self.address;
+        let sent = state.transmit(alloc, &mut self.buffers, &self.pool, end.name, own);
         told_transmission(alloc, sent)
     }
 
@@ -178,6 +179,6 @@ impl Device {
     pub fn give_back(&mut self, bytes: Items<u8>)
         ensures { self.new ≡ self.old }
     {
-        drop(bytes);
+        self.buffers.give(bytes.into_vec());
     }
 }
