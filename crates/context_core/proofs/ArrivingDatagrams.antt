@@ -1,6 +1,8 @@
 -- A datagram that an end of a context takes.
 use Rattle.std.proofs.Common.{◌≡◌, ℕ, zero, suc, ◌≤◌, ◌^◌, Bool, true, false, List, [], ◌∷◌, length, refl, ap, sym, ◌∙◌, subst, arith}
-use Rattle.std.specs.Prelude.{◌==◌, ◌||◌, Option, Some, None, IfSome, IsSome, IsSomeAnd, is_none, map, option_map, slice_get}
+use Rattle.std.specs.Prelude.{◌==◌, ◌||◌, if◌then◌else◌, Option, Some, None, IfSome, IsSome, IsSomeAnd, is_none, map, option_map, slice_get}
+use Rattle.std.proofs.lemmas.Bool.{true≢false}
+use Rattle.std.proofs.lemmas.Bool.Decides.{nat_tests}
 use Rattle.std.specs.Option.{option_map_or}
 use Rattle.std.specs.Bool.{OnTrue}
 use Rattle.std.specs.Map.{values_of}
@@ -14,7 +16,8 @@ use Rattle.completion_queue.specs.Queue.{Queue}
 use Rattle.memory_keys.specs.declared.Held.{Held}
 use Rattle.memory_keys.specs.Regions.{regions_of}
 use Rattle.protocol.specs.EndStep.{takes}
-use Rattle.protocol.specs.EndWords.{EndStep}
+use Rattle.move_core.specs.Table.{phase_of}
+use Rattle.protocol.specs.EndWords.{EndStep, is_paused}
 use Rattle.protocol.specs.State.{Context, End, Link}
 use Rattle.protocol.specs.Wire.{Packet, is_request}
 use Rattle.endpoint_core.specs.declared.answers.DueRead.{DueRead}
@@ -23,12 +26,12 @@ use Rattle.endpoint_core.specs.declared.answers.EndReply.TheVariants.{Nothing, A
 use Rattle.endpoint_core.specs.declared.end.Endpoint.{Endpoint}
 use Rattle.endpoint_core.specs.declared.end.EndLink.{EndLink}
 use Rattle.endpoint_core.specs.Answers.{sent_by, sent_of, taken_at}
-use Rattle.endpoint_core.specs.Due.{WasDue, due_in, responses}
+use Rattle.endpoint_core.specs.Due.{WasDue, due_by, due_in, responses}
 use Rattle.endpoint_core.specs.Ends.{Names, link_in}
 use Rattle.endpoint_core.specs.Sites.{IsHome, EndWithMemory, end_at, home}
 use Rattle.context_core.specs.declared.datagrams.DatagramBuffer.{DatagramBuffer}
 use Rattle.context_core.specs.declared.state.EndSlot.{EndSlot}
-use Rattle.context_core.specs.Arriving.{AreReady, HasRoom, IsRoomFor, IsSentFor}
+use Rattle.context_core.specs.Arriving.{AreReady, HasRoom, IsRoomFor, IsSentFor, may_answer}
 use Rattle.context_core.specs.Context.{Holding, context_in, end_of, names_in, site_in}
 use Rattle.context_core.specs.Heads.{link_at, link_by}
 use Rattle.context_core.specs.Sending.{IsDatagramBuffer}
@@ -91,6 +94,19 @@ few-sent new (Old number value) read sent few is = let n = ap length is in let o
 few-sent new (ResumeAck count address) read sent few is = let n = ap length is in let one = one-sent new (ResumeAck count address) new.end.link refl (λ l. omega arith) in omega (arith, n, one)
 
 -- ---- memory for a reply
+
+read-answered : (n : ℕ) → (n == 0x0C) ≡ true → may_answer n ≡ true
+unfolding is_request
+read-answered n t = let same : n ≡ 12 = grind (arith, nat_tests) in subst (λ k. may_answer k ≡ true) (sym same) refl
+
+-- no READ responses are due for a datagram that is not answered
+pub none-due : (l : EndLink) (regions : List Region) (domain : Name) (d : Packet) (due : DueRead) → may_answer d.opcode ≡ false → due_in l regions domain d ≡ Some due → ⊥
+none-due l regions domain d due never is = by (d.opcode == 0x0C) refl (l.ended || is_paused (phase_of l.moves.phase)) is
+  where
+    by : (a : Bool) → (d.opcode == 0x0C) ≡ a → (b : Bool) → (if b then None else if a then due_by l.terms l.responder.receiver regions domain d.psn d.reth else None) ≡ Some due → ⊥
+    by true e b h = true≢false (sym (read-answered d.opcode e) ∙ never)
+    by false e true h = absurd (cc)
+    by false e false h = absurd (cc)
 
 gives-room : (r : EndReply) (room : Option DatagramBuffer) → IsSomeAnd room (λ b. IsDatagramBuffer b 92) → HasRoom r room
 gives-room Nothing room h = tt

@@ -1,6 +1,6 @@
 //! Datagrams taken.
 
-ghost use Rattle.std.specs.Prelude.{ℕ, ◌≡◌, ◌+◌, ◌*◌, ◌<◌, ◌≤◌, ◌^◌, List, [], length, None, Some, IfNone, IfOk, IfSome, IsOk, OnErr, is_none, map, slice_get, vec_capacity};
+ghost use Rattle.std.specs.Prelude.{ℕ, ◌≡◌, ◌+◌, ◌*◌, ◌<◌, ◌≤◌, ◌^◌, List, [], length, None, Some, IfNone, IfOk, IfSome, IsOk, OnErr, false, is_none, map, slice_get, vec_capacity};
 ghost use Rattle.std.specs.Option.{option_map_or};
 ghost use Rattle.rdma_types.specs.Limits.{AreTerms};
 ghost use Rattle.rdma_types.specs.Lists.{at};
@@ -20,7 +20,7 @@ ghost use Rattle.endpoint_core.specs.declared.answers.DueRead.{DueRead};
 ghost use Rattle.endpoint_core.specs.Answers.{IsReply, sent_by};
 ghost use Rattle.endpoint_core.specs.Due.{due_in, responses, telling};
 ghost use Rattle.endpoint_core.specs.Ends.{link_in};
-ghost use Rattle.context_core.specs.Arriving.{AreReady, HasNoBytes, HasRoom, IsRoomFor, IsSentFor, aeth_at, opcode_at};
+ghost use Rattle.context_core.specs.Arriving.{AreReady, HasNoBytes, HasRoom, IsRoomFor, IsSentFor, aeth_at, may_answer, opcode_at};
 ghost use Rattle.context_core.specs.Context.{IsContext, Moves, context_in};
 ghost use Rattle.context_core.specs.Heads.{link_at};
 ghost use Rattle.context_core.specs.Sending.{addressed};
@@ -229,7 +229,8 @@ fn responses(
 
 /// Memory for a reply to a datagram of that opcode, where it may have one.
 fn room_for(alloc: Global, opcode: u8) -> Result<Option<DatagramBuffer>, AllocError>
-    ensures { IfOk result (IsRoomFor opcode) }
+    ensures room { IfOk result (IsRoomFor opcode) }
+    ensures unanswered { may_answer opcode ≡ false → IsOk result }
 {
     if is_request(opcode) || opcode == RESUME {
         Ok(Some(DatagramBuffer::make(alloc, MOST_HEADERS)?))
@@ -254,6 +255,7 @@ impl Replies {
         requires terms { AreTerms link.now.terms }
         requires fits { Fits (packet d.now) }
         ensures room { IfOk result (λ r. IsRoomFor d.now.opcode r.room) }
+        ensures unanswered { may_answer d.now.opcode ≡ false → IsOk result }
         ensures bounded { IfOk result (λ r. IfSome r.read (λ list. length list ≤ 2 ^ 32)) }
         ensures read { (due : DueRead) → due_in link.now (regions_of pool.now regions.now) domain (packet d.now) ≡ Some due
             → IfOk result (λ r. r.read ≡ Some (responses pool.now (regions_of pool.now regions.now) link.now due (pieces due.spot.length link.now.terms.mtu))) }
@@ -323,7 +325,8 @@ fn reply_sent(
 
 impl ContextState {
     /// Takes a datagram at the connected end of that place. `None` comes exactly where no connected end stands there,
-    /// and nothing has changed then, and no memory is taken. Errors: `AllocError` when out of memory; nothing has
+    /// and nothing has changed then, and no memory is taken. None is taken for a datagram that is neither a request nor a
+    /// RESUME. Errors: `AllocError` when out of memory; nothing has
     /// changed.
     pub fn take(
         &mut self,
@@ -345,6 +348,7 @@ impl ContextState {
         ensures moves { Moves pool.old pool.new self.old self.new }
         ensures numbers { (n : Name) → map (λ e. e.number) (context_in pool.new n self.new).ends ≡ map (λ e. e.number) (context_in pool.old n self.old).ends }
         ensures never_out_of_memory { (n : Name) → link_at (context_in pool.old n self.old) place ≡ None → IsOk result }
+        ensures unanswered { may_answer d.now.opcode ≡ false → IsOk result }
         ensures err { OnErr result (self.new ≡ self.old) }
         ensures err_pool { OnErr result (pool.new ≡ pool.old) }
     {

@@ -1,6 +1,6 @@
 //! Memory for datagrams that is filled again.
 
-ghost use Rattle.std.specs.Prelude.{◌≡◌, ◌<◌, ◌≤◌, ◌++◌, ◌∷◌, [], IfOk, vec_capacity, vec_len};
+ghost use Rattle.std.specs.Prelude.{◌≡◌, ◌<◌, ◌≤◌, ◌-◌, ◌++◌, ◌∷◌, [], IfOk, IfSome, IsOk, slice_get, vec_capacity, vec_len};
 
 use page_pool::PAGE;
 use std::alloc::{AllocError, Global};
@@ -32,7 +32,8 @@ impl Buffers {
     /// An empty buffer for at least so many bytes: the last spare one, if it is large enough; else that one is freed, and
     /// a new one is made. Errors: `AllocError` when out of memory.
     pub(crate) fn take(&mut self, alloc: Global, most: usize) -> Result<Vec<u8>, AllocError>
-        ensures { IfOk result (λ v. (v.items ≡ []) × (most ≤ vec_capacity v)) }
+        ensures room { IfOk result (λ v. (v.items ≡ []) × (most ≤ vec_capacity v)) }
+        ensures spare { IfSome (slice_get self.old.spare.items (vec_len self.old.spare - 1)) (λ v. most ≤ vec_capacity v → IsOk result) }
     {
         if let Some(mut buffer) = self.spare.pop() {
             if buffer.capacity() >= most {
