@@ -18,7 +18,7 @@ use Rattle.fabric.proofs.Stores.{kept_means}
 use Rattle.fabric.proofs.Histories.{took-forgetting, losing-forgetting}
 use Rattle.world_core.specs.Kept.{Makes}
 use Rattle.world_core.specs.Sites.{ComesNowhere, ComesTo}
-use Rattle.world_core.proofs.Places.{IsFirstPlace, none_passes, spot, is_some-position}
+use Rattle.world_core.proofs.Places.{IsFirstPlace, none_passes, same_thing, spot, is_some-position}
 use Rattle.world_core.proofs.Worlds.{kept_is, stays}
 
 -- ---- lists of datagrams that are kept
@@ -55,6 +55,22 @@ look_keeps s k now f h = by (kept_flight s k) h
     by : (o : Option Flight) → look_at o now ≡ Here f → o ≡ Some f
     by None i = absurd (cc)
     by (Some f') i = by_tests f' f'.lost (is_late f'.number now) i
+
+-- what a kept datagram is for the end that it is for
+pub looked_kept : (w : World) (k now : ℕ) (f : Flight) (l : Look) → kept_flight w.sent k ≡ Some f → now ≡ now_of w (Some f) → l ≡ look_at (Some f) now → look w.sent k (now_of w (kept_flight w.sent k)) ≡ l
+unfolding look
+looked_kept w k now f l is same h = ap (λ o. look_at o (now_of w o)) is ∙ (ap (λ n. look_at (Some f) n) (sym same) ∙ sym h)
+
+-- .. which is here
+pub looked_here : (w : World) (k now : ℕ) (f x : Flight) → kept_flight w.sent k ≡ Some f → now ≡ now_of w (Some f) → Here x ≡ look_at (Some f) now → look w.sent k (now_of w (kept_flight w.sent k)) ≡ Here f
+looked_here w k now f x is same h =
+    let here : look w.sent k (now_of w (kept_flight w.sent k)) ≡ Here x = looked_kept w k now f (Here x) is same h in
+    here ∙ ap (λ y. Here y) (same_thing x f (sym (look_keeps w.sent k _ x here) ∙ is))
+
+-- .. and one that is not kept
+pub looked_none : (w : World) (k : ℕ) → kept_flight w.sent k ≡ None → look w.sent k (now_of w (kept_flight w.sent k)) ≡ IsGone
+unfolding look
+looked_none w k none = ap (λ o. look_at o (now_of w o)) none
 
 pub comes_to : (w : World) (k place : ℕ) (f : Flight) → look w.sent k (now_of w (kept_flight w.sent k)) ≡ Here f → position (λ x. same_address x.address f.to) w.devices ≡ Some place → ComesTo w k place
 comes_to w k place f here at =

@@ -8,6 +8,7 @@ use Rattle.std.proofs.lemmas.List.{append-nil, reverse-append}
 use Rattle.std.proofs.lemmas.List.Elements.{All-push}
 use Rattle.rdma_types.specs.declared.answers.Answer.{Answer}
 use Rattle.rdma_types.specs.declared.answers.Answer.TheVariants as answer
+use Rattle.rdma_types.specs.declared.answers.Sent.{Sent}
 use Rattle.rdma_types.specs.declared.names.Name.{Name}
 use Rattle.rdma_types.specs.declared.requests.Address.{Address}
 use Rattle.rdma_types.specs.Lists.{store, has, some}
@@ -75,6 +76,29 @@ ran_all v w new place d x x' e o a from next seen ids here step same devices add
     some_is : (y z : Device) → Some y ≡ Some z → y ≡ z
     some_is y z h = cc
 
+-- a step that hands out no image
+pub without_image : (s : device.Step) (d : Device) (o : Outcome) → s ≡ record { device = d; outcome = o } → s.outcome.image ≡ None → s ≡ record { device = d; outcome = record { answer = o.answer; sent = o.sent; image = None } }
+without_image s d o h bare =
+    let none : o.image ≡ None = sym (ap (λ (x : device.Step). x.outcome.image) h) ∙ bare in
+    h ∙ ap (λ i. record { device = d; outcome = record { answer = o.answer; sent = o.sent; image = i } }) none
+
+-- nothing is carried off
+pub bare_carried : (carried : List ContextImage) (o : Option ContextImage) → o ≡ None → carried ≡ carried ++ images_of o
+bare_carried carried o none = sym (append-nil carried) ∙ ap (λ x. carried ++ images_of x) (sym none)
+
+pub bare_stopped : (names : List Name) (o : Option ContextImage) → o ≡ None → names ≡ reverse (names_of o) ++ names
+bare_stopped names o none = ap (λ x. reverse (names_of x) ++ names) (sym none)
+
+-- .. by a step
+pub answered_all : (v w new : World) (place : ℕ) (d x x' : Device) (e : Event) (own : Answer) (sent : List Sent) (a : Answer) (from : Address) (next : ℕ) →
+    v ≡ w → HaveOwnIds v.devices → slice_get v.devices place ≡ Some x → device_step x e ≡ record { device = x'; outcome = record { answer = own; sent = sent; image = None } } → x'.id ≡ x.id →
+    new.devices ≡ set v.devices place x' → from ≡ x'.address → new.sent ≡ forgetting (sending v.sent from sent) →
+    new.carried ≡ v.carried → new.stopped ≡ v.stopped →
+    next ≡ length v.sent + 1 → a ≡ numbered next own → slice_get w.devices place ≡ Some d → Makes (runs w d e) a new
+answered_all v w new place d x x' e own sent a from next seen ids here step same devices address datagrams carried stopped number answered there =
+    ran_all v w new place d x x' e (record { answer = own; sent = sent; image = None }) a from next seen ids here step same devices address datagrams
+    (carried ∙ bare_carried v.carried None refl) (stopped ∙ bare_stopped v.stopped None refl) number answered there
+
 -- one end is connected, behind what a loan holds
 pub joined_makes : (v w new : World) (p : ℕ) (x x' d : Device) (e : Event) (o : Outcome) → v ≡ w → new ≡ record v { devices = set v.devices p x' } → slice_get v.devices p ≡ Some x →
     device_step x e ≡ record { device = x'; outcome = o } → slice_get w.devices p ≡ Some d → new ≡ joined_at w p d e
@@ -94,6 +118,10 @@ module _ (by_id : ℕ → Option ℕ) (by_port : ℕ × ℕ → Option ℕ) wher
     lawful = parts.lawful;
     indexed = indexed-after ds by_id by_port by_name by_name' p x x' e o parts.indexed here same there step homes;
   }
+
+  -- .. devices that are the same
+  pub parts_same : (by_name : Name → Option ℕ) (ds ds' : List Device) (carried : List ContextImage) → ds' ≡ ds → AreParts ds carried by_id by_port by_name → AreParts ds' carried by_id by_port by_name
+  parts_same by_name ds ds' carried same parts = subst (λ xs. AreParts xs carried by_id by_port by_name) (sym same) parts
 
   -- .. an image more
   pub parts_carry : (by_name : Name → Option ℕ) (ds : List Device) (carried more : List ContextImage) (o : Option ContextImage) → AreParts ds carried by_id by_port by_name → more ≡ carried ++ images_of o → IfSome o (λ i. IsLawful i) → AreParts ds more by_id by_port by_name
@@ -130,13 +158,6 @@ parts_more w by_id by_id' by_port by_port' by_name ds carried more d id address 
 
 pub added_makes : (v w new : World) (d : Device) → v ≡ w → forgetting w.sent ≡ w.sent → new ≡ record v { devices = v.devices ++ d ∷ [] } → new ≡ with_kept_datagrams (record w { devices = w.devices ++ d ∷ [] })
 added_makes v w new d seen kept left = left ∙ (ap (λ (x : World). record x { devices = x.devices ++ d ∷ [] }) seen ∙ kept_is (record w { devices = w.devices ++ d ∷ [] }) kept)
-
--- nothing is carried off
-pub bare_carried : (carried : List ContextImage) (o : Option ContextImage) → o ≡ None → carried ≡ carried ++ images_of o
-bare_carried carried o none = sym (append-nil carried) ∙ ap (λ x. carried ++ images_of x) (sym none)
-
-pub bare_stopped : (names : List Name) (o : Option ContextImage) → o ≡ None → names ≡ reverse (names_of o) ++ names
-bare_stopped names o none = ap (λ x. reverse (names_of x) ++ names) (sym none)
 
 pub not_done : (a : Answer) → (a ≡ answer.Done → ⊥) → is_done a ≡ false
 not_done answer.Done other = absurd (other refl)

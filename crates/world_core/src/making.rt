@@ -161,9 +161,24 @@ impl World {
         ensures ok { IfOk result (λ answer. Makes (rules.steps_at self.old (rules.context_of_event event.now) event.now) answer self.new) }
         ensures err { OnErr result (self.new ≡ self.old) }
     {
+        if let Event::Transmit { end } = event {
+            return self.transmit_at(alloc, end);
+        }
         let name = context_of(event).unwrap();
         match self.home(name) {
             Ok(place) => self.run(alloc, place, event),
+            Err(refusal) => Ok(Answer::Refused(refusal)),
+        }
+    }
+
+    /// One transmission of an end on the device where its context lives.
+    pub(crate) fn transmit_at(&mut self, alloc: Global, end: &ObjName) -> Result<Answer, AllocError>
+        requires ready { IsReady self.old }
+        ensures ok { IfOk result (λ answer. Makes (rules.steps_at self.old end.now.context (event.Transmit end.now)) answer self.new) }
+        ensures err { OnErr result (self.new ≡ self.old) }
+    {
+        match self.home(end.context) {
+            Ok(place) => self.transmit_from(alloc, place, end),
             Err(refusal) => Ok(Answer::Refused(refusal)),
         }
     }

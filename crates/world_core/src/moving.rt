@@ -154,7 +154,14 @@ impl World {
             image: _,
         } = outcome;
         let from = self.devices[place].address();
-        let answer = send_outcome(&mut self.fabric, from, answer, sent);
+        let answer = send_outcome(
+            &mut self.fabric,
+            &mut self.devices,
+            &self.ports,
+            from,
+            answer,
+            sent,
+        );
         note_home(&mut self.homes, self.devices.as_slice(), Some(name));
         if let Answer::Done = answer {
             self.carried.remove(spot);

@@ -1,6 +1,7 @@
 //! Datagrams of a world: delivered, lost and shown.
 
-ghost use Rattle.std.specs.Prelude.{◌≡◌, ℕ, ◌≤◌, ◌<◌, ◌^◌, length, slice_get, is_some, true, IfOk, OnErr, Some};
+ghost use Rattle.std.specs.Prelude.{◌≡◌, ℕ, ◌≤◌, ◌<◌, ◌^◌, length, slice_get, is_some, true, IfOk, OnErr, Some, None};
+ghost use Rattle.std.specs.List.{position};
 ghost use Rattle.law_arrivals.specs.Touched.{ChangesOnly, is_touched};
 ghost use Rattle.protocol.specs.Bytes.{byte_at, number_at};
 ghost use Rattle.protocol.specs.DeviceStep.{device_step};
@@ -14,8 +15,8 @@ ghost use Rattle.world_core.specs.Sites.{IsDelivery};
 
 use crate::World;
 use crate::running::send_outcome;
-use device_core::{Device, Outcome};
-use fabric::{Fabric, Look};
+use device_core::{Answered, Device, Outcome};
+use fabric::{Fabric, Flight, Look};
 use rdma_types::{Answer, Items, SilentWhy, Took};
 use roce_headers::opcodes::is_request;
 use std::alloc::{AllocError, Global};
@@ -58,28 +59,38 @@ fn mark_at(device: &Device, bytes: &[u8]) -> u64
     }
 }
 
-/// A kept datagram reaches a device.
-fn reach(fabric: &Fabric, device: &mut Device, alloc: Global, k: u64) -> Result<Outcome, AllocError>
+/// A kept datagram reaches a device, which hands out no image for it.
+fn reach(
+    fabric: &Fabric,
+    device: &mut Device,
+    alloc: Global,
+    k: u64,
+) -> Result<Answered, AllocError>
     requires { is_some (kept_flight fabric.now k) ≡ true }
-    ensures ok { IfOk result (λ o. (f : state.Flight) → kept_flight fabric.now k ≡ Some f → device_step device.old (event.Arrive f.from f.bytes) ≡ record { device = device.new; outcome = o }) }
-    ensures bounded { IfOk result (λ o. length o.sent ≤ 2 ^ 32) }
+    ensures ok { IfOk result (λ a. (f : state.Flight) → kept_flight fabric.now k ≡ Some f → device_step device.old (event.Arrive f.from f.bytes) ≡ record { device = device.new; outcome = record { answer = a.answer; sent = a.sent; image = None } }) }
+    ensures bounded { IfOk result (λ a. length a.sent ≤ 2 ^ 32) }
     ensures touched { (f : state.Flight) → kept_flight fabric.now k ≡ Some f → ChangesOnly (is_touched device.old f.bytes) device.old device.new }
     ensures same { (device.new.id ≡ device.old.id) × (device.new.address ≡ device.old.address) }
     ensures err { OnErr result (device.new ≡ device.old) }
 {
     let flight = fabric.kept(k).unwrap();
-    device.arrive(alloc, flight.from, flight.sent.bytes.as_slice())
+    let outcome = device.arrive(alloc, flight.from, flight.sent.bytes.as_slice())?;
+    let Outcome {
+        answer,
+        sent,
+        image: _,
+    } = outcome;
+    Ok(Answered { answer, sent })
 }
 
 impl World {
-    /// What the end that datagram k is for keeps, and 0 where there is no such end.
-    fn now_of(&self, k: u64) -> u64
-        ensures { result ≡ rules.now_of self.now (kept_flight self.now.sent k) }
+    /// What the end that a datagram is for keeps, where the device with its address is at a place, and 0 where there is no
+    /// such end.
+    fn now_of(&self, place: Option<usize>, flight: &Flight) -> u64
+        requires { place ≡ position (λ d. rules.same_address d.address flight.now.to) self.now.devices }
+        ensures { result ≡ rules.now_of self.now (Some flight.now) }
     {
-        let Some(flight) = self.fabric.kept(k) else {
-            return 0;
-        };
-        match self.place_with(flight.sent.to) {
+        match place {
             Some(place) => mark_at(&self.devices[place], flight.sent.bytes.as_slice()),
             None => 0,
         }
@@ -89,11 +100,16 @@ impl World {
     fn delivery(&self, k: u64) -> Delivery
         ensures { IsDelivery self.now k result }
     {
-        match self.fabric.look(k, self.now_of(k)) {
+        let Some(flight) = self.fabric.kept(k) else {
+            return Delivery::Gone;
+        };
+        let place = self.place_with(flight.sent.to);
+        let now = self.now_of(place, flight);
+        match flight.look(now) {
             Look::Gone => Delivery::Gone,
             Look::Lost => Delivery::Lost,
             Look::Aged => Delivery::Aged,
-            Look::Here(flight) => match self.place_with(flight.sent.to) {
+            Look::Here(_) => match place {
                 Some(place) => Delivery::Comes(place),
                 None => Delivery::Nowhere,
             },
@@ -135,15 +151,18 @@ impl World {
         ensures touched { IfOk result (λ answer. (f : state.Flight) → (d : state.Device) → kept_flight self.old.sent k ≡ Some f → slice_get self.old.devices place ≡ Some d → ChangesWorldOnly (is_touched_on d f) self.old self.new) }
         ensures err { OnErr result (self.new ≡ self.old) }
     {
-        let outcome = reach(&self.fabric, &mut self.devices[place], alloc, k)?;
-        let Outcome {
-            answer,
-            sent,
-            image: _,
-        } = outcome;
+        let answered = reach(&self.fabric, &mut self.devices[place], alloc, k)?;
+        let Answered { answer, sent } = answered;
         let from = self.devices[place].address();
         self.fabric.took(k);
-        Ok(send_outcome(&mut self.fabric, from, answer, sent))
+        Ok(send_outcome(
+            &mut self.fabric,
+            &mut self.devices,
+            &self.ports,
+            from,
+            answer,
+            sent,
+        ))
     }
 
     /// Datagram k is lost.

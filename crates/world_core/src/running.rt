@@ -5,6 +5,7 @@ ghost use Rattle.std.specs.Vec.{vec_capacity};
 ghost use Rattle.protocol.specs.Events.{IsLawfulEvent};
 ghost use Rattle.protocol.specs.Fabric.{sending};
 ghost use Rattle.protocol.specs.State.{Device};
+ghost use Rattle.protocol.specs.declared.events.Event.TheVariants as event;
 ghost use Rattle.protocol.specs.WorldStep.{numbered, runs};
 ghost use Rattle.fabric.specs.Store.{forgetting};
 ghost use Rattle.world_core.specs.Kept.{IsReady, Makes};
@@ -12,20 +13,54 @@ ghost use Rattle.world_core.specs.Places.{images_of, names_of};
 
 use crate::World;
 use crate::index::{moved_context, note_home};
-use device_core::ContextImage;
-use fabric::Fabric;
+use device_core::{Answered, ContextImage, Device};
+use fabric::{Fabric, Flight};
+use indexmap::IndexMap;
 use protocol::{Event, Outcome};
-use rdma_types::{Address, Answer, Items, Name, Sent};
+use rdma_types::{Address, Answer, Items, Name, ObjName, Sent};
 use std::alloc::{AllocError, Global};
 
-/// Sends datagrams in their order.
-fn send_all(fabric: &mut Fabric, from: Address, sent: Items<Sent>)
+/// The bytes of a forgotten datagram with at most this many are dropped, since it costs less to make them anew than to find
+/// their device.
+const MOST_DROPPED: usize = 512;
+
+/// The memory of a datagram that the network forgets goes back to the device that sent it, where it is worth it.
+fn give_back(
+    devices: &mut Vec<Device>,
+    ports: &IndexMap<(u32, u16), usize>,
+    forgotten: Option<Flight>,
+)
+    ensures { devices.new.items ≡ devices.old.items }
+{
+    let Some(flight) = forgotten else {
+        return;
+    };
+    let Flight { from, sent, .. } = flight;
+    if sent.bytes.len() <= MOST_DROPPED {
+        return;
+    }
+    match ports.get(&(from.ip, from.port)).copied() {
+        Some(place) if place < devices.len() => devices[place].give_back(sent.bytes),
+        _ => (),
+    }
+}
+
+/// Sends datagrams in their order. The memory of those that the network forgets for them goes back to their devices.
+fn send_all(
+    fabric: &mut Fabric,
+    devices: &mut Vec<Device>,
+    ports: &IndexMap<(u32, u16), usize>,
+    from: Address,
+    sent: Items<Sent>,
+)
     requires kept { forgetting fabric.old ≡ fabric.old }
     requires bounded { length fabric.old + length sent < 2 ^ 63 }
-    ensures { fabric.new ≡ forgetting (sending fabric.old from sent) }
+    ensures sent { fabric.new ≡ forgetting (sending fabric.old from sent) }
+    ensures devices { devices.new.items ≡ devices.old.items }
 {
     for datagram in sent.into_vec() {
-        fabric.send(from, datagram);
+        let forgotten = fabric.send(from, datagram);
+        give_back(devices, ports, forgotten);
     }
 }
 
@@ -44,9 +79,11 @@ fn number(answer: Answer, next: u64) -> Answer
     }
 }
 
-/// Sends the datagrams of a step, and gives its answer with the number of the first.
+/// Sends the datagrams of a step of the device with an address, and gives its answer with the number of the first.
 pub(crate) fn send_outcome(
     fabric: &mut Fabric,
+    devices: &mut Vec<Device>,
+    ports: &IndexMap<(u32, u16), usize>,
     from: Address,
     answer: Answer,
     sent: Items<Sent>,
@@ -54,9 +91,10 @@ pub(crate) fn send_outcome(
     requires { length fabric.old + length sent < 2 ^ 63 }
     ensures sent { fabric.new ≡ forgetting (sending fabric.old from sent) }
     ensures answer { result ≡ numbered (length fabric.old + 1) answer }
+    ensures devices { devices.new.items ≡ devices.old.items }
 {
     let next = fabric.next();
-    send_all(fabric, from, sent);
+    send_all(fabric, devices, ports, from, sent);
     number(answer, next)
 }
 
@@ -98,7 +136,14 @@ impl World {
             image,
         } = outcome;
         let from = self.devices[place].address();
-        let answer = send_outcome(&mut self.fabric, from, answer, sent);
+        let answer = send_outcome(
+            &mut self.fabric,
+            &mut self.devices,
+            &self.ports,
+            from,
+            answer,
+            sent,
+        );
         carry(&mut self.carried, &mut self.stopped, image);
         note_home(
             &mut self.homes,
@@ -106,5 +151,30 @@ impl World {
             moved_context(event),
         );
         Ok(answer)
+    }
+
+    /// An end of a context of the device at a place transmits once, and its datagrams are sent.
+    pub(crate) fn transmit_from(
+        &mut self,
+        alloc: Global,
+        place: usize,
+        end: &ObjName,
+    ) -> Result<Answer, AllocError>
+        requires place { place < length self.old.devices }
+        requires ready { IsReady self.old }
+        ensures ok { IfOk result (λ answer. (d : Device) → slice_get self.old.devices place ≡ Some d → Makes (runs self.old d (event.Transmit end.now)) answer self.new) }
+        ensures err { OnErr result (self.new ≡ self.old) }
+    {
+        let answered = self.devices[place].transmit(alloc, end)?;
+        let Answered { answer, sent } = answered;
+        let from = self.devices[place].address();
+        Ok(send_outcome(
+            &mut self.fabric,
+            &mut self.devices,
+            &self.ports,
+            from,
+            answer,
+            sent,
+        ))
     }
 }

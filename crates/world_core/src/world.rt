@@ -2,6 +2,8 @@
 
 ghost use Rattle.std.specs.Prelude.{◌≡◌, ◌<◌, ◌^◌, length, IfOk, IsOk, OnErr};
 ghost use Rattle.protocol.specs.Events.{IsLawfulWorldEvent};
+ghost use Rattle.protocol.specs.declared.events.Event.TheVariants as event;
+ghost use Rattle.protocol.specs.declared.events.WorldEvent.TheVariants as world_event;
 ghost use Rattle.protocol.specs.State.{empty_world};
 ghost use Rattle.protocol.specs.WorldStep.{world_step};
 ghost use Rattle.law_kept_datagrams.specs.Alike.{with_kept_datagrams};
@@ -15,7 +17,7 @@ use device_core::{ContextImage, Device};
 use fabric::Fabric;
 use indexmap::IndexMap;
 use protocol::WorldEvent;
-use rdma_types::{Answer, Name};
+use rdma_types::{Answer, Name, ObjName};
 use std::alloc::{AllocError, Global};
 use std::marker::Model;
 
@@ -91,6 +93,23 @@ impl World {
             return Err(AllocError);
         }
         self.act(alloc, event)
+    }
+
+    /// The step on the event that an end transmits: its next packet, where it may send one. A refusal is an answer.
+    ///
+    /// # Errors
+    ///
+    /// `AllocError` when out of memory, or where 2^62 datagrams were sent; nothing has changed.
+    pub fn transmit(&mut self, alloc: Global, end: &ObjName) -> Result<Answer, AllocError>
+        ensures ok { IfOk result (λ answer. Makes (world_step self.old (world_event.At (event.Transmit end.now))) answer self.new) }
+        ensures kept { with_kept_datagrams self.old ≡ self.old }
+        ensures ids { HaveOwnIds self.old.devices }
+        ensures err { OnErr result (self.new ≡ self.old) }
+    {
+        if self.fabric.next() > MOST_SENT {
+            return Err(AllocError);
+        }
+        self.transmit_at(alloc, end)
     }
 
     /// What an event does, where the network has numbers for it.

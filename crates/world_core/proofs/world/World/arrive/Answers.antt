@@ -1,45 +1,46 @@
 -- What the step did is done to the parts; it carries nothing off.
-use Rattle.std.proofs.Common.{◌≡◌, ◌<◌, ◌+◌, ◌∙◌, ap, sym, subst, slice_get, Some, None, true, is_some, refl, length, reverse}
+use Rattle.std.proofs.Common.{◌≡◌, ◌<◌, ◌+◌, ◌∙◌, ap, sym, subst, slice_get, Some, None, true, is_some, refl, length}
 use Rattle.std.proofs.lemmas.Option.{slice_get_read}
-use Rattle.protocol.specs.DeviceStep as device
 use Rattle.protocol.specs.DeviceStep.{device_step}
 use Rattle.protocol.specs.Fabric.{kept_flight, sending}
 use Rattle.protocol.specs.State.{Flight, World}
 use Rattle.protocol.specs.WorldStep.{with_taken}
 use Rattle.protocol.specs.declared.events.Event.{Event}
 use Rattle.protocol.specs.declared.events.Event.TheVariants as event
+use Rattle.protocol.specs.declared.images.Outcome.{Outcome}
 use Rattle.fabric.specs.Store.{forgetting}
-use Rattle.law_settling.proofs.steps.Bare as handing
 use Rattle.world_core.proofs.Delivering.{delivered-at}
-use Rattle.world_core.proofs.Stepping.{bare_carried, bare_stopped, parts_after, ran_all}
+use Rattle.world_core.proofs.Stepping.{answered_all, parts_after, parts_same}
 use Rattle.world_core.proofs.Places.{read_set, some_there}
 use Rattle.world_core.proofs.world.World.arrive.Goals as goal
 
 pub invariant_of-self-2 : goal.invariant_of-self-2
 invariant_of-self-2 c =
     let ds = c.self.inside.devices.items in
+    let a = c.in_ok-answered.answered in
+    let o : Outcome = record { answer = a.answer; sent = a.sent; image = None } in
     let lt : c.args.place < length ds = subst (λ (w : World). c.args.place < length w.devices) (sym c.self.view_is) c.requires.place in
     let here : slice_get ds c.args.place ≡ Some c.index_mut.result.now = slice_get_read ds (length ds) c.args.place c.index_mut.result.now refl lt c.index_mut.ensures.value in
-    let step : (f : Flight) → kept_flight c.self.inside.fabric c.args.k ≡ Some f → device_step c.index_mut.result.now (event.Arrive f.from f.bytes) ≡ record { device = c.reach.new.device; outcome = c.in_ok-outcome.outcome } = c.in_ok-outcome.ensures.ok in
+    let step : (f : Flight) → kept_flight c.self.inside.fabric c.args.k ≡ Some f → device_step c.index_mut.result.now (event.Arrive f.from f.bytes) ≡ record { device = c.reach.new.device; outcome = o } = c.in_ok-answered.ensures.ok in
     let kept : is_some (kept_flight c.self.inside.fabric c.args.k) ≡ true = ap (λ (w : World). is_some (kept_flight w.sent c.args.k)) c.self.view_is ∙ c.requires.kept in
     let f : (f : Flight) × (kept_flight c.self.inside.fabric c.args.k ≡ Some f) = some_there _ kept in
-    parts_after _ _ _ _ ds c.self.inside.carried.items c.args.place c.index_mut.result.now c.reach.new.device (event.Arrive f.0.from f.0.bytes) c.in_ok-outcome.outcome c.self.invariant here c.reach.ensures.same.0 c.reach.ensures.same.1 (step f.0 f.1) (λ m. refl)
+    parts_same _ _ _ _ _ _ c.send_outcome.ensures.devices
+    (parts_after _ _ _ _ ds c.self.inside.carried.items c.args.place c.index_mut.result.now c.reach.new.device (event.Arrive f.0.from f.0.bytes) o c.self.invariant here c.reach.ensures.same.0 c.reach.ensures.same.1 (step f.0 f.1) (λ m. refl))
 
 pub returns-clause-ok : goal.returns-clause-ok
 returns-clause-ok c = λ f d kept h.
     let ds = c.self.inside.devices.items in
+    let a = c.in_ok-answered.answered in
     let e : Event = event.Arrive f.from f.bytes in
     let lt : c.args.place < length ds = subst (λ (w : World). c.args.place < length w.devices) (sym c.self.view_is) c.requires.place in
     let here : slice_get ds c.args.place ≡ Some c.index_mut.result.now = slice_get_read ds (length ds) c.args.place c.index_mut.result.now refl lt c.index_mut.ensures.value in
     let there : c.index.result.now ≡ c.reach.new.device = read_set ds c.args.place c.reach.new.device c.index.result.now lt c.index.ensures in
-    let step : device_step c.index_mut.result.now e ≡ record { device = c.reach.new.device; outcome = c.in_ok-outcome.outcome } = c.in_ok-outcome.ensures.ok f (ap (λ (w : World). kept_flight w.sent c.args.k) c.self.view_is ∙ kept) in
-    let bare : c.in_ok-outcome.outcome.image ≡ None = sym (ap (λ (s : device.Step). s.outcome.image) step) ∙ handing.bare c.index_mut.result.now e tt in
-    ran_all _ (with_taken c.args.self.now c.args.k) _ c.args.place d c.index_mut.result.now c.reach.new.device e c.in_ok-outcome.outcome c.send_outcome.result c.address-from.result (length c.took.new.self + 1)
-    (ap (λ (w : World). with_taken w c.args.k) c.self.view_is) c.self.invariant.ids here step c.reach.ensures.same.0
-    refl (c.address-from.ensures ∙ ap (λ x. x.address) there)
-    (c.send_outcome.ensures.sent ∙ ap (λ s. forgetting (sending s c.address-from.result c.in_ok-outcome.outcome.sent)) c.took.ensures.taken)
-    (bare_carried c.self.inside.carried.items c.in_ok-outcome.outcome.image bare) (bare_stopped (reverse c.self.inside.stopped.items) c.in_ok-outcome.outcome.image bare)
-    (ap (λ s. length s + 1) c.took.ensures.taken) c.send_outcome.ensures.answer h
+    answered_all _ (with_taken c.args.self.now c.args.k) _ c.args.place d c.index_mut.result.now c.reach.new.device e a.answer a.sent c.send_outcome.result c.address-from.result (length c.took.new.self + 1)
+    (ap (λ (w : World). with_taken w c.args.k) c.self.view_is) c.self.invariant.ids here
+    (c.in_ok-answered.ensures.ok f (ap (λ (w : World). kept_flight w.sent c.args.k) c.self.view_is ∙ kept)) c.reach.ensures.same.0
+    c.send_outcome.ensures.devices (c.address-from.ensures ∙ ap (λ x. x.address) there)
+    (c.send_outcome.ensures.sent ∙ ap (λ s. forgetting (sending s c.address-from.result a.sent)) c.took.ensures.taken)
+    refl refl (ap (λ s. length s + 1) c.took.ensures.taken) c.send_outcome.ensures.answer h
 
 pub returns-clause-touched : goal.returns-clause-touched
 returns-clause-touched c = λ f d kept h.
@@ -47,4 +48,4 @@ returns-clause-touched c = λ f d kept h.
     let lt : c.args.place < length ds = subst (λ (w : World). c.args.place < length w.devices) (sym c.self.view_is) c.requires.place in
     let here : slice_get ds c.args.place ≡ Some c.index_mut.result.now = slice_get_read ds (length ds) c.args.place c.index_mut.result.now refl lt c.index_mut.ensures.value in
     delivered-at _ c.args.self.now _ c.args.place d c.index_mut.result.now c.reach.new.device f c.self.view_is c.self.invariant.ids here c.reach.ensures.same.0
-    (c.reach.ensures.touched f (ap (λ (w : World). kept_flight w.sent c.args.k) c.self.view_is ∙ kept)) refl refl refl h
+    (c.reach.ensures.touched f (ap (λ (w : World). kept_flight w.sent c.args.k) c.self.view_is ∙ kept)) c.send_outcome.ensures.devices refl refl h

@@ -1,24 +1,53 @@
--- The device with its address, where it is here.
-use Rattle.std.proofs.Common.{◌≡◌, ◌∙◌, ap, sym}
+-- The device with its address, where it is kept and here.
+use Rattle.std.proofs.Common.{◌≡◌, ◌∙◌, ap, sym, Some, None}
 use Rattle.std.specs.List.{position}
-use Rattle.protocol.specs.Fabric.{Here, kept_flight, look}
+use Rattle.protocol.specs.Fabric.{IsAged, IsGone, IsLost, kept_flight}
 use Rattle.protocol.specs.State.{Flight, World}
-use Rattle.protocol.specs.WorldStep.{now_of, same_address}
-use Rattle.world_core.proofs.Networks.{comes_nowhere, comes_to}
+use Rattle.protocol.specs.WorldStep.{same_address}
+use Rattle.world_core.proofs.Networks.{comes_nowhere, comes_to, looked_here, looked_kept, looked_none}
 use Rattle.world_core.proofs.world.World.delivery.Goals as goal
 
-pub returns-in-Some : goal.returns-in-Some
-returns-in-Some c =
+pub returns-in_default : goal.returns-in_default
+returns-in_default c =
     let w = c.args.self.now in
-    let f = c.in-Here.flight.now in
-    let here : look w.sent c.args.k (now_of w (kept_flight w.sent c.args.k)) ≡ Here f =
-    ap (λ m. look w.sent c.args.k m) (sym c.now_of.ensures) ∙ (ap (λ (x : World). look x.sent c.args.k c.now_of.result) (sym c.self.view_is) ∙ sym c.in-Here.ensures) in
-    comes_to w c.args.k c.in-Some.place f here (ap (λ (x : Flight). position (λ y. same_address y.address x.to) w.devices) (sym c.flight.view_is) ∙ (sym c.place_with.ensures ∙ c.in-Some.is))
+    let none : kept_flight w.sent c.args.k ≡ None = ap (λ (x : World). kept_flight x.sent c.args.k) (sym c.self.view_is) ∙ sym c.in_default.ensures in
+    looked_none w c.args.k none
+
+pub returns-in-Gone : goal.returns-in-Gone
+returns-in-Gone c =
+    let w = c.args.self.now in
+    let f = c.in-Some.flight.now in
+    let is : kept_flight w.sent c.args.k ≡ Some f = ap (λ (x : World). kept_flight x.sent c.args.k) (sym c.self.view_is) ∙ sym c.in-Some.ensures in
+    looked_kept w c.args.k c.now_of-now.result f IsGone is c.now_of-now.ensures c.in-Gone.ensures
+
+pub returns-in-Lost : goal.returns-in-Lost
+returns-in-Lost c =
+    let w = c.args.self.now in
+    let f = c.in-Some.flight.now in
+    let is : kept_flight w.sent c.args.k ≡ Some f = ap (λ (x : World). kept_flight x.sent c.args.k) (sym c.self.view_is) ∙ sym c.in-Some.ensures in
+    looked_kept w c.args.k c.now_of-now.result f IsLost is c.now_of-now.ensures c.in-Lost.ensures
+
+pub returns-in-Aged : goal.returns-in-Aged
+returns-in-Aged c =
+    let w = c.args.self.now in
+    let f = c.in-Some.flight.now in
+    let is : kept_flight w.sent c.args.k ≡ Some f = ap (λ (x : World). kept_flight x.sent c.args.k) (sym c.self.view_is) ∙ sym c.in-Some.ensures in
+    looked_kept w c.args.k c.now_of-now.result f IsAged is c.now_of-now.ensures c.in-Aged.ensures
+
+pub returns-in-Some-place : goal.returns-in-Some-place
+returns-in-Some-place c =
+    let w = c.args.self.now in
+    let f = c.in-Some.flight.now in
+    let is : kept_flight w.sent c.args.k ≡ Some f = ap (λ (x : World). kept_flight x.sent c.args.k) (sym c.self.view_is) ∙ sym c.in-Some.ensures in
+    let at : position (λ x. same_address x.address f.to) w.devices ≡ Some c.in-Some-place.place =
+    ap (λ (x : Flight). position (λ y. same_address y.address x.to) w.devices) (sym c.flight.view_is) ∙ (sym c.place_with-place.ensures ∙ c.in-Some-place.is) in
+    comes_to w c.args.k c.in-Some-place.place f (looked_here w c.args.k c.now_of-now.result f _ is c.now_of-now.ensures c.in-Here.ensures) at
 
 pub returns-in-None : goal.returns-in-None
 returns-in-None c =
     let w = c.args.self.now in
-    let f = c.in-Here.flight.now in
-    let here : look w.sent c.args.k (now_of w (kept_flight w.sent c.args.k)) ≡ Here f =
-    ap (λ m. look w.sent c.args.k m) (sym c.now_of.ensures) ∙ (ap (λ (x : World). look x.sent c.args.k c.now_of.result) (sym c.self.view_is) ∙ sym c.in-Here.ensures) in
-    comes_nowhere w c.args.k f here (ap (λ (x : Flight). position (λ y. same_address y.address x.to) w.devices) (sym c.flight.view_is) ∙ (sym c.place_with.ensures ∙ c.in-None.is))
+    let f = c.in-Some.flight.now in
+    let is : kept_flight w.sent c.args.k ≡ Some f = ap (λ (x : World). kept_flight x.sent c.args.k) (sym c.self.view_is) ∙ sym c.in-Some.ensures in
+    let none : position (λ x. same_address x.address f.to) w.devices ≡ None =
+    ap (λ (x : Flight). position (λ y. same_address y.address x.to) w.devices) (sym c.flight.view_is) ∙ (sym c.place_with-place.ensures ∙ c.in-None.is) in
+    comes_nowhere w c.args.k f (looked_here w c.args.k c.now_of-now.result f _ is c.now_of-now.ensures c.in-Here.ensures) none

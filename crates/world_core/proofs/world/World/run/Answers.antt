@@ -4,7 +4,7 @@ use Rattle.std.proofs.lemmas.Option.{slice_get_read}
 use Rattle.std.proofs.Math.ListN.{set}
 use Rattle.protocol.specs.State.{World}
 use Rattle.world_core.specs.Places.{images_of, names_of}
-use Rattle.world_core.proofs.Stepping.{homes_noted, names_reversed, parts_after, parts_carry, ran_all}
+use Rattle.world_core.proofs.Stepping.{homes_noted, names_reversed, parts_after, parts_carry, parts_same, ran_all}
 use Rattle.world_core.proofs.Places.{read_set}
 use Rattle.world_core.proofs.world.World.run.Goals as goal
 
@@ -13,11 +13,12 @@ invariant_of-self-2 c =
     let ds = c.self.inside.devices.items in
     let lt : c.args.place < length ds = subst (λ (w : World). c.args.place < length w.devices) (sym c.self.view_is) c.requires.place in
     let here : slice_get ds c.args.place ≡ Some c.index_mut.result.now = slice_get_read ds (length ds) c.args.place c.index_mut.result.now refl lt c.index_mut.ensures.value in
-    let devices : c.as_slice.result.now ≡ set ds c.args.place c.step.new.self = c.as_slice.ensures.value in
-    parts_carry _ _ _ _ c.self.inside.carried.items c.carry.new.carried.items c.in_ok-outcome.outcome.image
+    let devices : c.as_slice.result.now ≡ set ds c.args.place c.step.new.self = c.as_slice.ensures.value ∙ c.send_outcome-answer.ensures.devices in
+    parts_same _ _ _ _ _ _ c.send_outcome-answer.ensures.devices
+    (parts_carry _ _ _ _ c.self.inside.carried.items c.carry.new.carried.items c.in_ok-outcome.outcome.image
     (parts_after _ _ _ _ ds c.self.inside.carried.items c.args.place c.index_mut.result.now c.step.new.self c.args.event.now c.in_ok-outcome.outcome c.self.invariant here c.step.ensures.id c.step.ensures.address c.in_ok-outcome.ensures.ok
     (homes_noted _ _ _ _ _ _ _ c.note_home.ensures c.moved_context.ensures devices c.reserve.ensures.entries))
-    (c.carry.ensures.carried ∙ ap (λ xs. xs ++ images_of c.in_ok-outcome.outcome.image) c.reserve-2.ensures.items) c.in_ok-outcome.ensures.image
+    (c.carry.ensures.carried ∙ ap (λ xs. xs ++ images_of c.in_ok-outcome.outcome.image) c.reserve-2.ensures.items) c.in_ok-outcome.ensures.image)
 
 pub returns-clause-ok : goal.returns-clause-ok
 returns-clause-ok c = λ d h.
@@ -27,7 +28,7 @@ returns-clause-ok c = λ d h.
     let there : c.index.result.now ≡ c.step.new.self = read_set ds c.args.place c.step.new.self c.index.result.now lt c.index.ensures in
     ran_all _ c.args.self.now _ c.args.place d c.index_mut.result.now c.step.new.self c.args.event.now c.in_ok-outcome.outcome c.send_outcome-answer.result c.address-from.result (length c.self.inside.fabric + 1)
     c.self.view_is c.self.invariant.ids here c.in_ok-outcome.ensures.ok c.step.ensures.id
-    refl (c.address-from.ensures ∙ ap (λ x. x.address) there) c.send_outcome-answer.ensures.sent
+    c.send_outcome-answer.ensures.devices (c.address-from.ensures ∙ ap (λ x. x.address) there) c.send_outcome-answer.ensures.sent
     (c.carry.ensures.carried ∙ ap (λ xs. xs ++ images_of c.in_ok-outcome.outcome.image) c.reserve-2.ensures.items)
     (ap (λ xs. reverse xs) (c.carry.ensures.stopped ∙ ap (λ xs. xs ++ names_of c.in_ok-outcome.outcome.image) c.reserve-3.ensures.items) ∙ names_reversed c.self.inside.stopped.items c.in_ok-outcome.outcome.image)
     refl c.send_outcome-answer.ensures.answer h

@@ -1,10 +1,12 @@
 -- The step of the device where the context lives, or the first cause.
-use Rattle.std.proofs.Common.{◌≡◌, ◌∙◌, ap, sym, []}
+use Rattle.std.proofs.Common.{◌≡◌, ◌∙◌, ap, sym, subst, []}
+use Rattle.std.specs.Prelude.{IfOk}
 use Rattle.std.specs.List.{position}
 use Rattle.rdma_types.specs.declared.names.Name.{Name}
 use Rattle.rdma_types.specs.Causes.{first_cause}
 use Rattle.protocol.specs.Refusals.{has_context}
 use Rattle.protocol.specs.WorldStep.{context_causes, context_of_event, home, is_carried, is_live, runs, steps_at}
+use Rattle.world_core.specs.Kept.{Makes}
 use Rattle.world_core.proofs.Places.{same_thing}
 use Rattle.world_core.proofs.Causes.{at_home, no_cause}
 use Rattle.world_core.proofs.Worlds.{lives, passes, refused, run_makes}
@@ -27,3 +29,6 @@ returns-in-Err-clause-ok c =
     let n = context_of_event c.args.event.now in
     let name : c.unwrap-name.result ≡ n = same_thing c.unwrap-name.result n (sym c.unwrap-name.ensures ∙ c.context_of.ensures c.requires.handed) in
     refused w _ c.in-Err.refusal _ c.requires.ready.kept (ap (λ (m : Name). first_cause (context_causes w m [])) (sym name) ∙ c.in-Err.ensures.refusal [])
+
+pub returns-in-Transmit-clause-ok : goal.returns-in-Transmit-clause-ok
+returns-in-Transmit-clause-ok c = subst (λ e. IfOk c.transmit_at.result (λ a. Makes (steps_at c.args.self.now (context_of_event e) e) a c.transmit_at.new.self)) (sym c.in-Transmit.is) c.transmit_at.ensures.ok
