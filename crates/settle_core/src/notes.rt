@@ -11,7 +11,7 @@ ghost use Rattle.world_core.specs.Places.{HaveOwnIds};
 use indexmap::IndexMap;
 use rdma_types::{Answer, Items, ObjName};
 use std::alloc::{AllocError, Global};
-use world_core::{Event, LinkView, LiveEnd, World, WorldEvent};
+use world_core::{LinkView, LiveEnd, World, WorldEvent};
 
 /// The last step of an end's RNR timer in a settling: where its oldest unacknowledged number was, and whether its partner
 /// was in Error.
@@ -72,8 +72,7 @@ pub(crate) fn transmit(
     ensures ids { HaveOwnIds world.old.devices }
     ensures err { OnErr result (world.new ≡ world.old) }
 {
-    let event = Event::Transmit { end: *end };
-    world.step(alloc, &WorldEvent::At { event })
+    world.transmit(alloc, end)
 }
 
 /// Live ends with the marks of the world's: those that were seen, where they have them, or else the world's.
