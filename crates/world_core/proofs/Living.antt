@@ -1,15 +1,14 @@
 -- Which contexts live on a device after its step.
 use Rattle.std.proofs.Common.{◌≡◌, ℕ, ◌==◌, ◌||◌, List, [], ◌∷◌, Bool, true, false, Option, Some, None, refl, sym, ap, ◌∙◌, bytes_eq, if◌then◌else◌}
-use Rattle.std.specs.Prelude.{◌&&◌, not, All}
+use Rattle.std.specs.Prelude.{All}
 use Rattle.std.proofs.lemmas.List.Elements.{All-append, All-cons, All-head, All-nil}
 use Rattle.rdma_types.specs.declared.answers.NotWhy.{NotWhy}
 use Rattle.rdma_types.specs.declared.answers.Refusal.{Refusal}
-use Rattle.rdma_types.specs.declared.answers.Refusal.TheVariants as refusal
 use Rattle.rdma_types.specs.declared.names.Name.{Name}
 use Rattle.rdma_types.specs.declared.requests.Address.{Address}
 use Rattle.rdma_types.specs.declared.requests.Receive.{Receive}
 use Rattle.rdma_types.specs.declared.requests.Request.{Request}
-use Rattle.rdma_types.specs.Causes.{Cause, cause, first_cause}
+use Rattle.rdma_types.specs.Causes.{Cause, first_cause}
 use Rattle.rdma_types.specs.Lists.{has_name, without}
 use Rattle.rdma_types.proofs.Tables.{has_name-store, name_is, same_name}
 use Rattle.law_simulation.proofs.relation.Refusing.{context_is_there, name_at}
@@ -21,9 +20,9 @@ use Rattle.protocol.specs.DeviceStep.{Found, device_step, ends_with, found_in, f
 use Rattle.protocol.specs.EndWords.{is_in_error, with_end, with_queue}
 use Rattle.protocol.specs.Images.{context_of, moved}
 use Rattle.protocol.specs.Memory.{with_region}
-use Rattle.protocol.specs.Refusals.{causes_of, has_context, has_husk, refusal_of, within}
+use Rattle.protocol.specs.Refusals.{causes_of, has_context, refusal_of, within}
 use Rattle.protocol.specs.Requester.{Transmission, SendsResume, Waits, IsIdle, WindowIsFull, ReadsAreFull, IsFenced, Sends, not_counted, transmission}
-use Rattle.protocol.specs.State.{Context, Device, End, HuskEntry, Link, context_at, no_context}
+use Rattle.protocol.specs.State.{Context, Device, End, HuskEntry, Link, context_at}
 use Rattle.protocol.specs.Wire.{Packet, is_control, packet_of}
 use Rattle.world_core.specs.Homes.{mover}
 use Rattle.world_core.proofs.Taking.{completing-named, either_one, ended-named, linked-named, takes-named}
