@@ -98,6 +98,7 @@ impl Node {
         ensures { Does (rules.stepped self.old event.now) (λ done. self.new) (P.contents ports.old) result (P.contents ports.new) }
     {
         let outcome = self.step(alloc, ports, event)?;
+        self.give_back(outcome.sent);
         self.answer(alloc, ports, outcome.answer)
     }
     /// Puts the dump of an image in the depot, and then writes the answer.

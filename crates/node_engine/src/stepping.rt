@@ -11,7 +11,7 @@ use crate::NodeFault;
 use crate::ports::Ports;
 use crate::state::Node;
 use device_core::{ContextImage, Event, Outcome, Sent};
-use rdma_types::Address;
+use rdma_types::{Address, Items};
 use std::alloc::{AllocError, Global};
 
 /// Sends datagrams, one after the other.
@@ -114,5 +114,14 @@ impl Node {
         let outcome = self.advance_restore(alloc, image)?;
         send_all(ports, outcome.sent.as_slice())?;
         Ok(outcome)
+    }
+
+    /// Hands the memory of datagrams that were sent back to the device, to be filled again.
+    pub(crate) fn give_back(&mut self, sent: Items<Sent>)
+        ensures { self.new ≡ self.old }
+    {
+        for datagram in sent.into_vec() {
+            self.device.give_back(datagram.bytes);
+        }
     }
 }

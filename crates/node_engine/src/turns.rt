@@ -41,6 +41,7 @@ impl Node {
         let outcome = self.step_arrival(alloc, ports, from, bytes)?;
         self.count_taken();
         self.mark(number, &outcome)?;
+        self.give_back(outcome.sent);
         Ok(())
     }
 
@@ -77,6 +78,7 @@ impl Node {
         let number = self.number_of(end);
         let outcome = self.step(alloc, ports, &Event::Transmit { end: *end })?;
         self.mark(Some(number), &outcome)?;
+        self.give_back(outcome.sent);
         Ok(())
     }
 
@@ -217,7 +219,7 @@ impl Node {
     }
 
     /// One turn. `buffer` has room for the longest datagram, and `live` is room for the list of ends: once that is long enough,
-    /// a turn takes memory only for datagrams that are sent and for what the device's step takes.
+    /// a turn takes memory only for what the device's step takes. The memory of datagrams that it sent goes back to the device.
     fn turn<P: Ports>(
         &mut self,
         alloc: Global,

@@ -1,4 +1,4 @@
-use Rattle.std.proofs.Common.{Some}
+use Rattle.std.proofs.Common.{◌∙◌, Some}
 use Rattle.law_node.proofs.Joining.{comes_on}
 use Rattle.protocol.specs.declared.events.Event.TheVariants as event
 use Rattle.node_engine.specs.declared.faults.NodeFault.TheVariants as fault
@@ -24,6 +24,6 @@ returns-in_err-mark g c =
 pub returns : goal.returns
 returns g c =
     let d : Addressed = (c.args.from, c.args.bytes.now) in
-    comes_on (arriving c.args.self.now (Some d)) (after_arrival c.args.self.now d c.step_arrival.new.self c.in_ok-outcome.outcome) (λ more. more c.mark.new.self) _ _ _
+    comes_on (arriving c.args.self.now (Some d)) (after_arrival c.args.self.now d c.step_arrival.new.self c.in_ok-outcome.outcome) (λ more. more c.give_back.new.self) _ _ _
     (step_comes c.args.self.now (event.Arrive c.args.from c.args.bytes.now) (after_arrival c.args.self.now d) c.step_arrival.new.self c.in_ok-outcome.outcome _ _ c.in_ok-outcome.ensures)
-    (gives (arrived c.args.self.now d c.step_arrival.new.self c.in_ok-outcome.outcome) c.mark.new.self _ (arrival_marked c.args.self.now c.step_arrival.new.self c.count_taken.new.self c.mark.new.self d c.in_ok-outcome.outcome _ c.receiver-number.ensures c.count_taken.ensures c.in_ok-mark.ensures))
+    (gives (arrived c.args.self.now d c.step_arrival.new.self c.in_ok-outcome.outcome) c.give_back.new.self _ (c.give_back.ensures ∙ arrival_marked c.args.self.now c.step_arrival.new.self c.count_taken.new.self c.mark.new.self d c.in_ok-outcome.outcome _ c.receiver-number.ensures c.count_taken.ensures c.in_ok-mark.ensures))

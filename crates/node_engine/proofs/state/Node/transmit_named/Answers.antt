@@ -21,6 +21,6 @@ returns-in_err-mark g c =
 
 pub returns : goal.returns
 returns g c =
-    comes_on (transmitting_one c.args.end.now c.args.self.now) (after_sending c.args.self.now c.args.end.now c.step.new.self c.in_ok-outcome.outcome) (λ more. more c.mark.new.self) _ _ _
+    comes_on (transmitting_one c.args.end.now c.args.self.now) (after_sending c.args.self.now c.args.end.now c.step.new.self c.in_ok-outcome.outcome) (λ more. more c.give_back.new.self) _ _ _
     (step_comes c.args.self.now (event.Transmit c.args.end.now) (after_sending c.args.self.now c.args.end.now) c.step.new.self c.in_ok-outcome.outcome _ _ c.in_ok-outcome.ensures.stepped)
-    (gives (marking (is_active c.in_ok-outcome.outcome) (number_at c.args.self.now.device c.args.end.now ∷ []) c.step.new.self) c.mark.new.self _ (c.in_ok-mark.ensures ∙ ap (λ n. marking (is_active c.in_ok-outcome.outcome) (n ∷ []) c.step.new.self) c.number_of-number.ensures))
+    (gives (marking (is_active c.in_ok-outcome.outcome) (number_at c.args.self.now.device c.args.end.now ∷ []) c.step.new.self) c.give_back.new.self _ (c.give_back.ensures ∙ c.in_ok-mark.ensures ∙ ap (λ n. marking (is_active c.in_ok-outcome.outcome) (n ∷ []) c.step.new.self) c.number_of-number.ensures))
