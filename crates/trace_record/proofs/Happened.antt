@@ -1,6 +1,7 @@
 -- What is recorded of an event is what the law names.
 use Rattle.std.proofs.Common.{◌≡◌, ◌<◌, ◌+◌, ◌-◌, ◌++◌, ℕ, List, [], ◌∷◌, length, take, get_or, true, false, Bool, refl, sym, ap, ◌∙◌, subst, append_assoc, append-nil}
 use Rattle.std.proofs.lemmas.List.{take_more}
+use Rattle.std.specs.List.{All}
 use Rattle.std.specs.Prelude.{Some, None, if◌then◌else◌, slice_get}
 use Rattle.rdma_types.specs.declared.answers.Answer.{Answer}
 use Rattle.rdma_types.specs.declared.answers.Answer.TheVariants as answers
@@ -19,6 +20,7 @@ use Rattle.ideal_model.specs.declared.steps.IdealStep.TheVariants as steps
 use Rattle.ideal_model.specs.Legal.{IsRun, after, effect}
 use Rattle.ideal_model.specs.Machine.{Machine}
 use Rattle.law_kept_datagrams.specs.Alike.{AreAlike, StepAlike, with_kept_datagrams}
+use Rattle.law_records.specs.Said.{IsShort}
 use Rattle.law_simulation.specs.Kept as kept
 use Rattle.law_simulation.specs.Kept.{is_unmade, kept_of, kept_verb}
 use Rattle.law_simulation.specs.Named.{delivery_steps, flight_steps, given_in, inner_by, spoken_steps, steps_by}
@@ -75,8 +77,8 @@ answered_whole kept w e x forgets law left is = is ∙ (law kept w e (subst (λ 
 -- ---- the whole event
 
 pub recorded : (w : World) (m m1 m2 : Machine) (line : List ℕ) (e : WorldEvent) (a : Arrival) (x : Answer) (new : World) (ss : List IdealStep) (old t1 t2 : List ℕ) → x ≡ (world_step w e).answer → Follows w m e x new → inner_by w m e (world_step w e).answer ≡ foreseen_steps m e a (world_step w e).answer →
-    ss ≡ foreseen_steps m e a x → m1 ≡ after m (spoken_steps (kept_of w e x)) → t1 ≡ old ++ spoken_text line (kept_of w e x) → m2 ≡ after m1 ss → t2 ≡ t1 ++ steps_text ss → IsEventRecorded w m line e new m2 old t2
-recorded w m m1 m2 line e a x new ss old t1 t2 is follows named added spoken said made text =
+    ss ≡ foreseen_steps m e a x → m1 ≡ after m (spoken_steps (kept_of w e x)) → t1 ≡ old ++ spoken_text line (kept_of w e x) → m2 ≡ after m1 ss → t2 ≡ t1 ++ steps_text ss → All IsShort ss → IsEventRecorded w m line e new m2 old t2
+recorded w m m1 m2 line e a x new ss old t1 t2 is follows named added spoken said made text short =
     let y : Answer = (world_step w e).answer in
     let inner : ss ≡ inner_by w m e y = added ∙ (ap (foreseen_steps m e a) is ∙ sym named) in
     record {
@@ -90,6 +92,7 @@ recorded w m m1 m2 line e a x new ss old t1 t2 is follows named added spoken sai
           text ∙ (ap (λ z. z ++ steps_text ss) (said ∙ ap (λ z. old ++ spoken_text line (kept_of w e z)) is)
           ∙ (append_assoc old (spoken_text line (kept_of w e y)) (steps_text ss)
           ∙ ap (λ z. old ++ (spoken_text line (kept_of w e y) ++ steps_text z)) inner));
+      short = subst (All IsShort) inner short;
     }
 
 -- ---- steps, one after another

@@ -5,34 +5,48 @@ use Rattle.fabric.proofs.Histories.{forgetting-nil}
 use Rattle.protocol.specs.Script.{Dump, Event, Happening, dumps, happens}
 use Rattle.protocol.specs.declared.events.WorldEvent.{WorldEvent}
 use Rattle.protocol.specs.State.{World, empty_world}
+use Rattle.protocol.specs.WorldStep.{world_step}
 use Rattle.ideal_model.specs.Machine.{Machine, empty}
 use Rattle.law_kept_datagrams.specs.Alike.{with_kept_datagrams}
+use Rattle.law_records.specs.Said.{RecordsAreSaid}
+use Rattle.law_records.specs.Records.{RecordsAreLegal}
+use Rattle.law_simulation.specs.Kept.{kept_of}
+use Rattle.law_simulation.specs.Named.{inner_steps}
 use Rattle.law_simulation.specs.Stands.{Stands}
 use Rattle.law_headline.specs.Does.{happening_of}
 use Rattle.law_traces.specs.Playing.{IsRecorded, RecordingBegins, RecordingEnds, RecordingGoesOn, RecordingStops}
-use Rattle.law_traces.specs.Recording.{IsTraceOf, last_line, machine_past, recorded_of, recorded_reading, world_past}
+use Rattle.law_traces.specs.Recording.{IsTraceOf, last_line, machine_past, recorded_of, recorded_reading, traced_of, world_past}
 use Rattle.script_lang.specs.declared.lines.Line.{Line}
 use Rattle.script_lang.specs.declared.lines.Offence.{Offence}
 use Rattle.script_lang.specs.Scripts.{lines_of}
 use Rattle.script_runner.proofs.Played.{length-lines_of}
+use Rattle.trace_audit.specs.Traces.{trace_of}
+use Rattle.trace_audit.specs.Verdicts.{inner_in, verbs_in}
 use Rattle.trace_writer.specs.Written.{steps_text}
 use Rattle.trace_record.specs.Arrivals.{IsBeside}
 use Rattle.trace_record.specs.Events.{IsEventRecorded}
-use Rattle.trace_record.specs.Recorded.{IsLineRecorded, IsRecordedTo}
+use Rattle.trace_record.specs.Recorded.{AreShortBefore, IsLegalText, IsLineRecorded, IsRecordedTo}
+use Rattle.trace_record.proofs.Short.{all_before, inner_short, none_before, one_before}
 
 -- ---- one line
 
 -- a line that does nothing
 pub blank_recorded : (w left : World) (m : Machine) (bs old : List ℕ) → left ≡ with_kept_datagrams w → Stands w m → IsLineRecorded w m bs None left m old old
-blank_recorded w left m bs old e s = record { left = e; machine = refl; stands = s; text = sym (append-nil old) }
+blank_recorded w left m bs old e s = record { left = e; machine = refl; stands = s; text = sym (append-nil old); short = tt }
 
 pub dump_recorded : (w left : World) (m : Machine) (bs old : List ℕ) (name : _) → left ≡ with_kept_datagrams w → Stands w m → IsLineRecorded w m bs (Some (Dump name)) left m old old
 unfolding happens dumps steps_text
-dump_recorded w left m bs old name e s = record { left = e; machine = refl; stands = s; text = sym (append-nil old) }
+dump_recorded w left m bs old name e s = record { left = e; machine = refl; stands = s; text = sym (append-nil old); short = tt }
 
 pub event_recorded : (w left : World) (m m' : Machine) (bs old new : List ℕ) (e : WorldEvent) → IsEventRecorded w m bs e left m' old new → IsLineRecorded w m bs (Some (Event e)) left m' old new
 unfolding happens
-event_recorded w left m m' bs old new e r = record { left = r.left; machine = r.machine; stands = r.stands; text = r.text }
+event_recorded w left m m' bs old new e r = record {
+  left = r.left;
+  machine = r.machine;
+  stands = r.stands;
+  text = r.text;
+  short = inner_short (kept_of w e (world_step w e).answer) (inner_steps w m e) r.short;
+}
 
 pub as_line : {T E : Type 0} (r : Result T E) (w left : World) (m m' : Machine) (bs old new : List ℕ) (o : Option Happening) (p : Option Happening) → p ≡ o → OnOk r (IsLineRecorded w m bs p left m' old new) → OnOk r (IsLineRecorded w m bs o left m' old new)
 as_line r w left m m' bs old new o p same h = subst (λ z. OnOk r (IsLineRecorded w m bs z left m' old new)) same h
@@ -51,6 +65,10 @@ module _ (script done new : List ℕ) (w w' : World) (m m' : Machine) (n number 
         (subst (λ x. IsRecorded script new (world_past p.whole (happening_of l)) x (n + 1) rest) (sym r.machine)
         (subst (λ t. IsRecorded script t (world_past p.whole (happening_of l)) (machine_past p.whole m (happening_of l)) (n + 1) rest) (sym r.text)
         (goes_on script done p.whole m n bs rest l p.recorded read)));
+    short =
+        subst (λ k. AreShortBefore script (world_past p.whole (happening_of l)) m' k rest) e
+        (subst (λ x. AreShortBefore script (world_past p.whole (happening_of l)) x (n + 1) rest) (sym r.machine)
+        (one_before script p.whole m n bs rest l p.short read r.short));
   }
 
   -- a bad line is the first one
@@ -67,11 +85,25 @@ start begins s script = record {
   left = ap (λ fs. record empty_world { sent = fs }) (sym forgetting-nil);
   stands = s;
   recorded = begins script;
+  short = none_before script;
 }
 
 -- no line is to come
 pub whole : RecordingEnds → (script done : List ℕ) (w : World) (m : Machine) (n : ℕ) (rest : List (List ℕ)) → rest ≡ [] → IsRecordedTo script done w m n rest → IsTraceOf script (done ++ last_line)
 whole ends script done w m n rest none p = ends script done p.whole m n (subst (λ ls. IsRecorded script done p.whole m n ls) none p.recorded)
+
+-- .. and what was written is legal
+pub legal : RecordingEnds → RecordsAreSaid → RecordsAreLegal → (script done : List ℕ) (w : World) (m : Machine) (n : ℕ) (rest : List (List ℕ)) → rest ≡ [] → IsRecordedTo script done w m n rest → IsLegalText (done ++ last_line)
+legal ends said found script done w m n rest none p =
+    let trace : IsTraceOf script (done ++ last_line) = whole ends script done w m n rest none p in
+    let short = all_before script p.whole m n trace.lines (subst (λ ls. AreShortBefore script p.whole m n ls) none p.short) trace.read in
+    record {
+      steps = traced_of trace.lines;
+      says = ap trace_of trace.is ∙ said script trace.lines trace.read short;
+      verbs = verbs_in (traced_of trace.lines);
+      inner = inner_in (traced_of trace.lines);
+      finds = found script trace.lines trace.read;
+    }
 
 -- the number of the next line is small
 pub next_number : (script done : List ℕ) (w : World) (m : Machine) (n : ℕ) (rest more : List (List ℕ)) (bs : List ℕ) → rest ≡ bs ∷ more → IsRecordedTo script done w m n rest → n + 1 ≤ length script + 1

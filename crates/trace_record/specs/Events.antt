@@ -1,5 +1,6 @@
 -- What an event of a world does to a world, to the machine beside it, and to the trace.
 use Rattle.std.specs.Prelude.{ℕ, ◌≡◌, ◌++◌, Bool, false, List, []}
+use Rattle.std.specs.List.{All}
 use Rattle.rdma_types.specs.declared.answers.Answer.{Answer}
 use Rattle.rdma_types.specs.declared.answers.Answer.TheVariants as answers
 use Rattle.rdma_types.specs.Lists.{has}
@@ -11,6 +12,7 @@ use Rattle.ideal_model.specs.declared.steps.IdealStep.{IdealStep}
 use Rattle.ideal_model.specs.Legal.{after}
 use Rattle.ideal_model.specs.Machine.{Machine}
 use Rattle.law_kept_datagrams.specs.Alike.{with_kept_datagrams}
+use Rattle.law_records.specs.Said.{IsShort}
 use Rattle.law_simulation.specs.Kept.{kept_of}
 use Rattle.law_simulation.specs.Named.{event_steps, inner_steps, turn_steps}
 use Rattle.law_simulation.specs.Stands.{Stands}
@@ -40,9 +42,10 @@ foreseen_steps m (world_event.At event) a answer = turn_steps event answer
 foreseen_steps m other a answer = []
 
 -- the whole world and the machine come to where the event leads, what is kept of that world is left, and what is recorded of
--- the event stands behind what was written
+-- the event stands behind what was written; the numbers of its inner steps have 32 bits
 pub record IsEventRecorded (w : World) (m : Machine) (line : List ℕ) (e : WorldEvent) (next : World) (m' : Machine) (old new : List ℕ) : Type 0 where
   pub left : next ≡ with_kept_datagrams (world_step w e).world
   pub machine : m' ≡ after m (event_steps w m e)
   pub stands : Stands (world_step w e).world (after m (event_steps w m e))
   pub text : new ≡ old ++ (spoken_text line (kept_of w e (world_step w e).answer) ++ steps_text (inner_steps w m e))
+  pub short : All IsShort (inner_steps w m e)

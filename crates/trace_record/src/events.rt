@@ -2,8 +2,10 @@
 #![tactic(auto, using(std::proofs::lemmas::List::append_assoc))]
 
 ghost use Rattle.std.specs.Prelude.{◌≡◌, ◌++◌, OnOk, IfOk};
+ghost use Rattle.std.specs.List.{All};
 ghost use Rattle.ideal_model.specs.Legal.{IsRun, after, effect};
 ghost use Rattle.law_kept_datagrams.specs.Alike.{with_kept_datagrams};
+ghost use Rattle.law_records.specs.Said.{IsShort};
 ghost use Rattle.law_simulation.specs.Carries as carries;
 ghost use Rattle.law_simulation.specs.Kept.{kept_of, kept_verb};
 ghost use Rattle.law_simulation.specs.Law.{IsInRange};
@@ -159,6 +161,29 @@ fn speak_kept(
     speak(alloc, machine, line, verb, answer, out)
 }
 
+/// The numbers of a step have 32 bits, as its fields have.
+fn numbers_are_short(step: &IdealStep)
+    ensures { IsShort step.now }
+{
+    match step {
+        IdealStep::Run { n, .. } => {
+            let _n = *n;
+        }
+        IdealStep::Offer { i, off, n, .. } => {
+            let _i = *i;
+            let _off = *off;
+            let _n = *n;
+        }
+        IdealStep::Land { o, .. } => {
+            let _o = *o;
+        }
+        IdealStep::Known { m, .. } => {
+            let _m = *m;
+        }
+        _ => {}
+    }
+}
+
 /// Records inner steps. Errors: `AllocError` when out of memory.
 fn make_all(
     alloc: Global,
@@ -168,8 +193,10 @@ fn make_all(
 ) -> Result<(), AllocError>
     ensures made { OnOk result (machine.new ≡ after machine.old steps.now) }
     ensures text { OnOk result (out.new.items ≡ out.old.items ++ steps_text steps.now) }
+    ensures short { OnOk result (All IsShort steps.now) }
 {
     for step in steps {
+        numbers_are_short(step);
         put_step(out, step)?;
         make(alloc, machine, step)?;
     }

@@ -15,12 +15,13 @@ use crate::events::happen;
 use crate::lines::read_line;
 use ideal_model::Ideal;
 use law_headline::lines_are_in_range;
+use law_records::{records_are_legal, records_are_said};
 use law_simulation::runs::law_holds;
 use law_traces::scripts_are_recorded_line_by_line;
 use script_lang::{Line, LineFault, Lines};
 use script_runner::{Action, action_of};
 use std::alloc::{AllocError, Global};
-use trace_audit::{AuditFault, Verdict, audit};
+use trace_audit::AuditFault;
 use world_core::World;
 
 /// Does what a line says, and records it. Errors: `AllocError` when out of memory.
@@ -79,14 +80,22 @@ fn record_line(
     }
 }
 
-/// Plays a script without lines that settle in an empty world, and writes its trace: its verbs that count as made with
-/// their answers, the inner steps of the packetless machine where they happen, and `end`.
-fn play_trace(alloc: Global, script: &[u8]) -> Result<Vec<u8>, AuditFault>
-    ensures ok { IfOk result (λ trace. IsTraceOf script.now trace.items) }
+/// Records a script without lines that settle, in an empty world: its verbs that count as made with their answers, the inner
+/// steps of the packetless machine where they happen, and `end`. An audit finds each trace legal that is returned.
+///
+/// # Errors
+///
+/// `BadLine` with the first bad line, where a line that settles is one; or `OutOfMemory`, also where the number of an
+/// offer passes 32 bits, which takes over a million repeats of a Read.
+pub fn record_trace(alloc: Global, script: &[u8]) -> Result<Vec<u8>, AuditFault>
+    ensures trace { IfOk result (λ trace. IsTraceOf script.now trace.items) }
+    ensures legal { IfOk result (λ trace. IsLegalText trace.items) }
     ensures bad { IfErr result (IsFaultOf script.now) }
 {
     law_holds();
     scripts_are_recorded_line_by_line();
+    records_are_said();
+    records_are_legal();
     let mut world = World::make(alloc)?;
     let mut machine = Ideal::make(alloc);
     let mut trace = Vec::new(alloc);
@@ -97,36 +106,5 @@ fn play_trace(alloc: Global, script: &[u8]) -> Result<Vec<u8>, AuditFault>
         record_line(alloc, &mut world, &mut machine, number, line, &mut trace)?;
     }
     trace.extend_from_slice(b"end\n")?;
-    Ok(trace)
-}
-
-/// Whether an audit finds a trace legal. An audit that is out of memory finds none.
-fn is_legal(alloc: Global, trace: &[u8]) -> bool
-    ensures { result ≡ true → IsLegalText trace.now }
-{
-    match audit(alloc, trace) {
-        Ok(Verdict::Legal { .. }) => true,
-        _ => false,
-    }
-}
-
-/// Records a script without lines that settle, in an empty world: its verbs that count as made with their answers, the inner
-/// steps of the packetless machine where they happen, and `end`. An audit finds the trace legal.
-///
-/// # Errors
-///
-/// `BadLine` with the first bad line, where a line that settles is one; or `OutOfMemory`, also where the number of an
-/// offer passes 32 bits, which takes over a million repeats of a Read, and where the audit of the trace finds it illegal,
-/// which no run has shown.
-pub fn record_trace(alloc: Global, script: &[u8]) -> Result<Vec<u8>, AuditFault>
-    ensures trace { IfOk result (λ trace. IsTraceOf script.now trace.items) }
-    ensures legal { IfOk result (λ trace. IsLegalText trace.items) }
-    ensures bad { IfErr result (IsFaultOf script.now) }
-{
-    let trace = play_trace(alloc, script)?;
-    let legal = is_legal(alloc, trace.as_slice());
-    if !legal {
-        return Err(AuditFault::OutOfMemory);
-    }
     Ok(trace)
 }

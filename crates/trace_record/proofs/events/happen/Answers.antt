@@ -23,6 +23,8 @@ returns c w left stands range =
     let verb : c.verb_of-verb.result ≡ verb_of w e = c.verb_of-verb.ensures w (c.is_made-made.ensures ∙ ap (λ v. made_by v e) left) in
     let spoken : c.speak_kept.new.machine ≡ after m (spoken_steps (kept_verb (verb_of w e) x)) = c.in_ok-speak_kept.ensures.made ∙ ap (λ v. after m (spoken_steps (kept_verb v x))) verb in
     let said : c.speak_kept.new.out.items ≡ c.args.out.now.items ++ spoken_text c.args.line.now (kept_verb (verb_of w e) x) = c.in_ok-speak_kept.ensures.text ∙ ap (λ v. c.args.out.now.items ++ spoken_text c.args.line.now (kept_verb v x)) verb in
-    on_ok_with c.make_all.result
+    on_ok_with c.make_all.result (λ short_then short. short_then short)
+    (on_ok_with c.make_all.result
     (recorded w m c.speak_kept.new.machine c.make_all.new.machine c.args.line.now e a x c.step.new.self c.as_slice.result.now c.args.out.now.items c.speak_kept.new.out.items c.make_all.new.out.items is follows named added spoken said)
-    c.make_all.ensures.made c.make_all.ensures.text
+    c.make_all.ensures.made c.make_all.ensures.text)
+    c.make_all.ensures.short

@@ -1,17 +1,21 @@
-use Rattle.std.proofs.Common.{arith, ◌≤◌, ◌++◌, ◌∙◌, ap, length, refl}
+use Rattle.std.proofs.Common.{arith, ◌≤◌, ◌++◌, ◌∙◌, ap, length, refl, subst}
 use Rattle.std.proofs.lemmas.List.{take_all}
+use Rattle.std.proofs.lemmas.List.Elements.{All-more, All-nil}
+use Rattle.std.specs.List.{All}
 use Rattle.ideal_model.specs.Legal.{after}
+use Rattle.law_records.specs.Said.{IsShort}
 use Rattle.trace_writer.specs.Written.{steps_text}
 use Rattle.trace_record.proofs.Happened.{made_more, text_more, text_none}
 use Rattle.trace_record.proofs.events.make_all.Goals as goal
 
 pub loop-step-init : goal.loop-step-init
-loop-step-init c = record { made = refl; text = text_none c.args.out.now.items c.args.steps.now }
+loop-step-init c = record { made = refl; text = text_none c.args.out.now.items c.args.steps.now; short = All-nil IsShort }
 
 pub loop-step-preserved : goal.loop-step-preserved
 loop-step-preserved c = record {
   made = made_more c.args.machine.now c.loop-step.machine c.make.new.machine c.args.steps.now c.loop-step.step-index c.step-item.result c.loop-step-test.true c.step-item.is c.loop-step.invariant.made c.in_ok-make.ensures;
   text = text_more c.args.out.now.items c.loop-step.out.items c.put_step.new.out.items c.args.steps.now c.loop-step.step-index c.step-item.result c.loop-step-test.true c.step-item.is c.loop-step.invariant.text c.in_ok-put_step.ensures;
+  short = All-more IsShort c.args.steps.now c.loop-step.step-index c.step-item.result c.loop-step-test.true c.loop-step.invariant.short (subst IsShort c.step-item.is c.numbers_are_short.ensures);
 }
 
 pub returns-clause-made : goal.returns-clause-made
@@ -23,3 +27,8 @@ pub returns-clause-text : goal.returns-clause-text
 returns-clause-text c =
     let all : length c.args.steps.now ≤ c.loop-step.step-index = omega (arith, c.loop-step-test.false) in
     c.loop-step.invariant.text ∙ ap (λ ss. c.args.out.now.items ++ steps_text ss) (take_all c.loop-step.step-index c.args.steps.now all)
+
+pub returns-clause-short : goal.returns-clause-short
+returns-clause-short c =
+    let all : length c.args.steps.now ≤ c.loop-step.step-index = omega (arith, c.loop-step-test.false) in
+    subst (All IsShort) (take_all c.loop-step.step-index c.args.steps.now all) c.loop-step.invariant.short

@@ -5,9 +5,9 @@ use Rattle.law_traces.specs.Recording.{IsFaultOf, IsTraceOf}
 use Rattle.script_lang.specs.Scripts.{lines_of}
 use Rattle.script_runner.proofs.Prefixes.{if_err_is}
 use Rattle.trace_audit.specs.declared.verdicts.AuditFault.TheVariants as fault
-use Rattle.trace_record.specs.Recorded.{IsRecordedTo}
-use Rattle.trace_record.proofs.Played.{beside, next_number, start, whole}
-use Rattle.trace_record.proofs.recording.play_trace.Goals as goal
+use Rattle.trace_record.specs.Recorded.{IsLegalText, IsRecordedTo}
+use Rattle.trace_record.proofs.Played.{beside, legal, next_number, start, whole}
+use Rattle.trace_record.proofs.recording.record_trace.Goals as goal
 
 pub overflow_add-number : goal.overflow_add-number
 overflow_add-number c = omega (arith, next_number c.args.script.now c.loop-line.trace.items c.loop-line.world c.loop-line.machine c.loop-line.number c.loop-line.lines c.next_line.new.self c.in-Some.line.now c.in-Some.ensures.line c.loop-line.invariant)
@@ -36,7 +36,12 @@ returns-in_err-record_line-clause-bad c =
 pub returns-in_err-extend_from_slice-clause-bad : goal.returns-in_err-extend_from_slice-clause-bad
 returns-in_err-extend_from_slice-clause-bad c = if_err_is c.from_residual-in_err-extend_from_slice.result (IsFaultOf c.args.script.now) fault.OutOfMemory c.from_residual-in_err-extend_from_slice.ensures.1 tt
 
-pub returns-clause-ok : goal.returns-clause-ok
-returns-clause-ok c =
+pub returns-clause-trace : goal.returns-clause-trace
+returns-clause-trace c =
     subst (IsTraceOf c.args.script.now) (sym c.in_ok-extend_from_slice.ensures.items)
     (whole c.scripts_are_recorded_line_by_line.ensures.ends c.args.script.now c.loop-line.trace.items c.loop-line.world c.loop-line.machine c.loop-line.number c.loop-line.lines c.in_default.ensures.end c.loop-line.invariant)
+
+pub returns-clause-legal : goal.returns-clause-legal
+returns-clause-legal c =
+    subst IsLegalText (sym c.in_ok-extend_from_slice.ensures.items)
+    (legal c.scripts_are_recorded_line_by_line.ensures.ends c.records_are_said.ensures c.records_are_legal.ensures c.args.script.now c.loop-line.trace.items c.loop-line.world c.loop-line.machine c.loop-line.number c.loop-line.lines c.in_default.ensures.end c.loop-line.invariant)
