@@ -1,12 +1,12 @@
 -- What a datagram may be answered with, as it is taken before.
-use Rattle.std.specs.Prelude.{ℕ, ◌≡◌, ◌+◌, ◌==◌, ◌||◌, Bool, List, Option, Some, None, IsSome, IsSomeAnd, ⊤, if◌then◌else◌}
+use Rattle.std.specs.Prelude.{ℕ, ◌≡◌, ◌+◌, ◌==◌, ◌||◌, Bool, List, Option, Some, None, IsSome, ⊤, if◌then◌else◌}
 use Rattle.std.specs.Bool.{OnTrue}
 use Rattle.rdma_types.specs.declared.answers.Sent.{Sent}
 use Rattle.protocol.specs.declared.wire.Aeth.{Aeth}
 use Rattle.protocol.specs.declared.wire.Syndrome.TheVariants.{Ack}
 use Rattle.protocol.specs.Wire.{is_request}
-use Rattle.context_core.specs.declared.datagrams.DatagramBuffer.{DatagramBuffer}
-use Rattle.context_core.specs.Sending.{IsDatagramBuffer}
+use Rattle.context_core.specs.declared.datagrams.KeptMemory.{KeptMemory}
+use Rattle.context_core.specs.Sending.{IsPrepared}
 use Rattle.endpoint_core.specs.declared.answers.EndReply.{EndReply}
 use Rattle.endpoint_core.specs.declared.answers.EndReply.TheVariants.{Nothing, Acknowledge, ReadBytes, Old, ResumeAck}
 
@@ -47,13 +47,13 @@ abbrev pub may_answer : ℕ → Bool
 may_answer opcode = is_request opcode || opcode == 0x1E
 
 -- memory for a reply to a packet of this opcode is there, where it may be answered
-abbrev pub IsRoomFor : ℕ → Option DatagramBuffer → Type 0
-IsRoomFor opcode room = OnTrue (may_answer opcode) (IsSomeAnd room (λ r. IsDatagramBuffer r 92))
+abbrev pub IsRoomFor : ℕ → KeptMemory → Type 0
+IsRoomFor opcode kept = OnTrue (may_answer opcode) (IsPrepared kept)
 
 -- memory for a reply without bytes is there
-abbrev pub HasRoom : EndReply → Option DatagramBuffer → Type 0
-HasRoom (ReadBytes spot first count) room = ⊤
-HasRoom Nothing room = ⊤
-HasRoom (Acknowledge number syndrome) room = IsSomeAnd room (λ r. IsDatagramBuffer r 92)
-HasRoom (Old number value) room = IsSomeAnd room (λ r. IsDatagramBuffer r 92)
-HasRoom (ResumeAck count address) room = IsSomeAnd room (λ r. IsDatagramBuffer r 92)
+abbrev pub HasRoom : EndReply → KeptMemory → Type 0
+HasRoom (ReadBytes spot first count) kept = ⊤
+HasRoom Nothing kept = ⊤
+HasRoom (Acknowledge number syndrome) kept = IsPrepared kept
+HasRoom (Old number value) kept = IsPrepared kept
+HasRoom (ResumeAck count address) kept = IsPrepared kept

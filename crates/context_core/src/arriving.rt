@@ -1,6 +1,6 @@
 //! Datagrams taken.
 
-ghost use Rattle.std.specs.Prelude.{ℕ, ◌≡◌, ◌+◌, ◌*◌, ◌<◌, ◌≤◌, ◌^◌, List, [], length, None, Some, IfNone, IfOk, IfSome, IsOk, OnErr, false, is_none, map, slice_get, vec_capacity};
+ghost use Rattle.std.specs.Prelude.{ℕ, ◌≡◌, ◌+◌, ◌*◌, ◌<◌, ◌≤◌, ◌^◌, List, [], length, None, Some, IfNone, IfOk, IfSome, IsOk, OnErr, OnOk, false, is_none, map, slice_get, vec_capacity};
 ghost use Rattle.std.specs.Option.{option_map_or};
 ghost use Rattle.rdma_types.specs.Limits.{AreTerms};
 ghost use Rattle.rdma_types.specs.Lists.{at};
@@ -25,7 +25,7 @@ ghost use Rattle.context_core.specs.Context.{IsContext, Moves, context_in};
 ghost use Rattle.context_core.specs.Heads.{link_at};
 ghost use Rattle.context_core.specs.Sending.{addressed};
 
-use crate::datagrams::{DatagramBuffer, answer, memory_for, moving, written};
+use crate::datagrams::{KeptMemory, answer, memory_for, moving, written};
 use crate::sending::MOST_HEADERS;
 use crate::{Buffers, ContextState};
 use endpoint_core::{DueRead, EndLink, EndMemory, EndReply, Endpoint};
@@ -48,11 +48,9 @@ pub struct ArrivalOutcome {
     pub sent: Items<Sent>,
 }
 
-/// What a datagram may be answered with: memory for one datagram, which a response has none of, and the READ responses
-/// that are due.
+/// What a datagram may be answered with: the READ responses that are due.
 #[derive(Drop)]
 struct Replies {
-    room: Option<DatagramBuffer>,
     read: Option<Items<Sent>>,
 }
 
@@ -227,21 +225,45 @@ fn responses(
     Ok(sent)
 }
 
-/// Memory for a reply to a datagram of that opcode, where it may have one.
-fn room_for(alloc: Global, opcode: u8) -> Result<Option<DatagramBuffer>, AllocError>
-    ensures room { IfOk result (IsRoomFor opcode) }
+/// The READ responses that are due for a datagram, if any.
+fn due_responses(
+    alloc: Global,
+    buffers: &mut Buffers,
+    pool: &PagePool,
+    regions: &Regions,
+    domain: Name,
+    link: &EndLink,
+    d: &Datagram<'_>,
+) -> Result<Option<Items<Sent>>, AllocError>
+    requires held { AreHeld pool.now regions.now }
+    requires terms { AreTerms link.now.terms }
+    requires fits { Fits (packet d.now) }
+    ensures unanswered { may_answer d.now.opcode ≡ false → IsOk result }
+    ensures bounded { IfOk result (λ r. IfSome r (λ list. length list ≤ 2 ^ 32)) }
+    ensures read { (due : DueRead) → due_in link.now (regions_of pool.now regions.now) domain (packet d.now) ≡ Some due
+        → IfOk result (λ r. r ≡ Some (responses pool.now (regions_of pool.now regions.now) link.now due (pieces due.spot.length link.now.terms.mtu))) }
+{
+    let Some(due) = link.due(regions, domain, d) else {
+        return Ok(None);
+    };
+    let read = Some(responses(alloc, buffers, pool, regions, link, &due)?);
+    Ok(read)
+}
+
+/// Prepares the memory for a reply to a datagram of that opcode, where it may have one.
+fn prepare_for(alloc: Global, kept: &mut KeptMemory, opcode: u8) -> Result<(), AllocError>
+    ensures room { OnOk result (IsRoomFor opcode kept.new) }
     ensures unanswered { may_answer opcode ≡ false → IsOk result }
 {
     if is_request(opcode) || opcode == RESUME {
-        Ok(Some(DatagramBuffer::make(alloc, MOST_HEADERS)?))
-    } else {
-        Ok(None)
+        kept.prepare(alloc)?;
     }
+    Ok(())
 }
 
 impl Replies {
-    /// Memory for each reply to a datagram, and the READ responses that are due for it. A response has no reply, and
-    /// no memory is taken for it.
+    /// The READ responses that are due for a datagram, and memory for each other reply, which is kept in the buffers. A
+    /// response has no reply, and no memory is taken for it.
     fn make(
         alloc: Global,
         buffers: &mut Buffers,
@@ -254,47 +276,45 @@ impl Replies {
         requires held { AreHeld pool.now regions.now }
         requires terms { AreTerms link.now.terms }
         requires fits { Fits (packet d.now) }
-        ensures room { IfOk result (λ r. IsRoomFor d.now.opcode r.room) }
+        ensures room { OnOk result (IsRoomFor d.now.opcode buffers.new.kept) }
         ensures unanswered { may_answer d.now.opcode ≡ false → IsOk result }
         ensures bounded { IfOk result (λ r. IfSome r.read (λ list. length list ≤ 2 ^ 32)) }
         ensures read { (due : DueRead) → due_in link.now (regions_of pool.now regions.now) domain (packet d.now) ≡ Some due
             → IfOk result (λ r. r.read ≡ Some (responses pool.now (regions_of pool.now regions.now) link.now due (pieces due.spot.length link.now.terms.mtu))) }
     {
-        let room = room_for(alloc, d.opcode)?;
-        let Some(due) = link.due(regions, domain, d) else {
-            return Ok(Replies { room, read: None });
-        };
-        let read = Some(responses(alloc, buffers, pool, regions, link, &due)?);
-        Ok(Replies { room, read })
+        let read = due_responses(alloc, buffers, pool, regions, domain, link, d)?;
+        prepare_for(alloc, &mut buffers.kept, d.opcode)?;
+        Ok(Replies { read })
     }
 
-    /// What is sent for a reply of an end. It takes no memory.
-    fn sent(self, alloc: Global, endpoint: &Endpoint, reply: EndReply) -> Items<Sent>
-        requires room { IfSome endpoint.now.link (λ _. HasRoom reply self.room) }
+    /// What is sent for a reply of an end. It takes no memory, and uses what is kept where a reply without bytes is sent.
+    fn sent(
+        self,
+        alloc: Global,
+        kept: &mut KeptMemory,
+        endpoint: &Endpoint,
+        reply: EndReply,
+    ) -> Items<Sent>
+        requires room { IfSome endpoint.now.link (λ _. HasRoom reply kept.old) }
         requires ready { AreReady reply self.read }
         requires reply { (held : List Held) × IfSome endpoint.now.link (λ l. IsReply held l reply) }
         ensures { (pool : Pool) (regions : List Region)
             → IsSentFor reply self.read (option_map_or (λ l. sent_by regions (link_in pool l) reply) endpoint.now.link []) result }
     {
-        let Replies { room, read } = self;
+        let Replies { read } = self;
         if let EndReply::ReadBytes { .. } = reply {
             return read.unwrap();
         }
         let Some(link) = &endpoint.link else {
             return Items::new(Vec::new(alloc));
         };
-        reply_sent(alloc, room, link, reply)
+        reply_sent(alloc, kept, link, reply)
     }
 }
 
 /// What is sent for a reply without bytes, to the recorded place of the partner.
-fn reply_sent(
-    alloc: Global,
-    room: Option<DatagramBuffer>,
-    link: &EndLink,
-    reply: EndReply,
-) -> Items<Sent>
-    requires room { HasRoom reply room }
+fn reply_sent(alloc: Global, kept: &mut KeptMemory, link: &EndLink, reply: EndReply) -> Items<Sent>
+    requires room { HasRoom reply kept.old }
     requires reply { (held : List Held) × IsReply held link.now reply }
     requires bare { HasNoBytes reply }
     ensures { (pool : Pool) (regions : List Region) → result ≡ sent_by regions (link_in pool link.now) reply }
@@ -306,18 +326,18 @@ fn reply_sent(
         EndReply::Acknowledge { number, syndrome } => {
             let aeth = Some(Aeth { syndrome, msn });
             let d = answer(ACKNOWLEDGE, peer, start, number, aeth, None, &[]);
-            room.unwrap().fill(MOST_HEADERS, to, Some(number), &d)
+            kept.fill(to, Some(number), &d)
         }
         EndReply::Old { number, old } => {
             let syndrome = Syndrome::Ack;
             let aeth = Some(Aeth { syndrome, msn });
             let old = Some(old);
             let d = answer(ATOMIC_ACKNOWLEDGE, peer, start, number, aeth, old, &[]);
-            room.unwrap().fill(MOST_HEADERS, to, Some(number), &d)
+            kept.fill(to, Some(number), &d)
         }
         EndReply::ResumeAck { count, address } => {
             let d = moving(RESUME_ACK, peer, ResumeBody { count, address });
-            room.unwrap().fill(MOST_HEADERS, to, None, &d)
+            kept.fill(to, None, &d)
         }
         EndReply::ReadBytes { .. } => unreachable!(),
     }
@@ -369,7 +389,7 @@ impl ContextState {
             recv: slot.recv,
         };
         let done = slot.endpoint.take(memory, d);
-        let sent = replies.sent(alloc, &slot.endpoint, done.reply);
+        let sent = replies.sent(alloc, &mut buffers.kept, &slot.endpoint, done.reply);
         let took = done.took;
         Ok(Some(ArrivalOutcome { took, sent }))
     }

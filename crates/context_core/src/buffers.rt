@@ -1,32 +1,42 @@
 //! Memory for datagrams that is filled again.
 
-ghost use Rattle.std.specs.Prelude.{◌≡◌, ◌<◌, ◌≤◌, ◌-◌, ◌++◌, ◌∷◌, [], IfOk, IfSome, IsOk, slice_get, vec_capacity, vec_len};
+ghost use Rattle.std.specs.Prelude.{◌≡◌, ◌<◌, ◌≤◌, ◌-◌, ◌++◌, ◌∷◌, [], IfOk, IfSome, IsOk, None, slice_get, vec_capacity, vec_len};
 
+use crate::datagrams::KeptMemory;
 use page_pool::PAGE;
 use std::alloc::{AllocError, Global};
 
 /// How many buffers are kept.
-const MOST_SPARE: usize = 16;
+const MOST_SPARE: usize = 1024;
 
 /// A buffer for fewer bytes than this is not kept.
 const LEAST_KEPT: usize = 512;
 
-/// Memory for datagrams that is filled again: buffers that datagrams were in before, and room for a payload that spans
-/// two pages.
+/// Memory for datagrams that is filled again: buffers that datagrams were in before, memory for one datagram of few bytes,
+/// and room for a payload that spans two pages.
 #[derive(Drop)]
 pub struct Buffers {
     spare: Vec<Vec<u8>>,
+    pub(crate) kept: KeptMemory,
     pub(crate) payload: Box<[u8; PAGE]>,
 }
 
 impl Buffers {
     /// Room for buffers, of which there are none yet, and for a payload. Errors: `AllocError` when out of memory.
     pub fn make(alloc: Global) -> Result<Buffers, AllocError>
-        ensures { IfOk result (λ b. (b.spare.items ≡ []) × (16 ≤ vec_capacity b.spare)) }
+        ensures { IfOk result (λ b. (b.spare.items ≡ []) × (1024 ≤ vec_capacity b.spare) × (b.kept.list ≡ None) × (b.kept.small ≡ None)) }
     {
         let spare = Vec::with_capacity(alloc, MOST_SPARE)?;
         let payload = Box::new(alloc, [0; PAGE])?;
-        Ok(Buffers { spare, payload })
+        let kept = KeptMemory {
+            list: None,
+            small: None,
+        };
+        Ok(Buffers {
+            spare,
+            kept,
+            payload,
+        })
     }
 
     /// An empty buffer for at least so many bytes: the last spare one, if it is large enough; else that one is freed, and

@@ -1,6 +1,6 @@
 //! What an end sends by itself.
 
-ghost use Rattle.std.specs.Prelude.{ℕ, ◌≡◌, ◌+◌, ◌-◌, ◌<◌, ◌≤◌, ◌^◌, [], IfOk, IfSome, IsSome, OnErr, Some, length, map, min, slice_get};
+ghost use Rattle.std.specs.Prelude.{ℕ, ◌≡◌, ◌+◌, ◌-◌, ◌<◌, ◌≤◌, ◌^◌, [], IfOk, IfSome, IsSome, OnErr, Some, length, map, min, slice_get, vec_capacity};
 ghost use Rattle.std.specs.Result.{result_err};
 ghost use Rattle.rdma_types.specs.Causes.{first_cause};
 ghost use Rattle.rdma_types.specs.declared.names.Name.{Name};
@@ -18,10 +18,10 @@ ghost use Rattle.endpoint_core.specs.Ends.{link_in, untold_by};
 ghost use Rattle.requester.specs.declared.answers.Transmit.TheVariants as transmission;
 ghost use Rattle.context_core.specs.Context.{IsContext, context_in, lists_of};
 ghost use Rattle.context_core.specs.Faults.{refusal_of};
-ghost use Rattle.context_core.specs.Sending.{AreBuffers, IsInRange, row_answer, row_sent};
+ghost use Rattle.context_core.specs.Sending.{IsInRange, IsPrepared, row_answer, row_sent};
 ghost use Rattle.context_core.specs.Transmitting.{IsSending, IsRoute};
 
-use crate::datagrams::{Filled, TwoBuffers, moving, request};
+use crate::datagrams::{Filled, KeptMemory, moving, request};
 use crate::{Buffers, ContextFault, ContextState, EndSlot, ends};
 use endpoint_core::{EndSend, Endpoint};
 use indexmap::IndexMap;
@@ -173,14 +173,17 @@ fn request_sent(
     endpoint: &Endpoint,
     way: &Route,
     memory: &mut [u8],
-    room: TwoBuffers,
+    kept: &mut KeptMemory,
+    large: Vec<u8>,
     number: u64,
     index: usize,
     head: &PacketHead,
 ) -> Filled
     requires sending { (l : EndLink) × IsSending pool.now endpoint.now way.now (send.Transmit (transmission.Sent number index head.now)) l }
     requires payload { way.now.mtu ≤ length memory.old }
-    requires room { AreBuffers room (way.now.mtu + 92) }
+    requires prepared { IsPrepared kept.old }
+    requires empty { large.items ≡ [] }
+    requires room { way.now.mtu + 92 ≤ vec_capacity large }
     ensures { (l : EndLink) (own : Address) → IsSending pool.now endpoint.now way.now (send.Transmit (transmission.Sent number index head.now)) l
         → result.sent ≡ row_sent (link_in pool.now l) own (row_in pool.now (Some l) (send.Transmit (transmission.Sent number index head.now))) }
 {
@@ -190,22 +193,26 @@ fn request_sent(
     let bytes = bytes_for(pool, &posted.payload, head, memory);
     let d = request(head, &posted.request.shape, way.peer, psn, bytes);
     let most = way.mtu as usize + MOST_HEADERS;
-    room.fill(most, way.to, Some(number), &d)
+    kept.fill_large(large, most, way.to, Some(number), &d)
 }
 
-/// What a transmission sends, in this memory. It takes no other.
+/// What a transmission sends, in this memory. It takes no other, and uses none where nothing is sent.
 fn sent_for(
+    alloc: Global,
     pool: &PagePool,
     endpoint: &Endpoint,
     way: &Route,
     own: Address,
     memory: &mut [u8],
-    room: TwoBuffers,
+    kept: &mut KeptMemory,
+    large: Vec<u8>,
     send: EndSend,
 ) -> Filled
     requires sending { (l : EndLink) × IsSending pool.now endpoint.now way.now send l }
     requires payload { way.now.mtu ≤ length memory.old }
-    requires room { AreBuffers room (way.now.mtu + 92) }
+    requires prepared { IsPrepared kept.old }
+    requires empty { large.items ≡ [] }
+    requires room { way.now.mtu + 92 ≤ vec_capacity large }
     ensures { (l : EndLink) → IsSending pool.now endpoint.now way.now send l
         → result.sent ≡ row_sent (link_in pool.now l) own (row_in pool.now (Some l) send) }
 {
@@ -214,19 +221,24 @@ fn sent_for(
             let address = own;
             let d = moving(RESUME, way.peer, ResumeBody { count, address });
             let most = way.mtu as usize + MOST_HEADERS;
-            room.fill(most, way.to, None, &d)
+            kept.fill_large(large, most, way.to, None, &d)
         }
         EndSend::Transmit(transmit) => match transmit {
             Transmit::Sent {
                 number,
                 index,
                 head,
-            } => request_sent(pool, endpoint, way, memory, room, number, index, &head),
+            } => request_sent(
+                pool, endpoint, way, memory, kept, large, number, index, &head,
+            ),
             Transmit::Idle
             | Transmit::WindowFull
             | Transmit::ReadsFull
             | Transmit::Fenced
-            | Transmit::Waiting => room.leave(),
+            | Transmit::Waiting => Filled {
+                sent: Items::new(Vec::new(alloc)),
+                unused: Some(large),
+            },
         },
     }
 }
@@ -256,14 +268,28 @@ impl ContextState {
     {
         let place = ends::connected(&self.ends, name)?;
         let way = way_at(&self.ends, place);
-        let room = TwoBuffers::make(alloc, buffers, way.mtu as usize + MOST_HEADERS)?;
+        let large = buffers.take(alloc, way.mtu as usize + MOST_HEADERS)?;
+        buffers.kept.prepare(alloc)?;
         let slot = self.ends.get_index_mut(place).unwrap();
         let send = slot.endpoint.transmit();
         let answer = answer_of(send);
         let memory = &mut buffers.payload[..];
-        let filled = sent_for(pool, &slot.endpoint, &way, own, memory, room, send);
-        buffers.give(filled.unused);
-        let sent = filled.sent;
+        let kept = &mut buffers.kept;
+        let filled = sent_for(
+            alloc,
+            pool,
+            &slot.endpoint,
+            &way,
+            own,
+            memory,
+            kept,
+            large,
+            send,
+        );
+        let Filled { sent, unused } = filled;
+        if let Some(large) = unused {
+            buffers.give(large);
+        }
         Ok(Answered { answer, sent })
     }
 }

@@ -13,7 +13,7 @@ fill-requires-clause-fits c =
     (subst (λ p. p.msn < 2 ^ 24) (sym c.parts-msn.ensures.parts) c.parts-msn.ensures.held.msn)
 
 pub fill-requires-clause-short : goal.fill-requires-clause-short
-fill-requires-clause-short c = short (packet c.answer-d.result) _ c.answer-d.ensures refl
+fill-requires-clause-short c = omega (arith, short (packet c.answer-d.result) _ c.answer-d.ensures refl)
 
 pub fill-requires-in-Old-clause-fits : goal.fill-requires-in-Old-clause-fits
 fill-requires-in-Old-clause-fits c =
@@ -22,10 +22,10 @@ fill-requires-in-Old-clause-fits c =
     (subst (λ p. p.msn < 2 ^ 24) (sym c.parts-msn.ensures.parts) c.parts-msn.ensures.held.msn)
 
 pub fill-requires-in-Old-clause-short : goal.fill-requires-in-Old-clause-short
-fill-requires-in-Old-clause-short c = short (packet c.answer-d-in-Old.result) _ c.answer-d-in-Old.ensures refl
+fill-requires-in-Old-clause-short c = omega (arith, short (packet c.answer-d-in-Old.result) _ c.answer-d-in-Old.ensures refl)
 
 pub fill-requires-in-ResumeAck-clause-short : goal.fill-requires-in-ResumeAck-clause-short
-fill-requires-in-ResumeAck-clause-short c = short (packet c.moving-d.result) _ c.moving-d.ensures.says refl
+fill-requires-in-ResumeAck-clause-short c = omega (arith, short (packet c.moving-d.result) _ c.moving-d.ensures.says refl)
 
 pub returns-in-Acknowledge : goal.returns-in-Acknowledge
 returns-in-Acknowledge c = λ pool regions.

@@ -12,14 +12,14 @@ use Rattle.context_core.proofs.PacketSizes.{wire-length}
 use Rattle.context_core.proofs.TransmittedPackets.{resume-is}
 use Rattle.context_core.proofs.sending.sent_for.Goals as goal
 
-pub fill-requires-clause-short : goal.fill-requires-clause-short
-fill-requires-clause-short c =
+pub fill_large-requires-clause-short : goal.fill_large-requires-clause-short
+fill_large-requires-clause-short c =
     let none : length (packet c.moving-d.result).payload ≡ 0 = ap (λ (w : Packet). length w.payload) c.moving-d.ensures.says in
     omega (arith, none, wire-length (packet c.moving-d.result))
 
 pub returns-in-Resume : goal.returns-in-Resume
 returns-in-Resume c = λ l s.
-    c.fill.ensures
+    c.fill_large.ensures
     ∙ (resume-is c.args.pool.now c.args.endpoint.now c.args.way.now c.in-Resume.count c.args.own l (subst (λ x. IsSending c.args.pool.now c.args.endpoint.now c.args.way.now x l) c.in-Resume.is s) (packet c.moving-d.result) c.moving-d.ensures.says
     ∙ ap (λ x. row_sent (link_in c.args.pool.now l) c.args.own (row_in c.args.pool.now (Some l) x)) (sym c.in-Resume.is))
 

@@ -63,7 +63,7 @@ sent-sent-requires-clause-room c =
     let value = sym c.get_index_mut.ensures.value ∙ ap option_copied_mut c.unwrap-slot.ensures in
     let st = steps c.args.pool.now c.take-done.new.memory.0 (record { domains = c.self.inside.domains.keys; regions = c.self.inside.regions; queues = c.self.inside.queues.entries; ends = c.self.inside.ends.entries }) c.args.place c.unwrap-slot.result.now c.take-done.new.memory.1.0 c.take-done.new.memory.1.1.0.entries c.take-done.new.self is value c.take-done.ensures.keeps c.take-done.ensures.sound in
     let n = c.unwrap-slot.result.now.endpoint.domain in
-    has-room c.args.d.now.opcode (site_after c.take-done.new.memory.0 (entry c.self.inside.ends.entries c.args.place c.unwrap-slot.result.now) c.take-done.new.memory.1.0 c.take-done.new.memory.1.1.0.entries c.take-done.new.self) c.take-done.result.reply c.in_ok-replies.replies.room c.in_ok-replies.ensures.room (λ a b.
+    has-room c.args.d.now.opcode (site_after c.take-done.new.memory.0 (entry c.self.inside.ends.entries c.args.place c.unwrap-slot.result.now) c.take-done.new.memory.1.0 c.take-done.new.memory.1.1.0.entries c.take-done.new.self) c.take-done.result.reply c.make.new.buffers.kept c.in_ok-replies.ensures.room (λ a b.
     sym (c.take-done.ensures.sent (context_in c.args.pool.now n (record { domains = c.self.inside.domains.keys; regions = c.self.inside.regions; queues = c.self.inside.queues.entries; ends = c.self.inside.ends.entries })) (names_in c.self.inside.queues.entries (entry c.self.inside.ends.entries c.args.place c.unwrap-slot.result.now)) (st.stands n)) ∙ unanswered _ _ _ (packet c.args.d.now) a b)
 
 pub sent-sent-requires-clause-reply : goal.sent-sent-requires-clause-reply

@@ -20,10 +20,16 @@ returns-in_err-place-clause-refused c = λ n.
     let p = err_from_is_err_and c.from_residual.result c.from_residual.ensures.1 in
     rw (p.1, p.2) (ap result_err (sym c.in_err-place.was) ∙ c.connected.ensures.refused c.args.pool.now c.self.inside.queues.entries (context_in c.args.pool.now n c.args.self.now) (ap {A = Holding} (λ h. map (end_of c.args.pool.now h.queues) h.ends) (sym c.self.view_is)))
 
-pub returns-in_err-room-clause-refused : goal.returns-in_err-room-clause-refused
+pub returns-in_err-large-clause-refused : goal.returns-in_err-large-clause-refused
 unfolding context_in
-returns-in_err-room-clause-refused c = λ n.
-    let p = err_from_is_err_and c.from_residual-in_err-room.result c.from_residual-in_err-room.ensures.1 in
+returns-in_err-large-clause-refused c = λ n.
+    let p = err_from_is_err_and c.from_residual-in_err-large.result c.from_residual-in_err-large.ensures.1 in
+    rw (p.1, p.2) (ap result_err (sym c.in_ok-place.was) ∙ c.connected.ensures.refused c.args.pool.now c.self.inside.queues.entries (context_in c.args.pool.now n c.args.self.now) (ap {A = Holding} (λ h. map (end_of c.args.pool.now h.queues) h.ends) (sym c.self.view_is)))
+
+pub returns-in_err-prepare-clause-refused : goal.returns-in_err-prepare-clause-refused
+unfolding context_in
+returns-in_err-prepare-clause-refused c = λ n.
+    let p = err_from_is_err_and c.from_residual-in_err-prepare.result c.from_residual-in_err-prepare.ensures.1 in
     rw (p.1, p.2) (ap result_err (sym c.in_ok-place.was) ∙ c.connected.ensures.refused c.args.pool.now c.self.inside.queues.entries (context_in c.args.pool.now n c.args.self.now) (ap {A = Holding} (λ h. map (end_of c.args.pool.now h.queues) h.ends) (sym c.self.view_is)))
 
 pub returns-clause-refused : goal.returns-clause-refused

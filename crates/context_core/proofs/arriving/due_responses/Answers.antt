@@ -2,7 +2,7 @@ use Rattle.std.proofs.Common.{◌∙◌, sym}
 use Rattle.memory_keys.specs.Regions.{regions_of}
 use Rattle.roce_headers.specs.Packets.{packet}
 use Rattle.context_core.proofs.ArrivingDatagrams.{none-due}
-use Rattle.context_core.proofs.arriving.Replies.make.Goals as goal
+use Rattle.context_core.proofs.arriving.due_responses.Goals as goal
 
 pub returns-in_err-responses-clause-unanswered : goal.returns-in_err-responses-clause-unanswered
 returns-in_err-responses-clause-unanswered c = λ never.
