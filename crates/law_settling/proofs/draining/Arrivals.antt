@@ -27,7 +27,8 @@ use Rattle.protocol.specs.DeviceStep as device
 use Rattle.protocol.specs.DeviceStep.{Found, found_in, husk_entries}
 use Rattle.protocol.specs.WorldStep.{world_step, delivers, delivers_by, device_with, now_of, ran, reaches, with_device, with_image, with_taken}
 use Rattle.law_settling.proofs.draining.Pending.{IsPending, number_or_not, get_append_left, get_append_cases, changed_length, changed_same, changed_other, kept_is, kept_when}
-use Rattle.law_settling.proofs.draining.Replies.{IsReply, IsStop, takes_replies, reply_silent}
+use Rattle.law_replies.proofs.Silent.{reply_silent}
+use Rattle.law_settling.proofs.draining.Replies.{IsReply, IsStop, takes_replies}
 
 -- ---- what is read
 

@@ -27,7 +27,7 @@ use Rattle.law_simulation.proofs.relation.Grows.{object_or_not}
 use Rattle.law_simulation.proofs.relation.Tables.{named-store_same}
 use Rattle.law_simulation.proofs.delivery.Arriving.{stored_again}
 use Rattle.law_settling.proofs.draining.Pending.{IsPending, contains_cases, contains_here, contains_later, numbers_pend}
-use Rattle.law_settling.proofs.draining.Replies.{reply_silent}
+use Rattle.law_replies.proofs.Silent.{reply_silent}
 use Rattle.law_settling.proofs.draining.Arrivals.{IsDelivered, delivered, grows, bytes_kept, still_pending}
 use Rattle.law_settling.specs.Weights.{TakingLightens}
 use Rattle.law_settling.proofs.bound.Lives.{lives, at_end, context_in, name_is}

@@ -29,7 +29,8 @@ use Rattle.law_simulation.proofs.relation.Tables.{name_or_not}
 use Rattle.law_simulation.proofs.relation.Worlds.{shapes_of}
 use Rattle.law_simulation.proofs.delivery.Arriving.{stored_again, taken_stands}
 use Rattle.law_settling.proofs.draining.Pending.{IsPending, contains_here, contains_later, numbers_pend}
-use Rattle.law_settling.proofs.draining.Replies.{IsReply, IsStop, reply_silent}
+use Rattle.law_replies.proofs.Silent.{reply_silent}
+use Rattle.law_settling.proofs.draining.Replies.{IsReply, IsStop}
 use Rattle.law_settling.proofs.draining.Arrivals.{IsDelivered, delivered, grows, bytes_kept, still_pending}
 use Rattle.law_settling.specs.Weights.{BringsNews, EndGoesOn, TakingLightens}
 use Rattle.law_settling.proofs.bound.Lives.{lives, at_end, context_in, context_name, name_is, self_stored}
