@@ -29,7 +29,7 @@ use Rattle.endpoint_core.specs.Answers.{sent_by, sent_of, taken_at}
 use Rattle.endpoint_core.specs.Due.{WasDue, due_by, due_in, responses}
 use Rattle.endpoint_core.specs.Ends.{Names, link_in}
 use Rattle.endpoint_core.specs.Sites.{IsHome, EndWithMemory, end_at, home}
-use Rattle.context_core.specs.declared.datagrams.KeptMemory.{KeptMemory}
+use Rattle.context_core.specs.Buffers.{Kept}
 use Rattle.context_core.specs.declared.state.EndSlot.{EndSlot}
 use Rattle.context_core.specs.Arriving.{AreReady, HasRoom, IsRoomFor, IsSentFor, may_answer}
 use Rattle.context_core.specs.Context.{Holding, context_in, end_of, names_in, site_in}
@@ -108,14 +108,14 @@ none-due l regions domain d due never is = by (d.opcode == 0x0C) refl (l.ended |
     by false e true h = absurd (cc)
     by false e false h = absurd (cc)
 
-gives-room : (r : EndReply) (kept : KeptMemory) → IsPrepared kept → HasRoom r kept
+gives-room : (r : EndReply) (kept : Kept) → IsPrepared kept → HasRoom r kept
 gives-room Nothing kept h = tt
 gives-room (Acknowledge number syndrome) kept h = h
 gives-room (ReadBytes spot first count) kept h = tt
 gives-room (Old number value) kept h = h
 gives-room (ResumeAck count address) kept h = h
 
-none-sent : (regions : List Region) (k : Link) (r : EndReply) (kept : KeptMemory) → sent_by regions k r ≡ [] → HasRoom r kept
+none-sent : (regions : List Region) (k : Link) (r : EndReply) (kept : Kept) → sent_by regions k r ≡ [] → HasRoom r kept
 none-sent regions k Nothing kept none = tt
 none-sent regions k (Acknowledge number syndrome) kept none = absurd (cc)
 none-sent regions k (ReadBytes spot first count) kept none = tt
@@ -123,7 +123,7 @@ none-sent regions k (Old number value) kept none = absurd (cc)
 none-sent regions k (ResumeAck count address) kept none = absurd (cc)
 
 -- memory for a reply is there, where an end that is connected has one to send
-pub has-room : (opcode : ℕ) (new : EndWithMemory) (r : EndReply) (kept : KeptMemory) → IsRoomFor opcode kept → (is_request opcode ≡ false → (opcode == 0x1E) ≡ false → sent_of new r ≡ []) → IfSome new.end.link (λ _. HasRoom r kept)
+pub has-room : (opcode : ℕ) (new : EndWithMemory) (r : EndReply) (kept : Kept) → IsRoomFor opcode kept → (is_request opcode ≡ false → (opcode == 0x1E) ≡ false → sent_of new r ≡ []) → IfSome new.end.link (λ _. HasRoom r kept)
 has-room opcode new r kept made none = by (is_request opcode) (opcode == 0x1E) refl refl made
   where
     linked : (o : Option EndLink) → option_map_or (λ l. sent_by (regions_of new.pool new.held) (link_in new.pool l) r) o [] ≡ [] → IfSome o (λ _. HasRoom r kept)

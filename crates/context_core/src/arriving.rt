@@ -25,7 +25,8 @@ ghost use Rattle.context_core.specs.Context.{IsContext, Moves, context_in};
 ghost use Rattle.context_core.specs.Heads.{link_at};
 ghost use Rattle.context_core.specs.Sending.{addressed};
 
-use crate::datagrams::{KeptMemory, answer, memory_for, moving, written};
+use crate::datagrams::{answer, moving, written};
+use crate::kept::KeptMemory;
 use crate::sending::MOST_HEADERS;
 use crate::{Buffers, ContextState};
 use endpoint_core::{DueRead, EndLink, EndMemory, EndReply, Endpoint};
@@ -46,12 +47,6 @@ use std::alloc::{AllocError, Global};
 pub struct ArrivalOutcome {
     pub took: Took,
     pub sent: Items<Sent>,
-}
-
-/// What a datagram may be answered with: the READ responses that are due.
-#[derive(Drop)]
-struct Replies {
-    read: Option<Items<Sent>>,
 }
 
 /// The opcode of READ response `k` of so many, which is a First, Middle, Last or Only.
@@ -214,10 +209,10 @@ fn responses(
 {
     let (spot, mtu) = (due.spot, link.terms.mtu);
     let count = count_of(spot.length, mtu);
-    let mut sent = Items::new(Vec::with_capacity(alloc, count as usize)?);
+    let mut sent = Items::new(buffers.take_list(alloc, count as usize)?);
     for k in 0..count {
         let (_, length) = piece_at(spot.length, k, mtu);
-        let memory = memory_for(alloc, buffers, length as usize + MOST_HEADERS)?;
+        let memory = buffers.take(alloc, length as usize + MOST_HEADERS)?;
         let page = &mut buffers.payload[..];
         let response = piece_sent(pool, regions, link, due, k, count, page, memory);
         sent.push(response)?;
@@ -251,65 +246,63 @@ fn due_responses(
 }
 
 /// Prepares the memory for a reply to a datagram of that opcode, where it may have one.
-fn prepare_for(alloc: Global, kept: &mut KeptMemory, opcode: u8) -> Result<(), AllocError>
-    ensures room { OnOk result (IsRoomFor opcode kept.new) }
+fn prepare_for(alloc: Global, buffers: &mut Buffers, opcode: u8) -> Result<(), AllocError>
+    ensures room { OnOk result (IsRoomFor opcode buffers.new.kept) }
     ensures unanswered { may_answer opcode ≡ false → IsOk result }
 {
     if is_request(opcode) || opcode == RESUME {
-        kept.prepare(alloc)?;
+        buffers.prepare(alloc)?;
     }
     Ok(())
 }
 
-impl Replies {
-    /// The READ responses that are due for a datagram, and memory for each other reply, which is kept in the buffers. A
-    /// response has no reply, and no memory is taken for it.
-    fn make(
-        alloc: Global,
-        buffers: &mut Buffers,
-        pool: &PagePool,
-        regions: &Regions,
-        domain: Name,
-        link: &EndLink,
-        d: &Datagram<'_>,
-    ) -> Result<Replies, AllocError>
-        requires held { AreHeld pool.now regions.now }
-        requires terms { AreTerms link.now.terms }
-        requires fits { Fits (packet d.now) }
-        ensures room { OnOk result (IsRoomFor d.now.opcode buffers.new.kept) }
-        ensures unanswered { may_answer d.now.opcode ≡ false → IsOk result }
-        ensures bounded { IfOk result (λ r. IfSome r.read (λ list. length list ≤ 2 ^ 32)) }
-        ensures read { (due : DueRead) → due_in link.now (regions_of pool.now regions.now) domain (packet d.now) ≡ Some due
-            → IfOk result (λ r. r.read ≡ Some (responses pool.now (regions_of pool.now regions.now) link.now due (pieces due.spot.length link.now.terms.mtu))) }
-    {
-        let read = due_responses(alloc, buffers, pool, regions, domain, link, d)?;
-        prepare_for(alloc, &mut buffers.kept, d.opcode)?;
-        Ok(Replies { read })
-    }
+/// The READ responses that are due for a datagram, if any, and memory for each other reply, which is kept in the buffers. A
+/// response has no reply, and no memory is taken for it.
+fn replies_for(
+    alloc: Global,
+    buffers: &mut Buffers,
+    pool: &PagePool,
+    regions: &Regions,
+    domain: Name,
+    link: &EndLink,
+    d: &Datagram<'_>,
+) -> Result<Option<Items<Sent>>, AllocError>
+    requires held { AreHeld pool.now regions.now }
+    requires terms { AreTerms link.now.terms }
+    requires fits { Fits (packet d.now) }
+    ensures room { OnOk result (IsRoomFor d.now.opcode buffers.new.kept) }
+    ensures unanswered { may_answer d.now.opcode ≡ false → IsOk result }
+    ensures bounded { IfOk result (λ r. IfSome r (λ list. length list ≤ 2 ^ 32)) }
+    ensures read { (due : DueRead) → due_in link.now (regions_of pool.now regions.now) domain (packet d.now) ≡ Some due
+        → IfOk result (λ r. r ≡ Some (responses pool.now (regions_of pool.now regions.now) link.now due (pieces due.spot.length link.now.terms.mtu))) }
+{
+    let read = due_responses(alloc, buffers, pool, regions, domain, link, d)?;
+    prepare_for(alloc, buffers, d.opcode)?;
+    Ok(read)
+}
 
-    /// What is sent for a reply of an end. It takes no memory, and uses what is kept where a reply without bytes is sent.
-    fn sent(
-        self,
-        alloc: Global,
-        kept: &mut KeptMemory,
-        endpoint: &Endpoint,
-        reply: EndReply,
-    ) -> Items<Sent>
-        requires room { IfSome endpoint.now.link (λ _. HasRoom reply kept.old) }
-        requires ready { AreReady reply self.read }
-        requires reply { (held : List Held) × IfSome endpoint.now.link (λ l. IsReply held l reply) }
-        ensures { (pool : Pool) (regions : List Region)
-            → IsSentFor reply self.read (option_map_or (λ l. sent_by regions (link_in pool l) reply) endpoint.now.link []) result }
-    {
-        let Replies { read } = self;
-        if let EndReply::ReadBytes { .. } = reply {
-            return read.unwrap();
-        }
-        let Some(link) = &endpoint.link else {
-            return Items::new(Vec::new(alloc));
-        };
-        reply_sent(alloc, kept, link, reply)
+/// What is sent for a reply of an end: the READ responses that are there, or a reply without bytes, for which what is kept
+/// is used. It takes no memory.
+fn sent_for(
+    alloc: Global,
+    kept: &mut KeptMemory,
+    read: Option<Items<Sent>>,
+    endpoint: &Endpoint,
+    reply: EndReply,
+) -> Items<Sent>
+    requires room { IfSome endpoint.now.link (λ _. HasRoom reply kept.old) }
+    requires ready { AreReady reply read }
+    requires reply { (held : List Held) × IfSome endpoint.now.link (λ l. IsReply held l reply) }
+    ensures { (pool : Pool) (regions : List Region)
+        → IsSentFor reply read (option_map_or (λ l. sent_by regions (link_in pool l) reply) endpoint.now.link []) result }
+{
+    if let EndReply::ReadBytes { .. } = reply {
+        return read.unwrap();
     }
+    let Some(link) = &endpoint.link else {
+        return Items::new(Vec::new(alloc));
+    };
+    reply_sent(alloc, kept, link, reply)
 }
 
 /// What is sent for a reply without bytes, to the recorded place of the partner.
@@ -346,8 +339,7 @@ fn reply_sent(alloc: Global, kept: &mut KeptMemory, link: &EndLink, reply: EndRe
 impl ContextState {
     /// Takes a datagram at the connected end of that place. `None` comes exactly where no connected end stands there,
     /// and nothing has changed then, and no memory is taken. None is taken for a datagram that is neither a request nor a
-    /// RESUME. Errors: `AllocError` when out of memory; nothing has
-    /// changed.
+    /// RESUME. Errors: `AllocError` when out of memory; nothing has changed.
     pub fn take(
         &mut self,
         alloc: Global,
@@ -379,7 +371,7 @@ impl ContextState {
             return Ok(None);
         };
         let domain = slot.endpoint.domain;
-        let replies = Replies::make(alloc, buffers, pool, &self.regions, domain, link, d)?;
+        let read = replies_for(alloc, buffers, pool, &self.regions, domain, link, d)?;
         let slot = self.ends.get_index_mut(place).unwrap();
         let memory = EndMemory {
             pool,
@@ -389,7 +381,8 @@ impl ContextState {
             recv: slot.recv,
         };
         let done = slot.endpoint.take(memory, d);
-        let sent = replies.sent(alloc, &mut buffers.kept, &slot.endpoint, done.reply);
+        let kept = &mut buffers.kept;
+        let sent = sent_for(alloc, kept, read, &slot.endpoint, done.reply);
         let took = done.took;
         Ok(Some(ArrivalOutcome { took, sent }))
     }

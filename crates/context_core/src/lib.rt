@@ -21,6 +21,7 @@ mod image_queues;
 mod image_regions;
 mod image_work;
 mod images;
+mod kept;
 mod laws;
 mod leaving;
 mod links;

@@ -96,6 +96,7 @@ impl ContextState {
         ensures { (pool : Pool) → IfOk result (λ _. live.new.items
             ≡ live.old.items ++ map (view_of_end (context_in pool context self.now)) (context_in pool context self.now).ends) }
     {
+        live.try_reserve(self.ends.len())?;
         for place in 0..self.ends.len() {
             let (name, slot) = self.ends.get_index(place).unwrap();
             live.push(live_end(context, *name, slot))?;

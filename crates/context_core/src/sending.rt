@@ -21,7 +21,8 @@ ghost use Rattle.context_core.specs.Faults.{refusal_of};
 ghost use Rattle.context_core.specs.Sending.{IsInRange, IsPrepared, row_answer, row_sent};
 ghost use Rattle.context_core.specs.Transmitting.{IsSending, IsRoute};
 
-use crate::datagrams::{Filled, KeptMemory, moving, request};
+use crate::datagrams::{moving, request};
+use crate::kept::{Filled, KeptMemory};
 use crate::{Buffers, ContextFault, ContextState, EndSlot, ends};
 use endpoint_core::{EndSend, Endpoint};
 use indexmap::IndexMap;
@@ -269,7 +270,7 @@ impl ContextState {
         let place = ends::connected(&self.ends, name)?;
         let way = way_at(&self.ends, place);
         let large = buffers.take(alloc, way.mtu as usize + MOST_HEADERS)?;
-        buffers.kept.prepare(alloc)?;
+        buffers.prepare(alloc)?;
         let slot = self.ends.get_index_mut(place).unwrap();
         let send = slot.endpoint.transmit();
         let answer = answer_of(send);

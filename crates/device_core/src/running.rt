@@ -18,7 +18,7 @@ use crate::telling::{refused, told_arrival, told_memory, told_sent, told_transmi
 use context_core::{Answered, ContextFault, NewEnd};
 use law_arrivals::turns_change_what_arrivals_may;
 use protocol::{ContextImage, Event, Outcome};
-use rdma_types::{Address, Answer, Items, ObjName};
+use rdma_types::{Address, Answer, Items, ObjName, Sent};
 use std::alloc::{AllocError, Global};
 
 /// What is told of a step: a refusal is an answer.
@@ -180,5 +180,12 @@ impl Device {
         ensures { self.new ≡ self.old }
     {
         self.buffers.give(bytes.into_vec());
+    }
+
+    /// Takes the memory of a list of datagrams back, to be filled again. What is in the list goes.
+    pub fn give_back_list(&mut self, list: Vec<Sent>)
+        ensures { self.new ≡ self.old }
+    {
+        self.buffers.give_list(list);
     }
 }

@@ -120,8 +120,10 @@ impl Node {
     pub(crate) fn give_back(&mut self, sent: Items<Sent>)
         ensures { self.new ≡ self.old }
     {
-        for datagram in sent.into_vec() {
+        let mut list = sent.into_vec();
+        for datagram in list.drain(..) {
             self.device.give_back(datagram.bytes);
         }
+        self.device.give_back_list(list);
     }
 }

@@ -12,7 +12,7 @@ ghost use Rattle.world_core.specs.Sites.{is_rts, put_back, view_moves};
 
 use crate::World;
 use crate::index::note_home;
-use crate::running::send_outcome;
+use crate::running::{SendingDevice, send_outcome};
 use device_core::{ContextImage, Device, Event, Outcome};
 use protocol::EndImage;
 use rdma_types::{Answer, EndState, EndView, Name, Refusal};
@@ -153,12 +153,12 @@ impl World {
             sent,
             image: _,
         } = outcome;
-        let from = self.devices[place].address();
+        let address = self.devices[place].address();
         let answer = send_outcome(
             &mut self.fabric,
             &mut self.devices,
             &self.ports,
-            from,
+            SendingDevice { place, address },
             answer,
             sent,
         );

@@ -14,7 +14,7 @@ ghost use Rattle.world_core.specs.Kept.{IsReady, Makes};
 ghost use Rattle.world_core.specs.Sites.{IsDelivery};
 
 use crate::World;
-use crate::running::send_outcome;
+use crate::running::{SendingDevice, send_outcome};
 use device_core::{Answered, Device, Outcome};
 use fabric::{Fabric, Flight, Look};
 use rdma_types::{Answer, Items, SilentWhy, Took};
@@ -153,13 +153,13 @@ impl World {
     {
         let answered = reach(&self.fabric, &mut self.devices[place], alloc, k)?;
         let Answered { answer, sent } = answered;
-        let from = self.devices[place].address();
+        let address = self.devices[place].address();
         self.fabric.took(k);
         Ok(send_outcome(
             &mut self.fabric,
             &mut self.devices,
             &self.ports,
-            from,
+            SendingDevice { place, address },
             answer,
             sent,
         ))

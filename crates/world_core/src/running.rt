@@ -20,14 +20,30 @@ use protocol::{Event, Outcome};
 use rdma_types::{Address, Answer, Items, Name, ObjName, Sent};
 use std::alloc::{AllocError, Global};
 
-/// The bytes of a forgotten datagram with at most this many are dropped, since it costs less to make them anew than to find
-/// their device.
-const MOST_DROPPED: usize = 512;
+/// A device that sends: its place and its address.
+#[derive(Clone, Copy)]
+pub(crate) struct SendingDevice {
+    pub(crate) place: usize,
+    pub(crate) address: Address,
+}
 
-/// The memory of a datagram that the network forgets goes back to the device that sent it, where it is worth it.
+/// The place of the device with an address, which often is the one that sends now.
+fn place_at(
+    ports: &IndexMap<(u32, u16), usize>,
+    sender: SendingDevice,
+    address: Address,
+) -> Option<usize> {
+    if address == sender.address {
+        return Some(sender.place);
+    }
+    ports.get(&(address.ip, address.port)).copied()
+}
+
+/// The memory of a datagram that the network forgets goes back to the device that sent it.
 fn give_back(
     devices: &mut Vec<Device>,
     ports: &IndexMap<(u32, u16), usize>,
+    sender: SendingDevice,
     forgotten: Option<Flight>,
 )
     ensures { devices.new.items ≡ devices.old.items }
@@ -36,32 +52,41 @@ fn give_back(
         return;
     };
     let Flight { from, sent, .. } = flight;
-    if sent.bytes.len() <= MOST_DROPPED {
-        return;
-    }
-    match ports.get(&(from.ip, from.port)).copied() {
+    match place_at(ports, sender, from) {
         Some(place) if place < devices.len() => devices[place].give_back(sent.bytes),
         _ => (),
     }
 }
 
-/// Sends datagrams in their order. The memory of those that the network forgets for them goes back to their devices.
+/// The memory of a list of datagrams goes back to the device at a place.
+fn give_back_list(devices: &mut Vec<Device>, place: usize, list: Vec<Sent>)
+    ensures { devices.new.items ≡ devices.old.items }
+{
+    if place < devices.len() {
+        devices[place].give_back_list(list);
+    }
+}
+
+/// Sends datagrams in their order. The memory of those that the network forgets for them goes back to their devices, and
+/// that of their list to the one that sends.
 fn send_all(
     fabric: &mut Fabric,
     devices: &mut Vec<Device>,
     ports: &IndexMap<(u32, u16), usize>,
-    from: Address,
+    sender: SendingDevice,
     sent: Items<Sent>,
 )
     requires kept { forgetting fabric.old ≡ fabric.old }
     requires bounded { length fabric.old + length sent < 2 ^ 63 }
-    ensures sent { fabric.new ≡ forgetting (sending fabric.old from sent) }
+    ensures sent { fabric.new ≡ forgetting (sending fabric.old sender.address sent) }
     ensures devices { devices.new.items ≡ devices.old.items }
 {
-    for datagram in sent.into_vec() {
-        let forgotten = fabric.send(from, datagram);
-        give_back(devices, ports, forgotten);
+    let mut list = sent.into_vec();
+    for datagram in list.drain(..) {
+        let forgotten = fabric.send(sender.address, datagram);
+        give_back(devices, ports, sender, forgotten);
     }
+    give_back_list(devices, sender.place, list);
 }
 
 /// The answer of a device with the number of the first datagram that it sent.
@@ -79,22 +104,22 @@ fn number(answer: Answer, next: u64) -> Answer
     }
 }
 
-/// Sends the datagrams of a step of the device with an address, and gives its answer with the number of the first.
+/// Sends the datagrams of a step of a device, and gives its answer with the number of the first.
 pub(crate) fn send_outcome(
     fabric: &mut Fabric,
     devices: &mut Vec<Device>,
     ports: &IndexMap<(u32, u16), usize>,
-    from: Address,
+    sender: SendingDevice,
     answer: Answer,
     sent: Items<Sent>,
 ) -> Answer
     requires { length fabric.old + length sent < 2 ^ 63 }
-    ensures sent { fabric.new ≡ forgetting (sending fabric.old from sent) }
+    ensures sent { fabric.new ≡ forgetting (sending fabric.old sender.address sent) }
     ensures answer { result ≡ numbered (length fabric.old + 1) answer }
     ensures devices { devices.new.items ≡ devices.old.items }
 {
     let next = fabric.next();
-    send_all(fabric, devices, ports, from, sent);
+    send_all(fabric, devices, ports, sender, sent);
     number(answer, next)
 }
 
@@ -135,12 +160,12 @@ impl World {
             sent,
             image,
         } = outcome;
-        let from = self.devices[place].address();
+        let address = self.devices[place].address();
         let answer = send_outcome(
             &mut self.fabric,
             &mut self.devices,
             &self.ports,
-            from,
+            SendingDevice { place, address },
             answer,
             sent,
         );
@@ -167,12 +192,12 @@ impl World {
     {
         let answered = self.devices[place].transmit(alloc, end)?;
         let Answered { answer, sent } = answered;
-        let from = self.devices[place].address();
+        let address = self.devices[place].address();
         Ok(send_outcome(
             &mut self.fabric,
             &mut self.devices,
             &self.ports,
-            from,
+            SendingDevice { place, address },
             answer,
             sent,
         ))

@@ -4,7 +4,7 @@ use Rattle.std.proofs.Math.ListN.{set}
 use Rattle.std.proofs.lemmas.List.{set-get_or}
 use Rattle.world_core.proofs.running.give_back.Goals as goal
 
-pub returns-in-Some-copied : goal.returns-in-Some-copied
-returns-in-Some-copied c =
+pub returns-in-Some-place_at : goal.returns-in-Some-place_at
+returns-in-Some-place_at c =
     let ds = c.args.devices.now.items in
-    ap (λ d. set ds c.in-Some-copied.place d) (c.give_back.ensures ∙ c.index_mut.ensures.value) ∙ set-get_or ds c.in-Some-copied.place c.index_mut.result.now
+    ap (λ d. set ds c.in-Some-place_at.place d) (c.give_back.ensures ∙ c.index_mut.ensures.value) ∙ set-get_or ds c.in-Some-place_at.place c.index_mut.result.now

@@ -15,13 +15,13 @@ unfolding sending
 none_sent s from h = sym (ap forgetting (append-nil s) ∙ h)
 
 pub loop-datagram-init : goal.loop-datagram-init
-loop-datagram-init c = (tt, tt, none_sent c.args.fabric.now c.args.from c.requires.kept, omega arith, refl)
+loop-datagram-init c = (tt, tt, none_sent c.args.fabric.now c.args.sender.address c.requires.kept, omega arith, refl)
 
 pub loop-datagram-preserved : goal.loop-datagram-preserved
 loop-datagram-preserved c = (
   tt,
   tt,
-  c.send-forgotten.ensures.sent ∙ (ap (λ s. forgetting (sending s c.args.from (c.in-Some.datagram ∷ []))) c.loop-datagram.invariant.2 ∙ sending-one_by_one c.args.fabric.now c.args.from c.loop-datagram.yielded (c.in-Some.datagram ∷ [])),
+  c.send-forgotten.ensures.sent ∙ (ap (λ s. forgetting (sending s c.args.sender.address (c.in-Some.datagram ∷ []))) c.loop-datagram.invariant.2 ∙ sending-one_by_one c.args.fabric.now c.args.sender.address c.loop-datagram.yielded (c.in-Some.datagram ∷ [])),
   grind (arith, common_steps, c.send-forgotten.ensures.count, c.loop-datagram.invariant.3),
   c.give_back.ensures ∙ c.loop-datagram.invariant.4,
 )

@@ -35,11 +35,11 @@ returns-clause-ok c = λ f d kept h.
     let lt : c.args.place < length ds = subst (λ (w : World). c.args.place < length w.devices) (sym c.self.view_is) c.requires.place in
     let here : slice_get ds c.args.place ≡ Some c.index_mut.result.now = slice_get_read ds (length ds) c.args.place c.index_mut.result.now refl lt c.index_mut.ensures.value in
     let there : c.index.result.now ≡ c.reach.new.device = read_set ds c.args.place c.reach.new.device c.index.result.now lt c.index.ensures in
-    answered_all _ (with_taken c.args.self.now c.args.k) _ c.args.place d c.index_mut.result.now c.reach.new.device e a.answer a.sent c.send_outcome.result c.address-from.result (length c.took.new.self + 1)
+    answered_all _ (with_taken c.args.self.now c.args.k) _ c.args.place d c.index_mut.result.now c.reach.new.device e a.answer a.sent c.send_outcome.result c.address-address.result (length c.took.new.self + 1)
     (ap (λ (w : World). with_taken w c.args.k) c.self.view_is) c.self.invariant.ids here
     (c.in_ok-answered.ensures.ok f (ap (λ (w : World). kept_flight w.sent c.args.k) c.self.view_is ∙ kept)) c.reach.ensures.same.0
-    c.send_outcome.ensures.devices (c.address-from.ensures ∙ ap (λ x. x.address) there)
-    (c.send_outcome.ensures.sent ∙ ap (λ s. forgetting (sending s c.address-from.result a.sent)) c.took.ensures.taken)
+    c.send_outcome.ensures.devices (c.address-address.ensures ∙ ap (λ x. x.address) there)
+    (c.send_outcome.ensures.sent ∙ ap (λ s. forgetting (sending s c.address-address.result a.sent)) c.took.ensures.taken)
     refl refl (ap (λ s. length s + 1) c.took.ensures.taken) c.send_outcome.ensures.answer h
 
 pub returns-clause-touched : goal.returns-clause-touched

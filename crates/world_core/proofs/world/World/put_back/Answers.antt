@@ -50,9 +50,9 @@ returns-clause-ok c = λ d x h k.
     let bare : o.image ≡ None = sym (ap (λ (s : device.Step). s.outcome.image) step) ∙ handing.bare c.index_mut.result.now (event.Restore x) tt in
     let mid : World = record { devices = c.send_outcome-answer.new.devices.items; sent = c.send_outcome-answer.new.fabric; carried = is; stopped = reverse c.self.inside.stopped.items } in
     let made : Makes (runs c.args.self.now d (event.Restore x)) c.send_outcome-answer.result mid =
-    ran_all _ c.args.self.now mid c.args.place d c.index_mut.result.now c.restore.new.self (event.Restore x) o c.send_outcome-answer.result c.address-from.result (length c.self.inside.fabric + 1)
+    ran_all _ c.args.self.now mid c.args.place d c.index_mut.result.now c.restore.new.self (event.Restore x) o c.send_outcome-answer.result c.address-address.result (length c.self.inside.fabric + 1)
     c.self.view_is c.self.invariant.ids here step c.restore.ensures.id
-    c.send_outcome-answer.ensures.devices (c.address-from.ensures ∙ ap (λ y. y.address) there) c.send_outcome-answer.ensures.sent
+    c.send_outcome-answer.ensures.devices (c.address-address.ensures ∙ ap (λ y. y.address) there) c.send_outcome-answer.ensures.sent
     (bare_carried is o.image bare) (bare_stopped (reverse c.self.inside.stopped.items) o.image bare)
     refl c.send_outcome-answer.ensures.answer h in
     put_makes mid c.match-answer.self c.args.spot (runs c.args.self.now d (event.Restore x)) c.send_outcome-answer.result made

@@ -26,9 +26,9 @@ returns-clause-ok c = λ d h.
     let lt : c.args.place < length ds = subst (λ (w : World). c.args.place < length w.devices) (sym c.self.view_is) c.requires.place in
     let here : slice_get ds c.args.place ≡ Some c.index_mut.result.now = slice_get_read ds (length ds) c.args.place c.index_mut.result.now refl lt c.index_mut.ensures.value in
     let there : c.index.result.now ≡ c.step.new.self = read_set ds c.args.place c.step.new.self c.index.result.now lt c.index.ensures in
-    ran_all _ c.args.self.now _ c.args.place d c.index_mut.result.now c.step.new.self c.args.event.now c.in_ok-outcome.outcome c.send_outcome-answer.result c.address-from.result (length c.self.inside.fabric + 1)
+    ran_all _ c.args.self.now _ c.args.place d c.index_mut.result.now c.step.new.self c.args.event.now c.in_ok-outcome.outcome c.send_outcome-answer.result c.address-address.result (length c.self.inside.fabric + 1)
     c.self.view_is c.self.invariant.ids here c.in_ok-outcome.ensures.ok c.step.ensures.id
-    c.send_outcome-answer.ensures.devices (c.address-from.ensures ∙ ap (λ x. x.address) there) c.send_outcome-answer.ensures.sent
+    c.send_outcome-answer.ensures.devices (c.address-address.ensures ∙ ap (λ x. x.address) there) c.send_outcome-answer.ensures.sent
     (c.carry.ensures.carried ∙ ap (λ xs. xs ++ images_of c.in_ok-outcome.outcome.image) c.reserve-2.ensures.items)
     (ap (λ xs. reverse xs) (c.carry.ensures.stopped ∙ ap (λ xs. xs ++ names_of c.in_ok-outcome.outcome.image) c.reserve-3.ensures.items) ∙ names_reversed c.self.inside.stopped.items c.in_ok-outcome.outcome.image)
     refl c.send_outcome-answer.ensures.answer h

@@ -25,7 +25,7 @@ returns-clause-ok c = λ d h.
     let lt : c.args.place < length ds = subst (λ (w : World). c.args.place < length w.devices) (sym c.self.view_is) c.requires.place in
     let here : slice_get ds c.args.place ≡ Some c.index_mut.result.now = slice_get_read ds (length ds) c.args.place c.index_mut.result.now refl lt c.index_mut.ensures.value in
     let there : c.index.result.now ≡ c.transmit.new.self = read_set ds c.args.place c.transmit.new.self c.index.result.now lt c.index.ensures in
-    answered_all _ c.args.self.now _ c.args.place d c.index_mut.result.now c.transmit.new.self (event.Transmit c.args.end.now) a.answer a.sent c.send_outcome.result c.address-from.result (length c.self.inside.fabric + 1)
+    answered_all _ c.args.self.now _ c.args.place d c.index_mut.result.now c.transmit.new.self (event.Transmit c.args.end.now) a.answer a.sent c.send_outcome.result c.address-address.result (length c.self.inside.fabric + 1)
     c.self.view_is c.self.invariant.ids here c.in_ok-answered.ensures.ok c.transmit.ensures.id
-    c.send_outcome.ensures.devices (c.address-from.ensures ∙ ap (λ x. x.address) there) c.send_outcome.ensures.sent
+    c.send_outcome.ensures.devices (c.address-address.ensures ∙ ap (λ x. x.address) there) c.send_outcome.ensures.sent
     refl refl refl c.send_outcome.ensures.answer h
