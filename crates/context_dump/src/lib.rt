@@ -6,7 +6,7 @@ mod laws;
 mod reader;
 
 pub use dump_reader::{DumpFault, decode_dump};
-pub use dump_writer::{DumpWriter, dump_text, encode_dump};
+pub use dump_writer::{DumpWriter, dump_length, dump_text, encode_dump};
 pub use laws::an_image_through_its_bytes_is_the_same;
 pub use reader::DumpReader;
 

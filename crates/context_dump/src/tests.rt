@@ -283,20 +283,22 @@ fn written_in_fives(alloc: Global, image: &ContextImage, most: usize) -> Result<
     Ok(bytes)
 }
 
-/// The bytes of a dump that was read and written again, whole and five at a time.
-fn written_again(alloc: Global, dump: &[u8]) -> Result<(Vec<u8>, Vec<u8>), Fail> {
+/// The bytes of a dump that was read and written again, whole and five at a time, and how many they are told to be.
+fn written_again(alloc: Global, dump: &[u8]) -> Result<(Vec<u8>, Vec<u8>, u64), Fail> {
     let image = decode_dump(alloc, dump)?;
     let whole = encode_dump(alloc, &image)?;
-    Ok((whole, written_in_fives(alloc, &image, dump.len())?))
+    let in_fives = written_in_fives(alloc, &image, dump.len())?;
+    Ok((whole, in_fives, dump_length(&image)))
 }
 
 #[test]
 fn an_image_goes_both_ways(rt: HostRuntime) -> Result<(), Fail> {
     let dump = bytes_of(rt.alloc(), &BUSY)?;
-    let (whole, in_fives) = written_again(rt.alloc(), &dump)?;
+    let (whole, in_fives, count) = written_again(rt.alloc(), &dump)?;
     let (pieced, fault) = read_in_pieces(rt.alloc(), &dump, 1)?;
     let same = [whole == dump, in_fives == dump, pieced == dump];
     assert_eq!(rt; (same, fault), ([true; 3], None));
+    assert_eq!(rt; count, whole.len() as u64);
     Ok(())
 }
 

@@ -4,9 +4,11 @@
 
 mod chunk;
 mod fields;
+mod length;
 mod stages;
 mod text;
 mod writer;
 
+pub use length::dump_length;
 pub use text::dump_text;
 pub use writer::{DumpWriter, encode_dump};

@@ -10,30 +10,32 @@ ghost use Rattle.script_runner.specs.Actions.{happening_of};
 ghost use Rattle.script_runner.specs.Playing.{Answers};
 
 use crate::actions::Action;
-use dump_writer::encode_dump;
+use dump_writer::{dump_length, encode_dump};
 use protocol::ContextImage;
 use rdma_types::{Answer, Items, Name, Refusal};
 use std::alloc::{AllocError, Global};
 use world_core::{Settler, World};
 
 /// At most this many bytes of a dump are shown (this project's choice).
-const MOST_SHOWN: usize = 4096;
+const MOST_SHOWN: u64 = 4096;
 
-/// The length of a dump, and its bytes where they are not too many.
+/// The length of the dump of an image, and its bytes where they are not too many. No more are written. Errors: `AllocError`
+/// when out of memory.
 #[tactic(auto, unfolding(protocol::specs::Script::shown))]
-fn show_dump(alloc: Global, dump: Vec<u8>) -> Answer
-    ensures { result ≡ shown dump.items }
+fn show_dump(alloc: Global, image: &ContextImage) -> Result<Answer, AllocError>
+    requires { IsLawful image.now }
+    ensures { IfOk result (λ answer. answer ≡ shown (dump_bytes 2 image.now)) }
 {
-    let length = dump.len() as u64;
-    let shown = if dump.len() <= MOST_SHOWN {
-        dump
+    let length = dump_length(image);
+    let shown = if length <= MOST_SHOWN {
+        encode_dump(alloc, image)?
     } else {
         Vec::new(alloc)
     };
-    Answer::Dump {
+    Ok(Answer::Dump {
         length,
         shown: Items::new(shown),
-    }
+    })
 }
 
 /// The dump of a context that is carried.
@@ -41,7 +43,7 @@ fn answer_dump(alloc: Global, world: &World, context: Name) -> Result<Answer, Al
     ensures { IfOk result (λ answer. answer ≡ dumps_by (carried_image world.now context)) }
 {
     match world.carried(context) {
-        Some(image) => Ok(show_dump(alloc, encode_dump(alloc, image)?)),
+        Some(image) => show_dump(alloc, image),
         None => Ok(Answer::Refused(Refusal::NoSuch)),
     }
 }
