@@ -14,12 +14,11 @@ use Rattle.law_settling.specs.Events.{drain_events, pass_events, send_events, se
 use Rattle.law_settling.proofs.steps.Events.{delivering_lead}
 use Rattle.world_core.specs.Lives.{is_pending}
 use Rattle.world_core.specs.Settled.{IsCut}
-use Rattle.context_core.specs.declared.lives.LiveEnd.{LiveEnd}
 use Rattle.settle_core.specs.Shown.{Cuts}
 use Rattle.settle_core.specs.Steps.{deliver_events, delivered_at, once_events, sweep_events, sweeping}
 use Rattle.settle_core.specs.declared.notes.Notes.{Notes}
 use Rattle.settle_core.proofs.Worlds.{after_append, alike_kept_datagrams, steps_shown}
-use Rattle.settle_core.proofs.Visits.{names_of, pending_shown}
+use Rattle.settle_core.proofs.Visits.{pending_shown}
 
 pub on_err_map : {T P Q : Type 0} (r : Result T AllocError) → (P → Q) → OnErr r P → OnErr r Q
 on_err_map (Ok x) f h = tt
@@ -135,12 +134,12 @@ next_cut fuel s o new c = by (is_sent (world_step s.world (transmit o)).answer) 
 -- ---- each end in order
 
 pub visits_cut : (visit : Settling → ObjName → Settling) (events : Settling → ObjName → List WorldEvent) → ((s : Settling) (o : ObjName) → world_after s.world (events s o) ≡ (visit s o).world) →
-    (es : List LiveEnd) (i : ℕ) (s : Settling) (e : LiveEnd) (new : World) → i < length es → e ≡ get_or es i e → IsCut (visiting visit s (names_of (take i es))).world (events (visiting visit s (names_of (take i es))) e.name) new →
-    IsCut s.world (visiting_events visit events s (names_of es)) new
+    (os : List ObjName) (i : ℕ) (s : Settling) (o : ObjName) (new : World) → i < length os → o ≡ get_or os i o → IsCut (visiting visit s (take i os)).world (events (visiting visit s (take i os)) o) new →
+    IsCut s.world (visiting_events visit events s os) new
 unfolding visiting visiting_events
-visits_cut visit events led [] i s e new h is c = absurd (omega (arith, h))
-visits_cut visit events led (x ∷ es) zero s e new h is c =
-    cut_first s.world new (events s x.name) (visiting_events visit events (visit s x.name) (names_of es)) (subst (λ (z : LiveEnd). IsCut s.world (events s z.name) new) is c)
-visits_cut visit events led (x ∷ es) (suc i) s e new h is c =
-    cut_after s.world (visit s x.name).world new (events s x.name) (visiting_events visit events (visit s x.name) (names_of es)) (led s x.name)
-    (visits_cut visit events led es i (visit s x.name) e new (omega (arith, h)) is c)
+visits_cut visit events led [] i s o new h is c = absurd (omega (arith, h))
+visits_cut visit events led (x ∷ os) zero s o new h is c =
+    cut_first s.world new (events s x) (visiting_events visit events (visit s x) os) (subst (λ (z : ObjName). IsCut s.world (events s z) new) is c)
+visits_cut visit events led (x ∷ os) (suc i) s o new h is c =
+    cut_after s.world (visit s x).world new (events s x) (visiting_events visit events (visit s x) os) (led s x)
+    (visits_cut visit events led os i (visit s x) o new (omega (arith, h)) is c)

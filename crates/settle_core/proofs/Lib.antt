@@ -6,6 +6,7 @@ pub mod Transmitting
 pub mod Compared
 pub mod Noted
 pub mod Visits
+pub mod NothingToSend
 pub mod LeftEnds
 pub mod Cuts
 pub mod Passes

@@ -29,6 +29,10 @@ changed_step w w' n e left is s shows = shown_step w w' n n s e shows left (is �
 pub list_marked : (w : World) (xs : List LiveEnd) → xs ≡ live_list w → map view_mark xs ≡ marks w
 list_marked w xs h = ap (map view_mark) h ∙ marks_listed w
 
+-- the live ends that were listed are seen from here on
+pub shown_seen : (w : World) (n : Notes) (s : Settling) (es : List LiveEnd) → es ≡ live_list w → Shows w n s → Shows w (record n { seen = Some es }) s
+shown_seen w n s es lives h = record { world = h.world; changed = h.changed; stepped = h.stepped; waited = h.waited; seen = λ still. list_marked w es lives }
+
 pub listed_result : (r : Result (List LiveEnd) AllocError) (w : World) (P : Type 0) → IfOk r (λ ends. ends ≡ live_list w) → IfOk r (λ ends. P → map view_mark ends ≡ marks w)
 listed_result (Err x) w P h = tt
 listed_result (Ok ends) w P h = λ p. list_marked w ends h

@@ -11,10 +11,9 @@ use Rattle.protocol.specs.Settle.{Settling, drained, expire_visit, last_wait, li
 use Rattle.law_kept_datagrams.specs.Alike.{with_kept_datagrams}
 use Rattle.law_settling.specs.Events.{drain_events, expire_events, expire_events_by, expiry_events, rnr_events, rnr_events_by, round_events, running_events, send_all_events, send_events, sending_events, timer_events, timer_events_if_still, visit_events, visiting_events}
 use Rattle.law_settling.proofs.steps.Events.{drained_lead, rnr_lead, send_lead, visit_lead, visiting_lead}
-use Rattle.world_core.specs.Lives.{has_ended, link_view, live_list}
+use Rattle.world_core.specs.Lives.{has_ended, link_view}
 use Rattle.world_core.specs.Settled.{IsCut}
 use Rattle.context_core.specs.declared.lives.LinkView.{LinkView}
-use Rattle.context_core.specs.declared.lives.LiveEnd.{LiveEnd}
 use Rattle.settle_core.specs.Shown.{Cuts, Settles, Shows}
 use Rattle.settle_core.specs.Steps.{IsLinkAt, announce_events, once_events, view_resumes, view_runs}
 use Rattle.settle_core.specs.Waits.{may_wait, view_expires}
@@ -22,7 +21,7 @@ use Rattle.settle_core.specs.declared.notes.Notes.{Notes}
 use Rattle.settle_core.proofs.Cuts.{cut_after, cut_all, cut_as, cut_first, next_cut, one_led}
 use Rattle.settle_core.proofs.EndTimers.{expiry, may_shown, rnr_over, waits_is}
 use Rattle.settle_core.proofs.Ends.{names_shown}
-use Rattle.settle_core.proofs.Visits.{OnWay, fuel_some, link_shown, names_of, resumes_shown, runs_shown}
+use Rattle.settle_core.proofs.Visits.{OnWay, fuel_some, link_shown, resumes_shown, runs_shown}
 
 -- a step that was made, where what follows it runs out of memory
 pub settled_cuts : (w w' : World) (n n' : Notes) (e : WorldEvent) → Settles (λ s. settle_step s e) w n w' n' → Cuts (λ s. e ∷ []) w n w'
@@ -119,25 +118,25 @@ pub round_drains : (w new : World) (n : Notes) → Cuts (λ s. drain_events s) w
 unfolding round_events
 round_drains w new n c s shows = cut_first s.world new (drain_events s) _ (c s shows)
 
-pub round_sends : (w w1 new : World) (n n1 : Notes) (es : List LiveEnd) → es ≡ live_list w → Settles drained w n w1 n1 → Cuts (λ s. visiting_events visited visit_events s (names_of es)) w1 n1 new → Cuts (λ s. round_events s) w n new
+pub round_sends : (w w1 new : World) (n n1 : Notes) (ends : List ObjName) → ends ≡ live_names w → Settles drained w n w1 n1 → Cuts (λ s. visiting_events visited visit_events s ends) w1 n1 new → Cuts (λ s. round_events s) w n new
 unfolding round_events
-round_sends w w1 new n n1 es lives goes c s shows =
+round_sends w w1 new n n1 ends lives goes c s shows =
     let os : List ObjName = live_names s.world in
-    let names = names_shown w n s es shows lives in
+    let names = names_shown w n s ends shows lives in
     cut_after s.world (drained s).world new (drain_events s) (visiting_events visited visit_events (drained s) os ++ timer_events_if_still (visiting visited (drained s) os) os) (drained_lead s).after
     (cut_first (drained s).world new (visiting_events visited visit_events (drained s) os) (timer_events_if_still (visiting visited (drained s) os) os)
     (subst (λ z. IsCut (drained s).world (visiting_events visited visit_events (drained s) z) new) names (c (drained s) (goes s shows))))
 
-pub round_times : (w w1 new : World) (n n1 : Notes) (es : List LiveEnd) → es ≡ live_list w → Settles (λ s. visiting visited (drained s) (names_of es)) w n w1 n1 → n1.changed ≡ false → Cuts (λ s. timer_events s (names_of es)) w1 n1 new → Cuts (λ s. round_events s) w n new
+pub round_times : (w w1 new : World) (n n1 : Notes) (ends : List ObjName) → ends ≡ live_names w → Settles (λ s. visiting visited (drained s) ends) w n w1 n1 → n1.changed ≡ false → Cuts (λ s. timer_events s ends) w1 n1 new → Cuts (λ s. round_events s) w n new
 unfolding round_events
-round_times w w1 new n n1 es lives goes h c s shows =
+round_times w w1 new n n1 ends lives goes h c s shows =
     let os : List ObjName = live_names s.world in
     let t : Settling = visiting visited (drained s) os in
-    let names = names_shown w n s es shows lives in
-    let same : visiting visited (drained s) (names_of es) ≡ t = ap (visiting visited (drained s)) names in
+    let names = names_shown w n s ends shows lives in
+    let same : visiting visited (drained s) ends ≡ t = ap (visiting visited (drained s)) names in
     let g = goes s shows in
     let still : t.changed ≡ false = sym (ap (λ (x : Settling). x.changed) same) ∙ (sym g.changed ∙ h) in
-    let d : IsCut t.world (timer_events t os) new = subst (λ z. IsCut t.world (timer_events t z) new) names (subst (λ (x : Settling). IsCut x.world (timer_events x (names_of es)) new) same (c (visiting visited (drained s) (names_of es)) g)) in
+    let d : IsCut t.world (timer_events t os) new = subst (λ z. IsCut t.world (timer_events t z) new) names (subst (λ (x : Settling). IsCut x.world (timer_events x ends) new) same (c (visiting visited (drained s) ends) g)) in
     cut_after s.world (drained s).world new (drain_events s) (visiting_events visited visit_events (drained s) os ++ timer_events_if_still t os) (drained_lead s).after
     (cut_after (drained s).world t.world new (visiting_events visited visit_events (drained s) os) (timer_events_if_still t os) (visiting_lead visited visit_events visit_lead os (drained s)).after
     (cut_as t.world new (timer_events t os) (timer_events_if_still t os) (sym (pick_not t.changed [] (timer_events t os) still)) d))

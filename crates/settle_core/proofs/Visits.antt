@@ -1,8 +1,8 @@
 -- What the code reads of a state, and the parts of a round.
-use Rattle.std.proofs.Common.{arith, ◌≡◌, ◌≤◌, ◌<◌, ◌+◌, ◌-◌, ◌*◌, ℕ, suc, List, [], ◌∷◌, ◌++◌, Bool, true, false, refl, sym, ap, ◌∙◌, subst, Result, Ok, Err, map, take, get_or, length}
+use Rattle.std.proofs.Common.{arith, ◌≡◌, ◌≤◌, ◌<◌, ◌+◌, ◌-◌, ◌*◌, ℕ, suc, List, [], ◌∷◌, ◌++◌, Bool, true, false, refl, sym, ap, ◌∙◌, subst, Result, Ok, Err, take, get_or, length}
 use Rattle.std.specs.Prelude.{Option, Some, None, option_map, OnOk, if◌then◌else◌}
 use Rattle.std.specs.declared.alloc.AllocError.{AllocError}
-use Rattle.std.proofs.lemmas.List.{append_assoc, take_more, map-append}
+use Rattle.std.proofs.lemmas.List.{append_assoc, take_more}
 use Rattle.rdma_types.specs.declared.answers.Answer.{Answer}
 use Rattle.rdma_types.specs.declared.names.ObjName.{ObjName}
 use Rattle.protocol.specs.declared.events.WorldEvent.{WorldEvent}
@@ -20,7 +20,6 @@ use Rattle.law_settling.proofs.steps.Events.{send_lead}
 use Rattle.world_core.specs.Lives.{is_open, is_pending, link_view}
 use Rattle.world_core.specs.Places.{HaveOwnIds}
 use Rattle.context_core.specs.declared.lives.LinkView.{LinkView}
-use Rattle.context_core.specs.declared.lives.LiveEnd.{LiveEnd}
 use Rattle.settle_core.specs.Shown.{Settles, Shows}
 use Rattle.settle_core.specs.Steps.{IsLinkAt, delivered_at, sent_once, sweeping, view_resumes, view_runs}
 use Rattle.settle_core.specs.declared.notes.Notes.{Notes}
@@ -108,7 +107,7 @@ sends_next : (f : ℕ) (t : Settling) (o : ObjName) → is_sent (world_step t.wo
 unfolding sending_all
 sends_next f t o h = choose (is_sent (world_step t.world (transmit o)).answer) (sending_all f (drained (settle_step t (transmit o))) o) t h
 
-sends_no_more : (f : ℕ) (t : Settling) (o : ObjName) → is_sent (world_step t.world (transmit o)).answer ≡ false → sending_all (suc f) t o ≡ t
+pub sends_no_more : (f : ℕ) (t : Settling) (o : ObjName) → is_sent (world_step t.world (transmit o)).answer ≡ false → sending_all (suc f) t o ≡ t
 unfolding sending_all
 sends_no_more f t o h = choose_not (is_sent (world_step t.world (transmit o)).answer) (sending_all f (drained (settle_step t (transmit o))) o) t h
 
@@ -230,14 +229,11 @@ unfolding visiting
 visiting-push visit s [] o = refl
 visiting-push visit s (x ∷ os) o = visiting-push visit (visit s x) os o
 
-abbrev pub names_of : List LiveEnd → List ObjName
-names_of = map (λ (e : LiveEnd). e.name)
-
-pub visiting-more : (visit : Settling → ObjName → Settling) (s : Settling) (es : List LiveEnd) (i : ℕ) (e : LiveEnd) → i < length es → e ≡ get_or es i e →
-    visit (visiting visit s (names_of (take i es))) e.name ≡ visiting visit s (names_of (take (i + 1) es))
-visiting-more visit s es i e below is =
-    let more : take (i + 1) es ≡ take i es ++ e ∷ [] = take_more es i e below ∙ ap (λ x. take i es ++ x ∷ []) (sym is) in
-    sym (ap (λ xs. visiting visit s (names_of xs)) more ∙ (ap (visiting visit s) (map-append (λ (x : LiveEnd). x.name) (take i es) (e ∷ [])) ∙ visiting-push visit s (names_of (take i es)) e.name))
+pub visiting-more : (visit : Settling → ObjName → Settling) (s : Settling) (os : List ObjName) (i : ℕ) (o : ObjName) → i < length os → o ≡ get_or os i o →
+    visit (visiting visit s (take i os)) o ≡ visiting visit s (take (i + 1) os)
+visiting-more visit s os i o below is =
+    let more : take (i + 1) os ≡ take i os ++ o ∷ [] = take_more os i o below ∙ ap (λ x. take i os ++ x ∷ []) (sym is) in
+    sym (ap (visiting visit s) more ∙ visiting-push visit s (take i os) o)
 
 pub visiting-none : (visit : Settling → ObjName → Settling) (s : Settling) → visiting visit s [] ≡ s
 unfolding visiting

@@ -1,5 +1,5 @@
 -- Parts of a settling as the code takes them.
-use Rattle.std.specs.Prelude.{◌≡◌, ℕ, zero, suc, ◌+◌, ◌&&◌, not, List, [], ◌∷◌, ◌++◌, Bool, Some, option_map, if◌then◌else◌}
+use Rattle.std.specs.Prelude.{◌≡◌, ℕ, zero, suc, ◌+◌, ◌==◌, ◌&&◌, not, List, [], ◌∷◌, ◌++◌, Bool, Some, option_map, if◌then◌else◌}
 use Rattle.protocol.specs.declared.events.WorldEvent.{WorldEvent}
 use Rattle.protocol.specs.declared.events.WorldEvent.TheVariants as world_event
 use Rattle.rdma_types.specs.declared.names.ObjName.{ObjName}
@@ -51,3 +51,7 @@ view_runs v = not v.ended && (not v.paused && not v.resuming)
 -- .. and one in Rts and Resuming
 abbrev pub view_resumes : LinkView → Bool
 view_resumes v = not v.ended && v.resuming
+
+-- one that may have a packet to send
+abbrev pub view_may_send : LinkView → Bool
+view_may_send v = not v.rnr_wait && not (v.next == v.last)

@@ -30,14 +30,14 @@ pub(crate) struct Notes {
     pub(crate) stepped: bool,
     /// The last step of each end's RNR timer.
     pub(crate) waited: IndexMap<ObjName, Wait>,
-    /// The live ends after the last compared step of this round, where there was one. As long as the round has no change,
-    /// their marks are those of the world's live ends.
+    /// The live ends as this round began or after its last compared step, where they were listed. As long as the round has
+    /// no change, their marks are those of the world's live ends.
     pub(crate) seen: Option<Items<LiveEnd>>,
 }
 
 impl Notes {
     /// One step of the world, with a note of changes. As long as the round has no change, the marks of all live ends
-    /// are compared with those that the last such step left.
+    /// are compared with those that were seen last.
     pub(crate) fn step(
         &mut self,
         alloc: Global,

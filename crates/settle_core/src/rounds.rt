@@ -1,6 +1,6 @@
 //! Rounds of settling.
 
-ghost use Rattle.std.specs.Prelude.{◌≡◌, ◌*◌, ◌+◌, ◌≤◌, ◌||◌, not, length, All, sum_by, IfOk, IfSome, OnErr, OnOk};
+ghost use Rattle.std.specs.Prelude.{◌≡◌, ◌*◌, ◌+◌, ◌≤◌, ◌||◌, not, length, map, All, sum_by, IfOk, IfSome, OnErr, OnOk};
 ghost use Rattle.protocol.specs.Lawful.{IsLawful};
 ghost use Rattle.protocol.specs.Settle.{Settling, begun, load_of, round, rounds_of};
 ghost use Rattle.protocol.specs.State as state;
@@ -14,6 +14,7 @@ use crate::laws::settled_worlds_are_quiet;
 use crate::leaving::unfinished;
 use crate::notes::Notes;
 use indexmap::IndexMap;
+use rdma_types::ObjName;
 use std::alloc::{AllocError, Global};
 use world_core::{LiveEnd, Quiet, Settler, World};
 
@@ -36,6 +37,17 @@ fn unacknowledged(end: &LiveEnd) -> u64
         Some(link) if !link.ended => link.last.saturating_sub(link.una),
         _ => 0,
     }
+}
+
+/// The names of these ends.
+fn names_of(alloc: Global, ends: &[LiveEnd]) -> Result<Vec<ObjName>, AllocError>
+    ensures { IfOk result (λ names. names.items ≡ map (λ e. e.name) ends.now) }
+{
+    let mut names = Vec::with_capacity(alloc, ends.len())?;
+    for end in ends {
+        names.push(end.name)?;
+    }
+    Ok(names)
 }
 
 /// The load of these ends, where it fits.
@@ -66,13 +78,14 @@ impl Notes {
         ensures cut { OnErr result (Cuts (λ s. round_events s) world.old self.old world.new) }
     {
         let live = world.live_ends(alloc)?;
-        let ends = live.as_slice();
+        let ends = names_of(alloc, live.as_slice())?;
+        self.seen = Some(live);
         self.drain(alloc, world)?;
-        self.send_each(alloc, world, ends)?;
+        self.send_each(alloc, world, ends.as_slice())?;
         if self.changed {
             return Ok(());
         }
-        self.step_or_expire(alloc, world, ends)
+        self.step_or_expire(alloc, world, ends.as_slice())
     }
 
     /// Whether nothing changed and no timer was stepped in this round.

@@ -1,16 +1,16 @@
 //! Sending: each end transmits until it has nothing to send now.
 
-ghost use Rattle.std.specs.Prelude.{◌≡◌, ◌<◌, ◌^◌, map, IfOk, OnErr, OnOk};
+ghost use Rattle.std.specs.Prelude.{◌≡◌, ◌<◌, ◌^◌, IfOk, OnErr, OnOk};
 ghost use Rattle.protocol.specs.Settle.{Settling, drained, is_sent, sends_all, sends_if_running, settle_step, transmit, visited, visiting};
 ghost use Rattle.protocol.specs.WorldStep.{world_step};
 ghost use Rattle.law_settling.specs.Events.{running_events, send_all_events, visit_events, visiting_events};
 ghost use Rattle.settle_core.specs.Shown.{Cuts, Settles, Shows};
-ghost use Rattle.settle_core.specs.Steps.{IsLinkAt, announce_events, once_events, sent_once, view_resumes, view_runs};
+ghost use Rattle.settle_core.specs.Steps.{IsLinkAt, announce_events, once_events, sent_once, view_may_send, view_resumes, view_runs};
 
 use crate::notes::{Notes, transmit};
 use rdma_types::{Answer, ObjName};
 use std::alloc::{AllocError, Global};
-use world_core::{LinkView, LiveEnd, World};
+use world_core::{LinkView, World};
 
 /// Whether a link is in Rts and Running.
 fn is_running(link: &LinkView) -> bool
@@ -24,6 +24,13 @@ fn is_resuming(link: &LinkView) -> bool
     ensures { result ≡ view_resumes link.now }
 {
     !link.ended && link.resuming
+}
+
+/// Whether an end with this link may have a packet to send: it does not wait for its RNR timer, and not all was sent.
+fn may_send(link: &LinkView) -> bool
+    ensures { result ≡ view_may_send link.now }
+{
+    !link.rnr_wait && link.next != link.last
 }
 
 /// Whether a datagram was sent.
@@ -69,7 +76,7 @@ impl Notes {
         Ok(())
     }
 
-    /// Only a Running end goes on.
+    /// Only a Running end goes on, and it is not asked where it has nothing to send.
     fn send_if_running(
         &mut self,
         alloc: Global,
@@ -82,7 +89,7 @@ impl Notes {
         ensures ok { OnOk result (Settles (λ s. sends_if_running s end.now) world.old self.old world.new self.new) }
         ensures cut { OnErr result (Cuts (λ s. running_events s end.now) world.old self.old world.new) }
     {
-        if is_running(link) {
+        if is_running(link) && may_send(link) {
             return self.send_all(alloc, world, end, link);
         }
         Ok(())
@@ -125,13 +132,13 @@ impl Notes {
         &mut self,
         alloc: Global,
         world: &mut World,
-        ends: &[LiveEnd],
+        ends: &[ObjName],
     ) -> Result<(), AllocError>
-        ensures ok { OnOk result (Settles (λ s. visiting visited s (map (λ e. e.name) ends.now)) world.old self.old world.new self.new) }
-        ensures cut { OnErr result (Cuts (λ s. visiting_events visited visit_events s (map (λ e. e.name) ends.now)) world.old self.old world.new) }
+        ensures ok { OnOk result (Settles (λ s. visiting visited s ends.now) world.old self.old world.new self.new) }
+        ensures cut { OnErr result (Cuts (λ s. visiting_events visited visit_events s ends.now) world.old self.old world.new) }
     {
         for end in ends {
-            self.visit(alloc, world, &end.name)?;
+            self.visit(alloc, world, end)?;
         }
         Ok(())
     }

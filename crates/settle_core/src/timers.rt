@@ -1,7 +1,7 @@
 //! Timers: where nothing changed in a round, the ends that wait for their RNR timers are let go on, and else retransmission
 //! timeouts expire.
 
-ghost use Rattle.std.specs.Prelude.{◌≡◌, map, true, if◌then◌else◌, Some, OnErr, OnOk};
+ghost use Rattle.std.specs.Prelude.{◌≡◌, true, if◌then◌else◌, Some, OnErr, OnOk};
 ghost use Rattle.protocol.specs.Settle.{expire_visit, rnr_visit, timers, visiting};
 ghost use Rattle.rdma_types.specs.Lists.{same_object};
 ghost use Rattle.indexmap.specs.IndexMap.{get};
@@ -12,7 +12,7 @@ ghost use Rattle.settle_core.specs.Waits.{may_wait, view_expires};
 use crate::notes::{Notes, Wait};
 use rdma_types::ObjName;
 use std::alloc::{AllocError, Global};
-use world_core::{Event, LinkView, LiveEnd, World, WorldEvent};
+use world_core::{Event, LinkView, World, WorldEvent};
 
 /// The rnr of an end that waits for receives without limit.
 const ENDLESS: u8 = 7;
@@ -100,13 +100,13 @@ impl Notes {
         &mut self,
         alloc: Global,
         world: &mut World,
-        ends: &[LiveEnd],
+        ends: &[ObjName],
     ) -> Result<(), AllocError>
-        ensures ok { OnOk result (Settles (λ s. visiting rnr_visit s (map (λ e. e.name) ends.now)) world.old self.old world.new self.new) }
-        ensures cut { OnErr result (Cuts (λ s. visiting_events rnr_visit rnr_events s (map (λ e. e.name) ends.now)) world.old self.old world.new) }
+        ensures ok { OnOk result (Settles (λ s. visiting rnr_visit s ends.now) world.old self.old world.new self.new) }
+        ensures cut { OnErr result (Cuts (λ s. visiting_events rnr_visit rnr_events s ends.now) world.old self.old world.new) }
     {
         for end in ends {
-            self.step_timer(alloc, world, &end.name)?;
+            self.step_timer(alloc, world, end)?;
         }
         Ok(())
     }
@@ -116,13 +116,13 @@ impl Notes {
         &mut self,
         alloc: Global,
         world: &mut World,
-        ends: &[LiveEnd],
+        ends: &[ObjName],
     ) -> Result<(), AllocError>
-        ensures ok { OnOk result (Settles (λ s. visiting expire_visit s (map (λ e. e.name) ends.now)) world.old self.old world.new self.new) }
-        ensures cut { OnErr result (Cuts (λ s. visiting_events expire_visit expire_events s (map (λ e. e.name) ends.now)) world.old self.old world.new) }
+        ensures ok { OnOk result (Settles (λ s. visiting expire_visit s ends.now) world.old self.old world.new self.new) }
+        ensures cut { OnErr result (Cuts (λ s. visiting_events expire_visit expire_events s ends.now) world.old self.old world.new) }
     {
         for end in ends {
-            self.expire(alloc, world, &end.name)?;
+            self.expire(alloc, world, end)?;
         }
         Ok(())
     }
@@ -132,10 +132,10 @@ impl Notes {
         &mut self,
         alloc: Global,
         world: &mut World,
-        ends: &[LiveEnd],
+        ends: &[ObjName],
     ) -> Result<(), AllocError>
-        ensures ok { OnOk result (Settles (λ s. timers s (map (λ e. e.name) ends.now)) world.old self.old world.new self.new) }
-        ensures cut { OnErr result (Cuts (λ s. timer_events s (map (λ e. e.name) ends.now)) world.old self.old world.new) }
+        ensures ok { OnOk result (Settles (λ s. timers s ends.now) world.old self.old world.new self.new) }
+        ensures cut { OnErr result (Cuts (λ s. timer_events s ends.now) world.old self.old world.new) }
     {
         self.step_timers(alloc, world, ends)?;
         if self.stepped {

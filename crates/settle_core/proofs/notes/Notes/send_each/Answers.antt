@@ -4,7 +4,6 @@ use Rattle.settle_core.proofs.Ends.{visits_all, visits_begin, visits_more}
 use Rattle.law_settling.specs.Events.{visit_events}
 use Rattle.law_settling.proofs.steps.Events.{visit_lead}
 use Rattle.settle_core.proofs.Cuts.{visits_cut}
-use Rattle.settle_core.proofs.Visits.{names_of}
 use Rattle.settle_core.proofs.Goings.{on_err}
 use Rattle.settle_core.proofs.notes.Notes.send_each.Goals as goal
 
@@ -25,4 +24,4 @@ returns-in_err-visit-clause-cut c =
     on_err c.from_residual.result
     (λ s h.
     visits_cut visited visit_events (λ t o. (visit_lead t o).after) c.args.ends.now c.loop-end.end-index s c.end-item.result c.visit.new.world c.loop-end-test.true c.end-item.is
-    (c.in_err-visit.ensures.cut (visiting visited s (names_of (take c.loop-end.end-index c.args.ends.now))) (c.loop-end.invariant s h)))
+    (c.in_err-visit.ensures.cut (visiting visited s (take c.loop-end.end-index c.args.ends.now)) (c.loop-end.invariant s h)))

@@ -2,7 +2,6 @@ use Rattle.settle_core.proofs.Ends.{timers_expired, timers_stepped}
 use Rattle.settle_core.proofs.Visits.{on_ok}
 use Rattle.settle_core.proofs.Cuts.{on_err_map}
 use Rattle.settle_core.proofs.Parts.{timers_first, timers_then}
-use Rattle.settle_core.proofs.Visits.{names_of}
 use Rattle.settle_core.proofs.Goings.{on_err}
 use Rattle.settle_core.proofs.notes.Notes.step_or_expire.Goals as goal
 
@@ -17,7 +16,7 @@ returns-clause-ok c =
 pub returns-in_err-step_timers-clause-cut : goal.returns-in_err-step_timers-clause-cut
 returns-in_err-step_timers-clause-cut c =
     on_err c.from_residual.result
-    (timers_first c.args.world.now c.step_timers.new.world c.args.self.now (names_of c.args.ends.now) c.in_err-step_timers.ensures.cut)
+    (timers_first c.args.world.now c.step_timers.new.world c.args.self.now c.args.ends.now c.in_err-step_timers.ensures.cut)
 
 pub returns-clause-cut : goal.returns-clause-cut
-returns-clause-cut c = on_err_map c.expire_each.result (timers_then c.args.world.now c.step_timers.new.world c.expire_each.new.world c.args.self.now c.step_timers.new.self (names_of c.args.ends.now) c.in_ok-step_timers.ensures.ok c.if-self.false) c.expire_each.ensures.cut
+returns-clause-cut c = on_err_map c.expire_each.result (timers_then c.args.world.now c.step_timers.new.world c.expire_each.new.world c.args.self.now c.step_timers.new.self c.args.ends.now c.in_ok-step_timers.ensures.ok c.if-self.false) c.expire_each.ensures.cut

@@ -4,7 +4,6 @@ use Rattle.settle_core.proofs.Ends.{visits_all, visits_begin, visits_more}
 use Rattle.law_settling.specs.Events.{rnr_events}
 use Rattle.law_settling.proofs.steps.Events.{rnr_lead}
 use Rattle.settle_core.proofs.Cuts.{visits_cut}
-use Rattle.settle_core.proofs.Visits.{names_of}
 use Rattle.settle_core.proofs.Goings.{on_err}
 use Rattle.settle_core.proofs.notes.Notes.step_timers.Goals as goal
 
@@ -25,4 +24,4 @@ returns-in_err-step_timer-clause-cut c =
     on_err c.from_residual.result
     (λ s h.
     visits_cut rnr_visit rnr_events (λ t o. (rnr_lead t o).after) c.args.ends.now c.loop-end.end-index s c.end-item.result c.step_timer.new.world c.loop-end-test.true c.end-item.is
-    (c.in_err-step_timer.ensures.cut (visiting rnr_visit s (names_of (take c.loop-end.end-index c.args.ends.now))) (c.loop-end.invariant s h)))
+    (c.in_err-step_timer.ensures.cut (visiting rnr_visit s (take c.loop-end.end-index c.args.ends.now)) (c.loop-end.invariant s h)))
