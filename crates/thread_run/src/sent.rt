@@ -29,7 +29,7 @@ impl<'a> Model for Flown<'a> {
 #[derive(Drop)]
 pub struct Flights<'a> {
     flown: Vec<Flown<'a>>,
-    /// The place of the one that is looked at first, behind the last one that arrived: most arrive in their order.
+    /// The place behind the last one that arrived, from where the next one is looked for: most arrive in their order.
     next: usize,
 }
 
@@ -80,6 +80,24 @@ fn last_like(flights: &[Flown<'_>], from: Address, to: Address, bytes: &[u8]) ->
     None
 }
 
+/// The place of the first one like that from a place on.
+fn first_like(
+    flights: &[Flown<'_>],
+    place: usize,
+    from: Address,
+    to: Address,
+    bytes: &[u8],
+) -> Option<usize>
+    ensures { IfSome result (λ _. HasDatagram flights.now from to bytes.now) }
+{
+    for k in place..flights.len() {
+        if is_at(flights, k, from, to, bytes) {
+            return Some(k);
+        }
+    }
+    None
+}
+
 impl<'a> Flights<'a> {
     /// None.
     pub fn none(alloc: Global) -> Flights<'a>
@@ -109,16 +127,17 @@ impl<'a> Flights<'a> {
         Ok(())
     }
 
-    /// Whether one is like that.
+    /// Whether one is like that. Those before it, that did not arrive in their turn, are passed.
     fn was_sent(&mut self, from: Address, to: Address, bytes: &[u8]) -> bool
         ensures sent { IsTrue result → HasDatagram self.old from to bytes.now }
         ensures same { self.new ≡ self.old }
     {
-        if is_at(self.flown.as_slice(), self.next, from, to, bytes) {
-            self.next = self.next.saturating_add(1);
+        let flown = self.flown.as_slice();
+        if let Some(place) = first_like(flown, self.next, from, to, bytes) {
+            self.next = place.saturating_add(1);
             return true;
         }
-        last_like(self.flown.as_slice(), from, to, bytes).is_some()
+        last_like(flown, from, to, bytes).is_some()
     }
 
     /// Whether what arrives at an address was sent to it.
