@@ -220,31 +220,6 @@ fn responses(
     Ok(sent)
 }
 
-/// The READ responses that are due for a datagram, if any.
-fn due_responses(
-    alloc: Global,
-    buffers: &mut Buffers,
-    pool: &PagePool,
-    regions: &Regions,
-    domain: Name,
-    link: &EndLink,
-    d: &Datagram<'_>,
-) -> Result<Option<Items<Sent>>, AllocError>
-    requires held { AreHeld pool.now regions.now }
-    requires terms { AreTerms link.now.terms }
-    requires fits { Fits (packet d.now) }
-    ensures unanswered { may_answer d.now.opcode ≡ false → IsOk result }
-    ensures bounded { IfOk result (λ r. IfSome r (λ list. length list ≤ 2 ^ 32)) }
-    ensures read { (due : DueRead) → due_in link.now (regions_of pool.now regions.now) domain (packet d.now) ≡ Some due
-        → IfOk result (λ r. r ≡ Some (responses pool.now (regions_of pool.now regions.now) link.now due (pieces due.spot.length link.now.terms.mtu))) }
-{
-    let Some(due) = link.due(regions, domain, d) else {
-        return Ok(None);
-    };
-    let read = Some(responses(alloc, buffers, pool, regions, link, &due)?);
-    Ok(read)
-}
-
 /// Prepares the memory for a reply to a datagram of that opcode, where it may have one.
 fn prepare_for(alloc: Global, buffers: &mut Buffers, opcode: u8) -> Result<(), AllocError>
     ensures room { OnOk result (IsRoomFor opcode buffers.new.kept) }
@@ -276,7 +251,10 @@ fn replies_for(
     ensures read { (due : DueRead) → due_in link.now (regions_of pool.now regions.now) domain (packet d.now) ≡ Some due
         → IfOk result (λ r. r ≡ Some (responses pool.now (regions_of pool.now regions.now) link.now due (pieces due.spot.length link.now.terms.mtu))) }
 {
-    let read = due_responses(alloc, buffers, pool, regions, domain, link, d)?;
+    let read = match link.due(regions, domain, d) {
+        Some(due) => Some(responses(alloc, buffers, pool, regions, link, &due)?),
+        None => None,
+    };
     prepare_for(alloc, buffers, d.opcode)?;
     Ok(read)
 }
