@@ -1,36 +1,51 @@
-//! A device with the journal of its events.
+//! A device with the journal of its steps.
 
-ghost use Rattle.std.specs.Prelude.{◌≡◌, ◌≤◌, ◌^◌, length, slice_get, IfOk, IfSome, OnErr};
+ghost use Rattle.std.specs.Prelude.{◌≡◌, ◌≤◌, ◌^◌, length, slice_get, option_map, IfOk, IfSome, OnErr};
 ghost use Rattle.std.specs.Option.{option_copied};
+ghost use Rattle.std.specs.Arc.{arc_value};
 ghost use Rattle.protocol.specs.Events.{IsLawfulEvent};
 ghost use Rattle.protocol.specs.Lawful.{IsLawful};
-ghost use Rattle.station.specs.Books.{IsBookStep, device_of, opened_with};
+ghost use Rattle.station.specs.Books.{IsBookStep, IsStepOf, device_of, opened_with};
 
+use crate::Step;
 use device_core::Device;
 use protocol::{Event, Outcome};
+use rdma_types::{Answer, Items};
 use std::alloc::{AllocError, Global};
 use std::marker::Model;
+use std::sync::Arc;
 
-/// A device, as it opened and as it is, with the events that led from the one to the other. Contracts see the opening
-/// and the events; the device is what the rules give for them. The journal has no limit.
+/// A device, as it opened and as it is, with the steps that led from the one to the other. Contracts see the opening
+/// and the events; the device and the outcomes are what the rules give for them. The journal has no limit.
 #[derive(Drop)]
 pub struct Book {
     opening: Device,
-    journal: Vec<Event>,
+    journal: Vec<Arc<Step>>,
     device: Device,
 }
 
 impl Model for Book {
-    ghost use Rattle.std.specs.Prelude.{◌≡◌, All};
-    ghost use Rattle.protocol.specs.Events.{IsLawfulEvent};
-    ghost use Rattle.protocol.specs.Replay.{replay};
-    ghost use Rattle.station.specs.Books.{BookView};
+    ghost use Rattle.station.specs.Books.{BookView, IsHeld, events_of, steps_in};
 
     ghost Value = { BookView };
 
-    ghost view = { λ b. record { opening = b.opening; journal = b.journal.items } };
+    ghost view = { λ b. record { opening = b.opening; journal = events_of (steps_in b.journal.items) } };
 
-    ghost invariant = { λ b. (b.device ≡ replay b.opening b.journal.items) × All IsLawfulEvent b.journal.items };
+    ghost invariant = { λ b. IsHeld b.opening (steps_in b.journal.items) b.device };
+}
+
+/// A step whose outcome is still to come.
+fn asked(alloc: Global, event: Event) -> Step
+    ensures { result.event ≡ event }
+{
+    Step {
+        event,
+        outcome: Outcome {
+            answer: Answer::Idle,
+            sent: Items::new(Vec::new(alloc)),
+            image: None,
+        },
+    }
 }
 
 impl Book {
@@ -46,19 +61,40 @@ impl Book {
         })
     }
 
-    /// Steps the device on a lawful event, and journals the event; the answer is its place in the journal, from 0, with
-    /// the outcome. Errors: `AllocError` when out of memory; the book is then as before.
-    pub fn step(&mut self, alloc: Global, event: Event) -> Result<(u64, Outcome), AllocError>
+    /// Steps the device on a lawful event, and journals the step; the answer is its place in the journal, from 0. Errors:
+    /// `AllocError` when out of memory; the book is then as before.
+    pub fn step(&mut self, alloc: Global, event: Event) -> Result<u64, AllocError>
         requires { IsLawfulEvent event }
-        ensures ok { IfOk result (λ r. IsBookStep self.old self.new event r.0 r.1) }
-        ensures image { IfOk result (λ r. IfSome r.1.image (λ i. IsLawful i)) }
+        ensures ok { IfOk result (IsBookStep self.old self.new event) }
         ensures err { OnErr result (self.new ≡ self.old) }
     {
         self.journal.try_reserve(1)?;
+        let mut step = Arc::new(alloc, asked(alloc, event))?;
+        let Some(noted) = Arc::get_mut(&mut step) else {
+            return Err(AllocError);
+        };
+        noted.outcome = self.device.step(alloc, &noted.event)?;
         let place = self.journal.len() as u64;
-        let outcome = self.device.step(alloc, &event)?;
-        self.journal.push(event).unwrap();
-        Ok((place, outcome))
+        self.journal.push(step).unwrap();
+        Ok(place)
+    }
+
+    /// Step `place`, from 0; None where there are fewer.
+    pub fn step_at(&self, place: u64) -> Option<&Step>
+        ensures event { option_map (λ s. s.now.event) result ≡ slice_get self.now.journal place }
+        ensures is { IfSome result (λ s. IsStepOf self.now place s.now) }
+    {
+        match self.journal.get(place as usize) {
+            Some(step) => Some(step),
+            None => None,
+        }
+    }
+
+    /// Step `place`, from 0, shared with the journal; None where there are fewer, or where 2^63 share it.
+    pub fn share(&self, place: u64) -> Option<Arc<Step>>
+        ensures { IfSome result (λ s. IsStepOf self.now place (arc_value s)) }
+    {
+        Arc::try_clone(self.journal.get(place as usize)?).ok()
     }
 
     /// The device as it opened.
@@ -75,15 +111,15 @@ impl Book {
         &self.device
     }
 
-    /// Event `place`, from 0; None where there are fewer.
-    pub fn event(&self, place: u64) -> Option<&Event>
-        ensures event { option_copied result ≡ slice_get self.now.journal place }
-        ensures lawful { IfSome result (λ e. IsLawfulEvent e.now) }
+    /// The same, without its journal.
+    pub fn into_device(self) -> Device
+        ensures { result ≡ device_of self }
     {
-        self.journal.get(place as usize)
+        let Book { device, .. } = self;
+        device
     }
 
-    /// How many events there are.
+    /// How many steps there are.
     pub fn len(&self) -> u64
         ensures { result ≡ length self.now.journal }
     {

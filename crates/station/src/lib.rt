@@ -4,8 +4,10 @@
 mod book;
 mod locks;
 mod order_book;
+mod receipt;
 
 pub use book::Book;
-pub use law_world_orders::{OrderEntry, Receipt};
+pub use law_world_orders::OrderEntry;
 pub use locks::{NextDatagram, Orders, Station};
 pub use order_book::{Claim, OrderBook};
+pub use receipt::{Receipt, Step};

@@ -11,7 +11,6 @@ use rdma_types::Address;
 use std::alloc::{AllocError, Global};
 use std::marker::Model;
 use std::sync::{Condvar, Mutex, Wait};
-use step_differences::copy_event;
 
 /// The order book, and what the threads that write into it tell one another.
 #[derive(Drop)]
@@ -146,19 +145,6 @@ impl Model for Station {
     ghost view = { λ s. s.id };
 }
 
-/// The receipt of a step.
-fn receipt_of(worker: u32, device: u8, place: u64, event: Event, outcome: Outcome) -> Receipt
-    ensures { result ≡ record { worker = worker; device = device; place = place; event = event; outcome = outcome } }
-{
-    Receipt {
-        worker,
-        device,
-        place,
-        event,
-        outcome,
-    }
-}
-
 impl Station {
     /// The lock round a book.
     pub fn make(book: Book) -> Station
@@ -220,11 +206,13 @@ impl Station {
         ensures ok { IfOk result (λ r. IsReceiptOf self.now worker event r) }
         ensures image { IfOk result (λ r. IfSome r.outcome.image (λ i. IsLawful i)) }
     {
-        let asked = copy_event(alloc, &event)?;
         let mut book = self.book.lock(rt);
-        let (place, outcome) = book.step(alloc, event)?;
-        orders.enter(rt, alloc, self.id, place, self.address, &outcome)?;
-        Ok(receipt_of(worker, self.id, place, asked, outcome))
+        let place = book.step(alloc, event)?;
+        let Some(step) = book.share(place) else {
+            return Err(AllocError);
+        };
+        orders.enter(rt, alloc, self.id, place, self.address, &step.outcome)?;
+        Ok(Receipt::new(worker, self.id, place, step))
     }
 
     /// The book, without its lock.
