@@ -5,7 +5,7 @@ ghost use Rattle.protocol.specs.Events.{IsLawfulEvent};
 ghost use Rattle.protocol.specs.Lawful.{IsLawful};
 ghost use Rattle.station.specs.Books.{IsReceiptOf};
 
-use crate::{Book, Claim, OrderBook, Receipt};
+use crate::{Book, OrderBook, Receipt};
 use protocol::{Event, Outcome};
 use rdma_types::Address;
 use std::alloc::{AllocError, Global};
@@ -16,21 +16,9 @@ use std::sync::{Condvar, Mutex, Wait};
 #[derive(Drop)]
 struct Desk {
     book: OrderBook,
-    /// A datagram is claimed, and its arrival is not yet entered.
-    is_claimed: bool,
     /// How many turns have ended with news.
     turns: u64,
     halted: bool,
-}
-
-/// What the network has for a thread that would deliver.
-#[derive(Drop)]
-pub enum NextDatagram {
-    /// This one, which nobody else delivers.
-    Claimed(Claim),
-    /// Another thread is delivering one.
-    UnderWay,
-    Nothing,
 }
 
 /// A lock round an order book. A thread that waits at it sleeps until another one's turn has ended with news, or the orders
@@ -47,7 +35,6 @@ impl Orders {
         Orders {
             desk: Mutex::new(Desk {
                 book,
-                is_claimed: false,
                 turns: 0,
                 halted: false,
             }),
@@ -59,37 +46,12 @@ impl Orders {
     fn enter<R: Wait>(
         &self,
         rt: &R,
-        alloc: Global,
         device: u8,
         place: u64,
-        from: Address,
         outcome: &Outcome,
     ) -> Result<(), AllocError> {
-        self.desk
-            .lock(rt)
-            .book
-            .enter(alloc, device, place, from, outcome)?;
-        Ok(())
-    }
-
-    /// Claims the pending datagram with the least number, which is pending no more. One is claimed at a time, so datagrams
-    /// arrive in the order of their numbers. Errors: `AllocError` when out of memory.
-    pub fn claim<R: Wait>(&self, rt: &R, alloc: Global) -> Result<NextDatagram, AllocError> {
-        let mut desk = self.desk.lock(rt);
-        if desk.is_claimed {
-            return Ok(NextDatagram::UnderWay);
-        }
-        let Some(claim) = desk.book.pending(alloc)? else {
-            return Ok(NextDatagram::Nothing);
-        };
-        desk.book.took(claim.k);
-        desk.is_claimed = true;
-        Ok(NextDatagram::Claimed(claim))
-    }
-
-    /// The claimed datagram has arrived.
-    pub fn arrived<R: Wait>(&self, rt: &R) {
-        self.desk.lock(rt).is_claimed = false;
+        let count = outcome.sent.len() as u64;
+        self.desk.lock(rt).book.enter(device, place, count)
     }
 
     /// How many turns have ended with news.
@@ -211,7 +173,7 @@ impl Station {
         let Some(step) = book.share(place) else {
             return Err(AllocError);
         };
-        orders.enter(rt, alloc, self.id, place, self.address, &step.outcome)?;
+        orders.enter(rt, self.id, place, &step.outcome)?;
         Ok(Receipt::new(worker, self.id, place, step))
     }
 
