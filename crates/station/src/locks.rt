@@ -10,7 +10,7 @@ use protocol::{Event, Outcome};
 use rdma_types::Address;
 use std::alloc::{AllocError, Global};
 use std::marker::Model;
-use std::sync::{Condvar, Mutex, Wait};
+use std::sync::{Condvar, Mutex, MutexGuard, Wait};
 
 /// The order book, and what the threads that write into it tell one another.
 #[derive(Drop)]
@@ -133,9 +133,19 @@ impl Station {
         self.address
     }
 
-    /// Steps the device on a lawful event under its lock, and enters the step into the orders before it lets go of the
-    /// lock. The receipt tells what was asked, by whom, and the outcome, whose image keeps the rules. Errors: `AllocError`
-    /// when out of memory; the orders are then halted, and the step may stand in the book alone.
+    /// Takes the lock of the device, for several steps.
+    pub fn open<'a, R: Wait>(&'a self, rt: &R, orders: &'a Orders) -> Session<'a>
+        ensures { result ≡ self.now }
+    {
+        let book = self.book.lock(rt);
+        Session {
+            id: self.id,
+            orders,
+            book,
+        }
+    }
+
+    /// One step under the lock of the device, as `Session::call` makes it.
     pub fn call<R: Wait>(
         &self,
         rt: &R,
@@ -148,38 +158,80 @@ impl Station {
         ensures ok { IfOk result (λ r. IsReceiptOf self.now worker event r) }
         ensures image { IfOk result (λ r. IfSome r.outcome.image (λ i. IsLawful i)) }
     {
-        let receipt = self.step(rt, alloc, orders, worker, event);
-        if receipt.is_err() {
-            orders.halt(rt);
-        }
-        receipt
-    }
-
-    /// The same, without a halt.
-    fn step<R: Wait>(
-        &self,
-        rt: &R,
-        alloc: Global,
-        orders: &Orders,
-        worker: u32,
-        event: Event,
-    ) -> Result<Receipt, AllocError>
-        requires { IsLawfulEvent event }
-        ensures ok { IfOk result (λ r. IsReceiptOf self.now worker event r) }
-        ensures image { IfOk result (λ r. IfSome r.outcome.image (λ i. IsLawful i)) }
-    {
-        let mut book = self.book.lock(rt);
-        let place = book.step(alloc, event)?;
-        let Some(step) = book.share(place) else {
-            return Err(AllocError);
-        };
-        orders.enter(rt, self.id, place, &step.outcome)?;
-        Ok(Receipt::new(worker, self.id, place, step))
+        self.open(rt, orders).call(rt, alloc, worker, event)
     }
 
     /// The book, without its lock.
     pub fn into_book(self) -> Book {
         let Station { book, .. } = self;
         book.into_inner()
+    }
+}
+
+/// The lock of a device, held for several steps. Contracts see the device's id.
+#[derive(Drop)]
+pub struct Session<'a> {
+    id: u8,
+    orders: &'a Orders,
+    book: MutexGuard<'a, Book>,
+}
+
+impl<'a> Model for Session<'a> {
+    ghost use Rattle.std.specs.Prelude.{ℕ};
+
+    ghost Value = { ℕ };
+
+    ghost view = { λ s. s.id };
+}
+
+impl<'a> Session<'a> {
+    /// The device's id.
+    pub fn id(&self) -> u8
+        ensures { result ≡ self.now }
+    {
+        self.id
+    }
+
+    /// Steps the device on a lawful event, and enters the step into the orders. The receipt tells what was asked, by whom,
+    /// and the outcome, whose image keeps the rules. Errors: `AllocError` when out of memory; the orders are then halted,
+    /// and the step may stand in the book alone.
+    pub fn call<R: Wait>(
+        &mut self,
+        rt: &R,
+        alloc: Global,
+        worker: u32,
+        event: Event,
+    ) -> Result<Receipt, AllocError>
+        requires { IsLawfulEvent event }
+        ensures ok { IfOk result (λ r. IsReceiptOf self.old worker event r) }
+        ensures image { IfOk result (λ r. IfSome r.outcome.image (λ i. IsLawful i)) }
+        ensures same { self.new ≡ self.old }
+    {
+        let receipt = self.step(rt, alloc, worker, event);
+        if receipt.is_err() {
+            self.orders.halt(rt);
+        }
+        receipt
+    }
+
+    /// The same, without a halt.
+    fn step<R: Wait>(
+        &mut self,
+        rt: &R,
+        alloc: Global,
+        worker: u32,
+        event: Event,
+    ) -> Result<Receipt, AllocError>
+        requires { IsLawfulEvent event }
+        ensures ok { IfOk result (λ r. IsReceiptOf self.old worker event r) }
+        ensures image { IfOk result (λ r. IfSome r.outcome.image (λ i. IsLawful i)) }
+        ensures same { self.new ≡ self.old }
+    {
+        let place = self.book.step(alloc, event)?;
+        let Some(step) = self.book.share(place) else {
+            return Err(AllocError);
+        };
+        self.orders.enter(rt, self.id, place, &step.outcome)?;
+        Ok(Receipt::new(worker, self.id, place, step))
     }
 }
