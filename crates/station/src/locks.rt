@@ -59,11 +59,12 @@ impl Orders {
         self.desk.lock(rt).turns
     }
 
-    /// A turn has ended with news: all who wait are woken.
-    pub fn end_turn<R: Wait>(&self, rt: &R) {
+    /// A turn has ended with news: all who wait are woken. The answer counts it too.
+    pub fn end_turn<R: Wait>(&self, rt: &R) -> u64 {
         let mut desk = self.desk.lock(rt);
         desk.turns = desk.turns.saturating_add(1);
         self.changes.notify_all();
+        desk.turns
     }
 
     /// From now on each wait ends.
@@ -140,6 +141,7 @@ impl Station {
         let book = self.book.lock(rt);
         Session {
             id: self.id,
+            address: self.address,
             orders,
             book,
         }
@@ -172,6 +174,7 @@ impl Station {
 #[derive(Drop)]
 pub struct Session<'a> {
     id: u8,
+    address: Address,
     orders: &'a Orders,
     book: MutexGuard<'a, Book>,
 }
@@ -190,6 +193,11 @@ impl<'a> Session<'a> {
         ensures { result ≡ self.now }
     {
         self.id
+    }
+
+    /// The device's address.
+    pub fn address(&self) -> Address {
+        self.address
     }
 
     /// Steps the device on a lawful event, and enters the step into the orders. The receipt tells what was asked, by whom,

@@ -1,9 +1,9 @@
-//! Equal events. They share the bytes of an image.
+//! Equal images. They share the bytes of regions.
 
 ghost use Rattle.std.specs.Prelude.{◌≡◌, IfOk};
 
-use protocol::{ContextImage, CqImage, EndImage, Event, LinkImage, PostedImage, RegionImage};
-use rdma_types::{Items, Sent};
+use protocol::{ContextImage, CqImage, EndImage, LinkImage, PostedImage, RegionImage};
+use rdma_types::Items;
 use std::alloc::{AllocError, Global};
 
 /// Equal items.
@@ -156,8 +156,8 @@ fn copy_ends(alloc: Global, ends: &[EndImage]) -> Result<Items<EndImage>, AllocE
     Ok(Items::new(copies))
 }
 
-/// An equal image.
-fn copy_image(alloc: Global, image: &ContextImage) -> Result<ContextImage, AllocError>
+/// An equal image. Errors: `AllocError` when out of memory.
+pub fn copy_image(alloc: Global, image: &ContextImage) -> Result<ContextImage, AllocError>
     ensures { IfOk result (λ copy. copy ≡ image.now) }
 {
     let domains = copy_items(alloc, &image.domains)?;
@@ -171,108 +171,4 @@ fn copy_image(alloc: Global, image: &ContextImage) -> Result<ContextImage, Alloc
         queues,
         ends,
     })
-}
-
-/// An equal event. Errors: `AllocError` when out of memory.
-pub fn copy_event(alloc: Global, event: &Event) -> Result<Event, AllocError>
-    ensures { IfOk result (λ copy. copy ≡ event.now) }
-{
-    Ok(match event {
-        Event::MakeContext { name } => Event::MakeContext { name: *name },
-        Event::MakeDomain { name } => Event::MakeDomain { name: *name },
-        Event::MakeRegion {
-            name,
-            domain,
-            base,
-            length,
-            rights,
-        } => Event::MakeRegion {
-            name: *name,
-            domain: *domain,
-            base: *base,
-            length: *length,
-            rights: *rights,
-        },
-        Event::MakeCq { name, capacity } => Event::MakeCq {
-            name: *name,
-            capacity: *capacity,
-        },
-        Event::MakeQp {
-            name,
-            domain,
-            send_cq,
-            recv_cq,
-            send_depth,
-            recv_depth,
-        } => Event::MakeQp {
-            name: *name,
-            domain: *domain,
-            send_cq: *send_cq,
-            recv_cq: *recv_cq,
-            send_depth: *send_depth,
-            recv_depth: *recv_depth,
-        },
-        Event::Connect {
-            end,
-            peer,
-            partner,
-            terms,
-        } => Event::Connect {
-            end: *end,
-            peer: *peer,
-            partner: *partner,
-            terms: *terms,
-        },
-        Event::DropRegion { name } => Event::DropRegion { name: *name },
-        Event::Store { region, at, bytes } => Event::Store {
-            region: *region,
-            at: *at,
-            bytes: copy_items(alloc, bytes)?,
-        },
-        Event::Load { region, at, length } => Event::Load {
-            region: *region,
-            at: *at,
-            length: *length,
-        },
-        Event::PostSend { end, request } => Event::PostSend {
-            end: *end,
-            request: *request,
-        },
-        Event::PostRecv { end, receive } => Event::PostRecv {
-            end: *end,
-            receive: *receive,
-        },
-        Event::Poll { cq, max } => Event::Poll { cq: *cq, max: *max },
-        Event::Transmit { end } => Event::Transmit { end: *end },
-        Event::Arrive { from, bytes } => Event::Arrive {
-            from: *from,
-            bytes: copy_items(alloc, bytes)?,
-        },
-        Event::Expire { end } => Event::Expire { end: *end },
-        Event::RnrOver { end } => Event::RnrOver { end: *end },
-        Event::Stop { context, alone } => Event::Stop {
-            context: *context,
-            alone: *alone,
-        },
-        Event::Restore { image } => Event::Restore {
-            image: copy_image(alloc, image)?,
-        },
-        Event::Release { context } => Event::Release { context: *context },
-    })
-}
-
-/// Equal datagrams that are sent. Errors: `AllocError` when out of memory.
-pub fn copy_sent(alloc: Global, sent: &[Sent]) -> Result<Vec<Sent>, AllocError>
-    ensures { IfOk result (λ copies. copies.items ≡ sent.now) }
-{
-    let mut copies = Vec::with_capacity(alloc, sent.len())?;
-    for s in sent {
-        let bytes = copy_items(alloc, &s.bytes)?;
-        copies.push(Sent {
-            to: s.to,
-            number: s.number,
-            bytes,
-        })?;
-    }
-    Ok(copies)
 }

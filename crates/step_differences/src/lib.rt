@@ -1,4 +1,4 @@
-//! Copies of events, and where two events or two outcomes of a device differ (this project's choice).
+//! Copies of images, and where two events or two outcomes of a device differ (this project's choice).
 #![tactic(auto)]
 
 mod copies;
@@ -7,7 +7,7 @@ mod images;
 mod lists;
 mod outcomes;
 
-pub use copies::{copy_event, copy_sent};
+pub use copies::copy_image;
 pub use events::event_difference;
 pub use images::same_image;
 pub use lists::same_completions;

@@ -1,16 +1,18 @@
 //! A run by one caller.
 
 ghost use Rattle.std.specs.Prelude.{◌≤◌, ◌<◌, IfOk, IfSome, length};
+ghost use Rattle.std.specs.Arc.{arc_value};
 ghost use Rattle.protocol.specs.Events.{IsLawfulEvent};
+ghost use Rattle.protocol.specs.Lawful.{IsLawful};
 ghost use Rattle.thread_plan.specs.Planned.{IsPlan, IsRunAlone};
 
 use crate::events::{Side, arrives, polls, releases, restore_of, stops, transmits};
 use opening_books::open_books;
 use protocol::Event;
 use rdma_types::{Address, Items};
-use station::{Book, OrderBook, Receipt};
+use station::{Book, OrderBook, Receipt, Step};
 use std::alloc::{AllocError, Global};
-use step_differences::copy_event;
+use std::sync::Arc;
 use thread_plan::{PlanFault, ThreadPlan, addition, planned_run};
 use thread_run::Run;
 
@@ -61,7 +63,7 @@ impl Alone {
         requires { (1 ≤ workers) × (workers ≤ 8) × (last ≤ 8) }
     {
         let books = open_books(alloc, workers)?;
-        let order = OrderBook::make(alloc)?;
+        let order = OrderBook::make(alloc);
         let receipts = empty_lists(alloc, last + 1)?;
         Ok(Alone {
             books,
@@ -70,36 +72,30 @@ impl Alone {
         })
     }
 
-    /// A step of a book, entered and told to a number; the answer is the event that restores what it stopped.
+    /// A step of a book, entered and told to a number; the answer is the step.
     fn step(
         &mut self,
         alloc: Global,
         i: usize,
         worker: u32,
         event: Event,
-    ) -> Result<Option<Event>, PlanFault>
+    ) -> Result<Arc<Step>, PlanFault>
         requires there { i < length self.old.books.items }
         requires lawful { IsLawfulEvent event }
-        ensures { IfOk result (λ event. IfSome event (λ e. IsLawfulEvent e)) }
+        ensures { IfOk result (λ s. IfSome (arc_value s).outcome.image (λ i. IsLawful i)) }
     {
-        let asked = copy_event(alloc, &event)?;
         let book = &mut self.books[i];
         let device = book.opening().id();
-        let from = book.opening().address();
-        let (place, mut outcome) = book.step(alloc, event)?;
-        self.order.enter(alloc, device, place, from, &outcome)?;
-        let restore = restore_of(alloc, &mut outcome)?;
+        let place = book.step(alloc, event)?;
+        let (Some(step), Some(own)) = (book.share(place), book.share(place)) else {
+            return Err(PlanFault::OutOfMemory);
+        };
+        self.order.enter(device, place, step.outcome.sent.len() as u64)?;
         let Some(held) = self.receipts.get_mut(worker as usize) else {
             return Err(PlanFault::NotAsPlanned);
         };
-        held.push(Receipt {
-            worker,
-            device,
-            place,
-            event: asked,
-            outcome,
-        })?;
-        Ok(restore)
+        held.push(Receipt::new(worker, device, place, own))?;
+        Ok(step)
     }
 
     /// The same of the device with an id.
@@ -109,9 +105,9 @@ impl Alone {
         id: u8,
         worker: u32,
         event: Event,
-    ) -> Result<Option<Event>, PlanFault>
+    ) -> Result<Arc<Step>, PlanFault>
         requires { IsLawfulEvent event }
-        ensures { IfOk result (λ event. IfSome event (λ e. IsLawfulEvent e)) }
+        ensures { IfOk result (λ s. IfSome (arc_value s).outcome.image (λ i. IsLawful i)) }
     {
         let Some(i) = book_of(self.books.as_slice(), id) else {
             return Err(PlanFault::NotAsPlanned);
@@ -119,17 +115,28 @@ impl Alone {
         self.step(alloc, i, worker, event)
     }
 
-    /// Delivers the oldest pending datagram, where there is one.
-    fn deliver(&mut self, alloc: Global, worker: u32) -> Result<(), PlanFault> {
-        let Some(claim) = self.order.pending(alloc)? else {
-            return Ok(());
+    /// The first datagram that a step of the device with an id sent arrives; the answer is the device's id, and its step.
+    fn deliver(
+        &mut self,
+        alloc: Global,
+        id: u8,
+        worker: u32,
+        step: &Step,
+    ) -> Result<Option<(u8, Arc<Step>)>, PlanFault> {
+        let Some(sent) = step.outcome.sent.as_slice().first() else {
+            return Ok(None);
         };
-        let k = claim.k;
-        if let Some(i) = book_at(self.books.as_slice(), claim.to) {
-            self.step(alloc, i, worker, arrives(claim))?;
-        }
-        self.order.took(k);
-        Ok(())
+        let Some(from) = book_of(self.books.as_slice(), id) else {
+            return Ok(None);
+        };
+        let from = self.books[from].opening().address();
+        let Some(i) = book_at(self.books.as_slice(), sent.to) else {
+            return Ok(None);
+        };
+        let to = self.books[i].opening().id();
+        let event = arrives(alloc, from, sent.bytes.as_slice())?;
+        let step = self.step(alloc, i, worker, event)?;
+        Ok(Some((to, step)))
     }
 
     /// Addition j of a worker: it is posted and sent, arrives at b, is answered to a, and is polled by that number.
@@ -137,9 +144,10 @@ impl Alone {
         requires { (1 ≤ worker) × (worker ≤ 8) }
     {
         self.call(alloc, 1, worker, addition(worker, j))?;
-        self.call(alloc, 1, worker, transmits(Side::A, worker))?;
-        self.deliver(alloc, worker)?;
-        self.deliver(alloc, worker)?;
+        let request = self.call(alloc, 1, worker, transmits(Side::A, worker))?;
+        if let Some((id, answer)) = self.deliver(alloc, 1, worker, &request)? {
+            self.deliver(alloc, id, worker, &answer)?;
+        }
         self.call(alloc, 1, poller, polls())?;
         Ok(())
     }
@@ -164,7 +172,8 @@ impl Alone {
         to: u8,
         has_husk: bool,
     ) -> Result<(), PlanFault> {
-        let Some(restore) = self.call(alloc, from, 0, stops())? else {
+        let stopped = self.call(alloc, from, 0, stops())?;
+        let Some(restore) = restore_of(alloc, &stopped.outcome)? else {
             return Err(PlanFault::NotAsPlanned);
         };
         if has_husk {

@@ -5,10 +5,9 @@ ghost use Rattle.protocol.specs.Events.{IsLawfulEvent};
 ghost use Rattle.protocol.specs.Lawful.{IsLawful};
 
 use protocol::{Event, Outcome};
-use rdma_types::{Answer, Name, NotWhy, ObjName, Took};
-use station::Claim;
+use rdma_types::{Address, Answer, Items, Name, NotWhy, ObjName, Took};
 use std::alloc::{AllocError, Global};
-use step_differences::copy_event;
+use step_differences::copy_image;
 
 /// The context a or b.
 #[derive(Clone, Copy)]
@@ -68,12 +67,12 @@ pub fn polls() -> Event
     }
 }
 
-/// A pending datagram arrives.
-pub fn arrives(claim: Claim) -> Event
-    ensures { IsLawfulEvent result }
+/// A datagram arrives from an address. Errors: out of memory.
+pub fn arrives(alloc: Global, from: Address, bytes: &[u8]) -> Result<Event, AllocError>
+    ensures { IfOk result IsLawfulEvent }
 {
-    let Claim { from, bytes, .. } = claim;
-    Event::Arrive { from, bytes }
+    let bytes = Items::new(Vec::from_slice(alloc, bytes)?);
+    Ok(Event::Arrive { from, bytes })
 }
 
 /// The context b becomes an image, where no end of it waits for its partner's move.
@@ -95,20 +94,16 @@ pub fn releases() -> Event
     }
 }
 
-/// The event that restores the image that a stop handed out; the outcome keeps a copy.
-pub fn restore_of(alloc: Global, outcome: &mut Outcome) -> Result<Option<Event>, AllocError>
-    requires { IfSome outcome.old.image (λ i. IsLawful i) }
+/// The event that restores the image that a stop handed out. Errors: out of memory.
+pub fn restore_of(alloc: Global, outcome: &Outcome) -> Result<Option<Event>, AllocError>
+    requires { IfSome outcome.now.image (λ i. IsLawful i) }
     ensures { IfOk result (λ event. IfSome event (λ e. IsLawfulEvent e)) }
 {
-    let Some(image) = outcome.image.take() else {
+    let Some(image) = &outcome.image else {
         return Ok(None);
     };
-    let event = Event::Restore { image };
-    let copy = copy_event(alloc, &event)?;
-    if let Event::Restore { image } = copy {
-        outcome.image = Some(image);
-    }
-    Ok(Some(event))
+    let image = copy_image(alloc, image)?;
+    Ok(Some(Event::Restore { image }))
 }
 
 /// What an answer tells a worker.

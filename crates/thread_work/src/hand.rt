@@ -8,8 +8,8 @@ use crate::events::{Told, arrives, told_by};
 use crate::gate::Gate;
 use crate::site::Site;
 use protocol::Event;
-use rdma_types::Items;
-use station::{Claim, NextDatagram, Receipt, Station};
+use rdma_types::{Address, Items};
+use station::{Receipt, Session, Station};
 use std::alloc::Global;
 use std::sync::Wait;
 use thread_plan::PlanFault;
@@ -20,31 +20,31 @@ pub struct Hand<'a, G> {
     site: &'a Site,
     gate: &'a G,
     worker: u32,
+    /// It passed the gate for the first call of its session.
+    has_passed: bool,
     receipts: Items<Receipt>,
+    /// The receipts before this place have no datagram that is still to arrive.
+    arriving: usize,
+    /// How many datagrams of the receipt at that place have arrived.
+    arrived: usize,
     /// Since its turn began, a step changed something or a datagram arrived.
     has_worked: bool,
-    /// .. a datagram arrived or completions were polled: another one may go on. What was only posted or sent is no news, since the
-    /// one who sent it, or who is delivering, delivers it.
+    /// .. a datagram arrived or completions were polled: another one may go on.
     has_news: bool,
 }
 
-/// What became of a delivery.
-#[derive(Clone, Copy, Debug, PartialEq, Eq)]
-pub enum Delivery {
-    Delivered,
-    /// Another one is delivering.
-    UnderWay,
-    NothingPending,
-}
-
 impl<'a, G: Gate> Hand<'a, G> {
-    /// One with that number, who holds these receipts.
+    /// One with that number, who holds these receipts; all that they sent has arrived.
     pub fn new(site: &'a Site, gate: &'a G, worker: u32, receipts: Items<Receipt>) -> Hand<'a, G> {
+        let arriving = receipts.len();
         Hand {
             site,
             gate,
             worker,
+            has_passed: false,
             receipts,
+            arriving,
+            arrived: 0,
             has_worked: false,
             has_news: false,
         }
@@ -56,38 +56,39 @@ impl<'a, G: Gate> Hand<'a, G> {
         receipts
     }
 
-    /// Asks a device for an event, after the gate. Errors: out of memory.
-    fn call_at<R: Wait>(
-        &mut self,
-        rt: &R,
-        alloc: Global,
-        station: &Station,
-        event: Event,
-    ) -> Result<Receipt, PlanFault>
-        requires { IsLawfulEvent event }
-        ensures { IfOk result (λ r. IfSome r.outcome.image (λ i. IsLawful i)) }
-    {
+    /// Takes the lock of a device, after the gate.
+    fn open_at<R: Wait>(&mut self, rt: &R, station: &'a Station) -> Session<'a> {
         self.gate.pass(self.worker);
-        let receipt = station.call(rt, alloc, &self.site.orders, self.worker, event)?;
-        Ok(receipt)
+        self.has_passed = true;
+        station.open(rt, &self.site.orders)
     }
 
-    /// Asks the device with an id for an event; the receipt is still to be kept. Errors: out of memory, and where there is no
-    /// such device.
+    /// Takes the lock of the device with an id, after the gate, for one call and more. Errors: where there is no such device.
+    pub fn open<R: Wait>(&mut self, rt: &R, id: u8) -> Result<Session<'a>, PlanFault> {
+        let site = self.site;
+        match site.station(id) {
+            Some(station) => Ok(self.open_at(rt, station)),
+            None => Err(PlanFault::NotAsPlanned),
+        }
+    }
+
+    /// Asks a device for an event, after the gate; the receipt is still to be kept. Errors: out of memory.
     pub fn ask<R: Wait>(
         &mut self,
         rt: &R,
         alloc: Global,
-        id: u8,
+        session: &mut Session<'_>,
         event: Event,
     ) -> Result<Receipt, PlanFault>
         requires { IsLawfulEvent event }
         ensures { IfOk result (λ r. IfSome r.outcome.image (λ i. IsLawful i)) }
     {
-        let Some(station) = self.site.station(id) else {
-            return Err(PlanFault::NotAsPlanned);
-        };
-        self.call_at(rt, alloc, station, event)
+        if !self.has_passed {
+            self.gate.pass(self.worker);
+        }
+        self.has_passed = false;
+        let receipt = session.call(rt, alloc, self.worker, event)?;
+        Ok(receipt)
     }
 
     /// Notes what its turn did.
@@ -104,7 +105,7 @@ impl<'a, G: Gate> Hand<'a, G> {
 
     /// Keeps a receipt, and says what it tells.
     pub fn keep(&mut self, receipt: Receipt) -> Result<Told, PlanFault> {
-        let told = told_by(&receipt.outcome.answer);
+        let told = told_by(&receipt.outcome().answer);
         self.note(told);
         self.receipts.push(receipt)?;
         Ok(told)
@@ -115,47 +116,101 @@ impl<'a, G: Gate> Hand<'a, G> {
         &mut self,
         rt: &R,
         alloc: Global,
-        id: u8,
+        session: &mut Session<'_>,
         event: Event,
     ) -> Result<Told, PlanFault>
         requires { IsLawfulEvent event }
     {
-        let receipt = self.ask(rt, alloc, id, event)?;
+        let receipt = self.ask(rt, alloc, session, event)?;
         self.keep(receipt)
     }
 
-    /// A claimed datagram arrives at the device that has its address.
-    fn bring<R: Wait>(&mut self, rt: &R, alloc: Global, claim: Claim) -> Result<(), PlanFault> {
-        if let Some(station) = self.site.station_at(claim.to) {
-            let receipt = self.call_at(rt, alloc, station, arrives(claim))?;
-            self.keep(receipt)?;
+    /// Where the oldest datagram goes that its steps sent and that is still to arrive.
+    fn next_address(&mut self) -> Option<Address> {
+        for at in self.arriving..self.receipts.len() {
+            let receipt = self.receipts.as_slice().get(at)?;
+            if let Some(sent) = receipt.outcome().sent.as_slice().get(self.arrived) {
+                return Some(sent.to);
+            }
+            self.arriving = at + 1;
+            self.arrived = 0;
         }
-        self.site.orders.arrived(rt);
-        self.note(Told::Changed);
+        None
+    }
+
+    /// The arrival of that datagram.
+    fn arrival(&self, alloc: Global) -> Result<Option<Event>, PlanFault>
+        ensures { IfOk result (λ event. IfSome event (λ e. IsLawfulEvent e)) }
+    {
+        let Some(receipt) = self.receipts.as_slice().get(self.arriving) else {
+            return Ok(None);
+        };
+        let Some(sent) = receipt.outcome().sent.as_slice().get(self.arrived) else {
+            return Ok(None);
+        };
+        let Some(station) = self.site.station(receipt.device()) else {
+            return Ok(None);
+        };
+        let event = arrives(alloc, station.address(), sent.bytes.as_slice())?;
+        Ok(Some(event))
+    }
+
+    /// That datagram arrives at a device.
+    fn bring<R: Wait>(
+        &mut self,
+        rt: &R,
+        alloc: Global,
+        session: &mut Session<'_>,
+    ) -> Result<(), PlanFault> {
+        let arrival = self.arrival(alloc)?;
+        self.arrived = self.arrived.saturating_add(1);
+        if let Some(event) = arrival {
+            self.call(rt, alloc, session, event)?;
+            self.note(Told::Changed);
+        }
         Ok(())
     }
 
-    /// Delivers the oldest pending datagram, unless another one is delivering.
-    fn deliver<R: Wait>(&mut self, rt: &R, alloc: Global) -> Result<Delivery, PlanFault> {
-        match self.site.orders.claim(rt, alloc)? {
-            NextDatagram::Claimed(claim) => {
-                self.bring(rt, alloc, claim)?;
-                Ok(Delivery::Delivered)
+    /// The oldest datagrams arrive at a device, as long as they go there.
+    pub fn bring_all<R: Wait>(
+        &mut self,
+        rt: &R,
+        alloc: Global,
+        session: &mut Session<'_>,
+    ) -> Result<(), PlanFault> {
+        for _ in rt.forever() {
+            if self.next_address() != Some(session.address()) {
+                break;
             }
-            NextDatagram::UnderWay => Ok(Delivery::UnderWay),
-            NextDatagram::Nothing => Ok(Delivery::NothingPending),
+            self.bring(rt, alloc, session)?;
         }
+        Ok(())
     }
 
-    /// Delivers what is pending, oldest first, until nothing is or another one is delivering; and says which.
-    pub fn deliver_all<R: Wait>(&mut self, rt: &R, alloc: Global) -> Result<Delivery, PlanFault> {
+    /// Delivers what its steps sent, oldest first, until nothing is left or the oldest goes to the device with the id `but`. What
+    /// goes to no device is lost.
+    pub fn deliver<R: Wait>(
+        &mut self,
+        rt: &R,
+        alloc: Global,
+        but: Option<u8>,
+    ) -> Result<(), PlanFault> {
+        let site = self.site;
         for _ in rt.forever() {
-            let delivery = self.deliver(rt, alloc)?;
-            if delivery != Delivery::Delivered {
-                return Ok(delivery);
+            let Some(to) = self.next_address() else {
+                break;
+            };
+            let Some(station) = site.station_at(to) else {
+                self.arrived = self.arrived.saturating_add(1);
+                continue;
+            };
+            if but == Some(station.id()) {
+                break;
             }
+            let mut session = self.open_at(rt, station);
+            self.bring_all(rt, alloc, &mut session)?;
         }
-        unreachable!()
+        Ok(())
     }
 
     /// Whether its turn did something so far.
@@ -163,19 +218,16 @@ impl<'a, G: Gate> Hand<'a, G> {
         self.has_worked
     }
 
-    /// Ends a turn, and wakes those who rest where it has news.
-    pub fn end_turn<R: Wait>(&mut self, rt: &R) {
+    /// Ends a turn, and wakes those who rest where it has news. The answer is how many turns of all have ended with news.
+    pub fn end_turn<R: Wait>(&mut self, rt: &R) -> u64 {
+        let has_news = self.has_news;
         self.has_worked = false;
-        if self.has_news {
-            self.has_news = false;
-            self.site.orders.end_turn(rt);
+        self.has_news = false;
+        if has_news {
+            self.site.orders.end_turn(rt)
+        } else {
+            self.site.orders.turns(rt)
         }
-    }
-
-    /// A turn begins, after the last one; the answer is how many turns of all have ended with news.
-    pub fn begin<R: Wait>(&mut self, rt: &R) -> u64 {
-        self.end_turn(rt);
-        self.site.orders.turns(rt)
     }
 
     /// Where its turn did nothing, waits until another one's turn has ended with news. Says whether to go on, and not where all

@@ -21,9 +21,10 @@ fn are_idle<R: Wait, G: Gate>(
 ) -> Result<bool, PlanFault>
     requires { workers ≤ 8 }
 {
+    let mut session = hand.open(rt, id)?;
     let mut idle = true;
     for i in 0..workers {
-        let told = hand.call(rt, alloc, id, transmits(Side::B, i + 1))?;
+        let told = hand.call(rt, alloc, &mut session, transmits(Side::B, i + 1))?;
         if told != Told::Idle {
             idle = false;
         }
@@ -43,11 +44,11 @@ fn settle<R: Wait, G: Gate>(
     requires { workers ≤ 8 }
 {
     for _ in rt.forever() {
-        let seen = hand.begin(rt);
+        let seen = hand.end_turn(rt);
         if are_idle(rt, alloc, hand, id, workers)? {
             return Ok(true);
         }
-        let _delivery = hand.deliver_all(rt, alloc)?;
+        hand.deliver(rt, alloc, None)?;
         if !hand.rest(rt, seen) {
             break;
         }
@@ -64,8 +65,9 @@ fn stop<R: Wait, G: Gate>(
 ) -> Result<Option<Event>, PlanFault>
     ensures { IfOk result (λ event. IfSome event (λ e. IsLawfulEvent e)) }
 {
-    let mut receipt = hand.ask(rt, alloc, id, stops())?;
-    let event = restore_of(alloc, &mut receipt.outcome)?;
+    let mut session = hand.open(rt, id)?;
+    let receipt = hand.ask(rt, alloc, &mut session, stops())?;
+    let event = restore_of(alloc, receipt.outcome())?;
     hand.keep(receipt)?;
     Ok(event)
 }
@@ -82,10 +84,11 @@ fn move_to<R: Wait, G: Gate>(
     let Some(restore) = stop(rt, alloc, hand, from)? else {
         return Err(PlanFault::NotAsPlanned);
     };
+    let mut session = hand.open(rt, to)?;
     if has_husk {
-        hand.call(rt, alloc, to, releases())?;
+        hand.call(rt, alloc, &mut session, releases())?;
     }
-    hand.call(rt, alloc, to, restore)?;
+    hand.call(rt, alloc, &mut session, restore)?;
     Ok(())
 }
 

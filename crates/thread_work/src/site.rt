@@ -24,10 +24,9 @@ impl Site {
         for book in books {
             stations.push(Station::make(book))?;
         }
-        let order = OrderBook::make(alloc)?;
         Ok(Site {
             stations,
-            orders: Orders::make(order),
+            orders: Orders::make(OrderBook::make(alloc)),
         })
     }
 

@@ -4,7 +4,8 @@ ghost use Rattle.std.specs.Prelude.{◌≤◌};
 
 use crate::events::{Side, Told, expires, polls, transmits};
 use crate::gate::Gate;
-use crate::hand::{Delivery, Hand};
+use crate::hand::Hand;
+use station::Session;
 use std::alloc::Global;
 use std::sync::Wait;
 use thread_plan::{PlanFault, addition};
@@ -12,32 +13,12 @@ use thread_plan::{PlanFault, addition};
 /// The id of the device of a.
 pub const OF_A: u8 = 1;
 
-/// Whether a worker whose end told so at its expiry is through: it is in Error, or nothing is in flight and nothing is to be
-/// sent.
-fn is_through<R: Wait, G: Gate>(
-    rt: &R,
-    alloc: Global,
-    hand: &mut Hand<'_, G>,
-    worker: u32,
-    told: Told,
-) -> Result<bool, PlanFault>
-    requires { worker ≤ 8 }
-{
-    match told {
-        Told::Ended => Ok(true),
-        Told::NothingInFlight => {
-            let sent = hand.call(rt, alloc, OF_A, transmits(Side::A, worker))?;
-            Ok(sent == Told::Idle)
-        }
-        _ => Ok(false),
-    }
-}
-
 /// Posts additions until all are posted or one is refused; `posted` counts those that were accepted.
 fn post_all<R: Wait, G: Gate>(
     rt: &R,
     alloc: Global,
     hand: &mut Hand<'_, G>,
+    session: &mut Session<'_>,
     worker: u32,
     adds: u32,
     posted: &mut u32,
@@ -45,7 +26,7 @@ fn post_all<R: Wait, G: Gate>(
     requires { (1 ≤ worker) × (worker ≤ 8) × (adds ≤ 10000) }
 {
     for j in *posted..adds {
-        if hand.call(rt, alloc, OF_A, addition(worker, j + 1))? != Told::Accepted {
+        if hand.call(rt, alloc, session, addition(worker, j + 1))? != Told::Accepted {
             break;
         }
         *posted = j + 1;
@@ -58,20 +39,64 @@ fn send_all<R: Wait, G: Gate>(
     rt: &R,
     alloc: Global,
     hand: &mut Hand<'_, G>,
+    session: &mut Session<'_>,
     worker: u32,
 ) -> Result<(), PlanFault>
     requires { worker ≤ 8 }
 {
     for _ in rt.forever() {
-        if hand.call(rt, alloc, OF_A, transmits(Side::A, worker))? != Told::Sent {
+        if hand.call(rt, alloc, session, transmits(Side::A, worker))? != Told::Sent {
             break;
         }
     }
     Ok(())
 }
 
-/// One turn: posts, sends and delivers all that it can; where that was nothing, and nobody else is delivering, lets the own end
-/// expire. Says whether the worker is through.
+/// What a worker does at the device of a in a turn: it delivers there what came back, polls if something came and `does_poll`,
+/// posts and sends all that it can.
+fn fill<R: Wait, G: Gate>(
+    rt: &R,
+    alloc: Global,
+    hand: &mut Hand<'_, G>,
+    worker: u32,
+    adds: u32,
+    posted: &mut u32,
+    does_poll: bool,
+) -> Result<(), PlanFault>
+    requires { (1 ≤ worker) × (worker ≤ 8) × (adds ≤ 10000) }
+{
+    let mut session = hand.open(rt, OF_A)?;
+    hand.bring_all(rt, alloc, &mut session)?;
+    if does_poll && hand.has_worked() {
+        hand.call(rt, alloc, &mut session, polls())?;
+    }
+    post_all(rt, alloc, hand, &mut session, worker, adds, posted)?;
+    send_all(rt, alloc, hand, &mut session, worker)
+}
+
+/// Lets the own end expire, and says whether the worker is through: its end is in Error, or nothing is in flight and nothing is
+/// to be sent.
+fn is_through<R: Wait, G: Gate>(
+    rt: &R,
+    alloc: Global,
+    hand: &mut Hand<'_, G>,
+    worker: u32,
+) -> Result<bool, PlanFault>
+    requires { worker ≤ 8 }
+{
+    let mut session = hand.open(rt, OF_A)?;
+    match hand.call(rt, alloc, &mut session, expires(worker))? {
+        Told::Ended => Ok(true),
+        Told::NothingInFlight => {
+            let sent = hand.call(rt, alloc, &mut session, transmits(Side::A, worker))?;
+            Ok(sent == Told::Idle)
+        }
+        _ => Ok(false),
+    }
+}
+
+/// One turn: posts, sends and delivers all that it can; where that was nothing, lets the own end expire. Says whether the
+/// worker is through.
 fn push_on<R: Wait, G: Gate>(
     rt: &R,
     alloc: Global,
@@ -79,21 +104,20 @@ fn push_on<R: Wait, G: Gate>(
     worker: u32,
     adds: u32,
     posted: &mut u32,
+    does_poll: bool,
 ) -> Result<bool, PlanFault>
     requires { (1 ≤ worker) × (worker ≤ 8) × (adds ≤ 10000) }
 {
-    post_all(rt, alloc, hand, worker, adds, posted)?;
-    send_all(rt, alloc, hand, worker)?;
-    let delivery = hand.deliver_all(rt, alloc)?;
-    if hand.has_worked() || delivery == Delivery::UnderWay {
+    fill(rt, alloc, hand, worker, adds, posted, does_poll)?;
+    hand.deliver(rt, alloc, Some(OF_A))?;
+    if hand.has_worked() {
         return Ok(false);
     }
-    let told = hand.call(rt, alloc, OF_A, expires(worker))?;
-    Ok(*posted >= adds && is_through(rt, alloc, hand, worker, told)?)
+    Ok(is_through(rt, alloc, hand, worker)? && *posted >= adds)
 }
 
-/// All turns of a worker, who polls at the end of each that did something, if `does_poll`: it ends when all its additions are
-/// posted and none is in flight, or where all was halted.
+/// All turns of a worker, who polls where `does_poll`: it ends when all its additions are posted and none is in flight, or
+/// where all was halted.
 fn take_turns<R: Wait, G: Gate>(
     rt: &R,
     alloc: Global,
@@ -106,12 +130,9 @@ fn take_turns<R: Wait, G: Gate>(
 {
     let mut posted = 0;
     for _ in rt.forever() {
-        let seen = hand.begin(rt);
-        if push_on(rt, alloc, hand, worker, adds, &mut posted)? {
+        let seen = hand.end_turn(rt);
+        if push_on(rt, alloc, hand, worker, adds, &mut posted, does_poll)? {
             break;
-        }
-        if does_poll && hand.has_worked() {
-            hand.call(rt, alloc, OF_A, polls())?;
         }
         if !hand.rest(rt, seen) {
             break;
@@ -153,8 +174,9 @@ pub fn drain<R: Wait, G: Gate>(
     alloc: Global,
     hand: &mut Hand<'_, G>,
 ) -> Result<(), PlanFault> {
+    let mut session = hand.open(rt, OF_A)?;
     for _ in rt.forever() {
-        if hand.call(rt, alloc, OF_A, polls())? != Told::Polled {
+        if hand.call(rt, alloc, &mut session, polls())? != Told::Polled {
             break;
         }
     }
