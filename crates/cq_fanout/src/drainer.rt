@@ -20,15 +20,22 @@ struct Polling<'a, G> {
 }
 
 impl<'a, G: Gate> Polling<'a, G> {
+    /// Polls once.
+    fn poll_once<R: Wait>(&mut self, rt: &R, alloc: Global) -> Result<(), PlanFault> {
+        let mut session = self.hand.open(rt, OF_A)?;
+        let receipt = self.hand.ask(rt, alloc, &mut session, polls())?;
+        put_polled(&mut self.waiting, &receipt.outcome().answer)?;
+        self.waiting.reverse();
+        self.hand.keep(receipt)?;
+        Ok(())
+    }
+
     /// Polls until there are completions, and after each poll that gives none rests until another one's turn has ended with
     /// news; false where all was halted.
     fn poll<R: Wait>(&mut self, rt: &R, alloc: Global) -> Result<bool, PlanFault> {
         for _ in rt.forever() {
-            let seen = self.hand.begin(rt);
-            let receipt = self.hand.ask(rt, alloc, OF_A, polls())?;
-            put_polled(&mut self.waiting, &receipt.outcome.answer)?;
-            self.waiting.reverse();
-            self.hand.keep(receipt)?;
+            let seen = self.hand.end_turn(rt);
+            self.poll_once(rt, alloc)?;
             if !self.waiting.is_empty() {
                 self.hand.end_turn(rt);
                 return Ok(true);

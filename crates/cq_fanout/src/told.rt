@@ -24,7 +24,7 @@ pub fn told_by(alloc: Global, held: &[Receipt]) -> Result<Vec<Completion>, Alloc
 {
     let mut completions = Vec::new(alloc);
     for receipt in held {
-        put_polled(&mut completions, &receipt.outcome.answer)?;
+        put_polled(&mut completions, &receipt.outcome().answer)?;
     }
     Ok(completions)
 }

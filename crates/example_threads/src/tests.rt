@@ -6,9 +6,10 @@ ghost use Rattle.station.specs.Books.{AreApart};
 
 use opening_books::open_books;
 use protocol::{Event, Outcome};
-use rdma_types::{Answer, Items, Name, ObjName, Sent};
-use station::{Book, OrderBook, Receipt};
+use rdma_types::{Address, Answer, Items, Name, ObjName, Sent};
+use station::{Book, OrderBook, Receipt, Step};
 use std::alloc::{AllocError, Global};
+use std::sync::Arc;
 use thread_plan::{PlanFault, ThreadPlan, planned_run};
 use thread_run::{Run, RunFault, gather};
 
@@ -52,42 +53,55 @@ pub(crate) fn poll() -> Option<Event>
     poll_of(256)
 }
 
-/// An outcome as it is told.
-fn outcome_told(alloc: Global, book: &Book, mut outcome: Outcome, fault: Fault) -> Option<Outcome> {
-    if fault == Fault::Answer {
-        outcome.answer = Answer::Idle;
-    }
+/// A step as it is told in place of a poll of nothing.
+fn step_told(alloc: Global, to: Address, fault: Fault) -> Option<Step> {
+    let max = if fault == Fault::Event { 255 } else { 256 };
+    let answer = if fault == Fault::Answer {
+        Answer::Idle
+    } else {
+        Answer::Polled(Items::new(Vec::new(alloc)))
+    };
+    let mut sent = Items::new(Vec::new(alloc));
     if fault == Fault::Count {
-        let to = book.opening().address();
         let bytes = Items::new(Vec::new(alloc));
-        outcome
-            .sent
-            .push(Sent {
-                to,
-                number: None,
-                bytes,
-            })
-            .ok()?;
+        sent.push(Sent {
+            to,
+            number: None,
+            bytes,
+        })
+        .ok()?;
     }
-    Some(outcome)
+    Some(Step {
+        event: poll_of(max)?,
+        outcome: Outcome {
+            answer,
+            sent,
+            image: None,
+        },
+    })
 }
 
 /// A step of a book that worker 0 asks for, with its receipt.
 fn asked(alloc: Global, book: &mut Book, order: &mut OrderBook, fault: Fault) -> Option<Receipt> {
-    let (place, outcome) = book.step(alloc, poll()?).ok()?;
+    let place = book.step(alloc, poll()?).ok()?;
     let device = book.opening().id();
-    let from = book.opening().address();
+    let address = book.opening().address();
     if fault != Fault::NotEntered {
-        order.enter(alloc, device, place, from, &outcome).ok()?;
+        order.enter(device, place, 0).ok()?;
     }
+    let worker = if fault == Fault::Worker { 1 } else { 0 };
     let raised = if fault == Fault::Place { 1 } else { 0 };
-    Some(Receipt {
-        worker: if fault == Fault::Worker { 1 } else { 0 },
+    let step = if fault == Fault::None {
+        book.share(place)?
+    } else {
+        Arc::new(alloc, step_told(alloc, address, fault)?).ok()?
+    };
+    Some(Receipt::new(
+        worker,
         device,
-        place: place.checked_add(raised)?,
-        event: poll_of(if fault == Fault::Event { 255 } else { 256 })?,
-        outcome: outcome_told(alloc, book, outcome, fault)?,
-    })
+        place.checked_add(raised)?,
+        step,
+    ))
 }
 
 /// One book.
@@ -123,7 +137,7 @@ pub(crate) fn run_of(
 /// What is gathered of two polls, the first of which has a fault.
 fn gathered(alloc: Global, fault: Fault) -> Option<[u64; 3]> {
     let mut book = open_books(alloc, 1).ok()?.into_iter().next()?;
-    let mut order = OrderBook::make(alloc).ok()?;
+    let mut order = OrderBook::make(alloc);
     let mut held = Items::new(Vec::new(alloc));
     let first = asked(alloc, &mut book, &mut order, fault)?;
     if fault != Fault::NotTold {
@@ -168,7 +182,7 @@ fn idle(alloc: Global) -> Option<PlanFault> {
         moves: 0,
     };
     let books = open_books(alloc, 1).ok()?;
-    let order = OrderBook::make(alloc).ok()?;
+    let order = OrderBook::make(alloc);
     let mut receipts = Vec::new(alloc);
     receipts.push(Items::new(Vec::new(alloc))).ok()?;
     receipts.push(Items::new(Vec::new(alloc))).ok()?;

@@ -27,7 +27,7 @@ fn polls<R: Wait>(
 /// What is gathered of the polls of two threads.
 fn by_two<R: Threads + Wait + Sync>(rt: &R, alloc: Global) -> Option<[u64; 3]> {
     let station = Station::make(open_books(alloc, 1).ok()?.into_iter().next()?);
-    let orders = Orders::make(OrderBook::make(alloc).ok()?);
+    let orders = Orders::make(OrderBook::make(alloc));
     let (first, second) = join(
         rt,
         || polls(rt, alloc, &station, &orders, 0),

@@ -1,6 +1,7 @@
 //! Gates, which tests use to hold a worker.
 
-/// Called by each worker before each of its calls of a station; the mover and the caller have number 0.
+/// Called by each worker before each of its calls of a device, and before the first call of a session without a lock. The mover and
+/// the caller have number 0.
 pub trait Gate {
     fn pass(&self, worker: u32);
 }
