@@ -74,25 +74,41 @@ fn fill<R: Wait, G: Gate>(
     send_all(rt, alloc, hand, &mut session, worker)
 }
 
-/// Lets the own end expire, and says whether the worker is through: its end is in Error, or nothing is in flight and nothing is
-/// to be sent.
+/// Whether a worker whose end told so at its expiry is through: it is in Error, or nothing is in flight and nothing is to be
+/// sent.
 fn is_through<R: Wait, G: Gate>(
     rt: &R,
     alloc: Global,
     hand: &mut Hand<'_, G>,
+    session: &mut Session<'_>,
     worker: u32,
+    told: Told,
 ) -> Result<bool, PlanFault>
     requires { worker ≤ 8 }
 {
-    let mut session = hand.open(rt, OF_A)?;
-    match hand.call(rt, alloc, &mut session, expires(worker))? {
+    match told {
         Told::Ended => Ok(true),
         Told::NothingInFlight => {
-            let sent = hand.call(rt, alloc, &mut session, transmits(Side::A, worker))?;
+            let sent = hand.call(rt, alloc, session, transmits(Side::A, worker))?;
             Ok(sent == Told::Idle)
         }
         _ => Ok(false),
     }
+}
+
+/// Lets the own end expire, and says whether the worker is through, where it `has_posted` all.
+fn expire<R: Wait, G: Gate>(
+    rt: &R,
+    alloc: Global,
+    hand: &mut Hand<'_, G>,
+    worker: u32,
+    has_posted: bool,
+) -> Result<bool, PlanFault>
+    requires { worker ≤ 8 }
+{
+    let mut session = hand.open(rt, OF_A)?;
+    let told = hand.call(rt, alloc, &mut session, expires(worker))?;
+    Ok(has_posted && is_through(rt, alloc, hand, &mut session, worker, told)?)
 }
 
 /// One turn: posts, sends and delivers all that it can; where that was nothing, lets the own end expire. Says whether the
@@ -113,7 +129,7 @@ fn push_on<R: Wait, G: Gate>(
     if hand.has_worked() {
         return Ok(false);
     }
-    Ok(is_through(rt, alloc, hand, worker)? && *posted >= adds)
+    expire(rt, alloc, hand, worker, *posted >= adds)
 }
 
 /// All turns of a worker, who polls where `does_poll`: it ends when all its additions are posted and none is in flight, or
