@@ -1,8 +1,8 @@
 -- The book of a device: its opening, and the events that it was asked for (this project's choice).
 use Rattle.std.specs.Prelude.{◌≡◌, ℕ, All, IfSome, List, [], ◌∷◌, ◌++◌, length, map, take, slice_get, Some}
-use Rattle.std.specs.Arc.{Arc, arc_value}
+use Rattle.std.specs.Arc.{arc_value}
+use Rattle.std.specs.declared.sync.Arc.{Arc}
 use Rattle.protocol.specs.declared.events.Event.{Event}
-use Rattle.protocol.specs.declared.images.Outcome.{Outcome}
 use Rattle.protocol.specs.State.{Device}
 use Rattle.protocol.specs.DeviceStep.{device_step}
 use Rattle.protocol.specs.Events.{IsLawfulEvent}

@@ -1,10 +1,8 @@
 //! A device with the journal of its steps.
 
-ghost use Rattle.std.specs.Prelude.{◌≡◌, ◌≤◌, ◌^◌, length, slice_get, option_map, IfOk, IfSome, OnErr};
-ghost use Rattle.std.specs.Option.{option_copied};
+ghost use Rattle.std.specs.Prelude.{◌≡◌, length, slice_get, option_map, IfOk, IfSome, OnErr};
 ghost use Rattle.std.specs.Arc.{arc_value};
 ghost use Rattle.protocol.specs.Events.{IsLawfulEvent};
-ghost use Rattle.protocol.specs.Lawful.{IsLawful};
 ghost use Rattle.station.specs.Books.{IsBookStep, IsStepOf, device_of, opened_with};
 
 use crate::Step;

@@ -1,6 +1,6 @@
 //! The order of all devices' steps.
 
-ghost use Rattle.std.specs.Prelude.{◌≡◌, ◌≤◌, ◌^◌, IfOk, OnErr};
+ghost use Rattle.std.specs.Prelude.{◌≡◌, IfOk, OnErr};
 ghost use Rattle.station.specs.Orders.{entered, next_entry, no_order};
 
 use law_world_orders::OrderEntry;

@@ -1,18 +1,14 @@
--- The device is the replay of one more event, which is lawful.
+-- One more step is kept.
 use Rattle.std.proofs.Common.{◌≡◌, ◌++◌, ◌∷◌, [], rules, ap, sym, subst, ◌∙◌}
-use Rattle.std.specs.Prelude.{All, List}
-use Rattle.std.proofs.lemmas.List.Elements.{All-push}
-use Rattle.protocol.specs.declared.events.Event.{Event}
-use Rattle.protocol.specs.DeviceStep.{device_step}
+use Rattle.std.specs.Arc.{arc_with_value}
 use Rattle.protocol.specs.Events.{IsLawfulEvent}
-use Rattle.protocol.specs.Replay.{replay}
-use Rattle.law_world_orders.proofs.Growing.{replay-push}
+use Rattle.protocol.specs.declared.events.Event.{Event}
+use Rattle.station.proofs.Held.{held_more}
 use Rattle.station.proofs.book.Book.step.Goals as goal
 
 pub invariant_of-self-2 : goal.invariant_of-self-2
 invariant_of-self-2 c =
-    let items : c.push.new.self.items ≡ c.self.inside.journal.items ++ c.args.event ∷ [] = search rules in
-    let stepped : c.step.new.self ≡ (device_step c.self.inside.device c.args.event).device = sym (ap (λ s. s.device) c.in_ok-outcome.ensures.ok) in (
-      stepped ∙ (ap (λ d. (device_step d c.args.event).device) c.self.invariant.0 ∙ (sym (replay-push c.self.inside.opening c.self.inside.journal.items c.args.event) ∙ ap (replay c.self.inside.opening) (sym items))),
-      subst (λ (xs : List Event). All IsLawfulEvent xs) (sym items) (All-push IsLawfulEvent c.self.inside.journal.items c.args.event c.self.invariant.1 c.requires),
-    )
+    let s = arc_with_value c.in_ok-step.step (record c.in-Some.noted.now { outcome = c.in_ok-noted.field-0 }) in
+    let items : c.push.new.self.items ≡ c.self.inside.journal.items ++ s ∷ [] = search rules in
+    let event : c.in-Some.noted.now.event ≡ c.args.event = ap (λ v. v.event) c.in-Some.ensures.value ∙ (ap (λ v. v.event) c.in_ok-step.ensures.ok ∙ c.asked.ensures) in
+    held_more c.self.inside.opening c.self.inside.journal.items c.push.new.self.items c.self.inside.device c.step.new.self s c.self.invariant items (subst (λ (e : Event). IsLawfulEvent e) (sym event) c.requires) c.in_ok-noted.ensures.ok c.in_ok-noted.ensures.image
