@@ -5,7 +5,7 @@ use Rattle.protocol.specs.DeviceStep.{device_step}
 use Rattle.protocol.specs.State.{Device}
 use Rattle.law_world_orders.specs.declared.Receipt.{Receipt}
 use Rattle.law_world_orders.proofs.Lists.{map_push}
-use Rattle.thread_run.specs.declared.replays.Replay.{Replay}
+use Rattle.station.specs.Books.{BookView, device_of}
 use Rattle.thread_run.specs.Gathered.{completions_in, drained_by, loads_word, polled, word_by, word_or}
 
 drained-push : (rs : List Receipt) (r : Receipt) → drained_by (rs ++ r ∷ []) ≡ drained_by rs ++ polled r.outcome.answer
@@ -48,14 +48,14 @@ pub word_none : (other : ℕ) → word_or [] other ≡ other
 unfolding word_or
 word_none other = refl
 
--- the device of the last replay was asked
-pub word_last : (all items : List Replay) (x : Replay) (other n total : ℕ) → all ≡ items ++ x ∷ [] → n ≡ word_by (device_step x.device loads_word).outcome.answer other → word_or (map (λ r. r.device) all) other ≡ total → word_or (map (λ r. r.device) items) n ≡ total
-word_last all items x other n total is told before =
-    ap (word_or (map (λ r. r.device) items)) told
-    ∙ (sym (word-push (map (λ r. r.device) items) x.device other)
-    ∙ (ap (λ ds. word_or ds other) (sym (map_push (λ (r : Replay). r.device) items x))
-    ∙ (ap (λ rs. word_or (map (λ r. r.device) rs) other) (sym is) ∙ before)))
+-- the device of the last book was asked
+pub word_last : (all books : List BookView) (b : BookView) (other n total : ℕ) → all ≡ books ++ b ∷ [] → n ≡ word_by (device_step (device_of b) loads_word).outcome.answer other → word_or (map device_of all) other ≡ total → word_or (map device_of books) n ≡ total
+word_last all books b other n total is told before =
+    ap (word_or (map device_of books)) told
+    ∙ (sym (word-push (map device_of books) (device_of b) other)
+    ∙ (ap (λ ds. word_or ds other) (sym (map_push device_of books b))
+    ∙ (ap (λ bs. word_or (map device_of bs) other) (sym is) ∙ before)))
 
 -- no device is left
-pub word_end : (items : List Replay) (n total : ℕ) → items ≡ [] → word_or (map (λ r. r.device) items) n ≡ total → n ≡ total
-word_end items n total none before = sym (word_none n) ∙ (ap (λ rs. word_or (map (λ r. r.device) rs) n) (sym none) ∙ before)
+pub word_end : (books : List BookView) (n total : ℕ) → books ≡ [] → word_or (map device_of books) n ≡ total → n ≡ total
+word_end books n total none before = sym (word_none n) ∙ (ap (λ bs. word_or (map device_of bs) n) (sym none) ∙ before)

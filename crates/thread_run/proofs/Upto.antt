@@ -14,25 +14,23 @@ use Rattle.law_world_orders.specs.declared.Receipt.{Receipt}
 use Rattle.law_world_orders.specs.Lines.{Line, device_after, entry_of, events_on, flown, held_by, opening_of}
 use Rattle.law_world_orders.specs.Order.{AreRestored, Each, HasArrived, IsLine, with_stopped}
 use Rattle.law_world_orders.proofs.Lists.{get_push, set_get, some_is, take_push}
-use Rattle.law_world_orders.proofs.Growing.{each_push, events_on-here, events_on-other, flown-none, flown-push, held_by-here, held_by-other, replay-push, restored-push}
-use Rattle.station.specs.Books.{AreApart, BookView, device_of, openings_of}
-use Rattle.thread_run.specs.declared.replays.Replay.{Replay}
+use Rattle.law_world_orders.proofs.Growing.{each_push, events_on-here, events_on-other, flown-none, flown-push, held_by-here, held_by-other, restored-push}
+use Rattle.station.specs.Books.{AreApart, BookView, openings_of}
 use Rattle.thread_run.specs.declared.stops.StopAt.{StopAt}
-use Rattle.thread_run.specs.Checks.{AreAtEnd, AreFresh, AreReplayed, AreTold, IsAdvanced, IsReplayedOne}
+use Rattle.thread_run.specs.Checks.{AreMet, AreTold, IsAdvanced, IsMetOne}
 use Rattle.thread_run.specs.Gathered.{IsGathered}
 use Rattle.thread_run.proofs.Books.{found_at}
 use Rattle.thread_run.proofs.Taking.{AreStops, noted_of, takes_of}
 
--- how far a book was replayed, after these lines
-pub record IsReplayed (b : BookView) (r : Replay) (ls : List Line) : Type 0 where
-  pub device : r.device ≡ replay b.opening (events_on b.opening.id ls)
-  pub events : events_on b.opening.id ls ≡ take r.place b.journal
-  pub place : r.place ≡ length (events_on b.opening.id ls)
+-- how many steps of a book were met, after these lines
+pub record IsMet (b : BookView) (n : ℕ) (ls : List Line) : Type 0 where
+  pub events : events_on b.opening.id ls ≡ take n b.journal
+  pub place : n ≡ length (events_on b.opening.id ls)
 
 -- the check has come so far
-pub record IsUpto (books : List BookView) (receipts : List (List Receipt)) (ls : List Line) (rs : List Replay) (hs : List ℕ) (fs : List Flight) (ss : List StopAt) : Type 0 where
+pub record IsUpto (books : List BookView) (receipts : List (List Receipt)) (ls : List Line) (ps hs : List ℕ) (fs : List Flight) (ss : List StopAt) : Type 0 where
   pub each : Each (IsLine (openings_of books)) ls
-  pub replays : (i : ℕ) (b : BookView) (r : Replay) → slice_get books i ≡ Some b → slice_get rs i ≡ Some r → IsReplayed b r ls
+  pub places : (i : ℕ) (b : BookView) (n : ℕ) → slice_get books i ≡ Some b → slice_get ps i ≡ Some n → IsMet b n ls
   pub heads : (w : ℕ) (held : List Receipt) (n : ℕ) → slice_get receipts w ≡ Some held → slice_get hs w ≡ Some n → held_by w ls ≡ take n held
   pub workers : (k : ℕ) (l : Line) → slice_get ls k ≡ Some l → l.receipt.worker < length receipts
   pub flights : fs ≡ flown (openings_of books) ls
@@ -43,43 +41,41 @@ pub record IsUpto (books : List BookView) (receipts : List (List Receipt)) (ls :
 abbrev pub line_of : (e : OrderEntry) (r : Receipt) → Line
 line_of e r = record { receipt = r; first = e.first; count = e.count }
 
-replayed_here : (b : BookView) (e : OrderEntry) (r : Receipt) (old new : Replay) (ls : List Line) → IsReplayed b old ls → IsReplayedOne b r old new → r.device ≡ b.opening.id → IsReplayed b new (ls ++ line_of e r ∷ [])
-replayed_here b e r old new ls was one here =
+met_here : (b : BookView) (e : OrderEntry) (r : Receipt) (old new : ℕ) (ls : List Line) → IsMet b old ls → IsMetOne b r old new → r.device ≡ b.opening.id → IsMet b new (ls ++ line_of e r ∷ [])
+met_here b e r old new ls was one here =
     let events : events_on b.opening.id (ls ++ line_of e r ∷ []) ≡ events_on b.opening.id ls ++ r.event ∷ [] = events_on-here b.opening.id ls (line_of e r) here in
     record {
-      device = ap (λ s. s.device) (sym one.step) ∙ (ap (λ d. (device_step d r.event).device) was.device ∙ (sym (replay-push b.opening (events_on b.opening.id ls) r.event) ∙ ap (replay b.opening) (sym events)));
-      events = events ∙ (ap (λ x. x ++ r.event ∷ []) was.events ∙ (sym (take_push b.journal old.place r.event one.event) ∙ ap (λ n. take n b.journal) (sym one.next)));
+      events = events ∙ (ap (λ x. x ++ r.event ∷ []) was.events ∙ (sym (take_push b.journal old r.event one.event) ∙ ap (λ n. take n b.journal) (sym one.next)));
       place = let n = length-append (events_on b.opening.id ls) (r.event ∷ []) in one.next ∙ (ap (λ k. k + 1) was.place ∙ (sym n ∙ ap length (sym events)));
     }
 
-replayed_other : (b : BookView) (r : Replay) (ls : List Line) (l : Line) → IsReplayed b r ls → l.receipt.device ≢ b.opening.id → IsReplayed b r (ls ++ l ∷ [])
-replayed_other b r ls l was ne =
+met_other : (b : BookView) (n : ℕ) (ls : List Line) (l : Line) → IsMet b n ls → l.receipt.device ≢ b.opening.id → IsMet b n (ls ++ l ∷ [])
+met_other b n ls l was ne =
     let events : events_on b.opening.id (ls ++ l ∷ []) ≡ events_on b.opening.id ls = events_on-other b.opening.id ls l ne in
     record {
-      device = was.device ∙ ap (replay b.opening) (sym events);
       events = events ∙ was.events;
       place = was.place ∙ ap length (sym events);
     }
 
 -- the device of a book where its lines lead
-here : (books : List BookView) (i : ℕ) (b : BookView) (old : Replay) (ls : List Line) (id : ℕ) → AreApart books → slice_get books i ≡ Some b → IsReplayed b old ls → b.opening.id ≡ id → device_after (openings_of books) ls id ≡ old.device
+here : (books : List BookView) (i : ℕ) (b : BookView) (n : ℕ) (ls : List Line) (id : ℕ) → AreApart books → slice_get books i ≡ Some b → IsMet b n ls → b.opening.id ≡ id → device_after (openings_of books) ls id ≡ replay b.opening (take n b.journal)
 unfolding device_after
-here books i b old ls id apart at was named =
+here books i b n ls id apart at was named =
     ap (λ k. replay (opening_of (openings_of books) k) (events_on k ls)) (sym named)
-    ∙ (ap (λ d. replay d (events_on b.opening.id ls)) (found_at books i b apart at).0 ∙ sym was.device)
+    ∙ (ap (λ d. replay d (events_on b.opening.id ls)) (found_at books i b apart at).0 ∙ ap (replay b.opening) was.events)
 
 -- the next line
-next_line : (books : List BookView) (receipts : List (List Receipt)) (ls : List Line) (e : OrderEntry) (rs : List Replay) (hs : List ℕ) (fs : List Flight) (ss : List StopAt) (rs' : List Replay) (hs' : List ℕ) (fs' : List Flight) (ss' : List StopAt)
-    → AreApart books → IsUpto books receipts ls rs hs fs ss → (a : IsAdvanced books receipts e rs hs fs ss rs' hs' fs' ss') → (b : BookView) → slice_get books a.at ≡ Some b → (old new : Replay) → slice_get rs a.at ≡ Some old → IsReplayedOne b a.receipt old new
+next_line : (books : List BookView) (receipts : List (List Receipt)) (ls : List Line) (e : OrderEntry) (ps hs : List ℕ) (fs : List Flight) (ss : List StopAt) (ps' hs' : List ℕ) (fs' : List Flight) (ss' : List StopAt)
+    → AreApart books → IsUpto books receipts ls ps hs fs ss → (a : IsAdvanced books receipts e ps hs fs ss ps' hs' fs' ss') → (b : BookView) → slice_get books a.at ≡ Some b → (old new : ℕ) → slice_get ps a.at ≡ Some old → IsMetOne b a.receipt old new
     → (b.opening.id ≡ a.receipt.device) → ((opening_of (openings_of books) a.receipt.device).address ≡ a.address) → IsLine (openings_of books) ls (line_of e a.receipt)
-next_line books receipts ls e rs hs fs ss rs' hs' fs' ss' apart u a b at old new old_at one named address =
+next_line books receipts ls e ps hs fs ss ps' hs' fs' ss' apart u a b at old new old_at one named address =
     let r : Receipt = a.receipt in
-    let was : IsReplayed b old ls = u.replays a.at b old at old_at in
-    let device : device_after (openings_of books) ls r.device ≡ old.device = here books a.at b old ls r.device apart at was named in
+    let was : IsMet b old ls = u.places a.at b old at old_at in
+    let device : device_after (openings_of books) ls r.device ≡ replay b.opening (take old b.journal) = here books a.at b old ls r.device apart at was named in
     record {
       known = ap (λ k. has (λ x. x.id) k (openings_of books)) (sym named) ∙ (found_at books a.at b apart at).1;
       place = one.place ∙ (was.place ∙ ap (λ k. length (events_on k ls)) named);
-      outcome = ap (λ s. s.outcome) (sym one.step) ∙ ap (λ d. (device_step d r.event).outcome) (sym device);
+      outcome = one.outcome ∙ ap (λ d. (device_step d r.event).outcome) (sym device);
       first = a.first ∙ ap (λ f. length f + 1) u.flights;
       count = a.count;
       arrived = subst (λ (p : List Flight × Address). HasArrived p.0 p.1 r.event) (λ i. (u.flights i, sym address i)) a.arrived;
@@ -91,16 +87,16 @@ flights_of os ls l fs from so address =
     ap (λ x. x ++ map (flight_of from) l.receipt.outcome.sent) so
     ∙ (ap (λ x. flown os ls ++ map (flight_of x) l.receipt.outcome.sent) (sym address) ∙ sym (flown-push os ls l))
 
-pub advanced : (books : List BookView) (receipts : List (List Receipt)) (ls : List Line) (e : OrderEntry) (rs : List Replay) (hs : List ℕ) (fs : List Flight) (ss : List StopAt) (rs' : List Replay) (hs' : List ℕ) (fs' : List Flight) (ss' : List StopAt)
-    → AreApart books → IsUpto books receipts ls rs hs fs ss → (a : IsAdvanced books receipts e rs hs fs ss rs' hs' fs' ss') → IsUpto books receipts (ls ++ line_of e a.receipt ∷ []) rs' hs' fs' ss'
-advanced books receipts ls e rs hs fs ss rs' hs' fs' ss' apart u a =
+pub advanced : (books : List BookView) (receipts : List (List Receipt)) (ls : List Line) (e : OrderEntry) (ps hs : List ℕ) (fs : List Flight) (ss : List StopAt) (ps' hs' : List ℕ) (fs' : List Flight) (ss' : List StopAt)
+    → AreApart books → IsUpto books receipts ls ps hs fs ss → (a : IsAdvanced books receipts e ps hs fs ss ps' hs' fs' ss') → IsUpto books receipts (ls ++ line_of e a.receipt ∷ []) ps' hs' fs' ss'
+advanced books receipts ls e ps hs fs ss ps' hs' fs' ss' apart u a =
     let r : Receipt = a.receipt in
-    let b : BookView = a.replayed.0 in
-    let old : Replay = a.replayed.1 in
-    let new : Replay = a.replayed.2 in
-    let book_at : slice_get books a.at ≡ Some b = a.replayed.3 in
-    let old_at : slice_get rs a.at ≡ Some old = a.replayed.4 in
-    let one : IsReplayedOne b r old new = a.replayed.5 in
+    let b : BookView = a.met.0 in
+    let old : ℕ = a.met.1 in
+    let new : ℕ = a.met.2 in
+    let book_at : slice_get books a.at ≡ Some b = a.met.3 in
+    let old_at : slice_get ps a.at ≡ Some old = a.met.4 in
+    let one : IsMetOne b r old new = a.met.5 in
     let held : List Receipt = a.head.0.0 in
     let list_at : slice_get receipts a.worker ≡ Some held = a.head.0.1 in
     let receipt_at : slice_get held a.place ≡ Some r = a.head.0.2 in
@@ -111,15 +107,15 @@ advanced books receipts ls e rs hs fs ss rs' hs' fs' ss' apart u a =
     let from : b.opening.address ≡ a.address = ap (λ (y : BookView). y.opening.address) (sym same) ∙ a.named.3 in
     let opening : opening_of (openings_of books) r.device ≡ b.opening = ap (opening_of (openings_of books)) (sym named) ∙ (found_at books a.at b apart book_at).0 in
     let address : (opening_of (openings_of books) r.device).address ≡ a.address = ap (λ (d : Device). d.address) opening ∙ from in
-    let was : IsReplayed b old ls = u.replays a.at b old book_at old_at in
+    let was : IsMet b old ls = u.places a.at b old book_at old_at in
     let taken = takes_of receipts ss u.images r.event a.rest u.stops a.taken in
     record {
-      each = each_push (IsLine (openings_of books)) ls l u.each (next_line books receipts ls e rs hs fs ss rs' hs' fs' ss' apart u a b book_at old new old_at one named address);
-      replays = λ i c x at at'. elim (set_get rs a.at new i x (subst (λ q. slice_get q i ≡ Some x) a.replayed.6 at')) [
+      each = each_push (IsLine (openings_of books)) ls l u.each (next_line books receipts ls e ps hs fs ss ps' hs' fs' ss' apart u a b book_at old new old_at one named address);
+      places = λ i c n at at'. elim (set_get ps a.at new i n (subst (λ q. slice_get q i ≡ Some n) a.met.6 at')) [
         | inl s ↦ (
             let b_is : b ≡ c = some_is (sym book_at ∙ (ap (λ k. slice_get books k) (sym s.0) ∙ at)) in
-            subst (λ (p : BookView × Replay). IsReplayed p.0 p.1 (ls ++ l ∷ [])) (λ i. (b_is i, sym s.1 i)) (replayed_here b e r old new ls was one (sym named)))
-        | inr o ↦ replayed_other c x ls l (u.replays i c x at o.1) (λ same. o.0 (apart i a.at c b at book_at (sym same ∙ sym named)))
+            subst (λ (p : BookView × ℕ). IsMet p.0 p.1 (ls ++ l ∷ [])) (λ i. (b_is i, sym s.1 i)) (met_here b e r old new ls was one (sym named)))
+        | inr o ↦ met_other c n ls l (u.places i c n at o.1) (λ same. o.0 (apart i a.at c b at book_at (sym same ∙ sym named)))
       ];
       heads = λ w v n at at'. elim (set_get hs a.worker (a.place + 1) w n (subst (λ q. slice_get q w ≡ Some n) a.heads at')) [
         | inl s ↦ (
@@ -144,17 +140,17 @@ get_there (x ∷ xs) zero h = (x, refl)
 get_there (x ∷ xs) (suc k) h = get_there xs k (omega (arith, h))
 
 -- the journal of a book is what its lines asked
-journal_is : (books : List BookView) (receipts : List (List Receipt)) (ls : List Line) (rs : List Replay) (hs : List ℕ) (fs : List Flight) (ss : List StopAt) → IsUpto books receipts ls rs hs fs ss → AreReplayed books rs → (i : ℕ) (b : BookView) (r : Replay) → slice_get books i ≡ Some b → slice_get rs i ≡ Some r → b.journal ≡ events_on b.opening.id ls
-journal_is books receipts ls rs hs fs ss u replayed i b r at r_at = sym ((u.replays i b r at r_at).events ∙ take_all r.place b.journal (let p = replayed i b r at r_at in omega (arith, p)))
+journal_is : (books : List BookView) (receipts : List (List Receipt)) (ls : List Line) (ps hs : List ℕ) (fs : List Flight) (ss : List StopAt) → IsUpto books receipts ls ps hs fs ss → AreMet books ps → (i : ℕ) (b : BookView) (n : ℕ) → slice_get books i ≡ Some b → slice_get ps i ≡ Some n → b.journal ≡ events_on b.opening.id ls
+journal_is books receipts ls ps hs fs ss u met i b n at n_at = sym ((u.places i b n at n_at).events ∙ take_all n b.journal (let p = met i b n at n_at in omega (arith, p)))
 
-pub gathered_from : (books : List BookView) (entries : List OrderEntry) (receipts : List (List Receipt)) (ls : List Line) (rs : List Replay) (hs : List ℕ) (fs : List Flight) (ss : List StopAt)
-    → IsUpto books receipts ls rs hs fs ss → length rs ≡ length books → length hs ≡ length receipts → AreReplayed books rs → AreTold receipts hs → map entry_of ls ≡ entries → IsGathered books entries receipts
-gathered_from books entries receipts ls rs hs fs ss u rl hl replayed told_all es = record {
+pub gathered_from : (books : List BookView) (entries : List OrderEntry) (receipts : List (List Receipt)) (ls : List Line) (ps hs : List ℕ) (fs : List Flight) (ss : List StopAt)
+    → IsUpto books receipts ls ps hs fs ss → length ps ≡ length books → length hs ≡ length receipts → AreMet books ps → AreTold receipts hs → map entry_of ls ≡ entries → IsGathered books entries receipts
+gathered_from books entries receipts ls ps hs fs ss u pl hl met told_all es = record {
   lines = ls;
   order = record { each = u.each; untaken = u.images; restored = u.restored };
   journals = λ i b at.
-      let r = get_there rs i (subst (λ n. i < n) (sym rl) (slice_get_within books i b at)) in
-      journal_is books receipts ls rs hs fs ss u replayed i b r.0 at r.1;
+      let n = get_there ps i (subst (λ k. i < k) (sym pl) (slice_get_within books i b at)) in
+      journal_is books receipts ls ps hs fs ss u met i b n.0 at n.1;
   entries_are = sym es;
   held = record {
     each_list = λ w held at.
@@ -164,33 +160,15 @@ gathered_from books entries receipts ls rs hs fs ss u rl hl replayed told_all es
   };
 }
 
--- devices that are equal one by one
-all_equal : (books : List BookView) (rs : List Replay) → length rs ≡ length books → ((i : ℕ) (b : BookView) (r : Replay) → slice_get books i ≡ Some b → slice_get rs i ≡ Some r → r.device ≡ device_of b) → AreAtEnd books rs
-all_equal [] [] len same = refl
-all_equal [] (r ∷ rs) len same = absurd (omega (arith, len))
-all_equal (b ∷ books) [] len same = absurd (omega (arith, len))
-all_equal (b ∷ books) (r ∷ rs) len same =
-    let first : r.device ≡ device_of b = same 0 b r refl refl in
-    let rest : map (λ (x : Replay). x.device) rs ≡ map device_of books = all_equal books rs (omega (arith, len)) (λ i c x. same (suc i) c x) in
-    (λ i. first i ∷ rest i)
-
-pub ended_at : (books : List BookView) (receipts : List (List Receipt)) (ls : List Line) (rs : List Replay) (hs : List ℕ) (fs : List Flight) (ss : List StopAt) → IsUpto books receipts ls rs hs fs ss → length rs ≡ length books → AreReplayed books rs → AreAtEnd books rs
-ended_at books receipts ls rs hs fs ss u rl replayed = all_equal books rs rl (λ i b r at r_at. (u.replays i b r at r_at).device ∙ ap (replay b.opening) (sym (journal_is books receipts ls rs hs fs ss u replayed i b r at r_at)))
-
-nothing_yet : (d : Device) → d ≡ replay d []
-unfolding replay
-nothing_yet d = refl
-
-pub upto_none : (books : List BookView) (receipts : List (List Receipt)) (rs : List Replay) (hs : List ℕ) → AreFresh books rs → ((w n : ℕ) → slice_get hs w ≡ Some n → n ≡ 0) → IsUpto books receipts [] rs hs [] []
+pub upto_none : (books : List BookView) (receipts : List (List Receipt)) (ps hs : List ℕ) → ((i n : ℕ) → slice_get ps i ≡ Some n → n ≡ 0) → ((w n : ℕ) → slice_get hs w ≡ Some n → n ≡ 0) → IsUpto books receipts [] ps hs [] []
 unfolding events_on held_by
-upto_none books receipts rs hs fresh zeros = record {
+upto_none books receipts ps hs unmet untold = record {
   each = λ k l at. cc;
-  replays = λ i b r at at'. let f = fresh.1 i b r at at' in record {
-    device = f.0 ∙ nothing_yet b.opening;
-    events = ap (λ n. take n b.journal) (sym f.1);
-    place = f.1;
+  places = λ i b n at at'. record {
+    events = ap (λ k. take k b.journal) (sym (unmet i n at'));
+    place = unmet i n at';
   };
-  heads = λ w v n at at'. ap (λ k. take k v) (sym (zeros w n at'));
+  heads = λ w v n at at'. ap (λ k. take k v) (sym (untold w n at'));
   workers = λ k l at. cc;
   flights = sym (flown-none (openings_of books));
   images = [];

@@ -6,12 +6,12 @@ use Rattle.protocol.specs.declared.events.Event.TheVariants as event
 use Rattle.protocol.specs.declared.images.ContextImage.{ContextImage}
 use Rattle.protocol.specs.DeviceStep.{device_step}
 use Rattle.protocol.specs.Fabric.{flight_of}
+use Rattle.protocol.specs.Replay.{replay}
 use Rattle.protocol.specs.State.{Flight}
 use Rattle.law_world_orders.specs.declared.Receipt.{Receipt}
 use Rattle.law_world_orders.specs.declared.OrderEntry.{OrderEntry}
 use Rattle.law_world_orders.specs.Order.{HasArrived}
-use Rattle.station.specs.Books.{BookView, device_of}
-use Rattle.thread_run.specs.declared.replays.Replay.{Replay}
+use Rattle.station.specs.Books.{BookView}
 use Rattle.thread_run.specs.declared.stops.StopAt.{StopAt}
 
 -- ---- books and receipts
@@ -28,18 +28,19 @@ StandsAt receipts worker head r = (held : List Receipt) × (slice_get receipts w
 abbrev pub IsHead : List (List Receipt) → List ℕ → OrderEntry → ℕ → ℕ → Receipt → Type 0
 IsHead receipts heads e worker head r = StandsAt receipts worker head r × (slice_get heads worker ≡ Some head) × (r.device ≡ e.device) × (r.place ≡ e.place)
 
--- ---- replays
+-- ---- journals
 
--- one more event of a book was replayed, which was the receipt's, with its outcome
-pub record IsReplayedOne (b : BookView) (r : Receipt) (old new : Replay) : Type 0 where
-  pub place : r.place ≡ old.place
-  pub event : slice_get b.journal old.place ≡ Some r.event
-  pub step : device_step old.device r.event ≡ record { device = new.device; outcome = r.outcome }
-  pub next : new.place ≡ old.place + 1
+-- the receipt is of the next step of a book: it has its place and its event, and the outcome that the rules give there; and one
+-- step more was met
+pub record IsMetOne (b : BookView) (r : Receipt) (old new : ℕ) : Type 0 where
+  pub place : r.place ≡ old
+  pub event : slice_get b.journal old ≡ Some r.event
+  pub outcome : r.outcome ≡ (device_step (replay b.opening (take old b.journal)) r.event).outcome
+  pub next : new ≡ old + 1
 
 -- .. of book i
-abbrev pub IsReplayedAt : List BookView → List Replay → List Replay → ℕ → Receipt → Type 0
-IsReplayedAt books rs rs' i r = (b : BookView) × (old : Replay) × (new : Replay) × (slice_get books i ≡ Some b) × (slice_get rs i ≡ Some old) × IsReplayedOne b r old new × (rs' ≡ slice_set rs i new)
+abbrev pub IsMetAt : List BookView → List ℕ → List ℕ → ℕ → Receipt → Type 0
+IsMetAt books ps ps' i r = (b : BookView) × (old : ℕ) × (new : ℕ) × (slice_get books i ≡ Some b) × (slice_get ps i ≡ Some old) × IsMetOne b r old new × (ps' ≡ slice_set ps i new)
 
 -- ---- stops
 
@@ -64,7 +65,7 @@ stop_of worker head (Some image) = record { worker = worker; head = head } ∷ [
 -- ---- the whole
 
 -- all that one step of the check did
-pub record IsAdvanced (books : List BookView) (receipts : List (List Receipt)) (e : OrderEntry) (rs : List Replay) (hs : List ℕ) (fs : List Flight) (ss : List StopAt) (rs' : List Replay) (hs' : List ℕ) (fs' : List Flight) (ss' : List StopAt) : Type 0 where
+pub record IsAdvanced (books : List BookView) (receipts : List (List Receipt)) (e : OrderEntry) (ps hs : List ℕ) (fs : List Flight) (ss : List StopAt) (ps' hs' : List ℕ) (fs' : List Flight) (ss' : List StopAt) : Type 0 where
   pub at : ℕ
   pub address : Address
   pub worker : ℕ
@@ -73,7 +74,7 @@ pub record IsAdvanced (books : List BookView) (receipts : List (List Receipt)) (
   pub named : IsNamed books e.device at address
   pub head : IsHead receipts hs e worker place receipt
   pub is_worker : receipt.worker ≡ worker
-  pub replayed : IsReplayedAt books rs rs' at receipt
+  pub met : IsMetAt books ps ps' at receipt
   pub heads : hs' ≡ slice_set hs worker (place + 1)
   pub first : e.first ≡ length fs + 1
   pub count : e.count ≡ length receipt.outcome.sent
@@ -83,18 +84,10 @@ pub record IsAdvanced (books : List BookView) (receipts : List (List Receipt)) (
   pub taken : TakesStop receipts ss receipt.event rest
   pub stopped : ss' ≡ rest ++ stop_of worker place receipt.outcome.image
 
--- nothing is replayed yet
-abbrev pub AreFresh : List BookView → List Replay → Type 0
-AreFresh books rs = (length rs ≡ length books) × ((i : ℕ) (b : BookView) (r : Replay) → slice_get books i ≡ Some b → slice_get rs i ≡ Some r → (r.device ≡ b.opening) × (r.place ≡ 0))
-
--- the journals were replayed to their ends
-abbrev pub AreReplayed : List BookView → List Replay → Type 0
-AreReplayed books rs = (i : ℕ) (b : BookView) (r : Replay) → slice_get books i ≡ Some b → slice_get rs i ≡ Some r → r.place ≡ length b.journal
+-- each journal's steps were met to the end
+abbrev pub AreMet : List BookView → List ℕ → Type 0
+AreMet books ps = (i : ℕ) (b : BookView) (n : ℕ) → slice_get books i ≡ Some b → slice_get ps i ≡ Some n → n ≡ length b.journal
 
 -- each worker's receipts were met to the end
 abbrev pub AreTold : List (List Receipt) → List ℕ → Type 0
 AreTold receipts hs = (w : ℕ) (held : List Receipt) (n : ℕ) → slice_get receipts w ≡ Some held → slice_get hs w ≡ Some n → n ≡ length held
-
--- the replays are where the books are
-abbrev pub AreAtEnd : List BookView → List Replay → Type 0
-AreAtEnd books rs = map (λ r. r.device) rs ≡ map device_of books

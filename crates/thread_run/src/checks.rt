@@ -41,7 +41,7 @@ pub fn find_head<'a>(
     for worker in 0..heads.len() {
         let place = heads[worker];
         if let Some(receipt) = receipt_at(receipts, worker, place) {
-            if receipt.device == entry.device && receipt.place == entry.place {
+            if receipt.device() == entry.device && receipt.place() == entry.place {
                 return Some((worker, place, receipt));
             }
         }
@@ -56,11 +56,11 @@ pub fn no_head(receipts: &[Items<Receipt>], heads: &[usize], entry: &OrderEntry)
     let place = entry.place;
     for worker in 0..heads.len() {
         if let Some(receipt) = receipt_at(receipts, worker, heads[worker]) {
-            if receipt.device == entry.device && receipt.place != place {
+            if receipt.device() == entry.device && receipt.place() != place {
                 return RunFault::Disagree {
                     place,
                     left: place,
-                    right: receipt.place,
+                    right: receipt.place(),
                 };
             }
         }

@@ -4,12 +4,12 @@ ghost use Rattle.std.specs.Prelude.{◌≡◌, ◌≤◌, ◌∷◌, [], codes, 
 ghost use Rattle.rdma_types.specs.Memory.{word_of as spelled_word};
 ghost use Rattle.protocol.specs.DeviceStep.{device_step};
 ghost use Rattle.law_world_orders.specs.Openings.{in_b};
+ghost use Rattle.station.specs.Books.{device_of};
 ghost use Rattle.thread_run.specs.Gathered.{completions_in, drained_by, loads_word, polled, word_by, word_in, word_or};
 
-use crate::replays::Replay;
 use protocol::Event;
 use rdma_types::{Answer, Items, Name, ObjName};
-use station::Receipt;
+use station::{Book, Receipt};
 use std::alloc::{AllocError, Global};
 
 /// How many completions a poll answers.
@@ -28,7 +28,7 @@ fn drained(receipts: &[Receipt]) -> Result<u64, AllocError>
 {
     let mut count = 0u64;
     for receipt in receipts {
-        let Some(more) = count.checked_add(polled_count(&receipt.outcome.answer) as u64) else {
+        let Some(more) = count.checked_add(polled_count(&receipt.outcome().answer) as u64) else {
             return Err(AllocError);
         };
         count = more;
@@ -98,21 +98,22 @@ fn word_or_other(answer: &Answer, other: u64) -> u64
     }
 }
 
-/// The word on a device, and another one where its load is refused there.
-fn word_at(alloc: Global, mut replay: Replay, other: u64) -> Result<u64, AllocError>
-    ensures { IfOk result (λ n. n ≡ word_by (device_step replay.device loads_word).outcome.answer other) }
+/// The word on a book's device, and another one where its load is refused there.
+fn word_at(alloc: Global, book: Book, other: u64) -> Result<u64, AllocError>
+    ensures { IfOk result (λ n. n ≡ word_by (device_step (device_of book) loads_word).outcome.answer other) }
 {
-    let outcome = replay.device.step(alloc, &load_of_word())?;
+    let mut device = book.into_device();
+    let outcome = device.step(alloc, &load_of_word())?;
     Ok(word_or_other(&outcome.answer, other))
 }
 
-/// The word on the first of these devices where its load is not refused, and 0 where it is refused on all.
-pub fn word(alloc: Global, mut replays: Vec<Replay>) -> Result<u64, AllocError>
-    ensures { IfOk result (λ n. n ≡ word_in (map (λ r. r.device) replays.items)) }
+/// The word on the device of the first of these books where its load is not refused, and 0 where it is refused on all.
+pub fn word(alloc: Global, mut books: Vec<Book>) -> Result<u64, AllocError>
+    ensures { IfOk result (λ n. n ≡ word_in (map device_of books.items)) }
 {
     let mut word = 0;
-    while let Some(replay) = replays.pop() {
-        word = word_at(alloc, replay, word)?;
+    while let Some(book) = books.pop() {
+        word = word_at(alloc, book, word)?;
     }
     Ok(word)
 }

@@ -2,12 +2,12 @@
 
 ghost use Rattle.std.specs.Prelude.{◌≡◌, ◌<◌, IfErr, IfOk, OnOk, length, slice_index_or};
 ghost use Rattle.station.specs.Books.{AreApart};
-ghost use Rattle.thread_run.specs.Checks.{AreAtEnd, IsAdvanced};
+ghost use Rattle.thread_run.specs.Checks.{IsAdvanced};
 ghost use Rattle.thread_run.specs.Gathered.{IsGathered, IsGatheredRun, TellsValues};
 
 use crate::checks::{all_told, find_head, next_head, no_head, zeros};
 use crate::counts::{completions, word};
-use crate::replays::{Replay, all_replayed, find_book, openings, replay_at};
+use crate::journals::{all_met, find_book, meet_at};
 use crate::run::{Run, RunFault, missing, same};
 use crate::sent::Flights;
 use crate::stops::{StopAt, note_stop, take_stop};
@@ -15,18 +15,18 @@ use rdma_types::Items;
 use station::{Book, OrderBook, OrderEntry, Receipt};
 use std::alloc::Global;
 
-/// Checks the next entry: its device, its receipt, its numbers, what arrives and what is restored; and makes the step.
+/// Checks the next entry: its device, its receipt, its numbers, what arrives, what is restored, and the step in the
+/// journal.
 fn advance<'a>(
-    alloc: Global,
     books: &[Book],
     receipts: &'a [Items<Receipt>],
     entry: &OrderEntry,
-    replays: &mut Vec<Replay>,
+    places: &mut Vec<usize>,
     heads: &mut Vec<usize>,
     flights: &mut Flights<'a>,
     stops: &mut Vec<StopAt>,
 ) -> Result<(), RunFault>
-    ensures ok { OnOk result (IsAdvanced books.now receipts.now entry.now replays.old.items heads.old.items flights.old stops.old.items replays.new.items heads.new.items flights.new stops.new.items) }
+    ensures ok { OnOk result (IsAdvanced books.now receipts.now entry.now places.old.items heads.old.items flights.old stops.old.items places.new.items heads.new.items flights.new stops.new.items) }
     ensures err { IfErr result TellsValues }
 {
     let place = entry.place;
@@ -36,21 +36,22 @@ fn advance<'a>(
     let Some((worker, head, receipt)) = find_head(receipts, heads.as_slice(), entry) else {
         return Err(no_head(receipts, heads.as_slice(), entry));
     };
-    let sent = receipt.outcome.sent.as_slice();
-    same(place, u64::from(receipt.worker), worker as u64)?;
+    let outcome = receipt.outcome();
+    let sent = outcome.sent.as_slice();
+    same(place, u64::from(receipt.worker()), worker as u64)?;
     same(place, entry.first, flights.len() as u64 + 1)?;
     same(place, entry.count, sent.len() as u64)?;
-    if !flights.has_arrived(address, &receipt.event) {
+    if !flights.has_arrived(address, receipt.event()) {
         return Err(missing(place));
     }
-    if !take_stop(receipts, stops, &receipt.event) {
+    if !take_stop(receipts, stops, receipt.event()) {
         return Err(missing(place));
     }
-    note_stop(stops, worker, head, &receipt.outcome.image)?;
+    note_stop(stops, worker, head, &outcome.image)?;
     if next_head(heads, worker, head).is_none() {
         return Err(missing(place));
     }
-    replay_at(alloc, books, replays, i, receipt)?;
+    meet_at(books, places, i, receipt)?;
     flights.put(address, sent)?;
     Ok(())
 }
@@ -63,38 +64,36 @@ fn entry_at(entries: &[OrderEntry], k: usize) -> OrderEntry
     entries[k]
 }
 
-/// Checks the entries, one after the other, and that no event and no receipt is left; the answer are the devices after
-/// all steps.
+/// Checks the entries, one after the other, and that no step and no receipt is left.
 fn check(
     alloc: Global,
     books: &[Book],
     entries: &[OrderEntry],
     receipts: &[Items<Receipt>],
-) -> Result<Vec<Replay>, RunFault>
+) -> Result<(), RunFault>
     requires { AreApart books.now }
-    ensures ok { IfOk result (λ rs. IsGathered books.now entries.now receipts.now × AreAtEnd books.now rs.items) }
+    ensures ok { OnOk result (IsGathered books.now entries.now receipts.now) }
     ensures err { IfErr result TellsValues }
 {
-    let mut replays = openings(alloc, books)?;
+    let mut places = zeros(alloc, books.len())?;
     let mut heads = zeros(alloc, receipts.len())?;
     let mut flights = Flights::none(alloc);
     let mut stops = Vec::new(alloc);
     for k in 0..entries.len() {
         let entry = entry_at(entries, k);
         advance(
-            alloc,
             books,
             receipts,
             &entry,
-            &mut replays,
+            &mut places,
             &mut heads,
             &mut flights,
             &mut stops,
         )?;
     }
-    all_replayed(books, replays.as_slice())?;
+    all_met(books, places.as_slice())?;
     all_told(receipts, heads.as_slice())?;
-    Ok(replays)
+    Ok(())
 }
 
 /// The run that books of different devices, the order of their steps and the receipts of the workers 0, 1, 2 and so on
@@ -115,14 +114,14 @@ pub fn gather(
     ensures gathered { IfOk result (λ run. IsGatheredRun books.items order.entries receipts.items run) }
     ensures disagreement { IfErr result TellsValues }
 {
-    let replays = check(
+    check(
         alloc,
         books.as_slice(),
         order.entries(),
         receipts.as_slice(),
     )?;
     let completions = completions(receipts.as_slice())?;
-    let word = word(alloc, replays)?;
+    let word = word(alloc, books)?;
     Ok(Run {
         order: Items::new(order.into_entries()),
         receipts: Items::new(receipts),

@@ -5,7 +5,7 @@
 mod checks;
 mod counts;
 mod gathering;
-mod replays;
+mod journals;
 mod run;
 mod sent;
 mod stops;

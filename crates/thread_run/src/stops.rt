@@ -23,7 +23,7 @@ fn hands_out(receipts: &[Items<Receipt>], stop: StopAt, image: &ContextImage) ->
 {
     match receipt_at(receipts, stop.worker, stop.head) {
         None => false,
-        Some(receipt) => match &receipt.outcome.image {
+        Some(receipt) => match &receipt.outcome().image {
             None => false,
             Some(handed) => same_image(handed, image),
         },

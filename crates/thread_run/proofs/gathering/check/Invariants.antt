@@ -3,4 +3,4 @@ use Rattle.thread_run.proofs.Loops.{IsChecked}
 use Rattle.thread_run.proofs.gathering.check.Given as goal
 
 abbrev pub invariant-loop-k : goal.invariant-loop-k
-invariant-loop-k l = IsChecked l.books l.receipts (take l.k l.entries) l.replays.items l.heads.items l.flights l.stops.items
+invariant-loop-k l = IsChecked l.books l.receipts (take l.k l.entries) l.places.items l.heads.items l.flights l.stops.items
