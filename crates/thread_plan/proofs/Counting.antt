@@ -1,38 +1,22 @@
 -- Accepted additions and numbers of receipts, one receipt or one list after the other.
-use Rattle.std.proofs.Common.{arith, ◌≡◌, ℕ, zero, suc, ◌+◌, ◌<◌, Bool, true, false, if◌then◌else◌, cond, List, [], ◌∷◌, ◌++◌, length, take, map, get_or, refl, ap, sym, ◌∙◌, add-one}
+use Rattle.std.proofs.Common.{arith, ◌≡◌, ℕ, zero, suc, ◌+◌, Bool, true, false, if◌then◌else◌, List, [], ◌∷◌, ◌++◌, map, refl, ap, sym, ◌∙◌}
 use Rattle.std.specs.Prelude.{count_by, filter}
-use Rattle.std.proofs.lemmas.List.{take_more}
-use Rattle.std.proofs.lemmas.List.Sums.{sum_by-append}
 use Rattle.protocol.specs.declared.events.Event.{Event}
 use Rattle.law_world_orders.specs.declared.Receipt.{Receipt}
 use Rattle.law_world_orders.specs.Openings.{adds}
-use Rattle.thread_plan.proofs.Tables.{count_one}
 use Rattle.thread_plan.specs.Planned.{accepted_in, additions, is_accepted, tally}
 use Rattle.thread_plan.specs.Tables.{IsNextMade}
 
 -- ---- numbers of receipts
 
-tally-push : (test : Receipt → Bool) (lists : List (List Receipt)) (held : List Receipt) → tally test (lists ++ held ∷ []) ≡ tally test lists + count_by test held
+pub tally_push : (test : Receipt → Bool) (lists : List (List Receipt)) (held : List Receipt) → tally test (lists ++ held ∷ []) ≡ tally test lists + count_by test held
 unfolding tally
-tally-push test [] held = omega arith
-tally-push test (x ∷ lists) held = let more = tally-push test lists held in omega (arith, more)
-
--- one list more
-pub tally_more : (test : Receipt → Bool) (n count next more : ℕ) (lists : List (List Receipt)) (held : List Receipt) → n < length lists → held ≡ get_or lists n held → count ≡ tally test (take n lists) → more ≡ count_by test held → next ≡ count + more → next ≡ tally test (take (n + 1) lists)
-tally_more test n count next more lists held h at so one sum =
-    let all : tally test (take (n + 1) lists) ≡ tally test (take n lists) + count_by test held = ap (tally test) (take_more lists n held h ∙ ap (λ x. take n lists ++ x ∷ []) (sym at)) ∙ tally-push test (take n lists) held in
-    omega (arith, all, so, one, sum)
+tally_push test [] held = omega arith
+tally_push test (x ∷ lists) held = let more = tally_push test lists held in omega (arith, more)
 
 pub tally_none : (test : Receipt → Bool) → tally test [] ≡ 0
 unfolding tally
 tally_none test = refl
-
--- one receipt more
-pub counted_more : (test : Receipt → Bool) (n count more : ℕ) (rs : List Receipt) (r : Receipt) → n < length rs → r ≡ get_or rs n r → count ≡ count_by test (take n rs) → more ≡ cond (test r) 1 0 → count + more ≡ count_by test (take (n + 1) rs)
-counted_more test n count more rs r h at so one =
-    let all : count_by test (take (n + 1) rs) ≡ count_by test (take n rs) + count_by test (r ∷ []) = ap (count_by test) (take_more rs n r h ∙ ap (λ x. take n rs ++ x ∷ []) (sym at)) ∙ sum_by-append (λ x. cond (test x) 1 0) (take n rs) (r ∷ []) in
-    let last : count_by test (r ∷ []) ≡ cond (test r) 1 0 = count_one test r in
-    omega (arith, all, last, so, one)
 
 -- ---- accepted additions
 
@@ -67,16 +51,12 @@ additions_next w made =
     let e : 1 + made ≡ made + 1 = omega arith in
     ap (additions w 1) n ∙ (additions-suc w 1 made ∙ ap (λ k. additions w 1 made ++ adds w k ∷ []) e)
 
-accepted_by : (worker made next : ℕ) (before : List Receipt) (r : Receipt) (b : Bool) → is_accepted r ≡ b → IsNextMade worker made r next → accepted_in before ≡ additions worker 1 made → accepted_in (before ++ r ∷ []) ≡ additions worker 1 next
-accepted_by worker made next before r true e step so =
+-- one receipt more
+pub accepted_push : (worker made next : ℕ) (before : List Receipt) (r : Receipt) (b : Bool) → is_accepted r ≡ b → IsNextMade worker made r next → accepted_in before ≡ additions worker 1 made → accepted_in (before ++ r ∷ []) ≡ additions worker 1 next
+accepted_push worker made next before r true e step so =
     let one = step.accepted e in
     accepted-yes before r e ∙ (ap (λ x. x ++ r.event ∷ []) so ∙ (ap (λ v. additions worker 1 made ++ v ∷ []) one.0 ∙ (sym (additions_next worker made) ∙ ap (additions worker 1) (sym one.1))))
-accepted_by worker made next before r false e step so = accepted-no before r e ∙ (so ∙ ap (additions worker 1) (sym (step.other e)))
-
--- one receipt more
-pub accepted_more : (worker made next n : ℕ) (rs : List Receipt) (r : Receipt) → n < length rs → r ≡ get_or rs n r → IsNextMade worker made r next → accepted_in (take n rs) ≡ additions worker 1 made → accepted_in (take (n + 1) rs) ≡ additions worker 1 next
-accepted_more worker made next n rs r h at step so =
-    ap accepted_in (take_more rs n r h ∙ ap (λ x. take n rs ++ x ∷ []) (sym at)) ∙ accepted_by worker made next (take n rs) r (is_accepted r) refl step so
+accepted_push worker made next before r false e step so = accepted-no before r e ∙ (so ∙ ap (additions worker 1) (sym (step.other e)))
 
 pub accepted_none : (worker : ℕ) → accepted_in [] ≡ additions worker 1 0
 unfolding additions

@@ -1,5 +1,5 @@
 pub mod Counting
-pub mod Each
 pub mod SameBooks
+pub mod Seen
 pub mod Tables
 pub mod Whole

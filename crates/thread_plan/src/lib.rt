@@ -4,6 +4,7 @@
 mod adding;
 mod additions;
 mod completing;
+mod findings;
 mod opening;
 mod plan;
 mod planned;

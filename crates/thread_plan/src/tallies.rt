@@ -1,14 +1,16 @@
 //! How many receipts tell of an accepted addition, of a stop or of a restore.
 
-ghost use Rattle.std.specs.Prelude.{◌≡◌, ◌≤◌, ◌+◌, cond, count_by, IfOk};
+ghost use Rattle.std.specs.Prelude.{◌≡◌, ◌+◌, ◌∷◌, [], cond, count_by, IfSome, IsTrue};
 ghost use Rattle.law_world_orders.specs.Work.{is_addition as adds_here};
-ghost use Rattle.thread_plan.specs.Planned.{is_accepted, restores_b, stops_b, tally};
+ghost use Rattle.thread_plan.specs.Planned.{IsPlan, all_adds as planned_adds, is_accepted, restores_b, stops_b};
+ghost use Rattle.thread_plan.specs.Seen.{AreTallied};
 
+use crate::adding::all_adds;
+use crate::plan::ThreadPlan;
 use crate::working::name_b;
 use protocol::Event;
-use rdma_types::{Answer, Items, Kind};
+use rdma_types::{Answer, Kind};
 use station::Receipt;
-use std::alloc::AllocError;
 
 /// Whether an event posts an addition.
 fn is_addition(event: &Event) -> bool
@@ -24,16 +26,16 @@ fn is_addition(event: &Event) -> bool
 pub fn accepts(receipt: &Receipt) -> bool
     ensures { result ≡ is_accepted receipt.now }
 {
-    is_addition(&receipt.event) && matches!(receipt.outcome.answer, Answer::Done)
+    is_addition(receipt.event()) && matches!(receipt.outcome().answer, Answer::Done)
 }
 
 /// Whether a receipt is of a stop of b that was made.
 fn stops(receipt: &Receipt) -> bool
     ensures { result ≡ stops_b receipt.now }
 {
-    match &receipt.event {
+    match receipt.event() {
         Event::Stop { context, .. } => {
-            *context == name_b() && matches!(receipt.outcome.answer, Answer::Stopped)
+            *context == name_b() && matches!(receipt.outcome().answer, Answer::Stopped)
         }
         _ => false,
     }
@@ -43,94 +45,58 @@ fn stops(receipt: &Receipt) -> bool
 fn restores(receipt: &Receipt) -> bool
     ensures { result ≡ restores_b receipt.now }
 {
-    match &receipt.event {
+    match receipt.event() {
         Event::Restore { image } => {
-            image.name == name_b() && matches!(receipt.outcome.answer, Answer::Done)
+            image.name == name_b() && matches!(receipt.outcome().answer, Answer::Done)
         }
         _ => false,
     }
 }
 
-/// 1 where that is so, and otherwise 0.
-fn one_if(is_so: bool) -> usize
-    ensures is { result ≡ cond is_so 1 0 }
-    ensures most { result ≤ 1 }
+/// A number, and one more where that is so; None where it would have more than 64 bits.
+fn one_more_if(is_so: bool, count: u64) -> Option<u64>
+    ensures { IfSome result (λ n. n ≡ count + cond is_so 1 0) }
 {
-    usize::from(is_so)
+    count.checked_add(u64::from(is_so))
 }
 
-/// How many receipts of a worker are of accepted additions.
-fn accepted_by(held: &[Receipt]) -> usize
-    ensures { result ≡ count_by is_accepted held.now }
-{
-    let mut count = 0;
-    for receipt in held {
-        count += one_if(accepts(receipt));
-    }
-    count
+/// How many receipts are of accepted additions, of stops of b and of restores of b.
+#[derive(Clone, Copy)]
+pub struct Tallies {
+    accepted: u64,
+    stopped: u64,
+    restored: u64,
 }
 
-/// How many are of stops of b.
-fn stopped_by(held: &[Receipt]) -> usize
-    ensures { result ≡ count_by stops_b held.now }
-{
-    let mut count = 0;
-    for receipt in held {
-        count += one_if(stops(receipt));
+impl Tallies {
+    /// Those of no receipt.
+    pub fn none() -> Tallies
+        ensures { result ≡ record { accepted = 0; stopped = 0; restored = 0 } }
+    {
+        Tallies {
+            accepted: 0,
+            stopped: 0,
+            restored: 0,
+        }
     }
-    count
-}
 
-/// How many are of restores of b.
-fn restored_by(held: &[Receipt]) -> usize
-    ensures { result ≡ count_by restores_b held.now }
-{
-    let mut count = 0;
-    for receipt in held {
-        count += one_if(restores(receipt));
+    /// Those with one receipt more; None where a number would have more than 64 bits.
+    pub fn with_receipt(self, receipt: &Receipt) -> Option<Tallies>
+        ensures { IfSome result (AreTallied (λ test. count_by test (receipt.now ∷ [])) self) }
+    {
+        Some(Tallies {
+            accepted: one_more_if(accepts(receipt), self.accepted)?,
+            stopped: one_more_if(stops(receipt), self.stopped)?,
+            restored: one_more_if(restores(receipt), self.restored)?,
+        })
     }
-    count
-}
 
-/// A number of receipts and more of them. Errors: out of memory, where the sum has more than 64 bits.
-fn sum(count: u64, more: usize) -> Result<u64, AllocError>
-    ensures { IfOk result (λ n. n ≡ count + more) }
-{
-    match count.checked_add(more as u64) {
-        Some(n) => Ok(n),
-        None => Err(AllocError),
+    /// Whether there are as many as planned.
+    pub fn are_as_many(self, plan: &ThreadPlan) -> bool
+        requires { IsPlan plan.now }
+        ensures { IsTrue result → (self.accepted ≡ planned_adds plan.now) × (self.stopped ≡ plan.now.moves) × (self.restored ≡ plan.now.moves) }
+    {
+        let moves = u64::from(plan.moves);
+        self.accepted == all_adds(plan) && self.stopped == moves && self.restored == moves
     }
-}
-
-/// How many receipts of all workers are of accepted additions.
-pub fn accepted(receipts: &[Items<Receipt>]) -> Result<u64, AllocError>
-    ensures { IfOk result (λ n. n ≡ tally is_accepted receipts.now) }
-{
-    let mut count = 0;
-    for held in receipts {
-        count = sum(count, accepted_by(held.as_slice()))?;
-    }
-    Ok(count)
-}
-
-/// How many are of stops of b.
-pub fn stopped(receipts: &[Items<Receipt>]) -> Result<u64, AllocError>
-    ensures { IfOk result (λ n. n ≡ tally stops_b receipts.now) }
-{
-    let mut count = 0;
-    for held in receipts {
-        count = sum(count, stopped_by(held.as_slice()))?;
-    }
-    Ok(count)
-}
-
-/// How many are of restores of b.
-pub fn restored(receipts: &[Items<Receipt>]) -> Result<u64, AllocError>
-    ensures { IfOk result (λ n. n ≡ tally restores_b receipts.now) }
-{
-    let mut count = 0;
-    for held in receipts {
-        count = sum(count, restored_by(held.as_slice()))?;
-    }
-    Ok(count)
 }

@@ -1,14 +1,12 @@
 //! Events that workers and the mover ask for.
 
-ghost use Rattle.std.specs.Prelude.{◌≡◌, IsTrue, true, slice_get, Some, ℕ, codes};
+ghost use Rattle.std.specs.Prelude.{◌≡◌, IsTrue, true, codes};
 ghost use Rattle.law_simulation.specs.Law.{IsRequestInRange};
 ghost use Rattle.law_world_orders.specs.Bridge.{IsAskable, is_work};
 ghost use Rattle.law_world_orders.specs.Work.{is_fetch_add};
-ghost use Rattle.thread_plan.specs.Planned.{AreWorking, IsWorking};
 
 use protocol::Event;
-use rdma_types::{Items, Kind, Name, Request};
-use station::Receipt;
+use rdma_types::{Kind, Name, Request};
 
 /// The context a.
 fn name_a() -> Name
@@ -32,7 +30,7 @@ fn is_whole_addition(request: Request) -> bool
 }
 
 /// Whether workers and the mover ask for this event at the device with that id, and its fields are in their ranges.
-fn is_asked(device: u8, event: &Event) -> bool
+pub fn is_asked(device: u8, event: &Event) -> bool
     ensures { IsTrue result → (is_work device event.now ≡ true) × IsAskable event.now }
 {
     match event {
@@ -49,29 +47,4 @@ fn is_asked(device: u8, event: &Event) -> bool
         | Event::Release { .. } => true,
         _ => false,
     }
-}
-
-/// Whether that holds of all receipts of a worker.
-fn are_asked(held: &[Receipt]) -> bool
-    ensures { IsTrue result → (k : ℕ) (r : Receipt) → slice_get held.now k ≡ Some r → IsWorking r }
-{
-    for k in 0..held.len() {
-        let receipt = &held[k];
-        if !is_asked(receipt.device, &receipt.event) {
-            return false;
-        }
-    }
-    true
-}
-
-/// Whether that holds of all receipts of all workers.
-pub fn all_asked(receipts: &[Items<Receipt>]) -> bool
-    ensures { IsTrue result → AreWorking receipts.now }
-{
-    for worker in 0..receipts.len() {
-        if !are_asked(receipts[worker].as_slice()) {
-            return false;
-        }
-    }
-    true
 }

@@ -5,4 +5,4 @@ use Rattle.thread_plan.specs.Tables.{AreRaised}
 use Rattle.thread_plan.proofs.completing.note_all.Given as goal
 
 abbrev pub invariant-loop-k : goal.invariant-loop-k
-invariant-loop-k l = AreRaised (λ j. count_by (completes l.worker j) (take l.k l.completions)) l.fn.table.items l.table.items
+invariant-loop-k l = AreRaised (λ i j. count_by (completes i j) (take l.k l.completions)) l.fn.tables.items l.tables.items

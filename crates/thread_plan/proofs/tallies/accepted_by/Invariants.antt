@@ -1,6 +1,0 @@
-use Rattle.std.proofs.Common.{◌≡◌, ◌≤◌, take, count_by}
-use Rattle.thread_plan.specs.Planned.{is_accepted}
-use Rattle.thread_plan.proofs.tallies.accepted_by.Given as goal
-
-abbrev pub invariant-loop-receipt : goal.invariant-loop-receipt
-invariant-loop-receipt l = (l.count ≡ count_by is_accepted (take l.receipt-index l.held)) × (l.count ≤ l.receipt-index)

@@ -1,6 +1,0 @@
-use Rattle.std.proofs.Common.{◌≡◌, ◌≤◌, take, count_by}
-use Rattle.thread_plan.specs.Planned.{stops_b}
-use Rattle.thread_plan.proofs.tallies.stopped_by.Given as goal
-
-abbrev pub invariant-loop-receipt : goal.invariant-loop-receipt
-invariant-loop-receipt l = (l.count ≡ count_by stops_b (take l.receipt-index l.held)) × (l.count ≤ l.receipt-index)
