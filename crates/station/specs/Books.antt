@@ -46,6 +46,13 @@ pub record IsStepOf (b : BookView) (place : ℕ) (s : Step) : Type 0 where
   pub outcome : s.outcome ≡ (device_step (replay b.opening (take place b.journal)) s.event).outcome
   pub image : IfSome s.outcome.image (λ i. IsLawful i)
 
+-- the receipt of a call: what was asked, of which device, by whom; a lock hides what the device did, so that nothing is said
+-- of the outcome before the books are gathered
+pub record IsReceiptOf (device worker : ℕ) (event : Event) (r : Receipt) : Type 0 where
+  pub device_is : r.device ≡ device
+  pub worker_is : r.worker ≡ worker
+  pub event_is : r.event ≡ event
+
 -- ---- what a book keeps
 
 -- the steps that a journal shares
@@ -62,10 +69,3 @@ pub record IsHeld (opening : Device) (steps : List Step) (d : Device) : Type 0 w
   pub lawful : All IsLawfulEvent (events_of steps)
   pub outcomes_are : map (λ s. s.outcome) steps ≡ outcomes opening (events_of steps)
   pub images : All (λ s. IfSome s.outcome.image (λ i. IsLawful i)) steps
-
--- the receipt of a call: what was asked, of which device, by whom; a lock hides what the device did, so that nothing is said
--- of the outcome before the books are gathered
-pub record IsReceiptOf (device worker : ℕ) (event : Event) (r : Receipt) : Type 0 where
-  pub device_is : r.device ≡ device
-  pub worker_is : r.worker ≡ worker
-  pub event_is : r.event ≡ event
