@@ -90,7 +90,8 @@ impl Alone {
         let (Some(step), Some(own)) = (book.share(place), book.share(place)) else {
             return Err(PlanFault::OutOfMemory);
         };
-        self.order.enter(device, place, step.outcome.sent.len() as u64)?;
+        self.order
+            .enter(device, place, step.outcome.sent.len() as u64)?;
         let Some(held) = self.receipts.get_mut(worker as usize) else {
             return Err(PlanFault::NotAsPlanned);
         };

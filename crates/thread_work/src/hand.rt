@@ -171,20 +171,22 @@ impl<'a, G: Gate> Hand<'a, G> {
         Ok(())
     }
 
-    /// The oldest datagrams arrive at a device, as long as they go there.
+    /// The oldest datagrams arrive at a device, as long as they go there; the answer is how many did.
     pub fn bring_all<R: Wait>(
         &mut self,
         rt: &R,
         alloc: Global,
         session: &mut Session<'_>,
-    ) -> Result<(), PlanFault> {
+    ) -> Result<u32, PlanFault> {
+        let mut came = 0u32;
         for _ in rt.forever() {
             if self.next_address() != Some(session.address()) {
                 break;
             }
             self.bring(rt, alloc, session)?;
+            came = came.saturating_add(1);
         }
-        Ok(())
+        Ok(came)
     }
 
     /// Delivers what its steps sent, oldest first, until nothing is left or the oldest goes to the device with the id `but`. What

@@ -13,7 +13,7 @@ use thread_plan::{PlanFault, addition};
 /// The id of the device of a.
 pub const OF_A: u8 = 1;
 
-/// Posts additions until all are posted or one is refused; `posted` counts those that were accepted.
+/// Posts additions, at most so many, until all are posted or one is refused; `posted` counts those that were accepted.
 fn post_all<R: Wait, G: Gate>(
     rt: &R,
     alloc: Global,
@@ -22,10 +22,11 @@ fn post_all<R: Wait, G: Gate>(
     worker: u32,
     adds: u32,
     posted: &mut u32,
+    most: u32,
 ) -> Result<(), PlanFault>
     requires { (1 ≤ worker) × (worker ≤ 8) × (adds ≤ 10000) }
 {
-    for j in *posted..adds {
+    for j in *posted..adds.min(posted.saturating_add(most)) {
         if hand.call(rt, alloc, session, addition(worker, j + 1))? != Told::Accepted {
             break;
         }
@@ -34,17 +35,18 @@ fn post_all<R: Wait, G: Gate>(
     Ok(())
 }
 
-/// Sends until the own end has nothing to send now.
+/// Sends, at most so many packets, until the own end has nothing to send now.
 fn send_all<R: Wait, G: Gate>(
     rt: &R,
     alloc: Global,
     hand: &mut Hand<'_, G>,
     session: &mut Session<'_>,
     worker: u32,
+    most: u32,
 ) -> Result<(), PlanFault>
     requires { worker ≤ 8 }
 {
-    for _ in rt.forever() {
+    for _ in 0..most {
         if hand.call(rt, alloc, session, transmits(Side::A, worker))? != Told::Sent {
             break;
         }
@@ -53,7 +55,8 @@ fn send_all<R: Wait, G: Gate>(
 }
 
 /// What a worker does at the device of a in a turn: it delivers there what came back, polls if something came and `does_poll`,
-/// posts and sends all that it can.
+/// posts and sends. An answer makes room for one addition and for one packet, so where answers came it tries no more than these,
+/// and else until it may not go on.
 fn fill<R: Wait, G: Gate>(
     rt: &R,
     alloc: Global,
@@ -66,12 +69,13 @@ fn fill<R: Wait, G: Gate>(
     requires { (1 ≤ worker) × (worker ≤ 8) × (adds ≤ 10000) }
 {
     let mut session = hand.open(rt, OF_A)?;
-    hand.bring_all(rt, alloc, &mut session)?;
-    if does_poll && hand.has_worked() {
+    let came = hand.bring_all(rt, alloc, &mut session)?;
+    let most = if came == 0 { u32::MAX } else { came };
+    if does_poll && came != 0 {
         hand.call(rt, alloc, &mut session, polls())?;
     }
-    post_all(rt, alloc, hand, &mut session, worker, adds, posted)?;
-    send_all(rt, alloc, hand, &mut session, worker)
+    post_all(rt, alloc, hand, &mut session, worker, adds, posted, most)?;
+    send_all(rt, alloc, hand, &mut session, worker, most)
 }
 
 /// Whether a worker whose end told so at its expiry is through: it is in Error, or nothing is in flight and nothing is to be
