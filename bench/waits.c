@@ -41,15 +41,7 @@ long syscall(long number, ...)
     return result;
 }
 
-__attribute__((destructor)) static void tell(void)
+__attribute__((destructor)) static void end(void)
 {
     fprintf(stderr, "%lld\n", atomic_load(&waited));
-}
-
-/* A program that ends so runs no destructor. */
-void _exit(int status)
-{
-    tell();
-    below(SYS_exit_group, (long)status, 0L, 0L, 0L, 0L, 0L);
-    __builtin_unreachable();
 }
