@@ -1,4 +1,5 @@
-use Rattle.std.proofs.Common.{arith, ◌∙◌}
+use Rattle.std.proofs.Common.{rules, arith, ◌≡◌, ◌++◌, ◌∙◌}
+use Rattle.thread_run.specs.Gathered.{polled}
 use Rattle.cq_fanout.proofs.Counting.{told_more, told_none}
 use Rattle.cq_fanout.proofs.told.told_by.Goals as goal
 
@@ -6,4 +7,6 @@ pub loop-receipt-init : goal.loop-receipt-init
 loop-receipt-init c = c.new-completions.ensures.items ∙ told_none
 
 pub loop-receipt-preserved : goal.loop-receipt-preserved
-loop-receipt-preserved c = told_more c.args.held.now c.loop-receipt.receipt-index c.receipt-item.result _ _ (omega arith) c.receipt-item.is c.loop-receipt.invariant c.in_ok-put_polled.ensures
+loop-receipt-preserved c =
+    let put : c.put_polled.new.completions.items ≡ c.loop-receipt.completions.items ++ polled c.receipt-item.result.outcome.answer = search rules in
+    told_more c.args.held.now c.loop-receipt.receipt-index c.receipt-item.result _ _ (omega arith) c.receipt-item.is c.loop-receipt.invariant put
