@@ -96,12 +96,7 @@ fn asked(alloc: Global, book: &mut Book, order: &mut OrderBook, fault: Fault) ->
     } else {
         Arc::new(alloc, step_told(alloc, address, fault)?).ok()?
     };
-    Some(Receipt::new(
-        worker,
-        device,
-        place.checked_add(raised)?,
-        step,
-    ))
+    Some(Receipt::new(worker, device, place.checked_add(raised)?, step))
 }
 
 /// One book.
