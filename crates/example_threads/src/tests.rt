@@ -53,50 +53,74 @@ pub(crate) fn poll() -> Option<Event>
     poll_of(256)
 }
 
-/// A step as it is told in place of a poll of nothing.
-fn step_told(alloc: Global, to: Address, fault: Fault) -> Option<Step> {
-    let max = if fault == Fault::Event { 255 } else { 256 };
-    let answer = if fault == Fault::Answer {
-        Answer::Idle
-    } else {
-        Answer::Polled(Items::new(Vec::new(alloc)))
-    };
-    let mut sent = Items::new(Vec::new(alloc));
-    if fault == Fault::Count {
-        let bytes = Items::new(Vec::new(alloc));
-        sent.push(Sent {
-            to,
-            number: None,
-            bytes,
-        })
-        .ok()?;
+/// What a poll of nothing answers, as it is told.
+fn answer_told(alloc: Global, fault: Fault) -> Answer {
+    if fault == Fault::Answer {
+        return Answer::Idle;
     }
-    Some(Step {
-        event: poll_of(max)?,
-        outcome: Outcome {
-            answer,
-            sent,
-            image: None,
-        },
+    Answer::Polled(Items::new(Vec::new(alloc)))
+}
+
+/// One datagram without bytes.
+fn one_sent(alloc: Global, to: Address) -> Option<Items<Sent>> {
+    let bytes = Items::new(Vec::new(alloc));
+    let number = None;
+    let sent = vec![in alloc; Sent { to, number, bytes }].ok()?;
+    Some(Items::new(sent))
+}
+
+/// What a poll sends, as it is told.
+fn sent_told(alloc: Global, to: Address, fault: Fault) -> Option<Items<Sent>> {
+    if fault == Fault::Count {
+        return one_sent(alloc, to);
+    }
+    Some(Items::new(Vec::new(alloc)))
+}
+
+/// For how many completions a poll asks, as it is told.
+fn max_told(fault: Fault) -> u32 {
+    if fault == Fault::Event { 255 } else { 256 }
+}
+
+/// The outcome of a poll of nothing, as it is told.
+fn outcome_told(alloc: Global, to: Address, fault: Fault) -> Option<Outcome> {
+    let sent = sent_told(alloc, to, fault)?;
+    Some(Outcome {
+        answer: answer_told(alloc, fault),
+        sent,
+        image: None,
     })
+}
+
+/// A poll of nothing, as it is told.
+fn step_told(alloc: Global, to: Address, fault: Fault) -> Option<Arc<Step>> {
+    let event = poll_of(max_told(fault))?;
+    let outcome = outcome_told(alloc, to, fault)?;
+    Arc::new(alloc, Step { event, outcome }).ok()
+}
+
+/// The receipt of the poll at a place, as it is told to worker 0.
+fn receipt_told(
+    alloc: Global,
+    device: u8,
+    to: Address,
+    place: u64,
+    fault: Fault,
+) -> Option<Receipt> {
+    let worker = if fault == Fault::Worker { 1 } else { 0 };
+    let place = place.checked_add(if fault == Fault::Place { 1 } else { 0 })?;
+    let step = step_told(alloc, to, fault)?;
+    Some(Receipt::new(worker, device, place, step))
 }
 
 /// A step of a book that worker 0 asks for, with its receipt.
 fn asked(alloc: Global, book: &mut Book, order: &mut OrderBook, fault: Fault) -> Option<Receipt> {
     let place = book.step(alloc, poll()?).ok()?;
     let device = book.opening().id();
-    let address = book.opening().address();
     if fault != Fault::NotEntered {
         order.enter(device, place, 0).ok()?;
     }
-    let worker = if fault == Fault::Worker { 1 } else { 0 };
-    let raised = if fault == Fault::Place { 1 } else { 0 };
-    let step = if fault == Fault::None {
-        book.share(place)?
-    } else {
-        Arc::new(alloc, step_told(alloc, address, fault)?).ok()?
-    };
-    Some(Receipt::new(worker, device, place.checked_add(raised)?, step))
+    receipt_told(alloc, device, book.opening().address(), place, fault)
 }
 
 /// One book.
