@@ -41,7 +41,15 @@ long syscall(long number, ...)
     return result;
 }
 
-__attribute__((destructor)) static void end(void)
+__attribute__((destructor)) static void tell(void)
 {
     fprintf(stderr, "%lld\n", atomic_load(&waited));
+}
+
+/* A program that ends so runs no destructor. */
+void _exit(int status)
+{
+    tell();
+    below(SYS_exit_group, (long)status, 0L, 0L, 0L, 0L, 0L);
+    __builtin_unreachable();
 }
