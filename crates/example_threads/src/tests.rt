@@ -153,23 +153,54 @@ pub(crate) fn run_of(
     gather(alloc, books, order, receipts)
 }
 
-/// What is gathered of two polls, the first of which has a fault.
-fn gathered(alloc: Global, fault: Fault) -> Option<[u64; 3]> {
-    let mut book = open_books(alloc, 1).ok()?.into_iter().next()?;
-    let mut order = OrderBook::make(alloc);
+/// The receipts of two polls, without the first where it is not told.
+fn both(alloc: Global, first: Receipt, second: Receipt, fault: Fault) -> Option<Items<Receipt>> {
     let mut held = Items::new(Vec::new(alloc));
-    let first = asked(alloc, &mut book, &mut order, fault)?;
     if fault != Fault::NotTold {
         held.push(first).ok()?;
     }
-    held.push(asked(alloc, &mut book, &mut order, Fault::None)?)
-        .ok()?;
+    held.push(second).ok()?;
+    Some(held)
+}
+
+/// Two polls, the first of which has a fault.
+fn polled_twice(
+    alloc: Global,
+    book: &mut Book,
+    order: &mut OrderBook,
+    fault: Fault,
+) -> Option<Items<Receipt>> {
+    let first = asked(alloc, book, order, fault)?;
+    let second = asked(alloc, book, order, Fault::None)?;
+    both(alloc, first, second, fault)
+}
+
+/// A third poll that stands in the journal alone, where that is the fault.
+fn polled_alone(alloc: Global, book: &mut Book, fault: Fault) -> Option<()> {
     if fault == Fault::Journal {
         book.step(alloc, poll()?).ok()?;
     }
-    let mut receipts = Vec::new(alloc);
-    receipts.push(held).ok()?;
-    told(gather(alloc, alone(alloc, book).ok()?, order, receipts))
+    Some(())
+}
+
+/// One list of receipts.
+fn one_list(alloc: Global, held: Items<Receipt>) -> Option<Vec<Items<Receipt>>> {
+    vec![in alloc; held].ok()
+}
+
+/// The book of device 1 as it opens for one worker.
+fn first_book(alloc: Global) -> Option<Book> {
+    open_books(alloc, 1).ok()?.into_iter().next()
+}
+
+/// What is gathered of two polls, the first of which has a fault.
+fn gathered(alloc: Global, fault: Fault) -> Option<[u64; 3]> {
+    let mut book = first_book(alloc)?;
+    let mut order = OrderBook::make(alloc);
+    let held = polled_twice(alloc, &mut book, &mut order, fault)?;
+    polled_alone(alloc, &mut book, fault)?;
+    let receipts = one_list(alloc, held)?;
+    told(run_of(alloc, book, order, receipts))
 }
 
 #[test]
