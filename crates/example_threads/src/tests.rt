@@ -183,8 +183,15 @@ fn polled_alone(alloc: Global, book: &mut Book, fault: Fault) -> Option<()> {
     Some(())
 }
 
-/// One list of receipts.
-fn one_list(alloc: Global, held: Items<Receipt>) -> Option<Vec<Items<Receipt>>> {
+/// The receipts of a worker whose book is polled twice, with a fault.
+fn polls(
+    alloc: Global,
+    book: &mut Book,
+    order: &mut OrderBook,
+    fault: Fault,
+) -> Option<Vec<Items<Receipt>>> {
+    let held = polled_twice(alloc, book, order, fault)?;
+    polled_alone(alloc, book, fault)?;
     vec![in alloc; held].ok()
 }
 
@@ -193,14 +200,21 @@ fn first_book(alloc: Global) -> Option<Book> {
     open_books(alloc, 1).ok()?.into_iter().next()
 }
 
+/// The run of a book that is polled twice, with a fault.
+fn faulty_run(
+    alloc: Global,
+    mut book: Book,
+    mut order: OrderBook,
+    fault: Fault,
+) -> Option<Result<Run, RunFault>> {
+    let receipts = polls(alloc, &mut book, &mut order, fault)?;
+    Some(run_of(alloc, book, order, receipts))
+}
+
 /// What is gathered of two polls, the first of which has a fault.
 fn gathered(alloc: Global, fault: Fault) -> Option<[u64; 3]> {
-    let mut book = first_book(alloc)?;
-    let mut order = OrderBook::make(alloc);
-    let held = polled_twice(alloc, &mut book, &mut order, fault)?;
-    polled_alone(alloc, &mut book, fault)?;
-    let receipts = one_list(alloc, held)?;
-    told(run_of(alloc, book, order, receipts))
+    let book = first_book(alloc)?;
+    told(faulty_run(alloc, book, OrderBook::make(alloc), fault)?)
 }
 
 #[test]
