@@ -22,8 +22,8 @@ struct Polling<'a, G> {
 impl<'a, G: Gate> Polling<'a, G> {
     /// Polls once.
     fn poll_once<R: Wait>(&mut self, rt: &R, alloc: Global) -> Result<(), PlanFault> {
-        let mut session = self.hand.open(rt, OF_A)?;
-        let receipt = self.hand.ask(rt, alloc, &mut session, polls())?;
+        let mut guard = self.hand.lock(rt, OF_A)?;
+        let receipt = self.hand.ask(rt, alloc, &mut guard, polls())?;
         put_polled(&mut self.waiting, &receipt.outcome().answer)?;
         self.waiting.reverse();
         self.hand.keep(receipt)?;

@@ -8,6 +8,6 @@ mod receipt;
 
 pub use book::Book;
 pub use law_world_orders::OrderEntry;
-pub use locks::{Orders, Session, Station};
+pub use locks::{Orders, Station, StationGuard};
 pub use order_book::OrderBook;
 pub use receipt::{Receipt, Step};

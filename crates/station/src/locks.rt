@@ -135,11 +135,11 @@ impl Station {
     }
 
     /// Takes the lock of the device, for several steps.
-    pub fn open<'a, R: Wait>(&'a self, rt: &R, orders: &'a Orders) -> Session<'a>
+    pub fn lock<'a, R: Wait>(&'a self, rt: &R, orders: &'a Orders) -> StationGuard<'a>
         ensures { result ≡ self.now }
     {
         let book = self.book.lock(rt);
-        Session {
+        StationGuard {
             id: self.id,
             address: self.address,
             orders,
@@ -147,7 +147,7 @@ impl Station {
         }
     }
 
-    /// One step under the lock of the device, as `Session::call` makes it.
+    /// One step under the lock of the device, as `StationGuard::call` makes it.
     pub fn call<R: Wait>(
         &self,
         rt: &R,
@@ -160,7 +160,7 @@ impl Station {
         ensures ok { IfOk result (λ r. IsReceiptOf self.now worker event r) }
         ensures image { IfOk result (λ r. IfSome r.outcome.image (λ i. IsLawful i)) }
     {
-        self.open(rt, orders).call(rt, alloc, worker, event)
+        self.lock(rt, orders).call(rt, alloc, worker, event)
     }
 
     /// The book, without its lock.
@@ -172,14 +172,14 @@ impl Station {
 
 /// The lock of a device, held for several steps. Contracts see the device's id.
 #[derive(Drop)]
-pub struct Session<'a> {
+pub struct StationGuard<'a> {
     id: u8,
     address: Address,
     orders: &'a Orders,
     book: MutexGuard<'a, Book>,
 }
 
-impl<'a> Model for Session<'a> {
+impl<'a> Model for StationGuard<'a> {
     ghost use Rattle.std.specs.Prelude.{ℕ};
 
     ghost Value = { ℕ };
@@ -187,7 +187,7 @@ impl<'a> Model for Session<'a> {
     ghost view = { λ s. s.id };
 }
 
-impl<'a> Session<'a> {
+impl<'a> StationGuard<'a> {
     /// The device's id.
     pub fn id(&self) -> u8
         ensures { result ≡ self.now }

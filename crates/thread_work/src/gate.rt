@@ -1,7 +1,7 @@
 //! Gates, which tests use to hold a worker.
 
-/// Called by each worker before each of its calls of a device, and before the first call of a session without a lock. The mover and
-/// the caller have number 0.
+/// Passed by each worker before each of its steps: before it takes the lock of a device for the first one, and while it holds
+/// the lock before each further one. The mover and the caller have number 0.
 pub trait Gate {
     fn pass(&self, worker: u32);
 }

@@ -9,7 +9,7 @@ use crate::gate::Gate;
 use crate::site::Site;
 use protocol::Event;
 use rdma_types::{Address, Items};
-use station::{Receipt, Session, Station};
+use station::{Receipt, Station, StationGuard};
 use std::alloc::Global;
 use std::sync::Wait;
 use thread_plan::PlanFault;
@@ -20,7 +20,7 @@ pub struct Hand<'a, G> {
     site: &'a Site,
     gate: &'a G,
     worker: u32,
-    /// It passed the gate for the first call of its session.
+    /// It passed the gate for the next step already, before it took the lock.
     has_passed: bool,
     receipts: Items<Receipt>,
     /// The receipts before this place have no datagram that is still to arrive.
@@ -57,17 +57,17 @@ impl<'a, G: Gate> Hand<'a, G> {
     }
 
     /// Takes the lock of a device, after the gate.
-    fn open_at<R: Wait>(&mut self, rt: &R, station: &'a Station) -> Session<'a> {
+    fn lock_at<R: Wait>(&mut self, rt: &R, station: &'a Station) -> StationGuard<'a> {
         self.gate.pass(self.worker);
         self.has_passed = true;
-        station.open(rt, &self.site.orders)
+        station.lock(rt, &self.site.orders)
     }
 
     /// Takes the lock of the device with an id, after the gate, for one call and more. Errors: where there is no such device.
-    pub fn open<R: Wait>(&mut self, rt: &R, id: u8) -> Result<Session<'a>, PlanFault> {
+    pub fn lock<R: Wait>(&mut self, rt: &R, id: u8) -> Result<StationGuard<'a>, PlanFault> {
         let site = self.site;
         match site.station(id) {
-            Some(station) => Ok(self.open_at(rt, station)),
+            Some(station) => Ok(self.lock_at(rt, station)),
             None => Err(PlanFault::NotAsPlanned),
         }
     }
@@ -77,7 +77,7 @@ impl<'a, G: Gate> Hand<'a, G> {
         &mut self,
         rt: &R,
         alloc: Global,
-        session: &mut Session<'_>,
+        guard: &mut StationGuard<'_>,
         event: Event,
     ) -> Result<Receipt, PlanFault>
         requires { IsLawfulEvent event }
@@ -87,7 +87,7 @@ impl<'a, G: Gate> Hand<'a, G> {
             self.gate.pass(self.worker);
         }
         self.has_passed = false;
-        let receipt = session.call(rt, alloc, self.worker, event)?;
+        let receipt = guard.call(rt, alloc, self.worker, event)?;
         Ok(receipt)
     }
 
@@ -116,12 +116,12 @@ impl<'a, G: Gate> Hand<'a, G> {
         &mut self,
         rt: &R,
         alloc: Global,
-        session: &mut Session<'_>,
+        guard: &mut StationGuard<'_>,
         event: Event,
     ) -> Result<Told, PlanFault>
         requires { IsLawfulEvent event }
     {
-        let receipt = self.ask(rt, alloc, session, event)?;
+        let receipt = self.ask(rt, alloc, guard, event)?;
         self.keep(receipt)
     }
 
@@ -160,12 +160,12 @@ impl<'a, G: Gate> Hand<'a, G> {
         &mut self,
         rt: &R,
         alloc: Global,
-        session: &mut Session<'_>,
+        guard: &mut StationGuard<'_>,
     ) -> Result<(), PlanFault> {
         let arrival = self.arrival(alloc)?;
         self.arrived = self.arrived.saturating_add(1);
         if let Some(event) = arrival {
-            self.call(rt, alloc, session, event)?;
+            self.call(rt, alloc, guard, event)?;
             self.note(Told::Changed);
         }
         Ok(())
@@ -176,14 +176,14 @@ impl<'a, G: Gate> Hand<'a, G> {
         &mut self,
         rt: &R,
         alloc: Global,
-        session: &mut Session<'_>,
+        guard: &mut StationGuard<'_>,
     ) -> Result<u32, PlanFault> {
         let mut came = 0u32;
         for _ in rt.forever() {
-            if self.next_address() != Some(session.address()) {
+            if self.next_address() != Some(guard.address()) {
                 break;
             }
-            self.bring(rt, alloc, session)?;
+            self.bring(rt, alloc, guard)?;
             came = came.saturating_add(1);
         }
         Ok(came)
@@ -209,8 +209,8 @@ impl<'a, G: Gate> Hand<'a, G> {
             if but == Some(station.id()) {
                 break;
             }
-            let mut session = self.open_at(rt, station);
-            self.bring_all(rt, alloc, &mut session)?;
+            let mut guard = self.lock_at(rt, station);
+            self.bring_all(rt, alloc, &mut guard)?;
         }
         Ok(())
     }

@@ -21,10 +21,10 @@ fn are_idle<R: Wait, G: Gate>(
 ) -> Result<bool, PlanFault>
     requires { workers ≤ 8 }
 {
-    let mut session = hand.open(rt, id)?;
+    let mut guard = hand.lock(rt, id)?;
     let mut idle = true;
     for i in 0..workers {
-        let told = hand.call(rt, alloc, &mut session, transmits(Side::B, i + 1))?;
+        let told = hand.call(rt, alloc, &mut guard, transmits(Side::B, i + 1))?;
         if told != Told::Idle {
             idle = false;
         }
@@ -65,8 +65,8 @@ fn stop<R: Wait, G: Gate>(
 ) -> Result<Option<Event>, PlanFault>
     ensures { IfOk result (λ event. IfSome event (λ e. IsLawfulEvent e)) }
 {
-    let mut session = hand.open(rt, id)?;
-    let receipt = hand.ask(rt, alloc, &mut session, stops())?;
+    let mut guard = hand.lock(rt, id)?;
+    let receipt = hand.ask(rt, alloc, &mut guard, stops())?;
     let event = restore_of(alloc, receipt.outcome())?;
     hand.keep(receipt)?;
     Ok(event)
@@ -84,11 +84,11 @@ fn move_to<R: Wait, G: Gate>(
     let Some(restore) = stop(rt, alloc, hand, from)? else {
         return Err(PlanFault::NotAsPlanned);
     };
-    let mut session = hand.open(rt, to)?;
+    let mut guard = hand.lock(rt, to)?;
     if has_husk {
-        hand.call(rt, alloc, &mut session, releases())?;
+        hand.call(rt, alloc, &mut guard, releases())?;
     }
-    hand.call(rt, alloc, &mut session, restore)?;
+    hand.call(rt, alloc, &mut guard, restore)?;
     Ok(())
 }
 

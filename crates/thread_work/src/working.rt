@@ -5,7 +5,7 @@ ghost use Rattle.std.specs.Prelude.{◌≤◌};
 use crate::events::{Side, Told, expires, polls, transmits};
 use crate::gate::Gate;
 use crate::hand::Hand;
-use station::Session;
+use station::StationGuard;
 use std::alloc::Global;
 use std::sync::Wait;
 use thread_plan::{PlanFault, addition};
@@ -18,7 +18,7 @@ fn post_all<R: Wait, G: Gate>(
     rt: &R,
     alloc: Global,
     hand: &mut Hand<'_, G>,
-    session: &mut Session<'_>,
+    guard: &mut StationGuard<'_>,
     worker: u32,
     adds: u32,
     posted: &mut u32,
@@ -27,7 +27,7 @@ fn post_all<R: Wait, G: Gate>(
     requires { (1 ≤ worker) × (worker ≤ 8) × (adds ≤ 10000) }
 {
     for j in *posted..adds.min(posted.saturating_add(most)) {
-        if hand.call(rt, alloc, session, addition(worker, j + 1))? != Told::Accepted {
+        if hand.call(rt, alloc, guard, addition(worker, j + 1))? != Told::Accepted {
             break;
         }
         *posted = j + 1;
@@ -40,14 +40,14 @@ fn send_all<R: Wait, G: Gate>(
     rt: &R,
     alloc: Global,
     hand: &mut Hand<'_, G>,
-    session: &mut Session<'_>,
+    guard: &mut StationGuard<'_>,
     worker: u32,
     most: u32,
 ) -> Result<(), PlanFault>
     requires { worker ≤ 8 }
 {
     for _ in 0..most {
-        if hand.call(rt, alloc, session, transmits(Side::A, worker))? != Told::Sent {
+        if hand.call(rt, alloc, guard, transmits(Side::A, worker))? != Told::Sent {
             break;
         }
     }
@@ -68,14 +68,14 @@ fn fill<R: Wait, G: Gate>(
 ) -> Result<(), PlanFault>
     requires { (1 ≤ worker) × (worker ≤ 8) × (adds ≤ 10000) }
 {
-    let mut session = hand.open(rt, OF_A)?;
-    let came = hand.bring_all(rt, alloc, &mut session)?;
+    let mut guard = hand.lock(rt, OF_A)?;
+    let came = hand.bring_all(rt, alloc, &mut guard)?;
     let most = if came == 0 { u32::MAX } else { came };
     if does_poll && came != 0 {
-        hand.call(rt, alloc, &mut session, polls())?;
+        hand.call(rt, alloc, &mut guard, polls())?;
     }
-    post_all(rt, alloc, hand, &mut session, worker, adds, posted, most)?;
-    send_all(rt, alloc, hand, &mut session, worker, most)
+    post_all(rt, alloc, hand, &mut guard, worker, adds, posted, most)?;
+    send_all(rt, alloc, hand, &mut guard, worker, most)
 }
 
 /// Whether a worker whose end told so at its expiry is through: it is in Error, or nothing is in flight and nothing is to be
@@ -84,7 +84,7 @@ fn is_through<R: Wait, G: Gate>(
     rt: &R,
     alloc: Global,
     hand: &mut Hand<'_, G>,
-    session: &mut Session<'_>,
+    guard: &mut StationGuard<'_>,
     worker: u32,
     told: Told,
 ) -> Result<bool, PlanFault>
@@ -93,7 +93,7 @@ fn is_through<R: Wait, G: Gate>(
     match told {
         Told::Ended => Ok(true),
         Told::NothingInFlight => {
-            let sent = hand.call(rt, alloc, session, transmits(Side::A, worker))?;
+            let sent = hand.call(rt, alloc, guard, transmits(Side::A, worker))?;
             Ok(sent == Told::Idle)
         }
         _ => Ok(false),
@@ -110,9 +110,9 @@ fn expire<R: Wait, G: Gate>(
 ) -> Result<bool, PlanFault>
     requires { worker ≤ 8 }
 {
-    let mut session = hand.open(rt, OF_A)?;
-    let told = hand.call(rt, alloc, &mut session, expires(worker))?;
-    Ok(has_posted && is_through(rt, alloc, hand, &mut session, worker, told)?)
+    let mut guard = hand.lock(rt, OF_A)?;
+    let told = hand.call(rt, alloc, &mut guard, expires(worker))?;
+    Ok(has_posted && is_through(rt, alloc, hand, &mut guard, worker, told)?)
 }
 
 /// One turn: posts, sends and delivers all that it can; where that was nothing, lets the own end expire. Says whether the
@@ -194,9 +194,9 @@ pub fn drain<R: Wait, G: Gate>(
     alloc: Global,
     hand: &mut Hand<'_, G>,
 ) -> Result<(), PlanFault> {
-    let mut session = hand.open(rt, OF_A)?;
+    let mut guard = hand.lock(rt, OF_A)?;
     for _ in rt.forever() {
-        if hand.call(rt, alloc, &mut session, polls())? != Told::Polled {
+        if hand.call(rt, alloc, &mut guard, polls())? != Told::Polled {
             break;
         }
     }
