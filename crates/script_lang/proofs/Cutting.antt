@@ -1,9 +1,12 @@
 -- The lines of a text, taken one at a time.
-use Rattle.std.proofs.Common.{◌≡◌, ℕ, ◌+◌, ◌-◌, ◌<◌, ◌≤◌, ◌==◌, Bool, true, false, List, [], ◌∷◌, length, take, drop, refl, sym, ap, ◌∙◌, arith, length-drop, drop-drop}
-use Rattle.std.proofs.lemmas.List.{take_all, drop_all}
+use Rattle.std.proofs.Common.{◌≡◌, ℕ, ◌+◌, ◌-◌, ◌<◌, ◌==◌, Bool, true, false, List, [], ◌∷◌, Some, None, length, take, drop, refl, ap, ◌∙◌, arith, length-drop}
+use Rattle.std.proofs.lemmas.List.{take_all}
 use Rattle.std.specs.List.{slice_split, position_or_len, before_first, after_first}
+use Rattle.std.proofs.lemmas.Bool.{false_from_ne_true}
 use Rattle.std.proofs.lemmas.Bool.Decides.{nat_tests}
+use Rattle.std.proofs.lemmas.List.Sums.{position_or_len_is}
 use Rattle.std.proofs.lemmas.List.Splits.{slice_split_first, length-slice_split}
+use Rattle.memchr.specs.Find.{IsFirstByte, is_byte}
 use Rattle.script_lang.specs.Scripts.{is_newline, without_return, lines_in, lines_of}
 
 no_lines : lines_of [] ≡ []
@@ -49,21 +52,19 @@ whole_line : (bs : List ℕ) → 0 < length bs → position_or_len is_newline bs
 unfolding lines_of
 whole_line bs l h = ap lines_in (uncut bs h) ∙ last_kept bs l
 
--- the first line ends before n bytes, where the newline stands
-pub line_before : (bs : List ℕ) (n : ℕ) → n ≡ position_or_len (λ b. b == 10) bs → 0 < length (drop n bs) → lines_of bs ≡ without_return (take n bs) ∷ lines_of (drop 1 (drop n bs))
-line_before bs n e h =
-    let len : length (drop n bs) ≡ length bs - n = length-drop n bs in
-    let at : n ≡ position_or_len is_newline bs = e in
-    let below : position_or_len is_newline bs < length bs = omega (arith, len, at) in
-    line_at_newline bs below ∙ rw (← at) (rw drop-drop refl)
+-- a search for the first newline finds the place where the first line ends
+newline_place : (bs : List ℕ) (n : ℕ) → IsFirstByte (is_byte 10) bs (Some n) → position_or_len is_newline bs ≡ n
+newline_place bs n h = position_or_len_is is_newline bs n 0 (omega (arith, h.0.high)) (λ k l. false_from_ne_true _ (h.0.before k (omega arith) l)) (λ _. h.1)
+
+-- the first line ends before the first newline, and the rest is all behind it
+pub line_before : (bs : List ℕ) (n : ℕ) → IsFirstByte (is_byte 10) bs (Some n) → lines_of bs ≡ without_return (take n bs) ∷ lines_of (take (length bs - (n + 1)) (drop (n + 1) bs))
+line_before bs n h =
+    let at : position_or_len is_newline bs ≡ n = newline_place bs n h in
+    let below : position_or_len is_newline bs < length bs = omega (arith, h.0.high) in
+    let len : length (drop (n + 1) bs) ≡ length bs - (n + 1) = length-drop (n + 1) bs in
+    let all : take (length bs - (n + 1)) (drop (n + 1) bs) ≡ drop (n + 1) bs = take_all _ _ (omega arith) in
+    line_at_newline bs below ∙ rw (at, all) refl
 
 -- the last line may lack its newline
-pub last_line : (bs : List ℕ) (n : ℕ) → n ≡ position_or_len (λ b. b == 10) bs → n ≤ length bs → 0 < length bs → length (drop n bs) ≡ 0 → lines_of bs ≡ take n bs ∷ lines_of (drop n bs)
-last_line bs n e w l h =
-    let len : length (drop n bs) ≡ length bs - n = length-drop n bs in
-    let at : n ≡ position_or_len is_newline bs = e in
-    let all : n ≡ length bs = omega (arith, len) in
-    let to_end : position_or_len is_newline bs ≡ length bs = sym at ∙ all in
-    let front : take n bs ≡ bs = take_all n bs (omega arith) in
-    let none : drop n bs ≡ [] = drop_all n bs (omega arith) in
-    whole_line bs l to_end ∙ rw (front, none) refl
+pub last_line : (bs : List ℕ) → IsFirstByte (is_byte 10) bs None → 0 < length bs → lines_of bs ≡ bs ∷ lines_of []
+last_line bs h l = whole_line bs l (position_or_len_is is_newline bs (length bs) 0 (omega arith) (λ k i. false_from_ne_true _ (h k (omega arith) i)) (λ i. absurd (omega arith)))

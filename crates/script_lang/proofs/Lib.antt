@@ -3,6 +3,7 @@ mod Digits
 mod Splitting
 mod Ranges
 mod Cutting
+mod Printable
 mod ReadBack
 mod Objects
 mod Decimals

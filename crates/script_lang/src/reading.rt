@@ -1,7 +1,7 @@
 //! What a line of a script of a world says.
 
 ghost use Rattle.std.specs.Prelude.{◌≡◌, ◌+◌, ℕ, not, Some, None, Ok, Err, OnOk, IfErr, IfOk, length};
-ghost use Rattle.std.specs.List.{position_or_len};
+ghost use Rattle.std.specs.List.{list_all, position_or_len};
 ghost use Rattle.script_lang.specs.declared.forms.Form.TheVariants as form_is;
 ghost use Rattle.script_lang.specs.declared.forms.VerbForm.TheVariants as verb_is;
 ghost use Rattle.script_lang.specs.declared.lines.Line.TheVariants as line_is;
@@ -27,6 +27,17 @@ fn printable(b: u8) -> bool
     (32..=126).contains(&b)
 }
 
+/// Whether each byte may stand in a line. The loop goes to the end, so that it can look at many bytes at once.
+fn all_printable(line: &[u8]) -> bool
+    ensures { result ≡ list_all is_printable line.now }
+{
+    let mut all = true;
+    for b in line {
+        all &= printable(*b);
+    }
+    all
+}
+
 /// How many bytes stand before the first that may not stand in a line.
 fn length_printable(line: &[u8]) -> usize
     ensures { result ≡ printable_before line.now }
@@ -41,7 +52,7 @@ fn length_printable(line: &[u8]) -> usize
 
 /// Whether the bytes may stand in a line, and are not too many. Errors: `Long` where they are over 8,400, and else
 /// `Ascii` at the first byte outside 32 to 126.
-#[tactic(auto, unfolding(crate::specs::Lines::bytes_offence))]
+#[tactic(auto, using(crate::proofs::Printable::all_may_stand, crate::proofs::Printable::one_may_not), unfolding(crate::specs::Lines::bytes_offence))]
 pub fn check_bytes(line: &[u8]) -> Result<(), Offence>
     ensures good { OnOk result (bytes_offence line.now ≡ None) }
     ensures bad { IfErr result (λ e. bytes_offence line.now ≡ Some e) }
@@ -52,14 +63,14 @@ pub fn check_bytes(line: &[u8]) -> Result<(), Offence>
             why: LineWhy::Long,
         });
     }
-    let place = length_printable(line);
-    if place < line.len() {
-        return Err(Offence {
-            column: place + 1,
-            why: LineWhy::Ascii,
-        });
+    if all_printable(line) {
+        return Ok(());
     }
-    Ok(())
+    let place = length_printable(line);
+    Err(Offence {
+        column: place + 1,
+        why: LineWhy::Ascii,
+    })
 }
 
 /// `device` id address

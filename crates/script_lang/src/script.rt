@@ -4,7 +4,7 @@ ghost use Rattle.std.specs.Prelude.{◌≡◌, ◌<◌, [], ◌∷◌, length, I
 ghost use Rattle.script_lang.specs.Scripts as scripts;
 ghost use Rattle.script_lang.specs.Scripts.{lines_of};
 
-use crate::texts::length_before;
+use memchr::memchr;
 use std::marker::Model;
 
 /// The lines of a script that are still to come, without their ends: a newline, and a carriage return right before it.
@@ -38,10 +38,9 @@ fn first_line(text: &[u8]) -> (&[u8], &[u8])
     requires { 0 < length text.now }
     ensures { lines_of text.now ≡ result.0.now ∷ lines_of result.1.now }
 {
-    let (line, more) = text.split_at(length_before(text, b'\n'));
-    match more {
-        [] => (line, more),
-        [_, rest @ ..] => (without_return(line), rest),
+    match memchr(b'\n', text) {
+        Some(end) => (without_return(&text[..end]), &text[end + 1..]),
+        None => (text, &[]),
     }
 }
 
