@@ -22,6 +22,7 @@ addressed p = record p { dest = p.dest % 16777216 }
 -- memory for one datagram of few bytes is there
 pub record IsPrepared (kept : Kept) : Type 0 where
   pub list : kept.list ≡ true
+  pub tiny : kept.tiny ≡ true
   pub small : kept.small ≡ true
 
 -- the fields of a request are in their ranges

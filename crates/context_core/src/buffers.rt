@@ -1,10 +1,10 @@
 //! Memory for datagrams that is filled again.
 
-ghost use Rattle.std.specs.Prelude.{◌≡◌, ◌<◌, ◌≤◌, ◌-◌, ◌||◌, [], IfOk, IfSome, IsOk, OnOk, nat_lt, slice_get, vec_capacity, vec_len};
+ghost use Rattle.std.specs.Prelude.{◌≡◌, ◌≢◌, ◌<◌, ◌≤◌, ◌-◌, ◌||◌, [], IfOk, IfSome, IsOk, OnOk, nat_lt, slice_get, vec_capacity, vec_len};
 ghost use Rattle.context_core.specs.Buffers.{IsPut, nothing_kept};
 ghost use Rattle.context_core.specs.Sending.{IsPrepared};
 
-use crate::datagrams::FEW_BYTES;
+use crate::datagrams::{FEW_BYTES, FEWEST_BYTES};
 use crate::kept::KeptMemory;
 use page_pool::PAGE;
 use rdma_types::Sent;
@@ -13,12 +13,14 @@ use std::alloc::{AllocError, Global};
 /// How many buffers of each kind are kept.
 const MOST_SPARE: usize = 1024;
 
-/// Memory for datagrams that is filled again: large and small buffers that datagrams were in before, memory for one
-/// datagram of few bytes, and room for a payload that spans two pages.
+/// Memory for datagrams that is filled again: large, small and tiny buffers that datagrams were in before, memory for one
+/// datagram of few bytes, and room for a payload that spans two pages. A small buffer has room for 256 bytes, a large one
+/// for more, and a tiny one for 64.
 #[derive(Drop)]
 pub struct Buffers {
     large: Vec<Vec<u8>>,
     small: Vec<Vec<u8>>,
+    tiny: Vec<Vec<u8>>,
     pub(crate) kept: KeptMemory,
     pub(crate) payload: Box<[u8; PAGE]>,
 }
@@ -50,11 +52,12 @@ fn put(spare: &mut Vec<Vec<u8>>, buffer: Vec<u8>)
 impl Buffers {
     /// Room for buffers, of which there are none yet, and for a payload. Errors: `AllocError` when out of memory.
     pub fn make(alloc: Global) -> Result<Buffers, AllocError>
-        ensures { IfOk result (λ b. (b.large.items ≡ []) × (1024 ≤ vec_capacity b.large) × (b.small.items ≡ []) × (1024 ≤ vec_capacity b.small) × (b.kept ≡ nothing_kept)) }
+        ensures { IfOk result (λ b. (b.large.items ≡ []) × (1024 ≤ vec_capacity b.large) × (b.small.items ≡ []) × (1024 ≤ vec_capacity b.small) × (b.tiny.items ≡ []) × (1024 ≤ vec_capacity b.tiny) × (b.kept ≡ nothing_kept)) }
     {
         Ok(Buffers {
             large: Vec::with_capacity(alloc, MOST_SPARE)?,
             small: Vec::with_capacity(alloc, MOST_SPARE)?,
+            tiny: Vec::with_capacity(alloc, MOST_SPARE)?,
             kept: KeptMemory::none(),
             payload: Box::new(alloc, [0; PAGE])?,
         })
@@ -65,6 +68,9 @@ impl Buffers {
     pub(crate) fn take(&mut self, alloc: Global, most: usize) -> Result<Vec<u8>, AllocError>
         ensures { IfOk result (λ v. (v.items ≡ []) × (most ≤ vec_capacity v)) }
     {
+        if most <= FEWEST_BYTES {
+            return taken(&mut self.tiny, alloc, FEWEST_BYTES);
+        }
         if most <= FEW_BYTES {
             return taken(&mut self.small, alloc, FEW_BYTES);
         }
@@ -77,6 +83,10 @@ impl Buffers {
     {
         if !self.kept.has_list() {
             self.kept.keep_list(Vec::with_capacity(alloc, 1)?);
+        }
+        if !self.kept.has_tiny() {
+            self.kept
+                .keep_tiny(taken(&mut self.tiny, alloc, FEWEST_BYTES)?);
         }
         if !self.kept.has_small() {
             self.kept
@@ -98,18 +108,22 @@ impl Buffers {
         Vec::with_capacity(alloc, count)
     }
 
-    /// Keeps a buffer, among the large ones where it has room for more than 256 bytes, and among the small ones where it
-    /// has room for 256. One with less room is freed, and so is one where 1,024 of its kind are kept. It takes no memory.
+    /// Keeps a buffer, among the large ones where it has room for more than 256 bytes, among the small ones where it has
+    /// room for 256, and among the tiny ones where it has room for 64. Any other is freed, and so is one where 1,024 of its
+    /// kind are kept. It takes no memory.
     pub fn give(&mut self, buffer: Vec<u8>)
-        ensures large { 256 < vec_capacity buffer → IsPut self.old.large self.new.large buffer × (self.new.small ≡ self.old.small) }
-        ensures small { vec_capacity buffer ≡ 256 → IsPut self.old.small self.new.small buffer × (self.new.large ≡ self.old.large) }
-        ensures tiny { vec_capacity buffer < 256 → self.new ≡ self.old }
+        ensures large { 256 < vec_capacity buffer → IsPut self.old.large self.new.large buffer × (self.new.small ≡ self.old.small) × (self.new.tiny ≡ self.old.tiny) }
+        ensures small { vec_capacity buffer ≡ 256 → IsPut self.old.small self.new.small buffer × (self.new.large ≡ self.old.large) × (self.new.tiny ≡ self.old.tiny) }
+        ensures tiny { vec_capacity buffer ≡ 64 → IsPut self.old.tiny self.new.tiny buffer × (self.new.large ≡ self.old.large) × (self.new.small ≡ self.old.small) }
+        ensures other { vec_capacity buffer < 256 → vec_capacity buffer ≢ 64 → self.new ≡ self.old }
         ensures rest { (self.new.kept ≡ self.old.kept) × (self.new.payload ≡ self.old.payload) }
     {
         if buffer.capacity() > FEW_BYTES {
             put(&mut self.large, buffer);
         } else if buffer.capacity() == FEW_BYTES {
             put(&mut self.small, buffer);
+        } else if buffer.capacity() == FEWEST_BYTES {
+            put(&mut self.tiny, buffer);
         }
     }
 
@@ -117,8 +131,9 @@ impl Buffers {
     /// the list goes. It takes no memory.
     pub fn give_list(&mut self, list: Vec<Sent>)
         ensures list { self.new.kept.list ≡ (self.old.kept.list || nat_lt 0 (vec_capacity list)) }
+        ensures tiny { self.new.kept.tiny ≡ self.old.kept.tiny }
         ensures small { self.new.kept.small ≡ self.old.kept.small }
-        ensures rest { (self.new.large ≡ self.old.large) × (self.new.small ≡ self.old.small) × (self.new.payload ≡ self.old.payload) }
+        ensures rest { (self.new.large ≡ self.old.large) × (self.new.small ≡ self.old.small) × (self.new.tiny ≡ self.old.tiny) × (self.new.payload ≡ self.old.payload) }
     {
         self.kept.keep_list(list);
     }

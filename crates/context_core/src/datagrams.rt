@@ -21,6 +21,9 @@ const QP_NUMBERS: u32 = 16_777_216;
 /// A datagram of at most so many bytes is written into memory of its own, and not into a large buffer.
 pub const FEW_BYTES: usize = 256;
 
+/// .. and one of at most so many bytes into less memory still.
+pub const FEWEST_BYTES: usize = 64;
+
 /// The bytes of a datagram in this memory. It takes no other, and gives back what is not used where it is much.
 pub fn written(d: &Datagram<'_>, memory: Vec<u8>) -> Items<u8>
     requires fits { Fits (packet d.now) }

@@ -6,16 +6,17 @@ ghost use Rattle.roce_headers.specs.Packets.{packet};
 ghost use Rattle.context_core.specs.Buffers.{nothing_kept};
 ghost use Rattle.context_core.specs.Sending.{IsPrepared};
 
-use crate::datagrams::{FEW_BYTES, written};
+use crate::datagrams::{FEW_BYTES, FEWEST_BYTES, written};
 use rdma_types::{Address, Items, Sent};
 use roce_headers::{Datagram, encoded_len};
 use std::marker::Model;
 
-/// Memory for one datagram of few bytes, each part kept until a datagram uses it: an empty list with room for one, and an
-/// empty buffer for 256 bytes. Contracts see which parts are there.
+/// Memory for one datagram of few bytes, each part kept until a datagram uses it: an empty list with room for one, and
+/// empty buffers for 64 and for 256 bytes. Contracts see which parts are there.
 #[derive(Drop)]
 pub struct KeptMemory {
     list: Option<Vec<Sent>>,
+    tiny: Option<Vec<u8>>,
     small: Option<Vec<u8>>,
 }
 
@@ -25,9 +26,9 @@ impl Model for KeptMemory {
 
     ghost Value = { Kept };
 
-    ghost view = { λ k. record { list = is_some k.list; small = is_some k.small } };
+    ghost view = { λ k. record { list = is_some k.list; tiny = is_some k.tiny; small = is_some k.small } };
 
-    ghost invariant = { λ k. IfSome k.list (λ l. (l.items ≡ []) × (0 < vec_capacity l)) × IfSome k.small (λ v. (v.items ≡ []) × (256 ≤ vec_capacity v)) };
+    ghost invariant = { λ k. IfSome k.list (λ l. (l.items ≡ []) × (0 < vec_capacity l)) × IfSome k.tiny (λ v. (v.items ≡ []) × (64 ≤ vec_capacity v)) × IfSome k.small (λ v. (v.items ≡ []) × (256 ≤ vec_capacity v)) };
 }
 
 /// What is sent, and the large buffer where it was not used.
@@ -56,6 +57,7 @@ impl KeptMemory {
     {
         KeptMemory {
             list: None,
+            tiny: None,
             small: None,
         }
     }
@@ -65,6 +67,13 @@ impl KeptMemory {
         ensures { result ≡ self.now.list }
     {
         self.list.is_some()
+    }
+
+    /// Whether the tiny buffer is there.
+    pub fn has_tiny(&self) -> bool
+        ensures { result ≡ self.now.tiny }
+    {
+        self.tiny.is_some()
     }
 
     /// Whether the small buffer is there.
@@ -82,6 +91,15 @@ impl KeptMemory {
             list.clear();
             self.list = Some(list);
         }
+    }
+
+    /// Keeps an empty tiny buffer.
+    pub fn keep_tiny(&mut self, tiny: Vec<u8>)
+        requires empty { tiny.items ≡ [] }
+        requires room { 64 ≤ vec_capacity tiny }
+        ensures { self.new ≡ record self.old { tiny = true } }
+    {
+        self.tiny = Some(tiny);
     }
 
     /// Keeps an empty small buffer.
@@ -102,16 +120,31 @@ impl KeptMemory {
         self.list.take()
     }
 
-    /// A datagram of few bytes in this memory, which is used then. It takes no other.
+    /// The empty buffer for so few bytes: the tiny one, if it is large enough, and else the small one. It is gone from here
+    /// then.
+    fn take_buffer(&mut self, count: usize) -> Vec<u8>
+        requires prepared { IsPrepared self.old }
+        requires few { count ≤ 256 }
+        ensures empty { result.items ≡ [] }
+        ensures room { count ≤ vec_capacity result }
+        ensures list { self.new.list ≡ self.old.list }
+    {
+        if count <= FEWEST_BYTES {
+            return self.tiny.take().unwrap();
+        }
+        self.small.take().unwrap()
+    }
+
+    /// A datagram of few bytes in this memory, of which the list and one buffer are used then. It takes no other.
     pub fn fill(&mut self, to: Address, number: Option<u64>, d: &Datagram<'_>) -> Items<Sent>
         requires prepared { IsPrepared self.old }
         requires fits { Fits (packet d.now) }
         requires short { length (wire_of (packet d.now)) ≤ 256 }
         ensures { result ≡ record { to = to; number = number; bytes = wire_of (packet d.now) } ∷ [] }
     {
+        let memory = self.take_buffer(encoded_len(d));
         let list = self.list.take().unwrap();
-        let small = self.small.take().unwrap();
-        one(list, to, number, written(d, small))
+        one(list, to, number, written(d, memory))
     }
 
     /// A datagram of at most so many bytes in this memory, or in the large buffer where they are not few. It takes no
