@@ -28,6 +28,10 @@ pub regions : (pool : Pool) (h : Holding) (n other : Name) → (context_in pool 
 unfolding context_in
 regions pool h n other = refl
 
+pub ends : (pool : Pool) (h : Holding) (n other : Name) → (context_in pool n h).ends ≡ (context_in pool other h).ends
+unfolding context_in
+ends pool h n other = refl
+
 pub nothing : (list : ℕ) → Contains (lists_of no_holding) list → ⊥
 unfolding lists_of
 nothing list there = absurd (omega (arith, there.1))

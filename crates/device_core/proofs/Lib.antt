@@ -30,3 +30,4 @@ mod Copied
 mod Within
 mod Numbered
 mod NumberedHeads
+mod EndPlaces

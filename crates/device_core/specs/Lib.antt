@@ -8,3 +8,4 @@ pub mod Coming
 pub mod Acting
 pub mod Views
 pub mod Numbered
+pub mod Finding

@@ -1,17 +1,20 @@
 //! What arriving bytes do.
 
-ghost use Rattle.std.specs.Prelude.{ℕ, ◌≡◌, ◌⊎◌, ◌<◌, ◌≤◌, ◌^◌, ◌∷◌, [], true, Some, None, IfOk, IfSome, IfNone, IsOk, length, slice_get};
+ghost use Rattle.std.specs.Prelude.{ℕ, ◌≡◌, ◌⊎◌, ◌<◌, ◌≤◌, ◌^◌, ◌∷◌, [], true, Some, None, IfOk, IfSome, IfNone, IsOk, List, length, slice_get};
+ghost use Rattle.protocol.specs.Bytes.{number_at};
 ghost use Rattle.protocol.specs.DeviceStep.{at_husk, found_in, husk_entries};
 ghost use Rattle.protocol.specs.Moves.{nak_stopped};
 ghost use Rattle.protocol.specs.State.{HuskEntry as Entry};
 ghost use Rattle.protocol.specs.Wire.{Fits, is_control as is_control_packet, is_nak_stopped, packet_of, wire_of};
 ghost use Rattle.roce_headers.specs.Packets.{packet};
 ghost use Rattle.device_core.specs.Done.{IsDone, silent_arrival, taking, told_arrival, told_memory, told_taken as taken_told};
+ghost use Rattle.device_core.specs.Finding.{IsFound};
 ghost use Rattle.device_core.specs.Index.{IsEndAt, IsEntryAt, husk_at};
 ghost use Rattle.device_core.specs.Parts.{entry_of};
 ghost use Rattle.device_core.specs.Readings.{DoNothing};
 
 use crate::Device;
+use crate::finding::FoundEnd;
 use crate::husks::HuskEntry;
 use crate::index::EndLocation;
 use context_core::ArrivalOutcome;
@@ -169,13 +172,37 @@ impl Device {
         })
     }
 
-    /// Bytes arrive from an address.
+    /// The answer to a datagram whose number no connected queue pair has: that of the husk in which the number is left.
+    fn answer_absent(
+        &self,
+        alloc: Global,
+        from: Address,
+        d: &Datagram<'_>,
+    ) -> Result<ArrivalOutcome, AllocError>
+        requires absent { found_in d.now.dest self.now.contexts ≡ [] }
+        requires psn { d.now.psn < 2 ^ 24 }
+        ensures done { (bytes : List ℕ) → packet_of bytes ≡ Some (packet d.now) → IsDone self.now (Event.Arrive from bytes) self.now (told_memory (told_arrival result)) }
+        ensures bounded { IfOk result (λ t. length t.sent ≤ 2 ^ 32) }
+        ensures never_out_of_memory { DoNothing self.now (Some (packet d.now)) → IsOk result }
+    {
+        let Some(spot) = self.location_of(d.dest) else {
+            return Ok(silent(alloc, SilentWhy::Unknown));
+        };
+        if self.contexts.contains_key(&spot.context) {
+            return Ok(silent(alloc, SilentWhy::Unknown));
+        }
+        self.answer_stopped(alloc, from, d, &spot)
+    }
+
+    /// Bytes arrive from an address, and the connected queue pair that they are for was found.
     pub(crate) fn take_bytes(
         &mut self,
         alloc: Global,
         from: Address,
         bytes: &[u8],
+        found: Option<FoundEnd>,
     ) -> Result<ArrivalOutcome, AllocError>
+        requires { IsFound self.old (number_at 5 3 bytes.now) found }
         ensures done { IsDone self.old (Event.Arrive from bytes.now) self.new (told_memory (told_arrival result)) }
         ensures bounded { IfOk result (λ t. length t.sent ≤ 2 ^ 32) }
         ensures never_out_of_memory { DoNothing self.old (packet_of bytes.now) → IsOk result }
@@ -183,14 +210,12 @@ impl Device {
         let Ok(d) = decode(bytes) else {
             return Ok(silent(alloc, SilentWhy::Malformed));
         };
-        let Some(spot) = self.location_of(d.dest) else {
-            return Ok(silent(alloc, SilentWhy::Unknown));
+        let Some(end) = found else {
+            return self.answer_absent(alloc, from, &d);
         };
-        let Some(state) = self.contexts.get_mut(&spot.context) else {
-            return self.answer_stopped(alloc, from, &d, &spot);
-        };
+        let state = &mut self.contexts[end.context];
         let (buffers, pool) = (&mut self.buffers, &mut self.pool);
-        let taken = state.take(alloc, buffers, pool, spot.place, &d);
+        let taken = state.take(alloc, buffers, pool, end.place, &d);
         told_taken(alloc, taken)
     }
 }

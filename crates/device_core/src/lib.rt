@@ -8,6 +8,7 @@ mod copying;
 mod device;
 mod differing;
 mod events;
+mod finding;
 mod husks;
 mod index;
 mod leaving;
@@ -21,5 +22,6 @@ mod telling;
 
 pub use context_core::{Answered, LinkView, LiveEnd};
 pub use device::Device;
+pub use finding::{FoundEnd, destination};
 pub use protocol::{ContextImage, Event, Outcome};
 pub use rdma_types::{Address, EndView, Name, ObjName, Sent};

@@ -176,13 +176,8 @@ impl Device {
     pub fn marks(&self, number: u32) -> Option<(u64, u64)>
         ensures { result ≡ readings.marks_at self.now number }
     {
-        let Some(spot) = self.index.get(&number) else {
-            return None;
-        };
-        let Some(held) = self.contexts.get(&spot.context) else {
-            return None;
-        };
-        held.marks_at(spot.place)
+        let found = self.find_end(number)?;
+        Some((found.expected, found.top))
     }
 
     /// Whether the live queue pair with a number is Resuming.

@@ -2,6 +2,7 @@
 
 ghost use Rattle.std.specs.Prelude.{◌≡◌, ◌≤◌, ◌^◌, length, IfOk, IfSome, IsOk, None, OnErr};
 ghost use Rattle.protocol.specs.declared.events.Event.{Event};
+ghost use Rattle.protocol.specs.Bytes.{number_at};
 ghost use Rattle.protocol.specs.DeviceStep.{device_step};
 ghost use Rattle.law_arrivals.specs.Touched.{ChangesOnly, is_touched};
 ghost use Rattle.law_arrivals.specs.Turns.{IsOfTurn, is_touched_by_event};
@@ -10,10 +11,12 @@ ghost use Rattle.protocol.specs.Lawful.{IsLawful};
 ghost use Rattle.protocol.specs.Refusals.{refusal_of};
 ghost use Rattle.protocol.specs.Wire.{packet_of};
 ghost use Rattle.device_core.specs.Done.{AreFew, AreLawful, IsDone, IsNotOutOfMemory, told_step as step_told};
+ghost use Rattle.device_core.specs.Finding.{IsFound};
 ghost use Rattle.device_core.specs.Readings.{DoNothing, TakesNoMemoryAt};
 
 use crate::Device;
 use crate::device::answered;
+use crate::finding::{FoundEnd, destination};
 use crate::telling::{refused, told_arrival, told_memory, told_sent, told_transmission};
 use context_core::{Answered, ContextFault, NewEnd};
 use law_arrivals::turns_change_what_arrivals_may;
@@ -151,8 +154,30 @@ impl Device {
         ensures touched { ChangesOnly (is_touched self.old bytes.now) self.old self.new }
         ensures err { OnErr result (self.new ≡ self.old) }
     {
+        let found = self.find_end(destination(bytes));
+        self.arrive_at(alloc, from, bytes, found)
+    }
+
+    /// What `arrive` does, where the queue pair that the bytes are for was looked up before: by `find_end`, with the
+    /// number in the bytes (`destination`), on the device as it is now.
+    pub fn arrive_at(
+        &mut self,
+        alloc: Global,
+        from: Address,
+        bytes: &[u8],
+        found: Option<FoundEnd>,
+    ) -> Result<Outcome, AllocError>
+        requires { IsFound self.old (number_at 5 3 bytes.now) found }
+        ensures ok { IfOk result (λ o. device_step self.old (Event.Arrive from bytes.now) ≡ record { device = self.new; outcome = o }) }
+        ensures bounded { IfOk result (λ o. length o.sent ≤ 2 ^ 32) }
+        ensures id { self.new.id ≡ self.old.id }
+        ensures address { self.new.address ≡ self.old.address }
+        ensures never_out_of_memory { DoNothing self.old (packet_of bytes.now) → IsOk result }
+        ensures touched { ChangesOnly (is_touched self.old bytes.now) self.old self.new }
+        ensures err { OnErr result (self.new ≡ self.old) }
+    {
         self.bounds_turns();
-        let arrived = self.take_bytes(alloc, from, bytes);
+        let arrived = self.take_bytes(alloc, from, bytes, found);
         told_arrival(arrived)
     }
 

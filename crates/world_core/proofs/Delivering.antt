@@ -14,6 +14,7 @@ use Rattle.protocol.specs.State.{Device, Flight, World, device_at, no_device}
 use Rattle.law_arrivals.specs.Touched.{ChangesOnly, is_touched}
 use Rattle.law_arrivals.proofs.Arriving.{changes-more, changes-nothing}
 use Rattle.law_arrivals.proofs.Bytes.{at-store}
+use Rattle.device_core.specs.declared.finding.FoundEnd.{FoundEnd}
 use Rattle.world_core.specs.Delivered.{ChangesWorldOnly, DeliversWithin, is_delivered, is_touched_by, is_touched_on, is_touched_with}
 use Rattle.world_core.specs.Places.{HaveOwnIds}
 use Rattle.world_core.specs.Sites.{ComesTo}
@@ -63,10 +64,10 @@ delivered-at v w new place d x x' f seen ids here same only devices carried stop
     (subst (λ z. ChangesWorldOnly (is_touched_on z f) v new) is_it (delivers-at v new place x x' f ids here same only devices carried stopped))
 
 -- what the datagram may touch, where it comes to that device
-pub delivered-by : (r : Result Answer AllocError) (w new : World) (n place : ℕ) → ComesTo w n place
+pub delivered-by : (r : Result Answer AllocError) (w new : World) (n place : ℕ) (end : Option FoundEnd) → ComesTo w n place end
     → IfOk r (λ a. (f : Flight) → (d : Device) → kept_flight w.sent n ≡ Some f → slice_get w.devices place ≡ Some d → ChangesWorldOnly (is_touched_on d f) w new) → IfOk r (λ a. ChangesWorldOnly (is_delivered w n) w new)
-delivered-by (Err x) w new n place c ok = tt
-delivered-by (Ok a) w new n place c ok =
+delivered-by (Err x) w new n place end c ok = tt
+delivered-by (Ok a) w new n place end c ok =
     subst (λ (l : Look). ChangesWorldOnly (is_touched_by w l) w new) (sym c.here)
     (subst (λ (o : Option Device). ChangesWorldOnly (is_touched_with o c.flight) w new) (sym c.found) (ok c.flight c.device c.kept c.at))
 

@@ -9,6 +9,7 @@ use Rattle.rdma_types.specs.declared.answers.Answer.TheVariants as answer
 use Rattle.rdma_types.specs.declared.answers.SilentWhy.TheVariants as why
 use Rattle.rdma_types.specs.declared.answers.Took.TheVariants as took
 use Rattle.rdma_types.specs.Lists.{at}
+use Rattle.protocol.specs.Bytes.{number_at}
 use Rattle.protocol.specs.Fabric.{Here, IsAged, IsGone, IsLost, Look, changed_at, is_kept, is_late, kept_flight, look, look_at, losing, marked_lost, sending}
 use Rattle.protocol.specs.Fabric as fabric
 use Rattle.protocol.specs.State.{Device, Flight, World}
@@ -17,7 +18,9 @@ use Rattle.fabric.specs.Store.{blank, forgetting}
 use Rattle.fabric.proofs.Stores.{kept_means}
 use Rattle.fabric.proofs.Histories.{took-forgetting, losing-forgetting}
 use Rattle.world_core.specs.Kept.{Makes}
-use Rattle.world_core.specs.Sites.{ComesNowhere, ComesTo}
+use Rattle.device_core.specs.declared.finding.FoundEnd.{FoundEnd}
+use Rattle.device_core.specs.Finding.{IsFound}
+use Rattle.world_core.specs.Sites.{ComesNowhere, ComesTo, IsFoundOn}
 use Rattle.world_core.proofs.Places.{IsFirstPlace, none_passes, same_thing, spot, is_some-position}
 use Rattle.world_core.proofs.Worlds.{kept_is, stays}
 
@@ -28,19 +31,23 @@ took_kept s k h = ap (λ x. fabric.took x k) (sym h) ∙ took-forgetting s k
 
 -- ---- a datagram comes
 
--- what the addressed end of a datagram keeps
-pub now_there : (w : World) (o : Option Flight) (f : Flight) (place : ℕ) (d : Device) (bytes : List ℕ) (m : ℕ) → o ≡ Some f → position (λ x. same_address x.address f.to) w.devices ≡ Some place →
-    slice_get w.devices place ≡ Some d → bytes ≡ f.bytes → m ≡ now_at (Some d) bytes → m ≡ now_of w o
-now_there w o f place d bytes m is at here same h =
-    let s : IsFirstPlace (λ (x : Device). same_address x.address f.to) w.devices place = spot (λ x. same_address x.address f.to) w.devices place at in
-    let found : device_with w f.to ≡ Some d = s.first ∙ (sym s.here ∙ here) in
-    h ∙ (ap (λ bs. now_at (Some d) bs) same ∙ (ap (λ x. now_at x f.bytes) (sym found) ∙ ap (λ x. now_of w x) (sym is)))
-
 no_device_with : (w : World) (f : Flight) → position (λ x. same_address x.address f.to) w.devices ≡ None → device_with w f.to ≡ None
 no_device_with w f none = none_passes (λ (x : Device). same_address x.address f.to) w.devices (sym (is_some-position (λ (x : Device). same_address x.address f.to) w.devices) ∙ ap (λ o. is_some o) none)
 
-pub now_nowhere : (w : World) (o : Option Flight) (f : Flight) → o ≡ Some f → position (λ x. same_address x.address f.to) w.devices ≡ None → 0 ≡ now_of w o
-now_nowhere w o f is none = ap (λ x. now_at x f.bytes) (sym (no_device_with w f none)) ∙ ap (λ x. now_of w x) (sym is)
+-- what was found of the end that a datagram is for, on the device at the place of its address
+pub found_there : (w : World) (f : Flight) (place : ℕ) (x : Device) (n : ℕ) (found : Option FoundEnd) → position (λ y. same_address y.address f.to) w.devices ≡ Some place → slice_get w.devices place ≡ Some x → n ≡ number_at 5 3 f.bytes → IsFound x n found
+    → IsFoundOn (device_with w f.to) f.bytes found
+found_there w f place x n found at here number is =
+    let s : IsFirstPlace (λ (y : Device). same_address y.address f.to) w.devices place = spot (λ y. same_address y.address f.to) w.devices place at in
+    let with : device_with w f.to ≡ Some x = s.first ∙ (sym s.here ∙ here) in
+    subst (λ o. IsFoundOn o f.bytes found) (sym with) (subst (λ m. IsFound x m found) number is)
+
+pub found_nowhere : (w : World) (f : Flight) (found : Option FoundEnd) → position (λ x. same_address x.address f.to) w.devices ≡ None → found ≡ None → IsFoundOn (device_with w f.to) f.bytes found
+found_nowhere w f found none is = subst (λ o. IsFoundOn o f.bytes found) (sym (no_device_with w f none)) is
+
+-- what that end keeps
+pub marked : (w : World) (f : Flight) (bytes : List ℕ) (found : Option FoundEnd) (m : ℕ) → bytes ≡ f.bytes → IsFoundOn (device_with w f.to) f.bytes found → ((o : Option Device) → IsFoundOn o bytes found → m ≡ now_at o bytes) → m ≡ now_of w (Some f)
+marked w f bytes found m same is tells = subst (λ bs. IsFoundOn (device_with w f.to) bs found → m ≡ now_at (device_with w f.to) bs) same (tells (device_with w f.to)) is
 
 -- what is here is kept
 look_keeps : (s : List Flight) (k now : ℕ) (f : Flight) → look s k now ≡ Here f → kept_flight s k ≡ Some f
@@ -72,10 +79,16 @@ pub looked_none : (w : World) (k : ℕ) → kept_flight w.sent k ≡ None → lo
 unfolding look
 looked_none w k none = ap (λ o. look_at o (now_of w o)) none
 
-pub comes_to : (w : World) (k place : ℕ) (f : Flight) → look w.sent k (now_of w (kept_flight w.sent k)) ≡ Here f → position (λ x. same_address x.address f.to) w.devices ≡ Some place → ComesTo w k place
-comes_to w k place f here at =
+pub comes_to : (w : World) (k place : ℕ) (f : Flight) (end : Option FoundEnd) → look w.sent k (now_of w (kept_flight w.sent k)) ≡ Here f → position (λ x. same_address x.address f.to) w.devices ≡ Some place → IsFoundOn (device_with w f.to) f.bytes end → ComesTo w k place end
+comes_to w k place f end here at is =
     let s : IsFirstPlace (λ (x : Device). same_address x.address f.to) w.devices place = spot (λ x. same_address x.address f.to) w.devices place at in
-    record { flight = f; device = s.thing; here = here; kept = look_keeps w.sent k _ f here; at = s.here; found = s.first }
+    record { flight = f; device = s.thing; here = here; kept = look_keeps w.sent k _ f here; at = s.here; found = s.first; is = subst (λ o. IsFoundOn o f.bytes end) s.first is }
+
+-- .. whatever names the datagram and the device have
+pub comes_found : {w : World} {k place : ℕ} {end : Option FoundEnd} → ComesTo w k place end → (f : Flight) → (d : Device) → kept_flight w.sent k ≡ Some f → slice_get w.devices place ≡ Some d → IsFound d (number_at 5 3 f.bytes) end
+comes_found {end = end} c f d kept at =
+    subst (λ (x : Device). IsFound x (number_at 5 3 f.bytes) end) (same_thing c.device d (sym c.at ∙ at))
+    (subst (λ (x : Flight). IsFound c.device (number_at 5 3 x.bytes) end) (same_thing c.flight f (sym c.kept ∙ kept)) c.is)
 
 pub comes_nowhere : (w : World) (k : ℕ) (f : Flight) → look w.sent k (now_of w (kept_flight w.sent k)) ≡ Here f → position (λ x. same_address x.address f.to) w.devices ≡ None → ComesNowhere w k
 comes_nowhere w k f here none = record { flight = f; here = here; none = no_device_with w f none }
@@ -99,16 +112,16 @@ taken_nowhere w new k s kept c left same =
     (subst (λ o. Makes (reaches (with_taken w k) c.flight o) (answer.Took (took.Silent why.Unknown) 0 0) new) (sym c.none)
     (record { answered = refl; left = left ∙ ap (λ x. record w { sent = x }) (same ∙ took_kept w.sent k kept) }))
 
-taken_there : (w new : World) (k place : ℕ) (a : Answer) → (c : ComesTo w k place) → Makes (reaches (with_taken w k) c.flight (Some c.device)) a new → Makes (delivers w k) a new
+taken_there : (w new : World) (k place : ℕ) (end : Option FoundEnd) (a : Answer) → (c : ComesTo w k place end) → Makes (reaches (with_taken w k) c.flight (Some c.device)) a new → Makes (delivers w k) a new
 unfolding delivers
-taken_there w new k place a c made =
+taken_there w new k place end a c made =
     subst (λ x. Makes (delivers_by w k x) a new) (sym c.here)
     (subst (λ o. Makes (reaches (with_taken w k) c.flight o) a new) (sym c.found) made)
 
-pub taken_by : (r : Result Answer AllocError) (w new : World) (k place : ℕ) → ComesTo w k place →
+pub taken_by : (r : Result Answer AllocError) (w new : World) (k place : ℕ) (end : Option FoundEnd) → ComesTo w k place end →
     IfOk r (λ a. (f : Flight) → (d : Device) → kept_flight w.sent k ≡ Some f → slice_get w.devices place ≡ Some d → Makes (reaches (with_taken w k) f (Some d)) a new) → IfOk r (λ a. Makes (delivers w k) a new)
-taken_by (Err x) w new k place c ok = tt
-taken_by (Ok a) w new k place c ok = taken_there w new k place a c (ok c.flight c.device c.kept c.at)
+taken_by (Err x) w new k place end c ok = tt
+taken_by (Ok a) w new k place end c ok = taken_there w new k place end a c (ok c.flight c.device c.kept c.at)
 
 -- ---- a datagram is lost
 

@@ -1,16 +1,19 @@
 -- Where things of a world are.
-use Rattle.std.specs.Prelude.{◌≡◌, ◌<◌, ◌^◌, ◌&&◌, ◌||◌, ℕ, Bool, true, false, Some, None, slice_get, slice_set, if◌then◌else◌}
+use Rattle.std.specs.Prelude.{◌≡◌, ◌<◌, ◌^◌, ◌&&◌, ◌||◌, ℕ, Bool, true, false, List, Option, Some, None, slice_get, slice_set, if◌then◌else◌}
 use Rattle.std.specs.List.{position, remove}
 use Rattle.rdma_types.specs.declared.answers.EndState.{EndState}
 use Rattle.rdma_types.specs.declared.answers.EndState.TheVariants as state
 use Rattle.rdma_types.specs.declared.answers.EndView.{EndView}
 use Rattle.rdma_types.specs.declared.names.ObjName.{ObjName}
+use Rattle.protocol.specs.Bytes.{number_at}
 use Rattle.protocol.specs.Fabric.{Here, IsGone, IsLost, IsAged, kept_flight, look}
 use Rattle.protocol.specs.Refusals.{has_context}
 use Rattle.protocol.specs.declared.events.Event.{Event}
 use Rattle.protocol.specs.DeviceStep.{device_step}
 use Rattle.protocol.specs.State.{Device, Flight, World}
 use Rattle.protocol.specs.WorldStep.{Step, answers, device_with, end_of, has_live_end, home, is_carried_end, is_done, is_resuming_end, now_of}
+use Rattle.device_core.specs.declared.finding.FoundEnd.{FoundEnd}
+use Rattle.device_core.specs.Finding.{IsFound}
 use Rattle.world_core.specs.declared.making.EndAddress.{EndAddress}
 use Rattle.world_core.specs.declared.network.Delivery.{Delivery}
 use Rattle.world_core.specs.declared.network.Delivery.TheVariants as delivery
@@ -23,14 +26,20 @@ pub record IsEndAddress (w : World) (o : ObjName) (s : EndAddress) : Type 0 wher
   pub number : s.number ≡ (end_of w o).number
   pub small : s.number < 2 ^ 24
 
--- datagram k is here, and the device at a place is the first with its address
-pub record ComesTo (w : World) (k place : ℕ) : Type 0 where
+-- what was found of the end that bytes are for, on the device that they come to, if there is one
+abbrev pub IsFoundOn : Option Device → List ℕ → Option FoundEnd → Type 0
+IsFoundOn None bytes found = found ≡ None
+IsFoundOn (Some d) bytes found = IsFound d (number_at 5 3 bytes) found
+
+-- datagram k is here, the device at a place is the first with its address, and this was found there of the end that it is for
+pub record ComesTo (w : World) (k place : ℕ) (end : Option FoundEnd) : Type 0 where
   pub flight : Flight
   pub device : Device
   pub here : look w.sent k (now_of w (kept_flight w.sent k)) ≡ Here flight
   pub kept : kept_flight w.sent k ≡ Some flight
   pub at : slice_get w.devices place ≡ Some device
   pub found : device_with w flight.to ≡ Some device
+  pub is : IsFound device (number_at 5 3 flight.bytes) end
 
 -- datagram k is here, and no device has its address
 pub record ComesNowhere (w : World) (k : ℕ) : Type 0 where
@@ -44,7 +53,7 @@ IsDelivery w k delivery.Gone = look w.sent k (now_of w (kept_flight w.sent k)) �
 IsDelivery w k delivery.Lost = look w.sent k (now_of w (kept_flight w.sent k)) ≡ IsLost
 IsDelivery w k delivery.Aged = look w.sent k (now_of w (kept_flight w.sent k)) ≡ IsAged
 IsDelivery w k delivery.Nowhere = ComesNowhere w k
-IsDelivery w k (delivery.Comes place) = ComesTo w k place
+IsDelivery w k (delivery.Comes place end) = ComesTo w k place end
 
 -- a state in Rts
 abbrev pub is_rts : EndState → Bool

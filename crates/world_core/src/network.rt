@@ -1,7 +1,8 @@
 //! Datagrams of a world: delivered, lost and shown.
 
-ghost use Rattle.std.specs.Prelude.{◌≡◌, ℕ, ◌≤◌, ◌<◌, ◌^◌, length, slice_get, is_some, true, IfOk, OnErr, Some, None};
+ghost use Rattle.std.specs.Prelude.{◌≡◌, ℕ, ◌≤◌, ◌<◌, ◌^◌, length, slice_get, is_some, true, IfOk, OnErr, Option, Some};
 ghost use Rattle.std.specs.List.{position};
+ghost use Rattle.device_core.specs.Finding.{IsFound};
 ghost use Rattle.law_arrivals.specs.Touched.{ChangesOnly, is_touched};
 ghost use Rattle.protocol.specs.Bytes.{byte_at, number_at};
 ghost use Rattle.protocol.specs.DeviceStep.{device_step};
@@ -11,11 +12,11 @@ ghost use Rattle.protocol.specs.WorldStep as rules;
 ghost use Rattle.protocol.specs.declared.events.Event.TheVariants as event;
 ghost use Rattle.world_core.specs.Delivered.{ChangesWorldOnly, is_delivered, is_touched_on};
 ghost use Rattle.world_core.specs.Kept.{IsReady, Makes};
-ghost use Rattle.world_core.specs.Sites.{IsDelivery};
+ghost use Rattle.world_core.specs.Sites.{IsDelivery, IsFoundOn};
 
 use crate::World;
 use crate::running::{SendingDevice, send_outcome};
-use device_core::{Answered, Device, Outcome};
+use device_core::{Answered, Device, FoundEnd, Outcome, destination};
 use fabric::{Fabric, Flight, Look};
 use rdma_types::{Answer, Items, SilentWhy, Took};
 use roce_headers::opcodes::is_request;
@@ -29,44 +30,39 @@ pub(crate) enum Delivery {
     Aged,
     /// No device has its address.
     Nowhere,
-    /// It comes to the device at a place.
-    Comes(usize),
+    /// It comes to the device at a place, and there to a connected queue pair, if there is one.
+    Comes(usize, Option<FoundEnd>),
 }
 
-/// Byte `i`, and 0 behind the last.
-fn byte(bytes: &[u8], i: usize) -> u8
-    ensures { result ≡ byte_at i bytes.now }
+/// The opcode of bytes; 0 where there are none.
+fn opcode(bytes: &[u8]) -> u8
+    ensures { result ≡ byte_at 0 bytes.now }
 {
-    bytes.get(i).copied().unwrap_or(0)
+    bytes.first().copied().unwrap_or(0)
 }
 
-/// The queue pair number that a datagram is for.
-fn destination(bytes: &[u8]) -> u32
-    ensures { result ≡ number_at 5 3 bytes.now }
+/// What the end that bytes are for keeps, which was found before: its expected number for a request and its `top` for a
+/// response; 0 where there is no such end.
+fn mark_of(found: Option<FoundEnd>, bytes: &[u8]) -> u64
+    ensures { (o : Option state.Device) → IsFoundOn o bytes.now found → result ≡ rules.now_at o bytes.now }
 {
-    u32::from(byte(bytes, 5)) * 65_536 + u32::from(byte(bytes, 6)) * 256 + u32::from(byte(bytes, 7))
-}
-
-/// What the end that bytes are for keeps: its expected number for a request and its `top` for a response; 0 where there
-/// is no such end.
-fn mark_at(device: &Device, bytes: &[u8]) -> u64
-    ensures { result ≡ rules.now_at (Some device.now) bytes.now }
-{
-    match device.marks(destination(bytes)) {
-        Some((expected, _)) if is_request(byte(bytes, 0)) => expected,
-        Some((_, top)) => top,
+    match found {
+        Some(end) if is_request(opcode(bytes)) => end.expected,
+        Some(end) => end.top,
         None => 0,
     }
 }
 
-/// A kept datagram reaches a device, which hands out no image for it.
+/// A kept datagram reaches a device, where the end that it is for was found before. The device hands out no image for it.
 fn reach(
     fabric: &Fabric,
     device: &mut Device,
     alloc: Global,
     k: u64,
+    found: Option<FoundEnd>,
 ) -> Result<Answered, AllocError>
-    requires { is_some (kept_flight fabric.now k) ≡ true }
+    requires kept { is_some (kept_flight fabric.now k) ≡ true }
+    requires found { (f : state.Flight) → kept_flight fabric.now k ≡ Some f → IsFound device.old (number_at 5 3 f.bytes) found }
     ensures ok { IfOk result (λ a. (f : state.Flight) → kept_flight fabric.now k ≡ Some f → device_step device.old (event.Arrive f.from f.bytes) ≡ record { device = device.new; outcome = record { answer = a.answer; sent = a.sent; image = None } }) }
     ensures bounded { IfOk result (λ a. length a.sent ≤ 2 ^ 32) }
     ensures touched { (f : state.Flight) → kept_flight fabric.now k ≡ Some f → ChangesOnly (is_touched device.old f.bytes) device.old device.new }
@@ -74,7 +70,7 @@ fn reach(
     ensures err { OnErr result (device.new ≡ device.old) }
 {
     let flight = fabric.kept(k).unwrap();
-    let outcome = device.arrive(alloc, flight.from, flight.sent.bytes.as_slice())?;
+    let outcome = device.arrive_at(alloc, flight.from, flight.sent.bytes.as_slice(), found)?;
     let Outcome {
         answer,
         sent,
@@ -84,15 +80,18 @@ fn reach(
 }
 
 impl World {
-    /// What the end that a datagram is for keeps, where the device with its address is at a place, and 0 where there is no
-    /// such end.
-    fn now_of(&self, place: Option<usize>, flight: &Flight) -> u64
+    /// The connected queue pair that a datagram is for, where the device with its address is at a place; None where there
+    /// is no such device or queue pair.
+    fn end_for(&self, place: Option<usize>, flight: &Flight) -> Option<FoundEnd>
         requires { place ≡ position (λ d. rules.same_address d.address flight.now.to) self.now.devices }
-        ensures { result ≡ rules.now_of self.now (Some flight.now) }
+        ensures { IsFoundOn (rules.device_with self.now flight.now.to) flight.now.bytes result }
     {
         match place {
-            Some(place) => mark_at(&self.devices[place], flight.sent.bytes.as_slice()),
-            None => 0,
+            Some(place) => {
+                let number = destination(flight.sent.bytes.as_slice());
+                self.devices[place].find_end(number)
+            }
+            None => None,
         }
     }
 
@@ -104,13 +103,13 @@ impl World {
             return Delivery::Gone;
         };
         let place = self.place_with(flight.sent.to);
-        let now = self.now_of(place, flight);
-        match flight.look(now) {
+        let found = self.end_for(place, flight);
+        match flight.look(mark_of(found, flight.sent.bytes.as_slice())) {
             Look::Gone => Delivery::Gone,
             Look::Lost => Delivery::Lost,
             Look::Aged => Delivery::Aged,
             Look::Here(_) => match place {
-                Some(place) => Delivery::Comes(place),
+                Some(place) => Delivery::Comes(place, found),
                 None => Delivery::Nowhere,
             },
         }
@@ -138,20 +137,28 @@ impl World {
                     count: 0,
                 })
             }
-            Delivery::Comes(place) => self.arrive(alloc, place, k),
+            Delivery::Comes(place, found) => self.arrive(alloc, place, k, found),
         }
     }
 
-    /// Datagram k reaches the device at a place, and what that does is done to the world.
-    fn arrive(&mut self, alloc: Global, place: usize, k: u64) -> Result<Answer, AllocError>
+    /// Datagram k reaches the device at a place, where the end that it is for was found before, and what that does is done
+    /// to the world.
+    fn arrive(
+        &mut self,
+        alloc: Global,
+        place: usize,
+        k: u64,
+        found: Option<FoundEnd>,
+    ) -> Result<Answer, AllocError>
         requires place { place < length self.old.devices }
         requires kept { is_some (kept_flight self.old.sent k) ≡ true }
+        requires found { (f : state.Flight) → (d : state.Device) → kept_flight self.old.sent k ≡ Some f → slice_get self.old.devices place ≡ Some d → IsFound d (number_at 5 3 f.bytes) found }
         requires ready { IsReady self.old }
         ensures ok { IfOk result (λ answer. (f : state.Flight) → (d : state.Device) → kept_flight self.old.sent k ≡ Some f → slice_get self.old.devices place ≡ Some d → Makes (rules.reaches (rules.with_taken self.old k) f (Some d)) answer self.new) }
         ensures touched { IfOk result (λ answer. (f : state.Flight) → (d : state.Device) → kept_flight self.old.sent k ≡ Some f → slice_get self.old.devices place ≡ Some d → ChangesWorldOnly (is_touched_on d f) self.old self.new) }
         ensures err { OnErr result (self.new ≡ self.old) }
     {
-        let answered = reach(&self.fabric, &mut self.devices[place], alloc, k)?;
+        let answered = reach(&self.fabric, &mut self.devices[place], alloc, k, found)?;
         let Answered { answer, sent } = answered;
         let address = self.devices[place].address();
         self.fabric.took(k);

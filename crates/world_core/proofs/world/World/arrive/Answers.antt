@@ -49,3 +49,10 @@ returns-clause-touched c = λ f d kept h.
     let here : slice_get ds c.args.place ≡ Some c.index_mut.result.now = slice_get_read ds (length ds) c.args.place c.index_mut.result.now refl lt c.index_mut.ensures.value in
     delivered-at _ c.args.self.now _ c.args.place d c.index_mut.result.now c.reach.new.device f c.self.view_is c.self.invariant.ids here c.reach.ensures.same.0
     (c.reach.ensures.touched f (ap (λ (w : World). kept_flight w.sent c.args.k) c.self.view_is ∙ kept)) c.send_outcome.ensures.devices refl refl h
+
+pub reach-requires-clause-found : goal.reach-requires-clause-found
+reach-requires-clause-found c = λ f kept.
+    let ds = c.self.inside.devices.items in
+    let lt : c.args.place < length ds = subst (λ (w : World). c.args.place < length w.devices) (sym c.self.view_is) c.requires.place in
+    let here : slice_get ds c.args.place ≡ Some c.index_mut.result.now = slice_get_read ds (length ds) c.args.place c.index_mut.result.now refl lt c.index_mut.ensures.value in
+    c.requires.found f c.index_mut.result.now (ap (λ (w : World). kept_flight w.sent c.args.k) (sym c.self.view_is) ∙ kept) (ap (λ (w : World). slice_get w.devices c.args.place) (sym c.self.view_is) ∙ here)

@@ -2,7 +2,7 @@
 use Rattle.std.proofs.Common.{arith}
 use Rattle.std.proofs.lemmas.Grind.{common_steps}
 use Rattle.protocol.specs.Bytes.{number_at}
-use Rattle.world_core.proofs.network.destination.Goals as goal
+use Rattle.device_core.proofs.finding.destination.Goals as goal
 
 pub returns : goal.returns
 unfolding number_at

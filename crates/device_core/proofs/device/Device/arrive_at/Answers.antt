@@ -3,7 +3,7 @@ use Rattle.protocol.specs.declared.events.Event.TheVariants as event
 use Rattle.device_core.specs.Done.{told_arrival, told_memory}
 use Rattle.device_core.proofs.Steps.{arrived-is_ok, told-arrived}
 use Rattle.device_core.proofs.Within.{stepped-within}
-use Rattle.device_core.proofs.device.Device.arrive.Goals as goal
+use Rattle.device_core.proofs.device.Device.arrive_at.Goals as goal
 
 pub returns : goal.returns
 returns c =

@@ -1,0 +1,52 @@
+//! The connected queue pair that a datagram is for.
+
+ghost use Rattle.std.specs.Prelude.{◌≡◌};
+ghost use Rattle.protocol.specs.Bytes.{byte_at, number_at};
+ghost use Rattle.device_core.specs.Finding.{IsFound};
+
+use crate::Device;
+
+/// A connected queue pair that was found by its number: where it is on its device, and what it keeps. It is there as long
+/// as the device does nothing.
+#[derive(Clone, Copy)]
+pub struct FoundEnd {
+    /// The place of its context on the device.
+    pub(crate) context: usize,
+    /// Its place in the context.
+    pub(crate) place: usize,
+    /// The number of the next packet to execute.
+    pub expected: u64,
+    /// One past the highest number sent.
+    pub top: u64,
+}
+
+/// Byte `i`, and 0 behind the last.
+fn byte(bytes: &[u8], i: usize) -> u8
+    ensures { result ≡ byte_at i bytes.now }
+{
+    bytes.get(i).copied().unwrap_or(0)
+}
+
+/// The queue pair number that a datagram is for.
+pub fn destination(bytes: &[u8]) -> u32
+    ensures { result ≡ number_at 5 3 bytes.now }
+{
+    u32::from(byte(bytes, 5)) * 65_536 + u32::from(byte(bytes, 6)) * 256 + u32::from(byte(bytes, 7))
+}
+
+impl Device {
+    /// The connected queue pair with a number; None where none lives here.
+    pub fn find_end(&self, number: u32) -> Option<FoundEnd>
+        ensures { IsFound self.now number result }
+    {
+        let spot = self.index.get(&number)?;
+        let (context, _, held) = self.contexts.get_full(&spot.context)?;
+        let (expected, top) = held.marks_at(spot.place)?;
+        Some(FoundEnd {
+            context,
+            place: spot.place,
+            expected,
+            top,
+        })
+    }
+}
