@@ -43,7 +43,7 @@ expire_true s o (Some l) v h e =
     let same : v ≡ link_view l = cc in
     when (is_running (Some l) && (not l.sender.rnr_wait && nat_lt l.sender.una l.sender.next)) _ _ (ap view_expires (sym same) ∙ e)
 
-expire_false : (s : Settling) (o : ObjName) (l : Option Link) (v : LinkView) → Some v ≡ option_map link_view l → view_expires v ≡ false → expire_by s o l ≡ s
+pub expire_false : (s : Settling) (o : ObjName) (l : Option Link) (v : LinkView) → Some v ≡ option_map link_view l → view_expires v ≡ false → expire_by s o l ≡ s
 expire_false s o None v h e = absurd (cc)
 expire_false s o (Some l) v h e =
     let same : v ≡ link_view l = cc in
@@ -115,7 +115,7 @@ rnr_nothing : (s : Settling) (o : ObjName) (l : Option Link) → None ≡ option
 rnr_nothing s o None h = refl
 rnr_nothing s o (Some l) h = absurd (cc)
 
-rnr_still : (s : Settling) (o : ObjName) (l : Option Link) (v : LinkView) → Some v ≡ option_map link_view l → v.rnr_wait ≡ false → rnr_by s o l ≡ s
+pub rnr_still : (s : Settling) (o : ObjName) (l : Option Link) (v : LinkView) → Some v ≡ option_map link_view l → v.rnr_wait ≡ false → rnr_by s o l ≡ s
 rnr_still s o None v h waits = refl
 rnr_still s o (Some l) v h waits =
     let same : v ≡ link_view l = cc in

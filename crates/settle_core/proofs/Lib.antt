@@ -7,6 +7,7 @@ pub mod Compared
 pub mod Noted
 pub mod Visits
 pub mod NothingToSend
+pub mod Resting
 pub mod LeftEnds
 pub mod Cuts
 pub mod Passes

@@ -76,7 +76,7 @@ unsent_all : (s : Settling) (o : ObjName) → is_sent (world_step s.world (trans
 unfolding sends_all
 unsent_all s o h = unsent_sends _ s o h
 
-rest_sends : (s : Settling) (o : ObjName) (k : Option Link) (v : LinkView) → link_at s.world o ≡ k → Some v ≡ option_map link_view k → view_runs v ≡ true → view_may_send v ≡ false → sends_all s o ≡ s
+pub rest_sends : (s : Settling) (o : ObjName) (k : Option Link) (v : LinkView) → link_at s.world o ≡ k → Some v ≡ option_map link_view k → view_runs v ≡ true → view_may_send v ≡ false → sends_all s o ≡ s
 rest_sends s o None v there h runs none = absurd (cc)
 rest_sends s o (Some l) v there h runs none =
     let same : v ≡ link_view l = cc in

@@ -4,6 +4,7 @@
 #![tactic(auto)]
 
 mod draining;
+mod idle;
 mod laws;
 mod leaving;
 mod notes;

@@ -10,6 +10,7 @@ ghost use Rattle.settle_core.specs.Quieted.{IsQuieted};
 ghost use Rattle.settle_core.specs.Shown.{Cuts, Ends, Settles, Shows};
 ghost use Rattle.world_core.specs.Settled.{IsLeft, IsSettled};
 
+use crate::idle::are_idle;
 use crate::laws::settled_worlds_are_quiet;
 use crate::leaving::unfinished;
 use crate::notes::Notes;
@@ -72,12 +73,16 @@ fn most_rounds(alloc: Global, world: &World) -> Result<u64, AllocError>
 }
 
 impl Notes {
-    /// One round: drain, send, and where nothing changed in this round the timers.
+    /// One round: drain, send, and where nothing changed in this round the timers. Where nothing is pending and all live ends
+    /// are idle, it changes nothing, and ends at once.
     fn round(&mut self, alloc: Global, world: &mut World) -> Result<(), AllocError>
         ensures ok { OnOk result (Settles round world.old self.old world.new self.new) }
         ensures cut { OnErr result (Cuts (λ s. round_events s) world.old self.old world.new) }
     {
         let live = world.live_ends(alloc)?;
+        if world.pending().is_none() && are_idle(live.as_slice()) {
+            return Ok(());
+        }
         let ends = names_of(alloc, live.as_slice())?;
         self.seen = Some(live);
         self.drain(alloc, world)?;

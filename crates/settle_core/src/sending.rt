@@ -13,21 +13,21 @@ use std::alloc::{AllocError, Global};
 use world_core::{LinkView, World};
 
 /// Whether a link is in Rts and Running.
-fn is_running(link: &LinkView) -> bool
+pub(crate) fn is_running(link: &LinkView) -> bool
     ensures { result ≡ view_runs link.now }
 {
     !link.ended && !link.paused && !link.resuming
 }
 
 /// Whether a link is in Rts and Resuming.
-fn is_resuming(link: &LinkView) -> bool
+pub(crate) fn is_resuming(link: &LinkView) -> bool
     ensures { result ≡ view_resumes link.now }
 {
     !link.ended && link.resuming
 }
 
 /// Whether an end with this link may have a packet to send: it does not wait for its RNR timer, and not all was sent.
-fn may_send(link: &LinkView) -> bool
+pub(crate) fn may_send(link: &LinkView) -> bool
     ensures { result ≡ view_may_send link.now }
 {
     !link.rnr_wait && link.next != link.last

@@ -18,7 +18,7 @@ use world_core::{Event, LinkView, World, WorldEvent};
 const ENDLESS: u8 = 7;
 
 /// Whether the retransmission timeout of an end may expire: of a Running one that has numbers in flight and does not wait.
-fn may_expire(link: &LinkView) -> bool
+pub(crate) fn may_expire(link: &LinkView) -> bool
     ensures { result ≡ view_expires link.now }
 {
     !link.ended && !link.paused && !link.resuming && !link.rnr_wait && link.una < link.next
