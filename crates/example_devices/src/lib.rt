@@ -4,6 +4,8 @@
 #[cfg(test)]
 mod exchange;
 #[cfg(test)]
+mod memory;
+#[cfg(test)]
 mod net;
 #[cfg(test)]
 mod opening;

@@ -179,6 +179,21 @@ impl Net {
         self.ask(place, event)
     }
 
+    /// For how many bytes there is room in the memory of the next datagram of an end. The device takes that memory back.
+    pub(crate) fn room(&mut self, place: u8, context: &[u8]) -> Option<usize> {
+        let end = object(context, b"q")?;
+        let alloc = self.alloc;
+        let device = self.device(place)?;
+        let Outcome { sent, .. } = device.step(alloc, &Event::Transmit { end }).ok()?;
+        let mut list = sent.into_vec();
+        let Sent { bytes, .. } = list.pop()?;
+        let bytes = bytes.into_vec();
+        let room = bytes.capacity();
+        device.give_back(Items::new(bytes));
+        device.give_back_list(list);
+        Some(room)
+    }
+
     /// Whether the next four completions of a context's queue, or as many as there are, are these.
     pub(crate) fn tells(
         &mut self,
