@@ -16,14 +16,16 @@ use Rattle.law_kept_datagrams.specs.Alike.{with_kept_datagrams}
 use Rattle.law_settling.specs.Ends.{started}
 use Rattle.law_settling.specs.Events.{round_events, rounds_events, settling_events}
 use Rattle.law_settling.proofs.steps.Events.{round_lead, settled_lead}
+use Rattle.world_core.specs.Lives.{live_list}
 use Rattle.world_core.specs.Settled.{IsCut, IsLeft, IsSettled}
 use Rattle.context_core.specs.declared.lives.LiveEnd.{LiveEnd}
 use Rattle.world_core.specs.declared.settling.Quiet.{Quiet}
-use Rattle.settle_core.specs.Loads.{view_numbers}
+use Rattle.settle_core.specs.Loads.{view_load, view_numbers}
 use Rattle.settle_core.specs.Marks.{view_mark}
 use Rattle.settle_core.specs.Shown.{Cuts, Ends, Settles, Shows, wait_of}
 use Rattle.settle_core.specs.declared.notes.Notes.{Notes}
 use Rattle.settle_core.proofs.Cuts.{cut_after, cut_all, cut_as, cut_first, cut_none}
+use Rattle.settle_core.proofs.Listed.{load_listed}
 use Rattle.settle_core.proofs.Worlds.{after_append}
 
 pub on_err : {T P : Type 0} (r : Result T AllocError) → P → OnErr r P
@@ -35,6 +37,10 @@ on_err (Err e) h = h
 pub most_told : (most : Result ℕ AllocError) (product : Option ℕ) (e : AllocError) (load all : ℕ) → most ≡ ok_or product e → SomeIff product (load * 32 < 2 ^ 64) (load * 32) → load ≡ all → IfOk most (λ m. m ≡ 32 * all)
 most_told most None e load all is product same = subst (λ (x : Result ℕ AllocError). IfOk x (λ m. m ≡ 32 * all)) (sym is) tt
 most_told most (Some m) e load all is product same = subst (λ (x : Result ℕ AllocError). IfOk x (λ m. m ≡ 32 * all)) (sym is) (omega (arith, product, same))
+
+-- .. of a world with these live ends
+pub most_listed : (w : World) (es : List LiveEnd) (most : ℕ) → es ≡ live_list w → most ≡ 32 * view_load es → most ≡ 32 * load_of w
+most_listed w es most lives h = h ∙ ap (λ n. 32 * n) (ap view_load lives ∙ load_listed w)
 
 pub load_more : (xs : List LiveEnd) (i : ℕ) (x : LiveEnd) (load more new : ℕ) → i < length xs → x ≡ get_or xs i x → load ≡ sum_by view_numbers (take i xs) + i + 1 → more ≡ load + view_numbers x → new ≡ more + 1 →
     new ≡ sum_by view_numbers (take (i + 1) xs) + (i + 1) + 1

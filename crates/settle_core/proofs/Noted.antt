@@ -1,5 +1,5 @@
 -- A step of the world with a note of changes, as a call leaves it.
-use Rattle.std.proofs.Common.{◌≡◌, List, map, Bool, true, false, refl, sym, ap, ◌∙◌, Result, Ok, Err}
+use Rattle.std.proofs.Common.{◌≡◌, List, map, Bool, true, false, refl, sym, ap, ◌∙◌, subst, Result, Ok, Err}
 use Rattle.std.specs.Prelude.{◌||◌, not, Option, Some, None, IfOk, IfSome, OnOk}
 use Rattle.std.specs.declared.alloc.AllocError.{AllocError}
 use Rattle.rdma_types.specs.declared.answers.Answer.{Answer}
@@ -36,6 +36,14 @@ shown_seen w n s es lives h = record { world = h.world; changed = h.changed; ste
 pub listed_result : (r : Result (List LiveEnd) AllocError) (w : World) (P : Type 0) → IfOk r (λ ends. ends ≡ live_list w) → IfOk r (λ ends. P → map view_mark ends ≡ marks w)
 listed_result (Err x) w P h = tt
 listed_result (Ok ends) w P h = λ p. list_marked w ends h
+
+pub live_result : (r : Result (List LiveEnd) AllocError) (w : World) (P : Type 0) → IfOk r (λ ends. ends ≡ live_list w) → IfOk r (λ ends. P → ends ≡ live_list w)
+live_result (Err x) w P h = tt
+live_result (Ok ends) w P h = λ p. h
+
+-- those that were listed, where they were
+pub taken_lists : (w : World) (taken listed : Option (List LiveEnd)) → taken ≡ listed → IfSome listed (λ ends. ends ≡ live_list w) → IfSome taken (λ ends. ends ≡ live_list w)
+taken_lists w taken listed h = subst (λ o. IfSome o (λ ends. ends ≡ live_list w)) (sym h)
 
 pub changed_told : (w w' : World) (n : Notes) (same : Bool) (xs ys : List LiveEnd) → n.changed ≡ false → map view_mark xs ≡ marks w → map view_mark ys ≡ marks w' → same ≡ same_marks (map view_mark xs) (map view_mark ys) →
     not same ≡ (n.changed || not (same_marks (marks w) (marks w')))

@@ -1,5 +1,5 @@
--- The unacknowledged numbers of an end, as its view tells it.
-use Rattle.std.specs.Prelude.{ℕ, ◌-◌, Option, Some, None, if◌then◌else◌}
+-- The unacknowledged numbers of an end, as its view tells it, and the load of listed ends.
+use Rattle.std.specs.Prelude.{ℕ, ◌+◌, ◌-◌, List, length, sum_by, Option, Some, None, if◌then◌else◌}
 use Rattle.context_core.specs.declared.lives.LinkView.{LinkView}
 use Rattle.context_core.specs.declared.lives.LiveEnd.{LiveEnd}
 
@@ -11,3 +11,7 @@ link_numbers (Some v) = if v.ended then 0 else v.last - v.una
 -- .. and of an end
 abbrev pub view_numbers : LiveEnd → ℕ
 view_numbers e = link_numbers e.link
+
+-- the load of these ends
+abbrev pub view_load : List LiveEnd → ℕ
+view_load es = sum_by view_numbers es + length es + 1

@@ -1,9 +1,11 @@
 //! What settling leaves.
 
-ghost use Rattle.std.specs.Prelude.{◌≡◌, ◌++◌, flat_map, IfOk, OnOk};
+ghost use Rattle.std.specs.Prelude.{◌≡◌, ◌++◌, flat_map, IfOk, IfSome, OnOk};
 ghost use Rattle.protocol.specs.Settle.{left_image, unfinished};
+ghost use Rattle.world_core.specs.Lives.{live_list};
 ghost use Rattle.settle_core.specs.Left.{left_image_of, left_view, view_why};
 
+use crate::notes::known_ends;
 use protocol::EndImage;
 use rdma_types::{Items, LeftWhy, Name, ObjName};
 use std::alloc::{AllocError, Global};
@@ -92,14 +94,17 @@ fn push_images(
     Ok(())
 }
 
-/// Each end with untold requests and its reason: live ends first, then those of carried contexts.
+/// Each end with untold requests and its reason: live ends first, then those of carried contexts. The live ends are not
+/// listed again where they were.
 pub(crate) fn unfinished(
     alloc: Global,
     world: &World,
+    listed: Option<Items<LiveEnd>>,
 ) -> Result<Items<(ObjName, LeftWhy)>, AllocError>
+    requires { IfSome listed (λ ends. ends ≡ live_list world.now) }
     ensures { IfOk result (λ left. left ≡ unfinished world.now) }
 {
-    let ends = world.live_ends(alloc)?;
+    let ends = known_ends(alloc, world, listed)?;
     let mut left = Vec::new(alloc);
     push_live(&mut left, ends.as_slice())?;
     push_images(&mut left, world.images())?;

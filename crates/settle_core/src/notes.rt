@@ -6,6 +6,7 @@ ghost use Rattle.protocol.specs.Settle.{Settling, marks, same_marks, settle_step
 ghost use Rattle.protocol.specs.WorldStep.{world_step};
 ghost use Rattle.settle_core.specs.Shown.{Cuts, Settles, Shows};
 ghost use Rattle.settle_core.specs.Marks.{same_mark, view_code, view_mark};
+ghost use Rattle.world_core.specs.Lives.{live_list};
 ghost use Rattle.world_core.specs.Places.{HaveOwnIds};
 
 use indexmap::IndexMap;
@@ -52,7 +53,7 @@ impl Notes {
             let _answer = world.step(alloc, event)?;
             return Ok(());
         }
-        let before = ends_before(alloc, world, self.seen.take())?;
+        let before = known_ends(alloc, world, self.seen.take())?;
         let _answer = world.step(alloc, event)?;
         let after = world.live_ends(alloc)?;
         self.changed = !are_same(before.as_slice(), after.as_slice());
@@ -75,15 +76,17 @@ pub(crate) fn transmit(
     world.transmit(alloc, end)
 }
 
-/// Live ends with the marks of the world's: those that were seen, where they have them, or else the world's.
-fn ends_before(
+/// The live ends that were listed, where they were, or else as the world lists them. So they are the world's, or have the
+/// world's marks, where those that were listed are so.
+pub(crate) fn known_ends(
     alloc: Global,
     world: &World,
-    seen: Option<Items<LiveEnd>>,
+    listed: Option<Items<LiveEnd>>,
 ) -> Result<Items<LiveEnd>, AllocError>
-    ensures { IfOk result (λ ends. IfSome seen (λ s. map view_mark s ≡ marks world.now) → map view_mark ends ≡ marks world.now) }
+    ensures live { IfOk result (λ ends. IfSome listed (λ s. s ≡ live_list world.now) → ends ≡ live_list world.now) }
+    ensures marked { IfOk result (λ ends. IfSome listed (λ s. map view_mark s ≡ marks world.now) → map view_mark ends ≡ marks world.now) }
 {
-    match seen {
+    match listed {
         Some(ends) => Ok(ends),
         None => world.live_ends(alloc),
     }

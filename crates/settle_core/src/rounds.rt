@@ -1,21 +1,22 @@
 //! Rounds of settling.
 
-ghost use Rattle.std.specs.Prelude.{◌≡◌, ◌*◌, ◌+◌, ◌≤◌, ◌||◌, not, length, map, All, sum_by, IfOk, IfSome, OnErr, OnOk};
+ghost use Rattle.std.specs.Prelude.{◌≡◌, ◌*◌, ◌≤◌, ◌||◌, not, map, All, IfOk, IfSome, OnErr, OnOk};
 ghost use Rattle.protocol.specs.Lawful.{IsLawful};
 ghost use Rattle.protocol.specs.Settle.{Settling, begun, load_of, round, rounds_of};
 ghost use Rattle.protocol.specs.State as state;
 ghost use Rattle.law_settling.specs.Events.{round_events, rounds_events};
-ghost use Rattle.settle_core.specs.Loads.{view_numbers};
+ghost use Rattle.settle_core.specs.Loads.{view_load, view_numbers};
 ghost use Rattle.settle_core.specs.Quieted.{IsQuieted};
 ghost use Rattle.settle_core.specs.Shown.{Cuts, Ends, Settles, Shows};
+ghost use Rattle.world_core.specs.Lives.{live_list};
 ghost use Rattle.world_core.specs.Settled.{IsLeft, IsSettled};
 
 use crate::idle::are_idle;
 use crate::laws::settled_worlds_are_quiet;
 use crate::leaving::unfinished;
-use crate::notes::Notes;
+use crate::notes::{Notes, known_ends};
 use indexmap::IndexMap;
-use rdma_types::ObjName;
+use rdma_types::{Items, ObjName};
 use std::alloc::{AllocError, Global};
 use world_core::{LiveEnd, Quiet, Settler, World};
 
@@ -53,7 +54,7 @@ fn names_of(alloc: Global, ends: &[LiveEnd]) -> Result<Vec<ObjName>, AllocError>
 
 /// The load of these ends, where it fits.
 fn load(ends: &[LiveEnd]) -> Option<u64>
-    ensures { IfSome result (λ load. load ≡ sum_by view_numbers ends.now + length ends.now + 1) }
+    ensures { IfSome result (λ load. load ≡ view_load ends.now) }
 {
     let mut load = 1_u64;
     for end in ends {
@@ -63,24 +64,32 @@ fn load(ends: &[LiveEnd]) -> Option<u64>
     Some(load)
 }
 
-/// The most rounds that a settling takes; an error where they do not fit.
-fn most_rounds(alloc: Global, world: &World) -> Result<u64, AllocError>
-    ensures { IfOk result (λ most. most ≡ 32 * load_of world.now) }
+/// The most rounds that a settling of a world with these live ends takes; an error where they do not fit.
+fn most_rounds(ends: &[LiveEnd]) -> Result<u64, AllocError>
+    ensures { IfOk result (λ most. most ≡ 32 * view_load ends.now) }
 {
-    let ends = world.live_ends(alloc)?;
-    let load = load(ends.as_slice()).ok_or(AllocError)?;
+    let load = load(ends).ok_or(AllocError)?;
     load.checked_mul(ROUNDS).ok_or(AllocError)
 }
 
 impl Notes {
     /// One round: drain, send, and where nothing changed in this round the timers. Where nothing is pending and all live ends
-    /// are idle, it changes nothing, and ends at once.
-    fn round(&mut self, alloc: Global, world: &mut World) -> Result<(), AllocError>
+    /// are idle, it changes nothing, and ends at once. It takes the live ends where they were listed since the last step, and
+    /// leaves them only if it made none.
+    fn round(
+        &mut self,
+        alloc: Global,
+        world: &mut World,
+        listed: &mut Option<Items<LiveEnd>>,
+    ) -> Result<(), AllocError>
+        requires { IfSome listed.old (λ ends. ends ≡ live_list world.old) }
         ensures ok { OnOk result (Settles round world.old self.old world.new self.new) }
+        ensures listed { OnOk result (IfSome listed.new (λ ends. ends ≡ live_list world.new)) }
         ensures cut { OnErr result (Cuts (λ s. round_events s) world.old self.old world.new) }
     {
-        let live = world.live_ends(alloc)?;
+        let live = known_ends(alloc, world, listed.take())?;
         if world.pending().is_none() && are_idle(live.as_slice()) {
+            *listed = Some(live);
             return Ok(());
         }
         let ends = names_of(alloc, live.as_slice())?;
@@ -109,14 +118,23 @@ impl Notes {
         self.seen = None;
     }
 
-    /// Rounds until one in which nothing changed and nothing was stepped, and how many; at most `most`.
-    fn go_round(&mut self, alloc: Global, world: &mut World, most: u64) -> Result<u64, AllocError>
+    /// Rounds until one in which nothing changed and nothing was stepped, and how many; at most `most`. It takes and leaves the
+    /// live ends as a round does.
+    fn go_round(
+        &mut self,
+        alloc: Global,
+        world: &mut World,
+        most: u64,
+        listed: &mut Option<Items<LiveEnd>>,
+    ) -> Result<u64, AllocError>
+        requires { IfSome listed.old (λ ends. ends ≡ live_list world.old) }
         ensures ok { IfOk result (λ rounds. (s : Settling) → Shows world.old self.old s → Ends (rounds_of most 0 s) world.new rounds) }
         ensures bounded { IfOk result (λ rounds. rounds ≤ most) }
+        ensures listed { OnOk result (IfSome listed.new (λ ends. ends ≡ live_list world.new)) }
         ensures cut { OnErr result (Cuts (λ s. rounds_events most s) world.old self.old world.new) }
     {
         for rounds in 0..most {
-            self.round(alloc, world)?;
+            self.round(alloc, world, listed)?;
             if self.is_quiet() {
                 return Ok(rounds + 1);
             }
@@ -144,15 +162,17 @@ impl Settler for Rounds {
     {
         settled_worlds_are_quiet();
         let _next = world.next();
-        let most = most_rounds(alloc, world)?;
+        let live = world.live_ends(alloc)?;
+        let most = most_rounds(live.as_slice())?;
+        let mut listed = Some(live);
         let mut notes = Notes {
             changed: false,
             stepped: false,
             waited: IndexMap::new(alloc),
             seen: None,
         };
-        let rounds = notes.go_round(alloc, world, most)?;
-        let unfinished = unfinished(alloc, world)?;
+        let rounds = notes.go_round(alloc, world, most, &mut listed)?;
+        let unfinished = unfinished(alloc, world, listed)?;
         Ok(Quiet { rounds, unfinished })
     }
 }

@@ -4,7 +4,7 @@ use Rattle.settle_core.proofs.Goings.{going_begins, going_cut, going_ends, going
 use Rattle.settle_core.proofs.notes.Notes.go_round.Goals as goal
 
 pub loop-rounds-init : goal.loop-rounds-init
-loop-rounds-init c = (λ s h. going_begins c.args.world.now c.args.self.now s c.args.most h, omega arith)
+loop-rounds-init c = (λ s h. going_begins c.args.world.now c.args.self.now s c.args.most h, omega arith, c.requires)
 
 pub returns-then-is_quiet-clause-ok : goal.returns-then-is_quiet-clause-ok
 returns-then-is_quiet-clause-ok c =
@@ -18,6 +18,7 @@ loop-rounds-preserved c =
     let more : (c.round.new.self.changed || c.round.new.self.stepped) ≡ true = search (rules, c.is_quiet.ensures, c.if-is_quiet.false) in (
       λ s h. going_goes c.loop-rounds.world c.round.new.world c.loop-rounds.self c.round.new.self c.begin.new.self s c.args.most c.loop-rounds.rounds below (c.loop-rounds.invariant.0 s h) c.in_ok-round.ensures.ok more c.begin.ensures,
       omega arith,
+      c.in_ok-round.ensures.listed,
     )
 
 pub returns-clause-ok : goal.returns-clause-ok

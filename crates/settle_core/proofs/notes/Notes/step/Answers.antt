@@ -15,7 +15,7 @@ returns-then-self-clause-ok c = changed_step c.args.world.now c.step.new.self c.
 pub returns-clause-ok : goal.returns-clause-ok
 returns-clause-ok c s shows =
     let seen : IfSome c.take.result (λ ends. map view_mark ends ≡ marks c.args.world.now) = subst (λ o. IfSome o (λ ends. map view_mark ends ≡ marks c.args.world.now)) (sym c.take.ensures.value) (shows.seen c.if-self.false) in
-    let before : map view_mark c.as_slice.result.now ≡ marks c.args.world.now = ap (map view_mark) c.as_slice.ensures ∙ c.in_ok-before.ensures seen in
+    let before : map view_mark c.as_slice.result.now ≡ marks c.args.world.now = ap (map view_mark) c.as_slice.ensures ∙ c.in_ok-before.ensures.marked seen in
     let listed : c.in_ok-after.after ≡ live_list c.step-2.new.self = search (rules, c.in_ok-after.ensures) in
     let after : map view_mark c.in_ok-after.after ≡ marks c.step-2.new.self = list_marked c.step-2.new.self c.in_ok-after.after listed in
     shown_step c.args.world.now c.step-2.new.self c.args.self.now _ s c.args.event.now shows c.in_ok-_answer-2.ensures.ok.left
