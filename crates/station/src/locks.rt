@@ -1,16 +1,17 @@
 //! Locks round the order and round devices.
 
 ghost use Rattle.std.specs.Prelude.{◌≡◌, IfOk, IfSome};
+ghost use Rattle.std.specs.Arc.{arc_value};
 ghost use Rattle.protocol.specs.Events.{IsLawfulEvent};
 ghost use Rattle.protocol.specs.Lawful.{IsLawful};
 ghost use Rattle.station.specs.Books.{IsReceiptOf};
 
-use crate::{Book, OrderBook, Receipt};
+use crate::{Book, OrderBook, Receipt, Step};
 use protocol::{Event, Outcome};
 use rdma_types::Address;
 use std::alloc::{AllocError, Global};
 use std::marker::Model;
-use std::sync::{Condvar, Mutex, MutexGuard, Wait};
+use std::sync::{Arc, Condvar, Mutex, MutexGuard, Wait};
 
 /// The order book, and what the threads that write into it tell one another.
 #[derive(Drop)]
@@ -215,24 +216,24 @@ impl<'a> StationGuard<'a> {
         ensures image { IfOk result (λ r. IfSome r.outcome.image (λ i. IsLawful i)) }
         ensures same { self.new ≡ self.old }
     {
-        let receipt = self.step(rt, alloc, worker, event);
-        if receipt.is_err() {
+        let made = self.make(rt, alloc, event);
+        if made.is_err() {
             self.orders.halt(rt);
         }
-        receipt
+        let (place, step) = made?;
+        Ok(Receipt::new(worker, self.id, place, step))
     }
 
-    /// The same, without a halt.
-    fn step<R: Wait>(
+    /// Makes a step and enters it. The answer is its place in the book, and the step, which the book shares.
+    fn make<R: Wait>(
         &mut self,
         rt: &R,
         alloc: Global,
-        worker: u32,
         event: Event,
-    ) -> Result<Receipt, AllocError>
+    ) -> Result<(u64, Arc<Step>), AllocError>
         requires { IsLawfulEvent event }
-        ensures ok { IfOk result (λ r. IsReceiptOf self.old worker event r) }
-        ensures image { IfOk result (λ r. IfSome r.outcome.image (λ i. IsLawful i)) }
+        ensures event { IfOk result (λ s. (arc_value s.1).event ≡ event) }
+        ensures image { IfOk result (λ s. IfSome (arc_value s.1).outcome.image (λ i. IsLawful i)) }
         ensures same { self.new ≡ self.old }
     {
         let place = self.book.step(alloc, event)?;
@@ -240,6 +241,6 @@ impl<'a> StationGuard<'a> {
             return Err(AllocError);
         };
         self.orders.enter(rt, self.id, place, &step.outcome)?;
-        Ok(Receipt::new(worker, self.id, place, step))
+        Ok((place, step))
     }
 }
