@@ -95,7 +95,6 @@ step_of_view opening items d k a held there =
     let event : slice_get (events_of (steps_in items)) k ≡ Some (arc_value a).event = slice_get-map (λ s. s.event) (steps_in items) k ∙ ap (option_map (λ s. s.event)) steps in
     let outcome : slice_get (outcomes opening (events_of (steps_in items))) k ≡ Some (arc_value a).outcome = ap (λ os. slice_get os k) (sym held.outcomes_are) ∙ (slice_get-map (λ s. s.outcome) (steps_in items) k ∙ ap (option_map (λ s. s.outcome)) steps) in record {
       event = event;
-      lawful = all_at IsLawfulEvent (events_of (steps_in items)) k (arc_value a).event held.lawful event;
       outcome = outcomes-at opening (events_of (steps_in items)) k (arc_value a).event (arc_value a).outcome event outcome;
       image = all_at (λ s. IfSome s.outcome.image (λ i. IsLawful i)) (steps_in items) k (arc_value a) held.images steps;
     }

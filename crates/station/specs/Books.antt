@@ -38,11 +38,10 @@ pub record IsBookStep (old new : BookView) (event : Event) (place : ℕ) : Type 
   pub opening : new.opening ≡ old.opening
   pub journal : new.journal ≡ old.journal ++ event ∷ []
 
--- step number `place` of a book: its event stands there in the journal, and is lawful; and its outcome is what the rules give
--- after the earlier ones, with an image that keeps the rules
+-- step number `place` of a book: its event stands there in the journal, and its outcome is what the rules give after the earlier
+-- ones, with an image that keeps the rules
 pub record IsStepOf (b : BookView) (place : ℕ) (s : Step) : Type 0 where
   pub event : slice_get b.journal place ≡ Some s.event
-  pub lawful : IsLawfulEvent s.event
   pub outcome : s.outcome ≡ (device_step (replay b.opening (take place b.journal)) s.event).outcome
   pub image : IfSome s.outcome.image (λ i. IsLawful i)
 

@@ -1,6 +1,6 @@
 //! A device with the journal of its steps.
 
-ghost use Rattle.std.specs.Prelude.{◌≡◌, length, slice_get, option_map, IfOk, IfSome, OnErr};
+ghost use Rattle.std.specs.Prelude.{◌≡◌, ◌<◌, length, slice_get, option_map, IfOk, IfSome, OnErr};
 ghost use Rattle.std.specs.Arc.{arc_value};
 ghost use Rattle.protocol.specs.Events.{IsLawfulEvent};
 ghost use Rattle.station.specs.Books.{IsBookStep, IsStepOf, device_of, opened_with};
@@ -88,11 +88,12 @@ impl Book {
         }
     }
 
-    /// Step `place`, from 0, shared with the journal; None where there are fewer, or where 2^63 share it.
-    pub fn share(&self, place: u64) -> Option<Arc<Step>>
-        ensures { IfSome result (λ s. IsStepOf self.now place (arc_value s)) }
+    /// Step `place`, from 0, shared with the journal. Errors: `AllocError` where 2^63 share it.
+    pub fn share(&self, place: u64) -> Result<Arc<Step>, AllocError>
+        requires { place < length self.now.journal }
+        ensures { IfOk result (λ s. IsStepOf self.now place (arc_value s)) }
     {
-        Arc::try_clone(self.journal.get(place as usize)?).ok()
+        Ok(Arc::try_clone(&self.journal[place as usize])?)
     }
 
     /// The device as it opened.

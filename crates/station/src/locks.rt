@@ -237,9 +237,7 @@ impl<'a> StationGuard<'a> {
         ensures same { self.new ≡ self.old }
     {
         let place = self.book.step(alloc, event)?;
-        let Some(step) = self.book.share(place) else {
-            return Err(AllocError);
-        };
+        let step = self.book.share(place)?;
         self.orders.enter(rt, self.id, place, &step.outcome)?;
         Ok((place, step))
     }

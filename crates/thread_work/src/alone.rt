@@ -87,9 +87,8 @@ impl Alone {
         let book = &mut self.books[i];
         let device = book.opening().id();
         let place = book.step(alloc, event)?;
-        let (Some(step), Some(own)) = (book.share(place), book.share(place)) else {
-            return Err(PlanFault::OutOfMemory);
-        };
+        let step = book.share(place)?;
+        let own = book.share(place)?;
         self.order
             .enter(device, place, step.outcome.sent.len() as u64)?;
         let Some(held) = self.receipts.get_mut(worker as usize) else {
