@@ -1,15 +1,18 @@
 -- Runs of bytes in pages.
-use Rattle.std.proofs.Common.{◌≡◌, ℕ, zero, suc, ◌+◌, ◌*◌, ◌/◌, ◌%◌, ◌<◌, ◌≤◌, List, [], ◌∷◌, ◌++◌, length, take, drop, get_or, set, arith, refl, ap, sym, ◌∙◌}
-use Rattle.std.specs.Prelude.{All, OnErr, Result, Ok, Err, Option, IfOk, IfSome}
+use Rattle.std.proofs.Common.{◌≡◌, ℕ, zero, suc, ◌+◌, ◌*◌, ◌/◌, ◌%◌, ◌<◌, ◌≤◌, ◌⊎◌, inl, inr, List, [], ◌∷◌, ◌++◌, length, take, drop, get_or, set, arith, refl, ap, sym, subst, ◌∙◌}
+use Rattle.std.specs.Prelude.{All, OnErr, Result, Ok, Err, Option, Some, None, IfOk, IfSome, MatchOption, IsOk, vec_len}
+use Rattle.std.specs.List.{AllZip}
 use Rattle.std.specs.Result.{result_ok}
+use Rattle.std.specs.Arc.{arc_value}
 use Rattle.std.specs.declared.sync.Arc.{Arc}
+use Rattle.std.specs.declared.vec.Vec.{Vec}
 use Rattle.std.proofs.lemmas.List.{append_assoc, places, same_lists, length-take, length-set, length-append, take_all, take-take, take-append-le, length-take-le, length-drop, drop-drop, get_or_default, get_or-set_same, get_or-set_other, append-nil, set-get_or, length_push}
 use Rattle.std.proofs.lemmas.Slice.{take-put_mid}
 use borrow.Rule.Slice.PartMut.{put_mid, mid_of}
-use Rattle.std.proofs.lemmas.List.Elements.{All-get_or, All-set, All-append, All-take}
+use Rattle.std.proofs.lemmas.List.Elements.{All-get_or, All-set, All-append, All-take, All-cons, All-head, All-tail}
 use Rattle.std.proofs.lemmas.List.Concat.{flat_map-append}
 use Rattle.rdma_types.specs.Memory.{cut, put}
-use Rattle.byte_run.specs.Pages.{joined, ArePages, IsRun}
+use Rattle.byte_run.specs.Pages.{joined, pages_in, ArePages, IsRun}
 use Rattle.byte_run.proofs.Joined.{AreEven, length-joined, cut-joined, put-joined, joined-part}
 use Rattle.byte_run.proofs.Cuts.{length-cut, length-put, put-meet, cut-meet, cut-whole}
 
@@ -204,6 +207,71 @@ module _ {A : Type 0} where
       let mid : mid_of (at % 4096) k page ≡ cut at count self = rw (k_is, is) (sym here) in
       let size : length (mid_of (at % 4096) k page) ≡ count = ap length mid ∙ length-cut at count self (omega arith) in
       (mid ∙ ap (λ m. cut at m self) (sym size), size)
+
+-- the same bytes in other pages
+pub record AreSame {A : Type 0} (pages later : List (Arc (List ℕ) A)) : Type 0 where
+  pub bytes : joined later ≡ joined pages
+  pub even : ArePages pages → ArePages later
+  pub count : length later ≡ length pages
+
+module _ {A : Type 0} where
+  -- pages that share the bytes of others
+  pub same_copies : (pages later : List (Arc (List ℕ) A)) → AllZip (λ page copy. arc_value copy ≡ arc_value page) pages later → AreSame pages later
+  same_copies [] [] h = record { bytes = refl; even = λ even. even; count = refl }
+  same_copies [] (y ∷ ys) h = absurd h
+  same_copies (x ∷ xs) [] h = absurd h
+  same_copies (x ∷ xs) (y ∷ ys) h =
+      let first : y.value ≡ x.value = h.0 in
+      let rest : AreSame xs ys = same_copies xs ys h.1 in
+      let behind : joined ys ≡ joined xs = rest.bytes in
+      record {
+        bytes = cc;
+        even = λ even. All-cons (λ page. length page.value ≡ 4096) y ys (ap length first ∙ All-head (λ page. length page.value ≡ 4096) x xs even) (rest.even (All-tail (λ page. length page.value ≡ 4096) x xs even));
+        count = omega (arith, rest.count);
+      }
+
+  -- the list that was there, or one that was made for none
+  list_found : (pages : Option (Arc (Vec (Arc (List ℕ) A) A) A)) (found : Arc (Vec (Arc (List ℕ) A) A) A) (Made : Type 0) → MatchOption pages Made (λ list. found ≡ list) → (Made → found.value.items ≡ []) → found.value.items ≡ pages_in pages
+  list_found None found Made h f = f h
+  list_found (Some list) found Made h f = ap (λ (l : Arc (Vec (Arc (List ℕ) A) A) A). l.value.items) h
+
+  list_owned : (old new : Vec (Arc (List ℕ) A) A) → (new ≡ old) ⊎ (AllZip (λ page copy. arc_value copy ≡ arc_value page) old.items new.items × (vec_len new ≡ vec_len old)) → AreSame old.items new.items
+  list_owned old new (inl h) =
+      let same : new.items ≡ old.items = ap (λ (v : Vec (Arc (List ℕ) A) A). v.items) h in
+      record { bytes = ap joined same; even = λ even. rw same even; count = ap length same }
+  list_owned old new (inr h) = same_copies old.items new.items h.0
+
+  -- a list to be written, which is the one that was found or a copy of it
+  pub same_list : (pages : Option (Arc (Vec (Arc (List ℕ) A) A) A)) (found : Arc (Vec (Arc (List ℕ) A) A) A) (new : Vec (Arc (List ℕ) A) A) (Made : Type 0) → MatchOption pages Made (λ list. found ≡ list) → (Made → found.value.items ≡ [])
+      → (new ≡ found.value) ⊎ (AllZip (λ page copy. arc_value copy ≡ arc_value page) found.value.items new.items × (vec_len new ≡ vec_len found.value)) → AreSame (pages_in pages) new.items
+  same_list pages found new Made cases made h =
+      subst (λ xs. AreSame xs new.items) (list_found pages found Made cases made) (list_owned found.value new h)
+
+  pub run_same : (pages later : List (Arc (List ℕ) A)) (n : ℕ) → AreSame pages later → IsRun pages n → IsRun later n
+  run_same pages later n same h = record { even = same.even h.even; room = omega (arith, h.room, same.count) }
+
+  -- the whole pages of a run
+  module _ (pages later : List (Arc (List ℕ) A)) (n : ℕ) (h : IsRun pages n) (round : n % 4096 ≡ 0) (cut : later ≡ take (n / 4096) pages) where
+    pub run_front : IsRun later n
+    run_front =
+        let room : n ≤ 4096 * length pages = h.room in
+        let count : length later ≡ n / 4096 = ap length cut ∙ length-take-le (n / 4096) pages (omega arith) in
+        record { even = rw cut (All-take (λ page. length page.value ≡ 4096) (n / 4096) pages h.even); room = omega arith }
+
+    pub bytes_front : (d : Arc (List ℕ) A) → take n (joined later) ≡ take n (joined pages)
+    bytes_front d =
+        let room : n ≤ 4096 * length pages = h.room in
+        let all : 4096 * (n / 4096) ≡ n = omega arith in
+        ap (λ xs. take n (joined xs)) cut
+        ∙ (ap (take n) (joined_front pages (n / 4096) d h.even (omega arith) ∙ ap (λ k. take k (joined pages)) all)
+        ∙ take-take n n (joined pages) (omega arith))
+
+-- a result that is an error, or that is none
+pub at_error : {T E P : Type 0} (r : Result T E) (e : E) → r ≡ Err e → OnErr r P → P
+at_error {P} r e is h = subst (λ q. OnErr q P) is h
+
+pub at_ok : {T E : Type 0} (r : Result T E) (x : T) → r ≡ Ok x → IsOk r
+at_ok r x is = subst IsOk (sym is) refl
 
 -- what is known of a result is known of its value
 pub some_of : {T E : Type 0} (r : Result T E) (o : Option T) (P Q : T → Type 0) → o ≡ result_ok r → IfOk r P → ((x : T) → P x → Q x) → IfSome o Q

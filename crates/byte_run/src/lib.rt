@@ -1,5 +1,5 @@
 //! Runs of bytes in pages, so that many bytes are held and handed on without one long block of memory. Copies of a run
-//! share its pages.
+//! share its list of pages, so a copy costs the same however long the run is.
 //! The size of a page is this project's choice.
 #![tactic(auto)]
 

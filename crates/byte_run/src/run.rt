@@ -4,29 +4,34 @@ ghost use Rattle.std.specs.Prelude.{◌≡◌, ℕ, ◌+◌, ◌-◌, ◌*◌, �
 ghost use Rattle.std.specs.Arc.{arc_value};
 ghost use Rattle.std.specs.Bool.{OnTrue};
 ghost use Rattle.rdma_types.specs.Memory.{cut, put};
-ghost use Rattle.byte_run.specs.Pages.{joined, ArePages, IsRun};
+ghost use Rattle.byte_run.specs.Pages.{joined, pages_in, IsRun};
 
 use crate::PAGE;
 use std::alloc::{AllocError, Global};
 use std::marker::Model;
 use std::sync::Arc;
 
-/// A list of bytes in pages of 4,096 bytes. Copies share pages, and a page that is shared is not written.
+type Pages = Vec<Arc<[u8; 4096]>>;
+
+/// A list of bytes in pages of 4,096 bytes. Copies share the list of pages, and a list that is shared is copied before it
+/// is written; the two lists then share the pages, of which the same is true.
 #[derive(Drop)]
 pub struct ByteRun {
-    pages: Vec<Arc<[u8; 4096]>>,
+    alloc: Global,
+    // None before the first bytes, so that no bytes take no memory.
+    pages: Option<Arc<Pages>>,
     len: usize,
 }
 
 impl Model for ByteRun {
     ghost use Rattle.std.specs.Prelude.{ℕ, List, take};
-    ghost use Rattle.byte_run.specs.Pages.{joined, IsRun};
+    ghost use Rattle.byte_run.specs.Pages.{joined, pages_in, IsRun};
 
     ghost Value = { List ℕ };
 
-    ghost view = { λ r. take r.len (joined r.pages.items) };
+    ghost view = { λ r. take r.len (joined (pages_in r.pages)) };
 
-    ghost invariant = { λ r. IsRun r.pages.items r.len };
+    ghost invariant = { λ r. IsRun (pages_in r.pages) r.len };
 }
 
 impl ByteRun {
@@ -35,7 +40,8 @@ impl ByteRun {
         ensures { result ≡ [] }
     {
         ByteRun {
-            pages: Vec::new(alloc),
+            alloc,
+            pages: None,
             len: 0,
         }
     }
@@ -54,7 +60,7 @@ impl ByteRun {
         ensures length { length result.now ≡ min (4096 - at % 4096) (length self.now - at) }
     {
         let at = at as usize;
-        let page = &self.pages[at / PAGE];
+        let page = &list(&self.pages)[at / PAGE];
         let from = at % PAGE;
         let count = (PAGE - from).min(self.len - at);
         &page[from..from + count]
@@ -81,7 +87,11 @@ impl ByteRun {
         ensures err { OnErr result (self.new ≡ self.old) }
     {
         let end = self.len.checked_add(bytes.len()).ok_or(AllocError)?;
-        add_bytes(alloc, &mut self.pages, self.len, bytes)?;
+        let shared = self
+            .pages
+            .get_or_try_insert_with(|| Arc::new(alloc, Vec::new(alloc)))?;
+        let pages = Arc::make_mut(shared)?;
+        add_bytes(alloc, pages, self.len, bytes)?;
         self.len = end;
         Ok(())
     }
@@ -96,7 +106,7 @@ impl ByteRun {
         if self.len / PAGE <= place {
             return None;
         }
-        Arc::try_clone(&self.pages[place]).ok()
+        Arc::try_clone(&list(&self.pages)[place]).ok()
     }
 
     /// Puts a page at the end of whole pages, and shares it. Errors: `AllocError` when out of memory; the run is as it was.
@@ -107,30 +117,41 @@ impl ByteRun {
         ensures err { OnErr result (self.new ≡ self.old) }
     {
         let len = self.len.checked_add(PAGE).ok_or(AllocError)?;
-        self.pages.truncate(self.len / PAGE);
-        self.pages.push(page)?;
+        let alloc = self.alloc;
+        let shared = self
+            .pages
+            .get_or_try_insert_with(|| Arc::new(alloc, Vec::new(alloc)))?;
+        let pages = Arc::make_mut(shared)?;
+        pages.truncate(self.len / PAGE);
+        pages.push(page)?;
         self.len = len;
         Ok(())
     }
 
-    /// A run of the same bytes, which shares the pages. Errors: `AllocError` when out of memory.
+    /// A run of the same bytes, which shares the list of pages. Errors: `AllocError` when out of memory.
     pub fn copy(&self, alloc: Global) -> Result<ByteRun, AllocError>
         ensures { IfOk result (λ run. run ≡ self.now) }
     {
         Ok(ByteRun {
-            pages: copy_pages(alloc, &self.pages)?,
+            alloc,
+            pages: self.pages.clone()?,
             len: self.len,
         })
     }
 }
 
+/// The pages, in their order.
+fn list(pages: &Option<Arc<Pages>>) -> &[Arc<[u8; 4096]>]
+    ensures { result.now ≡ pages_in pages.now }
+{
+    match pages {
+        Some(pages) => pages,
+        None => &[],
+    }
+}
+
 /// Puts bytes behind the first `at`, piece by piece.
-fn add_bytes(
-    alloc: Global,
-    pages: &mut Vec<Arc<[u8; 4096]>>,
-    at: usize,
-    bytes: &[u8],
-) -> Result<(), AllocError>
+fn add_bytes(alloc: Global, pages: &mut Pages, at: usize, bytes: &[u8]) -> Result<(), AllocError>
     requires run { IsRun pages.old.items at }
     requires end { at + length bytes.now < 2 ^ 64 }
     ensures run { IsRun pages.new.items at }
@@ -149,12 +170,7 @@ fn add_bytes(
 }
 
 /// Puts bytes behind the first `at`, where one page holds them: a page that is there, or a new one.
-fn add_piece(
-    alloc: Global,
-    pages: &mut Vec<Arc<[u8; 4096]>>,
-    at: usize,
-    bytes: &[u8],
-) -> Result<(), AllocError>
+fn add_piece(alloc: Global, pages: &mut Pages, at: usize, bytes: &[u8]) -> Result<(), AllocError>
     requires run { IsRun pages.old.items at }
     requires page { at % 4096 + length bytes.now ≤ 4096 }
     ensures err { OnErr result (pages.new.items ≡ pages.old.items) }
@@ -231,18 +247,4 @@ fn page_with(
     let mut copy = **page;
     copy[from..from + bytes.len()].copy_from_slice(bytes);
     Ok(Arc::new(alloc, copy)?)
-}
-
-/// The same pages, shared.
-fn copy_pages(alloc: Global, pages: &[Arc<[u8; 4096]>]) -> Result<Vec<Arc<[u8; 4096]>>, AllocError>
-    requires { ArePages pages.now }
-    ensures bytes { IfOk result (λ copies. joined copies.items ≡ joined pages.now) }
-    ensures even { IfOk result (λ copies. ArePages copies.items) }
-    ensures count { IfOk result (λ copies. length copies.items ≡ length pages.now) }
-{
-    let mut copies = Vec::with_capacity(alloc, pages.len())?;
-    for page in pages {
-        copies.push(Arc::try_clone(page)?)?;
-    }
-    Ok(copies)
 }
