@@ -1,5 +1,7 @@
 -- Numbers that digits spell.
-use Rattle.std.proofs.Common.{◌≡◌, ℕ, ◌+◌, ◌-◌, ◌*◌, ◌<◌, ◌≤◌, List, [], ◌∷◌, length, drop, get_or, nat_lt, Some, None, if◌then◌else◌, sym, ap, arith, add-one, drop-cons}
+use Rattle.std.proofs.Common.{◌≡◌, ℕ, ◌+◌, ◌-◌, ◌*◌, ◌<◌, ◌≤◌, ◌^◌, List, [], ◌∷◌, length, drop, get_or, nat_lt, Some, None, if◌then◌else◌, sym, ap, arith, add-one, drop-cons}
+use Rattle.std.proofs.Math.Dec.{lit≤}
+use Rattle.std.proofs.Math.Nat.{pow-le-pow_right}
 use Rattle.std.proofs.lemmas.Bool.Decides.{nat_tests}
 use Rattle.std.proofs.lemmas.List.{drop_all}
 use Rattle.script_lang.specs.Texts.{digits_after}
@@ -31,3 +33,10 @@ told_below m limit h = grind (arith, nat_tests)
 -- after all digits the number stands
 pub digits_done : (n : ℕ) (word : List ℕ) (i : ℕ) → length word ≤ i → digits_after n (drop i word) ≡ n
 digits_done n word i h = ap (digits_after n) (drop_all i word h)
+
+-- nineteen digits fit 64 bits
+pub room_for_digit : (n i : ℕ) → n < 10 ^ i → i < 19 → n * 10 + 9 < 2 ^ 64
+room_for_digit n i h few =
+    let most : 10 ^ i ≤ 10 ^ 18 = pow-le-pow_right {n = 10} (lit≤ tt) {j = 18} (omega arith) in
+    let small : n < 1000000000000000000 = omega arith in
+    omega arith

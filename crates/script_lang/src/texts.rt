@@ -1,6 +1,6 @@
 //! What one word spells.
 
-ghost use Rattle.std.specs.Prelude.{◌≡◌, ◌==◌, ℕ, ◌+◌, ◌-◌, ◌*◌, ◌<◌, ◌≤◌, ◌^◌, true, length, nat_lt, [], ◌∷◌, Option, Some, None, IfSome, IfNone, IfOk, if◌then◌else◌, option_copied, option_map};
+ghost use Rattle.std.specs.Prelude.{◌≡◌, ◌==◌, ◌&&◌, ℕ, ◌+◌, ◌-◌, ◌*◌, ◌<◌, ◌≤◌, ◌^◌, true, length, nat_lt, [], ◌∷◌, Option, Some, None, IfSome, IfNone, IfOk, if◌then◌else◌, option_copied, option_map};
 ghost use Rattle.std.specs.List.{list_all, position_or_len};
 ghost use Rattle.rdma_types.specs.Limits.{is_mtu};
 ghost use Rattle.script_lang.specs.Texts as texts;
@@ -16,14 +16,20 @@ fn all_digits(text: &[u8]) -> bool
     text.iter().all(|b| b.is_ascii_digit())
 }
 
-/// Whether a word is decimal digits without sign or leading zero.
-fn spells_decimal(text: &[u8]) -> bool
-    ensures { result ≡ is_decimal text.now }
+/// The number that at most 19 digits spell, which has at most 64 bits.
+fn short_value(text: &[u8]) -> Option<u64>
+    requires { length text.now ≤ 19 }
+    ensures value { result ≡ (if list_all is_digit text.now then Some (digits_after 0 text.now) else None) }
+    ensures small { IfSome result (λ n. n < 2 ^ 64) }
 {
-    match text {
-        [] => false,
-        [first, rest @ ..] => all_digits(text) && (*first != b'0' || rest.is_empty()),
+    let mut n: u64 = 0;
+    for b in text {
+        if !b.is_ascii_digit() {
+            return None;
+        }
+        n = n * 10 + u64::from(*b - b'0');
     }
+    Some(n)
 }
 
 /// The number with one more digit behind it, where it has at most 64 bits.
@@ -49,16 +55,39 @@ fn digits_value(text: &[u8]) -> Option<u64>
     Some(n)
 }
 
+/// The number that digits spell, where it has at most 64 bits; None too where a byte is no digit.
+fn value(text: &[u8]) -> Option<u64>
+    ensures { result ≡ (if list_all is_digit text.now && nat_lt (digits_after 0 text.now) (2 ^ 64) then Some (digits_after 0 text.now) else None) }
+{
+    if text.len() <= 19 {
+        return short_value(text);
+    }
+    if !all_digits(text) {
+        return None;
+    }
+    digits_value(text)
+}
+
+/// Whether a text starts as a number does: with a byte, and with no zero before others.
+fn starts_number(text: &[u8]) -> bool
+    ensures { is_decimal text.now ≡ (list_all is_digit text.now && result) }
+{
+    match text {
+        [] => false,
+        [first, rest @ ..] => *first != b'0' || rest.is_empty(),
+    }
+}
+
 /// The number of a word, from `low` to `high`.
 #[tactic(auto, unfolding(crate::specs::Texts::number_in))]
 pub fn number(text: &[u8], low: u64, high: u64) -> Option<u64>
     ensures value { result ≡ number_in low high text.now }
     ensures within { IfSome result (λ n. (low ≤ n) × (n ≤ high)) }
 {
-    if !spells_decimal(text) {
+    if !starts_number(text) {
         return None;
     }
-    let n = digits_value(text)?;
+    let n = value(text)?;
     if low <= n && n <= high { Some(n) } else { None }
 }
 
