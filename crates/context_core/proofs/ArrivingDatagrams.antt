@@ -3,6 +3,7 @@ use Rattle.std.proofs.Common.{◌≡◌, ℕ, zero, suc, ◌≤◌, ◌^◌, Boo
 use Rattle.std.specs.Prelude.{◌==◌, ◌||◌, if◌then◌else◌, Option, Some, None, IfSome, IsSome, is_none, map, option_map, slice_get}
 use Rattle.std.proofs.lemmas.Bool.{true≢false}
 use Rattle.std.proofs.lemmas.Bool.Decides.{nat_tests}
+use Rattle.std.proofs.lemmas.Option.{slice_get-map}
 use Rattle.std.specs.Option.{option_map_or}
 use Rattle.std.specs.Bool.{OnTrue}
 use Rattle.std.specs.Map.{values_of}
@@ -33,21 +34,13 @@ use Rattle.context_core.specs.Buffers.{Kept}
 use Rattle.context_core.specs.declared.state.EndSlot.{EndSlot}
 use Rattle.context_core.specs.Arriving.{AreReady, HasRoom, IsRoomFor, IsSentFor, may_answer}
 use Rattle.context_core.specs.Context.{Holding, context_in, end_of, names_in, site_in}
-use Rattle.context_core.specs.Heads.{link_at, link_by}
+use Rattle.context_core.specs.Links.{link_at, link_by}
 use Rattle.context_core.specs.Sending.{IsPrepared}
 use Rattle.context_core.proofs.EndSteps.{after, site_after}
+use Rattle.context_core.proofs.EndReaders.{link-shown}
 use Rattle.context_core.proofs.EndStepCalls.{Steps, entry, entry-there}
 
 -- ---- the end at a place
-
-get-map : {A B : Type 0} (f : A → B) (xs : List A) (i : ℕ) → slice_get (map f xs) i ≡ option_map f (slice_get xs i)
-get-map f [] i = refl
-get-map f (x ∷ xs) zero = refl
-get-map f (x ∷ xs) (suc i) = get-map f xs i
-
-pub link-shown : (pool : Pool) (n : Name) (h : Holding) (i : ℕ) → link_at (context_in pool n h) i ≡ link_by (option_map (end_of pool h.queues) (slice_get h.ends i))
-unfolding context_in
-link-shown pool n h i = ap link_by (get-map (end_of pool h.queues) h.ends i)
 
 pub none-there : (pool : Pool) (n : Name) (h : Holding) (i : ℕ) → slice_get h.ends i ≡ None → is_none (link_at (context_in pool n h) i) ≡ true
 none-there pool n h i e = ap is_none (link-shown pool n h i ∙ ap (λ o. link_by (option_map (end_of pool h.queues) o)) e)
@@ -156,7 +149,7 @@ unfolding context_in
 takes-is a b h i v held queues x n e l d t sent value st there linked step took' sent' =
     let c : Context = context_in a n h in
     let k = entry h.ends i v in
-    let here : Some (end_of a h.queues k) ≡ Some e = sym (get-map (end_of a h.queues) h.ends i ∙ ap (option_map (end_of a h.queues)) (entry-there h.ends i v value)) ∙ there in
+    let here : Some (end_of a h.queues k) ≡ Some e = sym (slice_get-map (end_of a h.queues) h.ends i ∙ ap (option_map (end_of a h.queues)) (entry-there h.ends i v value)) ∙ there in
     let same : end_of a h.queues k ≡ e = cc in
     let link : (end_of a h.queues k).link ≡ Some l = ap (λ (z : End). z.link) same ∙ linked in
     ap (λ z. takes c z l d) (sym same)

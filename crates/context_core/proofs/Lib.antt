@@ -20,7 +20,7 @@ pub mod ContextReaders
 pub mod ByteParts
 pub mod ListPrefixes
 pub mod ImagePositions
-pub mod EndHeadReaders
+pub mod EndReaders
 pub mod ImageParts
 pub mod EndStepCalls
 pub mod EmptyContext

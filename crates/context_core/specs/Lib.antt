@@ -1,7 +1,6 @@
 pub mod Context
 pub mod Causes
 pub mod Faults
-pub mod Heads
 pub mod Queues
 pub mod Ranges
 pub mod NewEnds

@@ -22,7 +22,7 @@ ghost use Rattle.endpoint_core.specs.Due.{due_in, responses, telling};
 ghost use Rattle.endpoint_core.specs.Ends.{link_in};
 ghost use Rattle.context_core.specs.Arriving.{AreReady, HasNoBytes, HasRoom, IsRoomFor, IsSentFor, aeth_at, may_answer, opcode_at};
 ghost use Rattle.context_core.specs.Context.{IsContext, Moves, context_in};
-ghost use Rattle.context_core.specs.Heads.{link_at};
+ghost use Rattle.context_core.specs.Links.{link_at};
 ghost use Rattle.context_core.specs.Sending.{addressed};
 
 use crate::datagrams::{answer, moving, written};

@@ -15,7 +15,6 @@ mod datagrams;
 mod differing;
 mod domains;
 mod ends;
-mod heads;
 mod image_links;
 mod image_queues;
 mod image_regions;
@@ -43,7 +42,6 @@ mod timers;
 
 pub use arriving::ArrivalOutcome;
 pub use buffers::Buffers;
-pub use heads::{EndHead, LinkHead};
 pub use laws::a_context_looks_at_its_own_lists;
 pub use lives::{LinkView, LiveEnd};
 pub use making::NewEnd;

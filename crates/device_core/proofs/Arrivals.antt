@@ -18,7 +18,7 @@ use Rattle.protocol.specs.State.{Context, Device, End, HuskEntry as Entry, Link,
 use Rattle.protocol.specs.Wire.{Packet, is_control, packet_of}
 use Rattle.context_core.specs.declared.arriving.ArrivalOutcome.{ArrivalOutcome}
 use Rattle.context_core.specs.Context.{Holding, context_in}
-use Rattle.context_core.specs.Heads.{link_at, link_by}
+use Rattle.context_core.specs.Links.{link_at, link_by}
 use Rattle.device_core.specs.declared.husks.HuskEntry.{HuskEntry}
 use Rattle.device_core.specs.declared.index.EndLocation.{EndLocation}
 use Rattle.device_core.specs.Done.{IsDone, silent, taking, told_arrival, told_memory, told_taken}

@@ -8,9 +8,9 @@ use Rattle.rdma_types.specs.declared.names.Name.{Name}
 use Rattle.rdma_types.specs.Lists.{has}
 use Rattle.protocol.specs.DeviceStep.{husk_of}
 use Rattle.protocol.specs.State as state
-use Rattle.protocol.specs.State.{End}
-use Rattle.context_core.specs.Heads.{head_of}
-use Rattle.context_core.specs.declared.heads.EndHead.{EndHead}
+use Rattle.protocol.specs.State.{Context, End}
+use Rattle.context_core.specs.Links.{live_end}
+use Rattle.context_core.specs.declared.lives.LiveEnd.{LiveEnd}
 use Rattle.device_core.specs.declared.husks.HuskEntry.{HuskEntry}
 use Rattle.device_core.specs.declared.index.EndLocation.{EndLocation}
 use Rattle.device_core.specs.Index.{numbers_in, spot, without_numbers}
@@ -71,24 +71,17 @@ left-next es i l entries entries' entry was put left =
     ∙ ((λ j. was j ++ (left next.0 next.1 ∙ sym (append-nil (left_by next.0))) j)
     ∙ sym (ap (flat_map left_by) next.2 ∙ flat_map-append left_by (take i es) (next.0 ∷ []))))
 
--- the end at a place has the number of its head
-pub head-number : (o : Option End) (r : Option EndHead) (h : EndHead) (e : End) → r ≡ option_map head_of o → r ≡ Some h → o ≡ Some e → h.number ≡ e.number
-head-number o r h e is some at = by_some (sym (some_head ∙ refl))
+-- the end at a place has the number that is told of it
+pub told-number : (c : Context) (o : Option End) (r : Option LiveEnd) (l : LiveEnd) (e : End) → r ≡ option_map (live_end c) o → r ≡ Some l → o ≡ Some e → l.number ≡ e.number
+told-number c o r l e is some at = by_some (sym some ∙ (is ∙ ap (option_map (live_end c)) at))
   where
-    some_head : Some h ≡ Some (head_of e)
-    some_head = sym some ∙ (is ∙ ap (option_map head_of) at)
+    by_some : Some l ≡ Some (live_end c e) → l.number ≡ e.number
+    by_some g = let same : l ≡ live_end c e = cc in ap (λ x. x.number) same
 
-    number_of : Option EndHead → ℕ
-    number_of None = 0
-    number_of (Some x) = x.number
-
-    by_some : Some (head_of e) ≡ Some h → h.number ≡ e.number
-    by_some g = sym (ap number_of g)
-
-pub not-there : (o : Option End) (r : Option EndHead) (e : End) → r ≡ option_map head_of o → r ≡ None → o ≡ Some e → ⊥
-not-there o r e is none at = by_some (sym none ∙ (is ∙ ap (option_map head_of) at))
+pub not-there : (c : Context) (o : Option End) (r : Option LiveEnd) (e : End) → r ≡ option_map (live_end c) o → r ≡ None → o ≡ Some e → ⊥
+not-there c o r e is none at = by_some (sym none ∙ (is ∙ ap (option_map (live_end c)) at))
   where
-    by_some : None ≡ Some (head_of e) → ⊥
+    by_some : None ≡ Some (live_end c e) → ⊥
     by_some g = absurd (cc)
 
 pub gone-one : (e : End) (entry : Option HuskEntry) → map entry_of (in_list entry) ≡ left_by e → is_some entry ≡ false → gone_in (e ∷ []) ≡ e.number ∷ []

@@ -29,5 +29,5 @@ mod LiveEnds
 mod Copied
 mod Within
 mod Numbered
-mod NumberedHeads
+mod NumberedEnds
 mod EndPlaces

@@ -1,20 +1,35 @@
--- What settling looks at of live ends.
+-- What is told of live ends.
 use Rattle.std.proofs.Common.{◌≡◌, ◌+◌, ◌<◌, ◌^◌, ℕ, List, [], ◌∷◌, ◌++◌, get_or, take, true, false, Bool, sym, ap, ◌∙◌, subst}
 use Rattle.std.specs.Prelude.{All, Option, Some, None, IfSome, map, flat_map, option_map, slice_get, bytes_eq, if◌then◌else◌}
+use Rattle.std.specs.Borrow.{Bor}
+use Rattle.std.specs.Map.{lookup}
+use Rattle.std.specs.Option.{option_copied}
 use Rattle.std.proofs.lemmas.List.{flat_map_more}
 use Rattle.std.proofs.lemmas.List.Elements.{All-head, All-nil, All-tail}
+use Rattle.rdma_types.specs.declared.names.Name.{Name}
 use Rattle.rdma_types.specs.declared.names.ObjName.{ObjName}
 use Rattle.rdma_types.specs.Lists.{named}
+use Rattle.page_pool.specs.Pool.{Pool}
 use Rattle.protocol.specs.Refusals.{has_context}
 use Rattle.protocol.specs.Requester.{end_of_queue}
 use Rattle.protocol.specs.State.{Context, Device, End, Link, context_at, end_at, no_context, no_end}
 use Rattle.context_core.specs.declared.lives.LinkView.{LinkView}
 use Rattle.context_core.specs.declared.lives.LiveEnd.{LiveEnd}
-use Rattle.context_core.specs.Links.{link_view, live_end}
+use Rattle.context_core.specs.Context.{Holding, IsContext}
+use Rattle.context_core.specs.Links.{SendByTerms, link_view, live_end}
 use Rattle.context_core.proofs.ListPrefixes.{taken_on}
+use Rattle.context_core.proofs.SettlingReaders.{sends-all}
 use Rattle.law_device_sound.specs.Sound.{IsSoundContext, IsSoundDevice, IsSoundState, plans}
 use Rattle.device_core.specs.Readings.{link_named}
+use Rattle.device_core.proofs.Pairs.{All-found}
+use Rattle.device_core.proofs.Stepping.{found-ref}
 use Rattle.device_core.proofs.Withouts.{named-absent}
+
+-- ---- each sends by its terms
+
+-- .. in a context that is found
+pub sends-held : (pool : Pool) (n : Name) (es : List (Name × Holding)) (o : Option (Bor Holding)) (s : Bor Holding) → All (λ e. IsContext pool e.1) es → o ≡ Some s → option_copied o ≡ lookup (bytes_eq n) es → SendByTerms s.now
+sends-held pool n es o s each is found = sends-all pool s.now (All-found (bytes_eq n) (λ e. IsContext pool e.1) (λ h. IsContext pool h) (λ e h. h) es s.now each (found-ref o s (lookup (bytes_eq n) es) is found))
 
 -- ---- all live ends
 

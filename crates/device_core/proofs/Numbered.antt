@@ -2,29 +2,31 @@
 use Rattle.std.proofs.Common.{◌≡◌, ◌∙◌, ℕ, [], refl, sym, ap}
 use Rattle.std.specs.Prelude.{Option, Some, None, option_map}
 use Rattle.protocol.specs.DeviceStep.{found_in, found_link}
-use Rattle.protocol.specs.Readers.{view_of}
 use Rattle.protocol.specs.State.{Context, Device, End, Link}
-use Rattle.context_core.specs.Heads.{head_of, link_head}
-use Rattle.context_core.specs.declared.heads.EndHead.{EndHead}
+use Rattle.context_core.specs.Links.{link_view, live_end}
+use Rattle.context_core.specs.declared.lives.LinkView.{LinkView}
+use Rattle.context_core.specs.declared.lives.LiveEnd.{LiveEnd}
 use Rattle.device_core.specs.Numbered.{first_view, numbered_view}
-use Rattle.device_core.specs.Readings.{head_view}
-use Rattle.device_core.proofs.Seen.{head-view}
+use Rattle.device_core.specs.Readings.{connected_view, live_view, view_by}
+use Rattle.device_core.proofs.Seen.{live-view}
 
-pub numbered-nowhere : (d : Device) (k : ℕ) → found_in k d.contexts ≡ [] → None ≡ numbered_view d k
-numbered-nowhere d k none = ap first_view (sym none)
+pub numbered-nowhere : (d : Device) (k : ℕ) → found_in k d.contexts ≡ [] → numbered_view d k ≡ connected_view None
+numbered-nowhere d k none = ap first_view none
 
--- an end in Init is none
-pub numbered-init : (d : Device) (k : ℕ) (c : Context) (e : End) (h : EndHead) → found_in k d.contexts ≡ found_link c e e.link [] → h ≡ head_of e → h.link ≡ None → None ≡ numbered_view d k
-numbered-init d k c e h found is none = by_link e.link (ap (λ x. x.link) (sym is) ∙ none) ∙ ap first_view (sym found)
+pub numbered-one : (d : Device) (k : ℕ) (c : Context) (e : End) → found_in k d.contexts ≡ found_link c e e.link [] → numbered_view d k ≡ connected_view (Some (live_end c e))
+numbered-one d k c e found = ap first_view found ∙ by_link e.link refl
   where
-    by_link : (o : Option Link) → option_map link_head o ≡ None → None ≡ first_view (found_link c e o [])
+    by_link : (o : Option Link) → e.link ≡ o → first_view (found_link c e o []) ≡ option_map (λ l. view_by (live_end c e) (Some l)) (option_map link_view o)
     by_link None t = refl
-    by_link (Some l) t = absurd (cc)
+    by_link (Some l) t = ap Some (sym (live-view c e) ∙ ap (λ x. view_by (live_end c e) (option_map link_view x)) t)
 
--- a connected one is found
-pub numbered-found : (d : Device) (k : ℕ) (c : Context) (e : End) (h : EndHead) (x : _) → found_in k d.contexts ≡ found_link c e e.link [] → h ≡ head_of e → h.link ≡ Some x → Some (head_view c.name h) ≡ numbered_view d k
-numbered-found d k c e h x found is some = ap (λ z. Some (head_view c.name z)) is ∙ (ap Some (head-view c e) ∙ (by_link e.link (ap (λ z. z.link) (sym is) ∙ some) ∙ ap first_view (sym found)))
+-- what is told of a connected end is its view
+pub connected-none : (e : LiveEnd) → e.link ≡ None → None ≡ connected_view (Some e)
+connected-none e none = ap (option_map (λ l. view_by e (Some l))) (sym none)
+
+pub connected-some : (e : LiveEnd) (x : LinkView) → e.link ≡ Some x → Some (live_view e) ≡ connected_view (Some e)
+connected-some e x some = by_link e.link some
   where
-    by_link : (o : Option Link) → option_map link_head o ≡ Some x → Some (view_of c e) ≡ first_view (found_link c e o [])
+    by_link : (o : Option LinkView) → o ≡ Some x → Some (view_by e o) ≡ option_map (λ l. view_by e (Some l)) o
     by_link None t = absurd (cc)
     by_link (Some l) t = refl

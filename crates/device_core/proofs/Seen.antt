@@ -16,14 +16,14 @@ use Rattle.protocol.specs.EndWords.{is_in_error, is_paused, is_resuming, is_resu
 use Rattle.protocol.specs.Readers.{end_view, marks_by, marks_of, view_of}
 use Rattle.protocol.specs.Refusals.{has_context, has_end}
 use Rattle.protocol.specs.State.{Context, Device, End, Link, Paused, Phase, Resuming, Running, context_at, end_at, no_context, no_end}
-use Rattle.context_core.specs.Heads.{head_of, link_head, head_marks, link_marks}
-use Rattle.context_core.specs.declared.heads.EndHead.{EndHead}
+use Rattle.context_core.specs.Links.{link_marks, link_view, live_end, live_end_at}
+use Rattle.context_core.specs.declared.lives.LiveEnd.{LiveEnd}
 use Rattle.law_device_sound.specs.Sound.{IsSoundContext, IsSoundDevice, IsSoundEnd}
 use Rattle.law_device_sound.proofs.Regions.{All-at}
 use Rattle.law_device_sound.proofs.Tables.{All-named}
 use Rattle.device_core.specs.declared.index.EndLocation.{EndLocation}
 use Rattle.device_core.specs.Index.{IsEndAt, IsEntryAt, IsIndex}
-use Rattle.device_core.specs.Readings.{end_named, has_ended_end, has_resuming_end, head_ended, head_resumes, head_view, link_ended, link_resumes, mark_pair, marks_at}
+use Rattle.device_core.specs.Readings.{end_named, has_ended_end, has_resuming_end, link_ended, link_resumes, live_ended, live_resumes, live_view, mark_pair, marks_at, view_by}
 use Rattle.device_core.proofs.Brought.{number_same, same_number, some-at, some-place}
 use Rattle.device_core.proofs.FoundEnds.{end-of, named_here, place_of_name}
 use Rattle.device_core.proofs.HuskNames.{bytes_eq_sym}
@@ -32,9 +32,9 @@ use Rattle.device_core.proofs.Withouts.{named-absent}
 
 -- ---- views
 
-pub head-view : (c : Context) (e : End) → head_view c.name (head_of e) ≡ view_of c e
+pub live-view : (c : Context) (e : End) → live_view (live_end c e) ≡ view_of c e
 unfolding view_of
-head-view c e = by_link e.link
+live-view c e = by_link e.link
   where
     by_state : (l : Link) (b : Bool) (p : Phase) → (if b then state.Error else if is_paused p then state.Paused else if is_resuming p then state.Resuming else state.Running) ≡ (if b then state.Error else phase_state p)
     by_state l true p = refl
@@ -42,22 +42,22 @@ head-view c e = by_link e.link
     by_state l false Paused = refl
     by_state l false Resuming = refl
 
-    by_link : (o : Option Link) → head_view c.name (record { name = e.name; number = e.number; link = option_map link_head o }) ≡ view_of c (record e { link = o })
+    by_link : (o : Option Link) → view_by (live_end c e) (option_map link_view o) ≡ view_of c (record e { link = o })
     by_link None = refl
     by_link (Some l) = ap (λ (s : EndState). record { name = record { context = c.name; name = e.name }; number = e.number; peer = l.peer; state = s; una = l.sender.una; next = l.sender.next; untold = length l.sender.untold; rnr = l.terms.rnr; rnr_wait = l.sender.rnr_wait }) (by_state l l.ended l.moving.phase)
 
--- the view of an end, from its head
-pub seen : (d : Device) (n : Name) (i : ℕ) (c : Context) (r : Option EndHead) (h : EndHead) (v : EndView) → context_at d n ≡ c → c.name ≡ n → r ≡ option_map head_of (slice_get c.ends i) → r ≡ Some h → v ≡ head_view n h → Some v ≡ end_view d n i
-seen d n i c r h v at name is some told = by_there (slice_get c.ends i) (sym some ∙ is) ∙ ap (λ (k : Context). option_map (view_of k) (slice_get k.ends i)) (sym at)
+-- the view of an end, from what its context tells
+pub seen : (d : Device) (n : Name) (i : ℕ) (c : Context) (r : Option LiveEnd) (l : LiveEnd) (v : EndView) → context_at d n ≡ c → r ≡ live_end_at c i → r ≡ Some l → v ≡ live_view l → Some v ≡ end_view d n i
+seen d n i c r l v at is some told = by_there (slice_get c.ends i) (sym some ∙ is) ∙ ap (λ (k : Context). option_map (view_of k) (slice_get k.ends i)) (sym at)
   where
-    by_there : (o : Option End) → Some h ≡ option_map head_of o → Some v ≡ option_map (view_of c) o
+    by_there : (o : Option End) → Some l ≡ option_map (live_end c) o → Some v ≡ option_map (view_of c) o
     by_there None e = absurd (cc)
-    by_there (Some x) e = let same : h ≡ head_of x = cc in ap Some (told ∙ ((λ j. head_view (sym name j) (same j)) ∙ head-view c x))
+    by_there (Some x) e = let same : l ≡ live_end c x = cc in ap Some (told ∙ (ap live_view same ∙ live-view c x))
 
-pub unseen : (d : Device) (n : Name) (i : ℕ) (c : Context) (r : Option EndHead) → context_at d n ≡ c → r ≡ option_map head_of (slice_get c.ends i) → r ≡ None → None ≡ end_view d n i
+pub unseen : (d : Device) (n : Name) (i : ℕ) (c : Context) (r : Option LiveEnd) → context_at d n ≡ c → r ≡ live_end_at c i → r ≡ None → None ≡ end_view d n i
 unseen d n i c r at is none = by_there (slice_get c.ends i) (sym none ∙ is) ∙ ap (λ (k : Context). option_map (view_of k) (slice_get k.ends i)) (sym at)
   where
-    by_there : (o : Option End) → None ≡ option_map head_of o → None ≡ option_map (view_of c) o
+    by_there : (o : Option End) → None ≡ option_map (live_end c) o → None ≡ option_map (view_of c) o
     by_there None e = refl
     by_there (Some x) e = absurd (cc)
 
@@ -149,19 +149,19 @@ pub marks-nowhere : (d : Device) (k : ℕ) → found_in k d.contexts ≡ [] → 
 unfolding marks_of
 marks-nowhere d k none = ap (λ fs. option_map mark_pair (marks_by fs)) none
 
-pub marks-found : (d : Device) (k : ℕ) (c : Context) (e : End) → found_in k d.contexts ≡ found_link c e e.link [] → marks_at d k ≡ head_marks (Some (head_of e))
+pub marks-found : (d : Device) (k : ℕ) (c : Context) (e : End) → found_in k d.contexts ≡ found_link c e e.link [] → marks_at d k ≡ option_map link_marks e.link
 unfolding marks_of
 marks-found d k c e found = ap (λ fs. option_map mark_pair (marks_by fs)) found ∙ by_link e.link
   where
-    by_link : (o : Option Link) → option_map mark_pair (marks_by (found_link c e o [])) ≡ link_marks (option_map link_head o)
+    by_link : (o : Option Link) → option_map mark_pair (marks_by (found_link c e o [])) ≡ option_map link_marks o
     by_link None = refl
     by_link (Some l) = refl
 
-same_resumes : (o : Option Link) → link_resumes (option_map link_head o) ≡ is_resuming_link o
+same_resumes : (o : Option Link) → link_resumes (option_map link_view o) ≡ is_resuming_link o
 same_resumes None = refl
 same_resumes (Some l) = refl
 
-same_ended : (o : Option Link) → link_ended (option_map link_head o) ≡ is_in_error o
+same_ended : (o : Option Link) → link_ended (option_map link_view o) ≡ is_in_error o
 same_ended None = refl
 same_ended (Some l) = refl
 
@@ -232,8 +232,8 @@ that-one test index d i names k n place e = by_link (test e.end.link) refl
     by_link true h = found h ∙ sym h
     by_link false h = lost h (has_end_that test d k) refl ∙ sym h
 
-pub resumes-one : (index : ℕ → Option EndLocation) (d : Device) → IsIndex index d → AllPairs (λ a b. a ≢ b) (map (λ c. c.name) d.contexts) → (k : ℕ) (n : Name) (place : ℕ) (e : IsEndAt d n place k) → has_resuming_end d k ≡ head_resumes (Some (head_of e.end))
+pub resumes-one : (index : ℕ → Option EndLocation) (d : Device) → IsIndex index d → AllPairs (λ a b. a ≢ b) (map (λ c. c.name) d.contexts) → (k : ℕ) (n : Name) (place : ℕ) (e : IsEndAt d n place k) → has_resuming_end d k ≡ live_resumes (Some (live_end (context_at d n) e.end))
 resumes-one index d i names k n place e = that-one is_resuming_link index d i names k n place e ∙ sym (same_resumes e.end.link)
 
-pub ended-one : (index : ℕ → Option EndLocation) (d : Device) → IsIndex index d → AllPairs (λ a b. a ≢ b) (map (λ c. c.name) d.contexts) → (k : ℕ) (n : Name) (place : ℕ) (e : IsEndAt d n place k) → has_ended_end d k ≡ head_ended (Some (head_of e.end))
+pub ended-one : (index : ℕ → Option EndLocation) (d : Device) → IsIndex index d → AllPairs (λ a b. a ≢ b) (map (λ c. c.name) d.contexts) → (k : ℕ) (n : Name) (place : ℕ) (e : IsEndAt d n place k) → has_ended_end d k ≡ live_ended (Some (live_end (context_at d n) e.end))
 ended-one index d i names k n place e = that-one is_in_error index d i names k n place e ∙ sym (same_ended e.end.link)

@@ -4,8 +4,6 @@ use Rattle.rdma_types.specs.declared.answers.EndState.{EndState}
 use Rattle.rdma_types.specs.declared.answers.EndState.TheVariants as state
 use Rattle.rdma_types.specs.declared.answers.EndView.{EndView}
 use Rattle.rdma_types.specs.declared.names.Name.{Name}
-use Rattle.context_core.specs.declared.heads.EndHead.{EndHead}
-use Rattle.context_core.specs.declared.heads.LinkHead.{LinkHead}
 use Rattle.context_core.specs.declared.lives.LinkView.{LinkView}
 use Rattle.context_core.specs.declared.lives.LiveEnd.{LiveEnd}
 use Rattle.context_core.specs.Links.{link_view, live_end}
@@ -40,7 +38,7 @@ has_resuming_end d n = some (λ c. some (λ e. e.number == n && is_resuming_link
 abbrev pub has_ended_end : Device → ℕ → Bool
 has_ended_end d n = some (λ c. some (λ e. e.number == n && is_in_error e.link) c.ends) d.contexts
 
--- what settling looks at of the live ends, in order of contexts and queue pairs
+-- what is told of the live ends, in order of contexts and queue pairs
 abbrev pub live_ends : Device → List LiveEnd
 live_ends d = flat_map (λ c. map (live_end c) c.ends) d.contexts
 
@@ -59,37 +57,42 @@ marks_at d n = option_map mark_pair (marks_of d n)
 -- ---- from what a context tells of an end
 
 -- the state of a connected end
-abbrev pub head_state : LinkHead → EndState
-head_state l = if l.ended then state.Error else if l.paused then state.Paused else if l.resuming then state.Resuming else state.Running
+abbrev pub link_state : LinkView → EndState
+link_state l = if l.ended then state.Error else if l.paused then state.Paused else if l.resuming then state.Resuming else state.Running
 
--- the view of an end
-abbrev pub head_view_by : Name → EndHead → Option LinkHead → EndView
-head_view_by n h None = record { name = record { context = n; name = h.name }; number = h.number; peer = 0; state = state.Init; una = 0; next = 0; untold = 0; rnr = 0; rnr_wait = false }
-head_view_by n h (Some l) = record { name = record { context = n; name = h.name }; number = h.number; peer = l.peer; state = head_state l; una = l.una; next = l.next; untold = l.untold; rnr = l.rnr; rnr_wait = l.rnr_wait }
+-- the view of an end, by its connection
+abbrev pub view_by : LiveEnd → Option LinkView → EndView
+view_by e None = record { name = e.name; number = e.number; peer = 0; state = state.Init; una = 0; next = 0; untold = 0; rnr = 0; rnr_wait = false }
+view_by e (Some l) = record { name = e.name; number = e.number; peer = l.peer; state = link_state l; una = l.una; next = l.next; untold = l.untold; rnr = l.rnr; rnr_wait = l.rnr_wait }
 
--- .. of the context with a name
-abbrev pub head_view : Name → EndHead → EndView
-head_view n h = head_view_by n h h.link
+-- .. of any
+abbrev pub live_view : LiveEnd → EndView
+live_view e = view_by e e.link
+
+-- .. of a connected one
+abbrev pub connected_view : Option LiveEnd → Option EndView
+connected_view None = None
+connected_view (Some e) = option_map (λ l. view_by e (Some l)) e.link
 
 -- an end is in Rts and Resuming
-abbrev pub link_resumes : Option LinkHead → Bool
+abbrev pub link_resumes : Option LinkView → Bool
 link_resumes None = false
 link_resumes (Some l) = not l.ended && l.resuming
 
 -- .. where it is there
-abbrev pub head_resumes : Option EndHead → Bool
-head_resumes None = false
-head_resumes (Some h) = link_resumes h.link
+abbrev pub live_resumes : Option LiveEnd → Bool
+live_resumes None = false
+live_resumes (Some e) = link_resumes e.link
 
 -- an end is in Error
-abbrev pub link_ended : Option LinkHead → Bool
+abbrev pub link_ended : Option LinkView → Bool
 link_ended None = false
 link_ended (Some l) = l.ended
 
 -- .. where it is there
-abbrev pub head_ended : Option EndHead → Bool
-head_ended None = false
-head_ended (Some h) = link_ended h.link
+abbrev pub live_ended : Option LiveEnd → Bool
+live_ended None = false
+live_ended (Some e) = link_ended e.link
 
 -- no end takes a packet and no husk answers it: the number is not here, or a message of moving reaches a husk
 abbrev pub IsForNobody : Device → Packet → Type 0

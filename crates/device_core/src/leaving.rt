@@ -12,6 +12,7 @@ ghost use Rattle.protocol.specs.DeviceStep.{husk_of};
 ghost use Rattle.protocol.specs.Images.{image_of};
 ghost use Rattle.protocol.specs.Refusals.{causes_of, has_context, has_moved_out, links_of};
 ghost use Rattle.context_core.specs.Context.{context_in};
+ghost use Rattle.context_core.specs.Links.{SendByTerms};
 ghost use Rattle.device_core.specs.Done.{AreLawful, IsDone};
 ghost use Rattle.device_core.specs.Index.{numbers_in, without_numbers};
 ghost use Rattle.device_core.specs.Leaving.{gone_in, in_list, left_by, placed};
@@ -31,10 +32,11 @@ use std::alloc::{AllocError, Global};
 const MOST_HUSKS: usize = 256;
 
 /// What the end at a place leaves: an entry, where it is in Rts.
-fn entry_left(state: &ContextState, place: usize) -> Option<HuskEntry>
-    ensures { (pool : Pool) (n : Name) (e : End) → slice_get (context_in pool n state.now).ends place ≡ Some e → map entry_of (in_list result) ≡ left_by e }
+fn entry_left(state: &ContextState, name: Name, place: usize) -> Option<HuskEntry>
+    requires { SendByTerms state.now }
+    ensures { (pool : Pool) (e : End) → slice_get (context_in pool name state.now).ends place ≡ Some e → map entry_of (in_list result) ≡ left_by e }
 {
-    let Some(end) = state.end_at(place) else {
+    let Some(end) = state.end_at(name, place) else {
         return None;
     };
     match end.link {
@@ -57,13 +59,18 @@ fn put_entry(entries: &mut Items<HuskEntry>, entry: Option<HuskEntry>) -> Result
     Ok(())
 }
 
-/// The entries that a context leaves.
-fn entries_left(alloc: Global, state: &ContextState) -> Result<Items<HuskEntry>, AllocError>
-    ensures { IfOk result (λ es. (pool : Pool) (n : Name) → map entry_of es ≡ (husk_of (context_in pool n state.now)).entries) }
+/// The entries that a context of that name leaves.
+fn entries_left(
+    alloc: Global,
+    state: &ContextState,
+    name: Name,
+) -> Result<Items<HuskEntry>, AllocError>
+    requires { SendByTerms state.now }
+    ensures { IfOk result (λ es. (pool : Pool) → map entry_of es ≡ (husk_of (context_in pool name state.now)).entries) }
 {
     let mut entries = Items::new(Vec::new(alloc));
     for place in 0..state.end_count() {
-        put_entry(&mut entries, entry_left(state, place))?;
+        put_entry(&mut entries, entry_left(state, name, place))?;
     }
     Ok(entries)
 }
@@ -86,23 +93,30 @@ fn move_entries(index: &mut IndexMap<u32, EndLocation>, name: Name, entries: &[H
 }
 
 /// Forgets the number of the end at a place, where it leaves nothing.
-fn drop_end(index: &mut IndexMap<u32, EndLocation>, state: &ContextState, place: usize)
-    ensures { (pool : Pool) (n : Name) (e : End) → slice_get (context_in pool n state.now).ends place ≡ Some e → (k : ℕ) → get nat_eq index.new k ≡ without_numbers (gone_in (e ∷ [])) k (get nat_eq index.old k) }
+fn drop_end(
+    index: &mut IndexMap<u32, EndLocation>,
+    state: &ContextState,
+    name: Name,
+    place: usize,
+)
+    requires { SendByTerms state.now }
+    ensures { (pool : Pool) (e : End) → slice_get (context_in pool name state.now).ends place ≡ Some e → (k : ℕ) → get nat_eq index.new k ≡ without_numbers (gone_in (e ∷ [])) k (get nat_eq index.old k) }
 {
-    let Some(end) = state.end_at(place) else {
+    let Some(end) = state.end_at(name, place) else {
         return;
     };
-    if entry_left(state, place).is_none() {
+    if entry_left(state, name, place).is_none() {
         drop_location(index, end.number);
     }
 }
 
-/// Forgets the numbers of the ends that leave nothing.
-fn drop_ends(index: &mut IndexMap<u32, EndLocation>, state: &ContextState)
-    ensures { (pool : Pool) (n : Name) (k : ℕ) → get nat_eq index.new k ≡ without_numbers (gone_in (context_in pool n state.now).ends) k (get nat_eq index.old k) }
+/// Forgets the numbers of the ends of a context of that name that leave nothing.
+fn drop_ends(index: &mut IndexMap<u32, EndLocation>, state: &ContextState, name: Name)
+    requires { SendByTerms state.now }
+    ensures { (pool : Pool) (k : ℕ) → get nat_eq index.new k ≡ without_numbers (gone_in (context_in pool name state.now).ends) k (get nat_eq index.old k) }
 {
     for place in 0..state.end_count() {
-        drop_end(index, state, place);
+        drop_end(index, state, name, place);
     }
 }
 
@@ -177,7 +191,7 @@ impl Device {
     {
         let state = self.contexts.get(&name).unwrap();
         let image = state.image(alloc, &self.pool, name)?;
-        let entries = entries_left(alloc, state)?;
+        let entries = entries_left(alloc, state, name)?;
         Ok((image, entries))
     }
 
@@ -202,7 +216,7 @@ impl Device {
         }
         let state = self.contexts.shift_remove(&name).unwrap();
         move_entries(&mut self.index, name, entries.as_slice());
-        drop_ends(&mut self.index, &state);
+        drop_ends(&mut self.index, &state, name);
         state.release(&mut self.pool);
         put_husk(&mut self.husks, name, entries);
         Ok(stopped(alloc, image))

@@ -1,4 +1,4 @@
-//! What settling looks at of live ends.
+//! What is told of live ends.
 
 ghost use Rattle.std.specs.Prelude.{◌≡◌, ◌<◌, ◌^◌, ◌++◌, IfOk, IfSome};
 ghost use Rattle.device_core.specs.Readings as readings;
@@ -9,7 +9,7 @@ use rdma_types::ObjName;
 use std::alloc::AllocError;
 
 impl Device {
-    /// Appends what is looked at of the live ends, in order of contexts and queue pairs. Errors: `AllocError` when out
+    /// Appends what is told of the live ends, in order of contexts and queue pairs. Errors: `AllocError` when out
     /// of memory.
     pub fn push_ends(&self, live: &mut Vec<LiveEnd>) -> Result<(), AllocError>
         ensures { IfOk result (λ _. live.new.items ≡ live.old.items ++ readings.live_ends self.now) }

@@ -6,15 +6,15 @@ ghost use Rattle.protocol.specs.Refusals as refusals;
 ghost use Rattle.protocol.specs.State as state;
 ghost use Rattle.device_core.specs.Numbered.{numbered_view};
 ghost use Rattle.device_core.specs.Readings as readings;
-ghost use Rattle.device_core.specs.Readings.{head_ended, head_resumes, head_state, head_view};
+ghost use Rattle.device_core.specs.Readings.{connected_view, link_state, live_ended, live_resumes, live_view};
 
 use crate::Device;
-use context_core::{EndHead, LinkHead};
+use context_core::{LinkView, LiveEnd};
 use rdma_types::{Address, EndState, EndView, Name, ObjName};
 
 /// The state of a connected end.
-fn state_of(link: &LinkHead) -> EndState
-    ensures { result ≡ head_state link.now }
+fn state_of(link: &LinkView) -> EndState
+    ensures { result ≡ link_state link.now }
 {
     if link.ended {
         EndState::Error
@@ -28,16 +28,12 @@ fn state_of(link: &LinkHead) -> EndState
 }
 
 /// The view of an end; in Init all its numbers but its own are 0.
-fn view_of(context: Name, end: &EndHead) -> EndView
-    ensures { result ≡ head_view context end.now }
+fn view_of(end: &LiveEnd) -> EndView
+    ensures { result ≡ live_view end.now }
 {
-    let name = ObjName {
-        context,
-        name: end.name,
-    };
     match end.link {
         None => EndView {
-            name,
+            name: end.name,
             number: end.number,
             peer: 0,
             state: EndState::Init,
@@ -48,7 +44,7 @@ fn view_of(context: Name, end: &EndHead) -> EndView
             rnr_wait: false,
         },
         Some(link) => EndView {
-            name,
+            name: end.name,
             number: end.number,
             peer: link.peer,
             state: state_of(&link),
@@ -111,10 +107,10 @@ impl Device {
         let Some(held) = self.contexts.get(&context) else {
             return None;
         };
-        let Some(end) = held.end_at(i) else {
+        let Some(end) = held.end_at(context, i) else {
             return None;
         };
-        Some(view_of(context, &end))
+        Some(view_of(&end))
     }
 
     /// Queue pair `i` of a live context in order of making, from 0; None where there are fewer, or no such context.
@@ -139,9 +135,10 @@ impl Device {
     }
 
     /// What is told of the live queue pair with a number.
-    fn live_end(&self, number: u32) -> Option<EndHead>
-        ensures resumes { readings.has_resuming_end self.now number ≡ head_resumes result }
-        ensures ended { readings.has_ended_end self.now number ≡ head_ended result }
+    fn live_end(&self, number: u32) -> Option<LiveEnd>
+        ensures view { numbered_view self.now number ≡ connected_view result }
+        ensures resumes { readings.has_resuming_end self.now number ≡ live_resumes result }
+        ensures ended { readings.has_ended_end self.now number ≡ live_ended result }
     {
         let Some(spot) = self.index.get(&number) else {
             return None;
@@ -149,25 +146,19 @@ impl Device {
         let Some(held) = self.contexts.get(&spot.context) else {
             return None;
         };
-        held.end_at(spot.place)
+        held.end_at(spot.context, spot.place)
     }
 
     /// The connected queue pair with a number; None where none lives here.
     pub fn end_numbered(&self, number: u32) -> Option<EndView>
         ensures { result ≡ numbered_view self.now number }
     {
-        let Some(spot) = self.index.get(&number) else {
-            return None;
-        };
-        let Some(held) = self.contexts.get(&spot.context) else {
-            return None;
-        };
-        let Some(end) = held.end_at(spot.place) else {
+        let Some(end) = self.live_end(number) else {
             return None;
         };
         match end.link {
             None => None,
-            Some(_) => Some(view_of(spot.context, &end)),
+            Some(_) => Some(view_of(&end)),
         }
     }
 

@@ -1,5 +1,5 @@
 use Rattle.std.proofs.Common.{◌∙◌}
-use Rattle.context_core.proofs.EndHeadReaders.{out-told}
+use Rattle.context_core.proofs.EndReaders.{out-told}
 use Rattle.context_core.proofs.state.ContextState.has_moved_out.Goals as goal
 
 pub returns : goal.returns

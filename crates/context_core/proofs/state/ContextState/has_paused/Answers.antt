@@ -1,5 +1,5 @@
 use Rattle.std.proofs.Common.{◌∙◌}
-use Rattle.context_core.proofs.EndHeadReaders.{paused-told}
+use Rattle.context_core.proofs.EndReaders.{paused-told}
 use Rattle.context_core.proofs.state.ContextState.has_paused.Goals as goal
 
 pub returns : goal.returns

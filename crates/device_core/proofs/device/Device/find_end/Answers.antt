@@ -1,14 +1,14 @@
 -- Where the index says that the number is.
 use Rattle.std.proofs.Common.{◌∙◌, refl, sym, ap, subst, Some}
-use Rattle.std.specs.Prelude.{Option, option_map, slice_get}
+use Rattle.std.specs.Prelude.{Option, option_map}
 use Rattle.std.specs.Option.{option_copied}
 use Rattle.protocol.specs.State.{Context, Device}
-use Rattle.context_core.specs.Heads.{head_marks, head_of}
+use Rattle.context_core.specs.Links.{link_at, link_by, link_marks}
 use Rattle.device_core.specs.declared.finding.FoundEnd.{FoundEnd}
 use Rattle.device_core.specs.Finding.{IsFound}
 use Rattle.device_core.specs.Parts.{device_of}
 use Rattle.device_core.proofs.EndPlaces.{alone, by-place, not-found}
-use Rattle.device_core.proofs.NumberedHeads.{left, stands, unnoted}
+use Rattle.device_core.proofs.NumberedEnds.{left, stands, unnoted}
 use Rattle.device_core.proofs.Seen.{marks-found}
 use Rattle.device_core.proofs.device.Device.find_end.Goals as goal
 
@@ -29,7 +29,7 @@ returns-in_err-expected c =
     let d = device_of x.id x.address x.qp_count x.key_count x.pool x.contexts.entries x.husks.entries in
     let there = stands c.self.invariant refl c.args.number c.in_ok-spot.was c.get.ensures.value (alone c.get_full.result ∙ c.get_full.ensures.value) (ap (option_map (λ p. p.2)) c.in_ok-context.was) in
     let told = c.marks_at.ensures x.pool spot.context
-    ∙ (ap (λ (k : Context). head_marks (option_map head_of (slice_get k.ends spot.place))) (sym there.context) ∙ ap (λ o. head_marks (option_map head_of o)) there.end.there) in
+    ∙ (ap (λ (k : Context). option_map link_marks (link_at k spot.place)) (sym there.context) ∙ ap (λ o. option_map link_marks (link_by o)) there.end.there) in
     subst (λ (v : Device). IsFound v c.args.number c.from_residual-in_err-expected.result) c.self.view_is
     (subst (λ (o : Option FoundEnd). IsFound d c.args.number o) (sym c.from_residual-in_err-expected.ensures)
     (record { marks = sym c.in_err-expected.was ∙ (told ∙ sym (marks-found d c.args.number _ there.end.end there.found)); place = tt }))
@@ -41,7 +41,7 @@ returns c =
     let d = device_of x.id x.address x.qp_count x.key_count x.pool x.contexts.entries x.husks.entries in
     let there = stands c.self.invariant refl c.args.number c.in_ok-spot.was c.get.ensures.value (alone c.get_full.result ∙ c.get_full.ensures.value) (ap (option_map (λ p. p.2)) c.in_ok-context.was) in
     let told = c.marks_at.ensures x.pool spot.context
-    ∙ (ap (λ (k : Context). head_marks (option_map head_of (slice_get k.ends spot.place))) (sym there.context) ∙ ap (λ o. head_marks (option_map head_of o)) there.end.there) in
+    ∙ (ap (λ (k : Context). option_map link_marks (link_at k spot.place)) (sym there.context) ∙ ap (λ o. option_map link_marks (link_by o)) there.end.there) in
     let found : FoundEnd = record { context = c.in_ok-context.context; place = spot.place; expected = c.in_ok-expected.expected; top = c.in_ok-expected.top } in
     subst (λ (v : Device). IsFound v c.args.number (Some found)) c.self.view_is
     (record {

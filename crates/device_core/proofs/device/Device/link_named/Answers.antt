@@ -5,22 +5,16 @@ use Rattle.std.specs.Str.{bytes_eq}
 use Rattle.std.specs.Map.{lookup}
 use Rattle.protocol.specs.Refusals.{has_context}
 use Rattle.protocol.specs.State.{Context, context_at, end_at}
-use Rattle.context_core.specs.Context.{IsContext, context_in}
+use Rattle.context_core.specs.Context.{context_in}
 use Rattle.context_core.specs.Links.{link_view}
-use Rattle.context_core.proofs.SettlingReaders.{sends-all}
 use Rattle.law_device_sound.specs.Sound.{IsSoundDevice}
 use Rattle.device_core.proofs.Contexts.{found-there, lookup-found}
-use Rattle.device_core.proofs.Pairs.{All-found}
-use Rattle.device_core.proofs.LiveEnds.{link-few, link-nowhere}
+use Rattle.device_core.proofs.LiveEnds.{link-few, link-nowhere, sends-held}
 use Rattle.device_core.proofs.Stepping.{found-ref}
 use Rattle.device_core.proofs.device.Device.link_named.Goals as goal
 
 pub link_named-requires : goal.link_named-requires
-link_named-requires c =
-    let x = c.self.inside in
-    let n = c.args.end.now.context in
-    let found = found-ref c.get.result c.in-Some.held (lookup (bytes_eq n) x.contexts.entries) c.in-Some.is c.get.ensures.value in
-    sends-all x.pool c.in-Some.held.now (All-found (bytes_eq n) (λ e. IsContext x.pool e.1) (λ h. IsContext x.pool h) (λ e h. h) x.contexts.entries c.in-Some.held.now c.self.invariant.each found)
+link_named-requires c = let x = c.self.inside in sends-held x.pool c.args.end.now.context x.contexts.entries c.get.result c.in-Some.held c.self.invariant.each c.in-Some.is c.get.ensures.value
 
 pub returns-in-None-clause-link : goal.returns-in-None-clause-link
 returns-in-None-clause-link c =

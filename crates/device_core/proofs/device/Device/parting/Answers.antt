@@ -13,6 +13,7 @@ use Rattle.device_core.proofs.Contexts.{found-there, lookup-found, lookup-there}
 use Rattle.device_core.proofs.Helds.{is-context}
 use Rattle.device_core.specs.Parts.{device_of}
 use Rattle.device_core.proofs.Departures.{fits-image, some-ref}
+use Rattle.device_core.proofs.LiveEnds.{sends-held}
 use Rattle.device_core.proofs.Stepping.{found-ref}
 use Rattle.device_core.proofs.device.Device.parting.Goals as goal
 
@@ -30,6 +31,9 @@ image-requires-clause-fits c =
     let found : lookup (bytes_eq n) x.contexts.entries ≡ Some s = found-ref c.get.result c.unwrap-state.result (lookup (bytes_eq n) x.contexts.entries) c.unwrap-state.ensures c.get.ensures.value in
     subst FitsImage (lookup-found x.pool n x.contexts.entries s found) (fits-image (device_of x.id x.address x.qp_count x.key_count x.pool x.contexts.entries x.husks.entries) n c.self.invariant.sound (lookup-there x.pool n x.contexts.entries s found))
 
+pub entries_left-requires : goal.entries_left-requires
+entries_left-requires c = let x = c.self.inside in sends-held x.pool c.args.name x.contexts.entries c.get.result c.unwrap-state.result c.self.invariant.each c.unwrap-state.ensures c.get.ensures.value
+
 pub returns-clause-image : goal.returns-clause-image
 returns-clause-image c =
     let x = c.self.inside in
@@ -46,4 +50,4 @@ returns-clause-entries c =
     let s = c.unwrap-state.result.now in
     let found : lookup (bytes_eq n) x.contexts.entries ≡ Some s = found-ref c.get.result c.unwrap-state.result (lookup (bytes_eq n) x.contexts.entries) c.unwrap-state.ensures c.get.ensures.value in
     let at : context_at c.args.self.now n ≡ context_in x.pool n s = ap (λ k. context_at k n) (sym c.self.view_is) ∙ lookup-found x.pool n x.contexts.entries s found in
-    c.in_ok-entries.ensures x.pool n ∙ ap (λ (k : Context). (husk_of k).entries) (sym at)
+    c.in_ok-entries.ensures x.pool ∙ ap (λ (k : Context). (husk_of k).entries) (sym at)

@@ -13,6 +13,7 @@ use Rattle.protocol.specs.Lawful.{IsLawful}
 use Rattle.protocol.specs.Refusals.{causes_of, has_context}
 use Rattle.protocol.specs.State.{Context, context_at}
 use Rattle.context_core.specs.Context.{context_in}
+use Rattle.context_core.proofs.SettlingReaders.{sends-all}
 use Rattle.device_core.specs.declared.husks.HuskEntry.{HuskEntry}
 use Rattle.device_core.specs.Held.{IsHeld}
 use Rattle.device_core.specs.Index.{numbers_in, without_numbers}
@@ -58,6 +59,11 @@ move_entries-requires c =
     let left : map entry_of c.in-Ok.entries ≡ flat_map left_by (context_at d n).ends = c.in-Ok.ensures.entries ∙ (ap (λ k. (husk_of (context_at k n)).entries) (sym c.self.view_is) ∙ husk-entries (context_at d n)) in
     subst (λ (es : List HuskEntry). All (λ e. IsSome (lookup (nat_eq e.number) x.index.entries)) es) (sym c.as_slice.ensures) (left-noted (λ k. lookup (nat_eq k) x.index.entries) d n c.in-Ok.entries c.self.invariant.indexed lives left)
 
+pub drop_ends-requires : goal.drop_ends-requires
+drop_ends-requires c =
+    let x = c.self.inside in
+    sends-all x.pool c.unwrap-state.result (is-context x.id x.address x.qp_count x.key_count x.pool x.contexts.entries x.husks.entries _ c.self.invariant c.args.name c.unwrap-state.result (sym c.shift_remove.ensures.value ∙ c.unwrap-state.ensures))
+
 pub release-requires : goal.release-requires
 release-requires c =
     let x = c.self.inside in
@@ -87,7 +93,7 @@ invariant_of-self-2 c =
     c.release.new.pool c.release.ensures c.shift_remove.new.self.entries c.shift_remove.ensures.entries
     c.in-Ok.entries (c.in-Ok.ensures.entries ∙ ap (λ (k : Context). (husk_of k).entries) at) c.put_husk.new.husks.entries (c.put_husk.ensures ∙ ap (λ hs. hs ++ (n, c.in-Ok.entries) ∷ []) c.reserve.ensures.entries)
     (λ k. lookup (nat_eq k) c.drop_ends.new.index.entries)
-    (λ k. c.drop_ends.ensures x.pool n k ∙ ap (without_numbers (gone_in (context_in x.pool n s).ends) k) (c.move_entries.ensures k ∙ ap (λ es. placed n 0 (numbers_in es) k (lookup (nat_eq k) x.index.entries)) c.as_slice.ensures))
+    (λ k. c.drop_ends.ensures x.pool k ∙ ap (without_numbers (gone_in (context_in x.pool n s).ends) k) (c.move_entries.ensures k ∙ ap (λ es. placed n 0 (numbers_in es) k (lookup (nat_eq k) x.index.entries)) c.as_slice.ensures))
     c.in-Ok.image (c.in-Ok.ensures.image ∙ ap image_of at) (Ok c.stopped.result) (ap Ok c.stopped.ensures)).held tt tt
 
 pub returns-clause-done : goal.returns-clause-done
@@ -103,7 +109,7 @@ returns-clause-done c =
     c.release.new.pool c.release.ensures c.shift_remove.new.self.entries c.shift_remove.ensures.entries
     c.in-Ok.entries (c.in-Ok.ensures.entries ∙ ap (λ (k : Context). (husk_of k).entries) at) c.put_husk.new.husks.entries (c.put_husk.ensures ∙ ap (λ hs. hs ++ (n, c.in-Ok.entries) ∷ []) c.reserve.ensures.entries)
     (λ k. lookup (nat_eq k) c.drop_ends.new.index.entries)
-    (λ k. c.drop_ends.ensures x.pool n k ∙ ap (without_numbers (gone_in (context_in x.pool n s).ends) k) (c.move_entries.ensures k ∙ ap (λ es. placed n 0 (numbers_in es) k (lookup (nat_eq k) x.index.entries)) c.as_slice.ensures))
+    (λ k. c.drop_ends.ensures x.pool k ∙ ap (without_numbers (gone_in (context_in x.pool n s).ends) k) (c.move_entries.ensures k ∙ ap (λ es. placed n 0 (numbers_in es) k (lookup (nat_eq k) x.index.entries)) c.as_slice.ensures))
     c.in-Ok.image (c.in-Ok.ensures.image ∙ ap image_of at) (Ok c.stopped.result) (ap Ok c.stopped.ensures))
 
 pub returns-clause-image : goal.returns-clause-image

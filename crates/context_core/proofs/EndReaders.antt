@@ -14,32 +14,37 @@ use Rattle.protocol.specs.Refusals.{has_moved_out, links_of}
 use Rattle.protocol.specs.State.{Link}
 use Rattle.endpoint_core.specs.declared.end.EndLink.{EndLink}
 use Rattle.endpoint_core.specs.Ends.{link_in}
-use Rattle.context_core.specs.declared.heads.EndHead.{EndHead}
+use Rattle.context_core.specs.declared.lives.LiveEnd.{LiveEnd}
 use Rattle.context_core.specs.declared.state.EndSlot.{EndSlot}
 use Rattle.context_core.specs.Context.{Holding, context_in, end_of}
-use Rattle.context_core.specs.Heads.{head_marks, head_of, is_moved_out_by, is_paused_by, link_head, link_marks}
+use Rattle.context_core.specs.Links.{is_moved_out_by, is_paused_by, link_at, link_by, link_marks, live_end, live_end_at}
 
 end-shown : (pool : Pool) (n : Name) (h : Holding) (i : ℕ) → slice_get (context_in pool n h).ends i ≡ option_map (end_of pool h.queues) (slice_get h.ends i)
 unfolding context_in
 end-shown pool n h i = slice_get-map (end_of pool h.queues) h.ends i
 
-pub told-none : (pool : Pool) (n : Name) (h : Holding) (i : ℕ) → slice_get h.ends i ≡ None → None ≡ option_map head_of (slice_get (context_in pool n h).ends i)
-told-none pool n h i e = sym (ap (option_map head_of) (end-shown pool n h i ∙ ap (option_map (end_of pool h.queues)) e))
+pub told-none : (pool : Pool) (n : Name) (h : Holding) (i : ℕ) → slice_get h.ends i ≡ None → None ≡ live_end_at (context_in pool n h) i
+told-none pool n h i e = sym (ap (option_map (live_end (context_in pool n h))) (end-shown pool n h i ∙ ap (option_map (end_of pool h.queues)) e))
 
-pub told-some : (pool : Pool) (n : Name) (h : Holding) (i : ℕ) (e : Name × EndSlot) (head : EndHead) → slice_get h.ends i ≡ Some e → head ≡ head_of (end_of pool h.queues e) → Some head ≡ option_map head_of (slice_get (context_in pool n h).ends i)
-told-some pool n h i e head there is = ap Some is ∙ sym (ap (option_map head_of) (end-shown pool n h i ∙ ap (option_map (end_of pool h.queues)) there))
+pub told-some : (pool : Pool) (n : Name) (h : Holding) (i : ℕ) (e : Name × EndSlot) (live : LiveEnd) → slice_get h.ends i ≡ Some e → live ≡ live_end (context_in pool n h) (end_of pool h.queues e) → Some live ≡ live_end_at (context_in pool n h) i
+told-some pool n h i e live there is = ap Some is ∙ sym (ap (option_map (live_end (context_in pool n h))) (end-shown pool n h i ∙ ap (option_map (end_of pool h.queues)) there))
 
--- its marks
-pub marks-none : (pool : Pool) (n : Name) (h : Holding) (i : ℕ) → slice_get h.ends i ≡ None → None ≡ head_marks (option_map head_of (slice_get (context_in pool n h).ends i))
-marks-none pool n h i e = ap head_marks (told-none pool n h i e)
+-- the connection of the end at a place
+pub link-shown : (pool : Pool) (n : Name) (h : Holding) (i : ℕ) → link_at (context_in pool n h) i ≡ link_by (option_map (end_of pool h.queues) (slice_get h.ends i))
+link-shown pool n h i = ap link_by (end-shown pool n h i)
 
-pub marks-some : (pool : Pool) (n : Name) (h : Holding) (i : ℕ) (e : Name × EndSlot) (o : Option EndLink) (marks : Option (ℕ × ℕ)) → slice_get h.ends i ≡ Some e → e.1.endpoint.link ≡ o → marks ≡ link_marks (option_map link_head (option_map (link_in pool) o))
-    → marks ≡ head_marks (option_map head_of (slice_get (context_in pool n h).ends i))
+-- .. and its marks
+pub marks-none : (pool : Pool) (n : Name) (h : Holding) (i : ℕ) → slice_get h.ends i ≡ None → None ≡ option_map link_marks (link_at (context_in pool n h) i)
+marks-none pool n h i e = sym (ap (option_map link_marks) (link-shown pool n h i ∙ ap (λ o. link_by (option_map (end_of pool h.queues) o)) e))
+
+pub marks-some : (pool : Pool) (n : Name) (h : Holding) (i : ℕ) (e : Name × EndSlot) (o : Option EndLink) (marks : Option (ℕ × ℕ)) → slice_get h.ends i ≡ Some e → e.1.endpoint.link ≡ o → marks ≡ option_map link_marks (option_map (link_in pool) o)
+    → marks ≡ option_map link_marks (link_at (context_in pool n h) i)
 marks-some pool n h i e o marks there linked is =
     is
-    ∙ (ap (λ x. link_marks (option_map link_head (option_map (link_in pool) x))) (sym linked)
-    ∙ ap head_marks (told-some pool n h i e (head_of (end_of pool h.queues e)) there refl))
+    ∙ (ap (λ x. option_map link_marks (option_map (link_in pool) x)) (sym linked)
+    ∙ sym (ap (option_map link_marks) (link-shown pool n h i ∙ ap (λ x. link_by (option_map (end_of pool h.queues) x)) there)))
 
+-- whether one passes a test
 some-told : (pool : Pool) (qs : List (Name × Queue)) (test : Option EndLink → Bool) (f : Option Link → Bool) → ((l : Option EndLink) → test l ≡ f (option_map (link_in pool) l)) → (es : List (Name × EndSlot)) → list_any (λ s. test s.endpoint.link) (values_of es) ≡ some f (map (λ e. e.link) (map (end_of pool qs) es))
 unfolding some
 some-told pool qs test f same [] = refl

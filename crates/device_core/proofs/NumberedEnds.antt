@@ -1,4 +1,4 @@
--- What is where the index says that a number is: a live end, whose head is read, or nothing that lives.
+-- What is where the index says that a number is: a live end, of which is told, or nothing that lives.
 use Rattle.std.proofs.Common.{◌≡◌, ◌∙◌, ℕ, List, [], sym, ap, false}
 use Rattle.std.specs.Prelude.{Option, Some, None, bytes_eq, is_some, option_map, slice_get}
 use Rattle.std.specs.Borrow.{Bor}
@@ -10,9 +10,9 @@ use Rattle.page_pool.specs.Pool.{Pool}
 use Rattle.protocol.specs.DeviceStep.{found_in, found_link}
 use Rattle.protocol.specs.Refusals.{has_context}
 use Rattle.protocol.specs.State.{Context, Device, context_at, no_context}
-use Rattle.context_core.specs.declared.heads.EndHead.{EndHead}
+use Rattle.context_core.specs.declared.lives.LiveEnd.{LiveEnd}
 use Rattle.context_core.specs.Context.{Holding, context_in}
-use Rattle.context_core.specs.Heads.{head_of}
+use Rattle.context_core.specs.Links.{live_end, live_end_at}
 use Rattle.device_core.specs.declared.index.EndLocation.{EndLocation}
 use Rattle.device_core.specs.Held.{IsHeld}
 use Rattle.device_core.specs.Index.{IsEndAt, IsEntryAt}
@@ -33,13 +33,6 @@ pub record HasEnd (d : Device) (k : ℕ) (n : Name) (place : ℕ) (x : Context) 
   pub context : context_at d n ≡ x
   pub end : IsEndAt d n place k
   pub found : found_in k d.contexts ≡ found_link (context_at d n) end.end end.end.link []
-
--- .. and its head was read
-pub record HasHead (d : Device) (k : ℕ) (n : Name) (place : ℕ) (x : Context) (read : Option EndHead) : Type 0 where
-  pub context : context_at d n ≡ x
-  pub end : IsEndAt d n place k
-  pub found : found_in k d.contexts ≡ found_link (context_at d n) end.end end.end.link []
-  pub head : read ≡ Some (head_of end.end)
 
 module _ {pool : Pool} {es : List (Name × Holding)} {index : ℕ → Option EndLocation} {d : Device} (held : IsHeld pool es index d) (here : d.contexts ≡ contexts_in pool es) (k : ℕ) where
   pub unnoted : index k ≡ None → IsNowhere d k
@@ -76,13 +69,6 @@ module _ {pool : Pool} {es : List (Name × Holding)} {index : ℕ → Option End
         end : IsEndAt d b.now.context b.now.place k
         end = lives-there d b.now.context b.now.place k (ap (has_name (λ c. c.name) b.now.context) here ∙ lookup-there pool b.now.context es s.now stored) (held.either b.now.context) (held.indexed.exact b.now.context b.now.place k (found-ref spot b (index k) is noted))
 
-    -- .. and its head is read
-    pub lives : {s : Bor Holding} → state ≡ Some s → {read : Option EndHead} → ((q : Pool) (n : Name) → read ≡ option_map head_of (slice_get (context_in q n s.now).ends b.now.place)) → HasHead d k b.now.context b.now.place (context_in pool b.now.context s.now) read
-    lives some reads =
-        let e = stands some in
-        record {
-          context = e.context;
-          end = e.end;
-          found = e.found;
-          head = reads pool b.now.context ∙ (ap (λ (c : Context). option_map head_of (slice_get c.ends b.now.place)) (sym e.context) ∙ ap (option_map head_of) e.end.there);
-        }
+    -- .. and what is told of it
+    pub told : {s : Bor Holding} (some : state ≡ Some s) {read : Option LiveEnd} → ((q : Pool) → read ≡ live_end_at (context_in q b.now.context s.now) b.now.place) → read ≡ Some (live_end (context_at d b.now.context) (stands some).end.end)
+    told some reads = reads pool ∙ (ap (λ (c : Context). live_end_at c b.now.place) (sym (stands some).context) ∙ ap (option_map (live_end (context_at d b.now.context))) (stands some).end.there)
