@@ -1,6 +1,6 @@
 -- What is where the index says that a number is: a live end, of which is told, or nothing that lives.
 use Rattle.std.proofs.Common.{◌≡◌, ◌∙◌, ℕ, List, [], sym, ap, false}
-use Rattle.std.specs.Prelude.{Option, Some, None, bytes_eq, is_some, option_map, slice_get}
+use Rattle.std.specs.Prelude.{Option, Some, None, bytes_eq, is_some, option_map}
 use Rattle.std.specs.Borrow.{Bor}
 use Rattle.std.specs.Map.{lookup}
 use Rattle.std.specs.Option.{option_copied}

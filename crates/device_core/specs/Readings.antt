@@ -3,7 +3,6 @@ use Rattle.std.specs.Prelude.{ℕ, ◌≡◌, ◌⊎◌, ◌==◌, ◌&&◌, not
 use Rattle.rdma_types.specs.declared.answers.EndState.{EndState}
 use Rattle.rdma_types.specs.declared.answers.EndState.TheVariants as state
 use Rattle.rdma_types.specs.declared.answers.EndView.{EndView}
-use Rattle.rdma_types.specs.declared.names.Name.{Name}
 use Rattle.context_core.specs.declared.lives.LinkView.{LinkView}
 use Rattle.context_core.specs.declared.lives.LiveEnd.{LiveEnd}
 use Rattle.context_core.specs.Links.{link_view, live_end}
