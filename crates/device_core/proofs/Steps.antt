@@ -170,33 +170,32 @@ told-arrived d new e r t tells done few = subst (Told d new e) (sym tells) (told
     few_of (Ok a) h = h
     few_of (Err x) h = tt
 
-pub arrived-is_ok : (r : Result ArrivalOutcome AllocError) (t : Result Outcome AllocError) → t ≡ told_arrival r → IsOk r → IsOk t
-arrived-is_ok r t tells sure = subst IsOk (sym tells) (by_result r sure)
-  where
-    by_result : (x : Result ArrivalOutcome AllocError) → IsOk x → IsOk (told_arrival x)
-    by_result (Ok a) s = refl
-    by_result (Err e) s = absurd (cc s)
+pub arrived-is_ok : (r : Result ArrivalOutcome AllocError) (t : Result Answered AllocError) → told_sent t ≡ told_arrival r → IsOk r → IsOk t
+arrived-is_ok (Ok x) (Ok a) tells sure = refl
+arrived-is_ok (Ok x) (Err e) tells sure = absurd (cc tells)
+arrived-is_ok (Err x) t tells sure = absurd (cc sure)
 
--- .. of a transmission
-pub record Transmitted (d new : Device) (o : ObjName) (told : Result Answered AllocError) : Type 0 where
-  pub ok : IfOk told (λ a. device_step d (event.Transmit o) ≡ record { device = new; outcome = sending a })
+-- .. of a step that hands out no image
+pub record ToldAnswered (d new : Device) (e : Event) (told : Result Answered AllocError) : Type 0 where
+  pub ok : IfOk told (λ a. device_step d e ≡ record { device = new; outcome = sending a })
   pub few : IfOk told (λ a. length a.sent ≤ 2 ^ 32)
   pub id : new.id ≡ d.id
   pub address : new.address ≡ d.address
   pub err : OnErr told (new ≡ d)
-  pub refused_first : OnErr told (refusal_of d (event.Transmit o) ≡ None)
+  pub refused_first : OnErr told (refusal_of d e ≡ None)
 
-pub told-transmitted : (d new : Device) (o : ObjName) (r : Result Answered ContextFault) (t : Result Answered AllocError) → t ≡ told_transmission r → IsDone d (event.Transmit o) new (told_by sending r) → Transmitted d new o t
-told-transmitted d new o r t tells done = subst (Transmitted d new o) (sym tells) (by_result r done)
+pub told-answered : (d new : Device) (e : Event) (x : Result Answered AllocError) → Told d new e (told_sent x) → ToldAnswered d new e x
+told-answered d new e (Ok a) h = record { ok = h.ok; few = h.few; id = h.id; address = h.address; err = h.err; refused_first = h.refused_first }
+told-answered d new e (Err x) h = record { ok = tt; few = tt; id = h.id; address = h.address; err = h.err; refused_first = h.refused_first }
+
+-- .. of a transmission
+pub told-transmitted : (d new : Device) (o : ObjName) (r : Result Answered ContextFault) (t : Result Answered AllocError) → t ≡ told_transmission r → IsDone d (event.Transmit o) new (told_by sending r) → ToldAnswered d new (event.Transmit o) t
+told-transmitted d new o r t tells done = subst (ToldAnswered d new (event.Transmit o)) (sym tells) (by_result r done)
   where
-    of_told : (x : Result Answered AllocError) → Told d new (event.Transmit o) (told_sent x) → Transmitted d new o x
-    of_told (Ok a) h = record { ok = h.ok; few = h.few; id = h.id; address = h.address; err = h.err; refused_first = h.refused_first }
-    of_told (Err e) h = record { ok = tt; few = tt; id = h.id; address = h.address; err = h.err; refused_first = h.refused_first }
-
-    by_result : (x : Result Answered ContextFault) → IsDone d (event.Transmit o) new (told_by sending x) → Transmitted d new o (told_transmission x)
-    by_result (Ok a) h = of_told (Ok a) (told d new (event.Transmit o) (Ok (sending a)) _ refl h (few-sent d new (event.Transmit o) (Ok (sending a)) tt h))
-    by_result (Err (Refused w)) h = of_told (Ok (record { answer = answer.Refused w; sent = [] })) (told d new (event.Transmit o) (Err (Refused w)) _ refl h tt)
-    by_result (Err OutOfMemory) h = of_told (Err alloc_error) (told d new (event.Transmit o) (Err OutOfMemory) _ refl h tt)
+    by_result : (x : Result Answered ContextFault) → IsDone d (event.Transmit o) new (told_by sending x) → ToldAnswered d new (event.Transmit o) (told_transmission x)
+    by_result (Ok a) h = told-answered d new (event.Transmit o) (Ok a) (told d new (event.Transmit o) (Ok (sending a)) _ refl h (few-sent d new (event.Transmit o) (Ok (sending a)) tt h))
+    by_result (Err (Refused w)) h = told-answered d new (event.Transmit o) (Ok (record { answer = answer.Refused w; sent = [] })) (told d new (event.Transmit o) (Err (Refused w)) _ refl h tt)
+    by_result (Err OutOfMemory) h = told-answered d new (event.Transmit o) (Err alloc_error) (told d new (event.Transmit o) (Err OutOfMemory) _ refl h tt)
 
 -- what such a step tells of the event
 pub done-memory : (d new : Device) (e : Event) (t : Result Outcome AllocError) (r : Result Outcome ContextFault) → r ≡ told_memory t → IfOk t (λ o. device_step d e ≡ record { device = new; outcome = o }) → OnErr t (refusal_of d e ≡ None) → OnErr t (new ≡ d) → IsDone d e new r

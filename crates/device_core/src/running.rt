@@ -155,7 +155,12 @@ impl Device {
         ensures err { OnErr result (self.new ≡ self.old) }
     {
         let found = self.find_end(destination(bytes));
-        self.arrive_at(alloc, from, bytes, found)
+        let Answered { answer, sent } = self.arrive_at(alloc, from, bytes, found)?;
+        Ok(Outcome {
+            answer,
+            sent,
+            image: None,
+        })
     }
 
     /// What `arrive` does, where the queue pair that the bytes are for was looked up before: by `find_end`, with the
@@ -166,10 +171,10 @@ impl Device {
         from: Address,
         bytes: &[u8],
         found: Option<FoundEnd>,
-    ) -> Result<Outcome, AllocError>
+    ) -> Result<Answered, AllocError>
         requires { IsFound self.old (number_at 5 3 bytes.now) found }
-        ensures ok { IfOk result (λ o. device_step self.old (Event.Arrive from bytes.now) ≡ record { device = self.new; outcome = o }) }
-        ensures bounded { IfOk result (λ o. length o.sent ≤ 2 ^ 32) }
+        ensures ok { IfOk result (λ a. device_step self.old (Event.Arrive from bytes.now) ≡ record { device = self.new; outcome = record { answer = a.answer; sent = a.sent; image = None } }) }
+        ensures bounded { IfOk result (λ a. length a.sent ≤ 2 ^ 32) }
         ensures id { self.new.id ≡ self.old.id }
         ensures address { self.new.address ≡ self.old.address }
         ensures never_out_of_memory { DoNothing self.old (packet_of bytes.now) → IsOk result }

@@ -143,24 +143,19 @@ pub(crate) fn told_sent(sent: Result<Answered, AllocError>) -> Result<Outcome, C
     }
 }
 
-/// What a datagram did, and what is sent for it.
+/// What a datagram did, as an answer, and what is sent for it.
 pub(crate) fn told_arrival(
     arrived: Result<ArrivalOutcome, AllocError>,
-) -> Result<Outcome, AllocError>
-    ensures { result ≡ arrival_told arrived }
+) -> Result<Answered, AllocError>
+    ensures { sent_told result ≡ arrival_told arrived }
 {
-    match arrived {
-        Ok(ArrivalOutcome { took, sent }) => Ok(Outcome {
-            answer: Answer::Took {
-                took,
-                first: 0,
-                count: sent.len() as u64,
-            },
-            sent,
-            image: None,
-        }),
-        Err(fault) => Err(fault),
-    }
+    let ArrivalOutcome { took, sent } = arrived?;
+    let answer = Answer::Took {
+        took,
+        first: 0,
+        count: sent.len() as u64,
+    };
+    Ok(Answered { answer, sent })
 }
 
 /// A step that may run out of memory.

@@ -16,7 +16,7 @@ ghost use Rattle.world_core.specs.Sites.{IsDelivery, IsFoundOn};
 
 use crate::World;
 use crate::running::{SendingDevice, send_outcome};
-use device_core::{Answered, Device, FoundEnd, Outcome, destination};
+use device_core::{Answered, Device, FoundEnd, destination};
 use fabric::{Fabric, Flight, Look};
 use rdma_types::{Answer, Items, SilentWhy, Took};
 use roce_headers::opcodes::is_request;
@@ -70,13 +70,7 @@ fn reach(
     ensures err { OnErr result (device.new ≡ device.old) }
 {
     let flight = fabric.kept(k).unwrap();
-    let outcome = device.arrive_at(alloc, flight.from, flight.sent.bytes.as_slice(), found)?;
-    let Outcome {
-        answer,
-        sent,
-        image: _,
-    } = outcome;
-    Ok(Answered { answer, sent })
+    device.arrive_at(alloc, flight.from, flight.sent.bytes.as_slice(), found)
 }
 
 impl World {

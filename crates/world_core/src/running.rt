@@ -82,7 +82,8 @@ fn send_all(
     ensures devices { devices.new.items ≡ devices.old.items }
 {
     let mut list = sent.into_vec();
-    for datagram in list.drain(..) {
+    list.reverse();
+    while let Some(datagram) = list.pop() {
         let forgotten = fabric.send(sender.address, datagram);
         give_back(devices, ports, sender, forgotten);
     }

@@ -1,27 +1,26 @@
--- One more is sent.
-use Rattle.std.proofs.Common.{◌≡◌, ◌∷◌, [], sym, ap, refl, ◌∙◌, arith}
+-- One more is sent, and at the end none is left.
+use Rattle.std.proofs.Common.{◌≡◌, ◌<◌, ◌++◌, ◌∷◌, [], List, absurd, ap, arith, length, refl, reverse, rules, sym, ◌∙◌}
+use Rattle.std.specs.Prelude.{Option, Some}
 use Rattle.std.proofs.lemmas.Grind.{common_steps}
-use Rattle.std.proofs.lemmas.List.{append-nil}
+use Rattle.std.proofs.lemmas.List.{append-nil, reverse-append, reverse-reverse}
 use Rattle.protocol.specs.Fabric.{sending}
 use Rattle.protocol.specs.State.{Flight}
 use Rattle.fabric.specs.Store.{forgetting}
-use Rattle.fabric.proofs.Histories.{sending-one_by_one}
+use Rattle.fabric.proofs.Histories.{forgetting-forgetting, sending-one_by_one}
 use Rattle.rdma_types.specs.declared.requests.Address.{Address}
-use Rattle.std.proofs.Common.{List}
+use Rattle.rdma_types.specs.declared.answers.Sent.{Sent}
 use Rattle.world_core.proofs.running.send_all.Goals as goal
 
-none_sent : (s : List Flight) (from : Address) → forgetting s ≡ s → s ≡ forgetting (sending s from [])
+none_sent : (s : List Flight) (from : Address) → sending s from [] ≡ s
 unfolding sending
-none_sent s from h = sym (ap forgetting (append-nil s) ∙ h)
+none_sent s from = append-nil s
 
-pub loop-datagram-init : goal.loop-datagram-init
-loop-datagram-init c = (tt, tt, none_sent c.args.fabric.now c.args.sender.address c.requires.kept, omega arith, refl)
+-- the last of a list is sent, and the rest is still to be sent
+sent_last : (s s' : List Flight) (from : Address) (list rest : List Sent) (d : Sent) → list ≡ rest ++ d ∷ [] → s' ≡ forgetting (sending s from (d ∷ [])) → forgetting (sending s' from (reverse rest)) ≡ forgetting (sending s from (reverse list))
+sent_last s s' from list rest d last one =
+    ap (λ x. forgetting (sending x from (reverse rest))) one ∙ (sending-one_by_one s from (d ∷ []) (reverse rest) ∙ ap (λ x. forgetting (sending s from x)) (sym (ap reverse last ∙ reverse-append rest (d ∷ []))))
 
-pub loop-datagram-preserved : goal.loop-datagram-preserved
-loop-datagram-preserved c = (
-  tt,
-  tt,
-  c.send-forgotten.ensures.sent ∙ (ap (λ s. forgetting (sending s c.args.sender.address (c.in-Some.datagram ∷ []))) c.loop-datagram.invariant.2 ∙ sending-one_by_one c.args.fabric.now c.args.sender.address c.loop-datagram.yielded (c.in-Some.datagram ∷ [])),
-  grind (arith, common_steps, c.send-forgotten.ensures.count, c.loop-datagram.invariant.3),
-  c.give_back.ensures ∙ c.loop-datagram.invariant.4,
-)
+-- a list whose last item is not there is empty
+empty_where : (items : List Sent) (o : Option Sent) → ((d : Sent) → 0 < length items → (x : Sent) × (o ≡ Some x)) → ((x : Sent) → o ≡ Some x → ⊥) → items ≡ []
+empty_where [] o there none = refl
+empty_where (x ∷ items) o there none = let last = there x (omega arith) in absurd (none last.0 last.1)

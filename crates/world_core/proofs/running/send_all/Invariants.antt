@@ -1,13 +1,12 @@
--- So far the first ones are sent.
-use Rattle.std.proofs.Common.{◌≡◌, ◌+◌, length}
+-- The list is turned round: its last datagram is sent next. The rest is still to be sent.
+use Rattle.std.proofs.Common.{◌≡◌, ◌+◌, length, reverse}
 use Rattle.protocol.specs.Fabric.{sending}
 use Rattle.fabric.specs.Store.{forgetting}
 use Rattle.world_core.proofs.running.send_all.Given as goal
 
 abbrev pub invariant-loop-datagram : goal.invariant-loop-datagram
 invariant-loop-datagram l =
-    (goal.iterator-loop-datagram).can_next l.datagram-iterator ×
-    (goal.iterator-loop-datagram).is_finite l.datagram-iterator ×
-    (l.fabric ≡ forgetting (sending l.initial.fabric l.sender.address l.yielded)) ×
-    (length l.fabric ≡ length l.initial.fabric + length l.yielded) ×
+    (forgetting (sending l.fabric l.sender.address (reverse l.list.items)) ≡ forgetting (sending l.initial.fabric l.sender.address l.initial.sent)) ×
+    (forgetting l.fabric ≡ l.fabric) ×
+    (length l.fabric + length l.list.items ≡ length l.initial.fabric + length l.initial.sent) ×
     (l.devices.items ≡ l.initial.devices.items)

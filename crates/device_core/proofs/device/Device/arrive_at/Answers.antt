@@ -1,7 +1,7 @@
 -- What is told of the event.
 use Rattle.protocol.specs.declared.events.Event.TheVariants as event
-use Rattle.device_core.specs.Done.{told_arrival, told_memory}
-use Rattle.device_core.proofs.Steps.{arrived-is_ok, told-arrived}
+use Rattle.device_core.specs.Done.{told_arrival, told_memory, told_sent}
+use Rattle.device_core.proofs.Steps.{arrived-is_ok, told-answered, told-arrived}
 use Rattle.device_core.proofs.Within.{stepped-within}
 use Rattle.device_core.proofs.device.Device.arrive_at.Goals as goal
 
@@ -10,7 +10,7 @@ returns c =
     let e = c.take_bytes-arrived.ensures in
     let new = c.take_bytes-arrived.new.self in
     let done = event.Arrive c.args.from c.args.bytes.now in
-    let told = told-arrived c.args.self.now new done c.take_bytes-arrived.result c.told_arrival.result c.told_arrival.ensures e.done e.bounded in
+    let told = told-answered c.args.self.now new done c.told_arrival.result (told-arrived c.args.self.now new done c.take_bytes-arrived.result (told_sent c.told_arrival.result) c.told_arrival.ensures e.done e.bounded) in
     record {
       ok = told.ok;
       bounded = told.few;
