@@ -93,12 +93,7 @@ fn move_entries(index: &mut IndexMap<u32, EndLocation>, name: Name, entries: &[H
 }
 
 /// Forgets the number of the end at a place, where it leaves nothing.
-fn drop_end(
-    index: &mut IndexMap<u32, EndLocation>,
-    state: &ContextState,
-    name: Name,
-    place: usize,
-)
+fn drop_end(index: &mut IndexMap<u32, EndLocation>, state: &ContextState, name: Name, place: usize)
     requires { SendByTerms state.now }
     ensures { (pool : Pool) (e : End) → slice_get (context_in pool name state.now).ends place ≡ Some e → (k : ℕ) → get nat_eq index.new k ≡ without_numbers (gone_in (e ∷ [])) k (get nat_eq index.old k) }
 {
