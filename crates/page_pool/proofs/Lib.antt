@@ -7,6 +7,7 @@ pub mod Shared
 pub mod Steps
 pub mod Ledgers
 pub mod Writes
+pub mod Whole
 pub mod Stock
 pub mod Drawn
 pub mod Kept

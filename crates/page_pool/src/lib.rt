@@ -7,6 +7,7 @@ ghost use Rattle.page_pool.specs.declared.PoolFault.TheVariants.{OutOfMemory};
 
 mod claims;
 mod frames;
+mod listed;
 mod page_bytes;
 mod parts;
 mod pool;

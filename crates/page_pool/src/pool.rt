@@ -1,14 +1,16 @@
 //! The pool and its lists.
 
-ghost use Rattle.std.specs.Prelude.{◌≡◌, ℕ, ◌+◌, ◌-◌, ◌*◌, ◌%◌, ◌<◌, ◌≤◌, ◌↔◌, ◌++◌, [], length, sum, take, drop, slice_index, IsSome, Some, None, OnOk, OnErr, IfOk, IfErr, IfSome, IsErrOf};
+ghost use Rattle.std.specs.Prelude.{◌≡◌, ◌≢◌, ℕ, ◌+◌, ◌-◌, ◌*◌, ◌%◌, ◌<◌, ◌≤◌, ◌↔◌, ◌++◌, [], length, sum, take, drop, slice_index, vec_capacity, IsSome, Some, None, OnOk, OnErr, IfOk, IfErr, IfSome, IsErrOf};
+ghost use Rattle.slab.specs.Slab.{HasRoomFor};
 ghost use Rattle.std.specs.Arc.{arc_value};
 ghost use Rattle.rdma_types.specs.Memory.{cut, put};
 ghost use Rattle.page_pool.specs.Store.{blank};
-ghost use Rattle.page_pool.specs.Ledger.{IsLedger, numbers, slot, shown, pool_of};
+ghost use Rattle.page_pool.specs.Ledger.{IsLedger, IsPaged, IsPool, numbers, slot, shown, pool_of};
 ghost use Rattle.page_pool.specs.Pool.{Pool, bytes_of, bytes_in, IsIn, Puts, pages_of, free_pages, held_pages, pages_for};
 
 use crate::claims::{give_pages, hold_pages, take_pages};
 use crate::frames::Frames;
+use crate::listed::{Listed, pages_in};
 use crate::{PAGE, PoolFault, Unlowered};
 use byte_run::ByteRun;
 use slab::Slab;
@@ -39,22 +41,25 @@ impl PageList {
     }
 }
 
-/// Pages of 4,096 bytes, and the lists that share them.
+/// Pages of 4,096 bytes, and the lists that share them. A list that was lowered from whole pages is kept as the run that it
+/// came from until it is written or shared. `kept` counts the pages of such lists: they are held, and so many others wait
+/// to be drawn for them.
 #[derive(Drop)]
 pub struct PagePool {
     frames: Frames,
-    lists: Slab<Vec<u32>>,
+    lists: Slab<Listed>,
+    kept: u32,
 }
 
 impl Model for PagePool {
     ghost use Rattle.page_pool.specs.Pool.{Pool};
-    ghost use Rattle.page_pool.specs.Ledger.{pool_of, IsLedger};
+    ghost use Rattle.page_pool.specs.Ledger.{pool_of, IsPool};
 
     ghost Value = { Pool };
 
     ghost view = { λ p. pool_of p.frames p.lists.slots };
 
-    ghost invariant = { λ p. IsLedger p.frames p.lists.slots };
+    ghost invariant = { λ p. IsPool p.frames p.lists.slots p.kept };
 }
 
 impl PagePool {
@@ -65,6 +70,7 @@ impl PagePool {
         Ok(PagePool {
             frames: Frames::make(alloc, pages)?,
             lists: Slab::new(alloc),
+            kept: 0,
         })
     }
 
@@ -77,6 +83,7 @@ impl PagePool {
         Ok(PagePool {
             frames: self.frames.copy(alloc)?,
             lists: self.lists.clone()?,
+            kept: self.kept,
         })
     }
 
@@ -85,7 +92,7 @@ impl PagePool {
         ensures free { result ≡ free_pages self.now }
         ensures all { result + held_pages self.now ≡ self.now.pages }
     {
-        self.frames.spare()
+        self.frames.spare() - self.kept
     }
 
     /// How many bytes a list has.
@@ -94,7 +101,11 @@ impl PagePool {
         ensures size { result ≡ length (bytes_in self.now list.now) }
         ensures pages { 4096 * pages_of (bytes_of self.now list.now) ≡ result }
     {
-        (self.lists[list.list].len() * PAGE) as u64
+        let listed = &self.lists[list.list];
+        match &listed.run {
+            Some(run) => run.len(),
+            None => (listed.numbers.len() * PAGE) as u64,
+        }
     }
 
     /// A list of `n` new pages of zeros. Errors: `NoPage` exactly where fewer are free, or `OutOfMemory`. The pool is
@@ -125,13 +136,13 @@ impl PagePool {
         ensures no_page { IsErrOf result PoolFault.NoPage ↔ (free_pages self.old < n) }
         ensures err { OnErr result (self.new ≡ self.old) }
     {
-        if self.frames.spare() < n {
+        if self.free() < n {
             return Err(PoolFault::NoPage);
         }
         let mut numbers = Vec::with_capacity(alloc, n as usize)?;
         self.lists.reserve(1)?;
         take_pages(&mut self.frames, &mut numbers, n, bytes, first);
-        let list = self.lists.insert_reserved(numbers);
+        let list = self.lists.insert_reserved(Listed { run: None, numbers });
         Ok(PageList { list })
     }
 
@@ -152,18 +163,19 @@ impl PagePool {
         ensures no_page { IsErrOf result PoolFault.NoPage ↔ (free_pages self.old < count) }
         ensures err { OnErr result (self.new ≡ self.old) }
     {
-        if self.frames.spare() < count {
+        if self.free() < count {
             return Err(PoolFault::NoPage);
         }
+        lay_out(&mut self.frames, &mut self.lists, &mut self.kept, list.list);
         let numbers = part_of(
             alloc,
-            &self.lists[list.list],
+            &self.lists[list.list].numbers,
             first as usize,
             count as usize,
         )?;
         self.lists.reserve(1)?;
         hold_pages(&mut self.frames, &numbers);
-        let list = self.lists.insert_reserved(numbers);
+        let list = self.lists.insert_reserved(Listed { run: None, numbers });
         Ok(PageList { list })
     }
 
@@ -173,8 +185,11 @@ impl PagePool {
         ensures puts { Puts self.old self.new list None }
         ensures free { free_pages self.new ≡ free_pages self.old + pages_of (bytes_of self.old list) }
     {
-        let numbers = self.lists.remove(list.list);
-        give_pages(&mut self.frames, &numbers);
+        let Listed { run, numbers } = self.lists.remove(list.list);
+        match run {
+            Some(run) => self.kept -= pages_in(&run),
+            None => give_pages(&mut self.frames, &numbers),
+        }
     }
 
     /// The bytes of a list from `at` on to the end of their page of 4,096 bytes.
@@ -184,9 +199,14 @@ impl PagePool {
         ensures bytes { result.now ≡ cut at (4096 - at % 4096) (bytes_in self.now list.now) }
         ensures length { length result.now ≡ 4096 - at % 4096 }
     {
-        let at = at as usize;
-        let number = self.lists[list.list][at / PAGE];
-        rest_of(self.frames.page(number), at % PAGE)
+        let listed = &self.lists[list.list];
+        match &listed.run {
+            Some(run) => run.piece(at),
+            None => {
+                let number = listed.numbers[at as usize / PAGE];
+                rest_of(self.frames.page(number), at as usize % PAGE)
+            }
+        }
     }
 
     /// Copies the bytes of a list from `at` on into `out`, as many as it has. It takes no memory.
@@ -241,6 +261,9 @@ impl PagePool {
         ensures back { IfErr result (λ other. other ≡ list) }
         ensures err { OnErr result (self.new ≡ self.old) }
     {
+        if let Some(run) = self.hand_over(&list, first, count) {
+            return Ok(run);
+        }
         match self.copy_out(alloc, &list, first, count as usize) {
             Ok(run) => {
                 self.give(list);
@@ -248,6 +271,25 @@ impl PagePool {
             }
             Err(_) => Err(list),
         }
+    }
+
+    /// The run that a list is kept as, where all of its bytes are asked for: the list is then ended. Else None, and the pool
+    /// is as it was.
+    fn hand_over(&mut self, list: &PageList, first: u64, count: u32) -> Option<ByteRun>
+        requires held { IsIn self.old list.now }
+        requires inside { first + count ≤ length (bytes_in self.old list.now) }
+        ensures bytes { IfSome result (λ run. run ≡ cut first count (bytes_in self.old list.now)) }
+        ensures puts { IsSome result → Puts self.old self.new list.now None }
+        ensures free { IsSome result → free_pages self.new ≡ free_pages self.old + pages_of (bytes_of self.old list.now) }
+        ensures left { result ≡ None → self.new ≡ self.old }
+    {
+        if u64::from(count) < self.size(list) {
+            return None;
+        }
+        let run = self.lists[list.list].run.take()?;
+        self.kept -= pages_in(&run);
+        drop(self.lists.remove(list.list));
+        Some(run)
     }
 
     /// A copy of `count` bytes of a list from `first` on, which shares whole pages where it can. Errors: `AllocError` when
@@ -263,7 +305,11 @@ impl PagePool {
         requires inside { first + count ≤ length (bytes_in self.now list.now) }
         ensures { IfOk result (λ run. run ≡ cut first count (bytes_in self.now list.now)) }
     {
-        let _size = self.size(list);
+        if count as u64 == self.size(list)
+            && let Some(run) = &self.lists[list.list].run
+        {
+            return run.copy(alloc);
+        }
         let mut run = ByteRun::make(alloc);
         let mut done = 0;
         while done < count {
@@ -312,11 +358,16 @@ impl PagePool {
         if at % 4096 != 0 || len % 4096 != 0 || most < PAGE {
             return None;
         }
-        let number = self.lists[list.list][at as usize / PAGE];
-        self.frames.shared(number)
+        let listed = &self.lists[list.list];
+        match &listed.run {
+            Some(run) => run.shared_page(at / 4096),
+            None => self.frames.shared(listed.numbers[at as usize / PAGE]),
+        }
     }
 
-    /// A list of the fewest pages that hold `first` and the bytes: the bytes from `first` on, and zeros elsewhere.
+    /// A list of the fewest pages that hold `first` and the bytes: the bytes from `first` on, and zeros elsewhere. Where they
+    /// fill their pages, the list keeps the run itself, at no cost for a page; the first write into the list, or the first
+    /// list that shares pages with it, lays it out in pages, which costs what it costs here elsewhere.
     /// Errors: the bytes, with `NoPage` exactly where fewer pages are free, or with `OutOfMemory`. The pool is then as
     /// it was.
     pub fn lower(
@@ -339,10 +390,38 @@ impl PagePool {
             let why = PoolFault::NoPage;
             return Err(Unlowered { bytes, why });
         }
+        if first == 0 && bytes.len() % 4096 == 0 {
+            return self.keep(alloc, bytes);
+        }
         let pages = (first + bytes.len()).div_ceil(4096) as u32;
         match self.take_with(alloc, pages, first, &bytes) {
             Ok(list) => Ok(list),
             Err(why) => Err(Unlowered { bytes, why }),
+        }
+    }
+
+    /// A list that is kept as a run of whole pages. Errors: the bytes, when out of memory; the pool is then as it was.
+    fn keep(&mut self, alloc: Global, bytes: ByteRun) -> Result<PageList, Unlowered>
+        requires whole { length bytes % 4096 ≡ 0 }
+        requires enough { length bytes ≤ 4096 * free_pages self.old }
+        ensures new { IfOk result (λ list. bytes_of self.old list ≡ None) }
+        ensures puts { IfOk result (λ list. Puts self.old self.new list (Some bytes)) }
+        ensures free { OnOk result (4096 * free_pages self.new + length bytes ≡ 4096 * free_pages self.old) }
+        ensures back { IfErr result (λ unlowered. unlowered.bytes ≡ bytes) }
+        ensures memory { IfErr result (λ unlowered. unlowered.why ≡ PoolFault.OutOfMemory) }
+        ensures err { OnErr result (self.new ≡ self.old) }
+    {
+        match make_room(alloc, &mut self.lists, bytes.len() as usize / PAGE) {
+            Ok(numbers) => {
+                self.kept += pages_in(&bytes);
+                let run = Some(bytes);
+                let list = self.lists.insert_reserved(Listed { run, numbers });
+                Ok(PageList { list })
+            }
+            Err(_) => {
+                let why = PoolFault::OutOfMemory;
+                Err(Unlowered { bytes, why })
+            }
         }
     }
 
@@ -372,6 +451,7 @@ impl PagePool {
         ensures puts { Puts self.old self.new list.now (Some (put (bytes_in self.old list.now) at bytes.now)) }
         ensures free { free_pages self.new ≡ free_pages self.old }
     {
+        lay_out(&mut self.frames, &mut self.lists, &mut self.kept, list.list);
         let number = own_page(&mut self.frames, &mut self.lists, list.list, at / PAGE);
         self.frames.put(number, at % PAGE, bytes);
     }
@@ -398,24 +478,58 @@ fn part_of(
     Vec::from_slice(alloc, &numbers[first..first + count])
 }
 
-/// The page at a place of a list, which no other list holds: a copy, where another list held it.
-fn own_page(frames: &mut Frames, lists: &mut Slab<Vec<u32>>, list: usize, place: usize) -> u32
-    requires ledger { IsLedger frames.old lists.old.slots }
+/// Room for one more list, of so many pages.
+fn make_room(
+    alloc: Global,
+    lists: &mut Slab<Listed>,
+    pages: usize,
+) -> Result<Vec<u32>, AllocError>
+    ensures none { IfOk result (λ numbers. numbers.items ≡ []) }
+    ensures room { IfOk result (λ numbers. pages ≤ vec_capacity numbers) }
+    ensures one { OnOk result (HasRoomFor lists.new 1) }
+    ensures same { lists.new.slots ≡ lists.old.slots }
+{
+    let numbers = Vec::with_capacity(alloc, pages)?;
+    lists.reserve(1)?;
+    Ok(numbers)
+}
+
+/// Lays a list that is kept as a run out in pages. Its bytes are the same, and it takes no memory.
+fn lay_out(frames: &mut Frames, lists: &mut Slab<Listed>, kept: &mut u32, list: usize)
+    requires pool { IsPool frames.old lists.old.slots kept.old }
     requires held { IsSome (slot lists.old.slots list) }
+    ensures pool { IsPool frames.new lists.new.slots kept.new }
+    ensures paged { IsPaged (slot lists.new.slots list) }
+    ensures same { pool_of frames.new lists.new.slots ≡ pool_of frames.old lists.old.slots }
+{
+    let listed = &mut lists[list];
+    if let Some(run) = listed.run.take() {
+        let pages = pages_in(&run);
+        take_pages(frames, &mut listed.numbers, pages, &run, 0);
+        *kept -= pages;
+    }
+}
+
+/// The page at a place of a list in pages, which no other list holds: a copy, where another list held it.
+fn own_page(frames: &mut Frames, lists: &mut Slab<Listed>, list: usize, place: usize) -> u32
+    requires ledger { IsLedger frames.old lists.old.slots }
+    requires paged { IsPaged (slot lists.old.slots list) }
     requires inside { place < length (numbers (slot lists.old.slots list)) }
     ensures ledger { IsLedger frames.new lists.new.slots }
     ensures number { slice_index (numbers (slot lists.new.slots list)) place ≡ result }
     ensures len { length (numbers (slot lists.new.slots list)) ≡ length (numbers (slot lists.old.slots list)) }
+    ensures paged { IsPaged (slot lists.new.slots list) }
+    ensures others { (other : ℕ) → other ≢ list → slot lists.new.slots other ≡ slot lists.old.slots other }
     ensures alone { slice_index frames.new.holders result ≡ 1 }
     ensures same { Puts (pool_of frames.old lists.old.slots) (pool_of frames.new lists.new.slots) list (shown frames.old.bytes (slot lists.old.slots list)) }
     ensures total { sum frames.new.holders ≡ sum frames.old.holders }
 {
-    let number = lists[list][place];
+    let number = lists[list].numbers[place];
     if !frames.is_shared(number) {
         return number;
     }
     let copy = frames.fork(number);
-    let numbers = &mut lists[list];
-    numbers[place] = copy;
+    let listed = &mut lists[list];
+    listed.numbers[place] = copy;
     copy
 }

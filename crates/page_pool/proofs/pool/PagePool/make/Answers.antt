@@ -1,9 +1,9 @@
 use Rattle.std.proofs.Common.{◌≡◌, ℕ, ◌*◌, ◌<◌, ◌^◌, ◌∙◌, ap, sym, refl, arith, List, [], length, get_or, sum, zero, suc}
 use Rattle.std.specs.Prelude.{replicate, Option}
-use Rattle.std.specs.declared.vec.Vec.{Vec}
+use Rattle.page_pool.specs.declared.listed.Listed.{Listed}
 use Rattle.std.proofs.lemmas.List.{length-replicate}
 use Rattle.page_pool.specs.Store.{Store}
-use Rattle.page_pool.specs.Ledger.{IsLedger, held_by, in_all}
+use Rattle.page_pool.specs.Ledger.{IsPool, held_by, in_all, kept_pages}
 use Rattle.page_pool.proofs.Counts.{sum-none}
 use Rattle.page_pool.proofs.pool.PagePool.make.Goals as goal
 
@@ -15,17 +15,22 @@ none_at zero p = refl
 none_at (suc n) zero = refl
 none_at (suc n) (suc p) = none_at n p
 
-made : {A : Type 0} (frames : Store) (lists : List (Option (Vec ℕ A))) (n : ℕ) → frames ≡ record { bytes = replicate (4096 * n) 0; holders = replicate n 0 } → lists ≡ [] → n < 2 ^ 32 → IsLedger frames lists
-unfolding held_by in_all
+made : (frames : Store) (lists : List (Option Listed)) (n : ℕ) → frames ≡ record { bytes = replicate (4096 * n) 0; holders = replicate n 0 } → lists ≡ [] → n < 2 ^ 32 → IsPool frames lists 0
+unfolding held_by in_all kept_pages
 made frames lists n e f small =
     let holders : frames.holders ≡ replicate n 0 = ap (λ (s : Store). s.holders) e in
     let size : length frames.holders ≡ n = ap length holders ∙ length-replicate n 0 in
     let bytes : length frames.bytes ≡ 4096 * n = ap (λ (s : Store). length s.bytes) e ∙ length-replicate (4096 * n) 0 in
     let none : sum frames.holders ≡ 0 = ap sum holders ∙ sum-none n in
     rw f (record {
-      sound = record { whole = omega arith; few = omega arith; within = omega arith };
-      counted = λ p. sym (ap (λ hs. get_or hs p 0) holders ∙ none_at n p);
-      total = none;
+      ledger = record {
+        sound = record { whole = omega arith; few = omega arith; within = omega arith };
+        counted = λ p. sym (ap (λ hs. get_or hs p 0) holders ∙ none_at n p);
+        total = none;
+      };
+      runs = λ k. tt;
+      counted = refl;
+      room = omega arith;
     })
 
 pub invariant_of-result : goal.invariant_of-result
