@@ -139,8 +139,7 @@ impl PagePool {
         if self.free() < n {
             return Err(PoolFault::NoPage);
         }
-        let mut numbers = Vec::with_capacity(alloc, n as usize)?;
-        self.lists.reserve(1)?;
+        let mut numbers = make_room(alloc, &mut self.lists, n as usize)?;
         take_pages(&mut self.frames, &mut numbers, n, bytes, first);
         let list = self.lists.insert_reserved(Listed { run: None, numbers });
         Ok(PageList { list })
@@ -244,8 +243,8 @@ impl PagePool {
         }
     }
 
-    /// Takes bytes of a list out, and ends the list. Errors: the list itself when out of memory; the pool is then as it
-    /// was.
+    /// Takes bytes of a list out, and ends the list. Where all bytes are asked for of a list that is kept as a run, that is
+    /// the run itself, at no cost for a page. Errors: the list itself when out of memory; the pool is then as it was.
     pub fn lift(
         &mut self,
         alloc: Global,
@@ -365,11 +364,11 @@ impl PagePool {
         }
     }
 
-    /// A list of the fewest pages that hold `first` and the bytes: the bytes from `first` on, and zeros elsewhere. Where they
-    /// fill their pages, the list keeps the run itself, at no cost for a page; the first write into the list, or the first
-    /// list that shares pages with it, lays it out in pages, which costs what it costs here elsewhere.
-    /// Errors: the bytes, with `NoPage` exactly where fewer pages are free, or with `OutOfMemory`. The pool is then as
-    /// it was.
+    /// A list of the fewest pages that hold `first` and the bytes: the bytes from `first` on, and zeros elsewhere. Where the
+    /// bytes fill their pages, the list is kept as the run, at no cost for a page. The first write into it, or the first
+    /// list that shares its pages, then draws and shares every page of it, as is done here where the bytes do not fill
+    /// them. Errors: the bytes, with `NoPage` exactly where fewer pages are free, or with `OutOfMemory`. The pool is then
+    /// as it was.
     pub fn lower(
         &mut self,
         alloc: Global,
@@ -479,11 +478,7 @@ fn part_of(
 }
 
 /// Room for one more list, of so many pages.
-fn make_room(
-    alloc: Global,
-    lists: &mut Slab<Listed>,
-    pages: usize,
-) -> Result<Vec<u32>, AllocError>
+fn make_room(alloc: Global, lists: &mut Slab<Listed>, pages: usize) -> Result<Vec<u32>, AllocError>
     ensures none { IfOk result (λ numbers. numbers.items ≡ []) }
     ensures room { IfOk result (λ numbers. pages ≤ vec_capacity numbers) }
     ensures one { OnOk result (HasRoomFor lists.new 1) }

@@ -1,7 +1,7 @@
 use Rattle.std.proofs.Common.{◌-◌, ◌∙◌, arith, ap, sym, refl, subst}
-use Rattle.std.specs.Prelude.{Some, None}
+use Rattle.std.specs.Prelude.{None}
 use Rattle.std.proofs.lemmas.List.{get_or-set_other}
-use Rattle.page_pool.specs.Ledger.{IsPool, pool_of, slot}
+use Rattle.page_pool.specs.Ledger.{IsPool, slot}
 use Rattle.page_pool.proofs.Ledgers.{free-is, gone-out}
 use Rattle.page_pool.proofs.Whole.{run-size, pool-gone, taken-none, whole-cut}
 use Rattle.page_pool.proofs.pool.PagePool.hand_over.Goals as goal

@@ -1,4 +1,4 @@
-use Rattle.std.proofs.Common.{◌+◌, ◌∙◌, arith, ap, sym, refl, subst}
+use Rattle.std.proofs.Common.{◌+◌, arith, ap, sym, refl, subst}
 use Rattle.page_pool.specs.Ledger.{IsPool}
 use Rattle.page_pool.proofs.Ledgers.{free-is, same-pool}
 use Rattle.page_pool.proofs.Whole.{pool-kept, puts-kept}

@@ -1,4 +1,4 @@
-use Rattle.std.proofs.Common.{◌≡◌, ◌+◌, ◌*◌, ◌%◌, ◌∙◌, ap, sym, length, refl, arith, subst}
+use Rattle.std.proofs.Common.{◌+◌, ◌*◌, ◌%◌, ◌∙◌, ap, sym, length, refl, arith, subst}
 use Rattle.rdma_types.specs.Memory.{put}
 use Rattle.page_pool.specs.Store.{blank}
 use Rattle.page_pool.specs.Pool.{Puts, free_pages, pages_for}
