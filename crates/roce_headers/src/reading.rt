@@ -1,8 +1,8 @@
 //! From bytes to a datagram.
 
-ghost use Rattle.std.specs.Prelude.{◌≡◌, ◌+◌, ◌-◌, ◌≤◌, ◌==◌, length, Some, None, IfOk, IfErr, OnOk, OnErr, not, ◌&&◌, if◌then◌else◌, IsTrue};
+ghost use Rattle.std.specs.Prelude.{◌≡◌, ◌+◌, ◌-◌, ◌≤◌, ◌==◌, length, Some, None, IfOk, IfErr, OnOk, OnErr, not, nat_le, ◌&&◌, if◌then◌else◌, IsTrue};
 ghost use Rattle.protocol.specs.Bytes.{number_at, byte_at, bytes_at};
-ghost use Rattle.protocol.specs.Wire.{Spells, Fits, packet_of, offence_of, layout_of, headers_len, has_reth, has_imm, has_aeth, has_atomic, has_old, has_resume, imm_place, when, read_reth, read_aeth, read_atomic, read_resume, read_syndrome, is_syndrome, layout_offence, pad_of, body_of, fields_of, read_by};
+ghost use Rattle.protocol.specs.Wire.{Spells, Fits, plain, packet_of, offence_of, layout_of, headers_len, has_aeth, read_reth, read_aeth, read_atomic, read_resume, read_syndrome, is_syndrome, layout_offence, pad_of, body_of, fields_of, read_by};
 ghost use Rattle.roce_headers.specs.Packets.{packet};
 
 use crate::datagram::Datagram;
@@ -45,28 +45,14 @@ fn u64_at(bytes: &[u8], place: usize) -> u64
     BigEndian::read_u64(&bytes[place..])
 }
 
-fn reth_at(headers: Headers, bytes: &[u8]) -> Option<Reth>
-    requires { 16 + headers_len headers ≤ length bytes.now }
-    ensures { result ≡ when (has_reth headers) (read_reth bytes.now) }
+fn reth_at(bytes: &[u8]) -> Reth
+    requires { 28 ≤ length bytes.now }
+    ensures { result ≡ read_reth bytes.now }
 {
-    match headers {
-        Headers::Reth | Headers::RethImm => Some(Reth {
-            address: u64_at(bytes, 12),
-            rkey: u32_at(bytes, 20),
-            length: u32_at(bytes, 24),
-        }),
-        _ => None,
-    }
-}
-
-fn imm_at(headers: Headers, bytes: &[u8]) -> Option<u32>
-    requires { 16 + headers_len headers ≤ length bytes.now }
-    ensures { result ≡ when (has_imm headers) (number_at (imm_place headers) 4 bytes.now) }
-{
-    match headers {
-        Headers::Imm => Some(u32_at(bytes, 12)),
-        Headers::RethImm => Some(u32_at(bytes, 28)),
-        _ => None,
+    Reth {
+        address: u64_at(bytes, 12),
+        rkey: u32_at(bytes, 20),
+        length: u32_at(bytes, 24),
     }
 }
 
@@ -80,16 +66,13 @@ fn syndrome_of(byte: u8) -> Syndrome
     }
 }
 
-fn aeth_at(headers: Headers, bytes: &[u8]) -> Option<Aeth>
-    requires { 16 + headers_len headers ≤ length bytes.now }
-    ensures { result ≡ when (has_aeth headers) (read_aeth bytes.now) }
+fn aeth_at(bytes: &[u8]) -> Aeth
+    requires { 16 ≤ length bytes.now }
+    ensures { result ≡ read_aeth bytes.now }
 {
-    match headers {
-        Headers::Aeth | Headers::AethOld => Some(Aeth {
-            syndrome: syndrome_of(bytes[12]),
-            msn: u24_at(bytes, 13),
-        }),
-        _ => None,
+    Aeth {
+        syndrome: syndrome_of(bytes[12]),
+        msn: u24_at(bytes, 13),
     }
 }
 
@@ -104,54 +87,28 @@ fn compare_at(bytes: &[u8]) -> u64
     }
 }
 
-fn atomic_at(headers: Headers, bytes: &[u8]) -> Option<AtomicEth>
-    requires { 16 + headers_len headers ≤ length bytes.now }
-    ensures { result ≡ when (has_atomic headers) (read_atomic (byte_at 0 bytes.now) bytes.now) }
+fn atomic_at(bytes: &[u8]) -> AtomicEth
+    requires { 40 ≤ length bytes.now }
+    ensures { result ≡ read_atomic (byte_at 0 bytes.now) bytes.now }
 {
-    match headers {
-        Headers::Atomic => Some(AtomicEth {
-            address: u64_at(bytes, 12),
-            rkey: u32_at(bytes, 20),
-            swap_add: u64_at(bytes, 24),
-            compare: compare_at(bytes),
-        }),
-        _ => None,
+    AtomicEth {
+        address: u64_at(bytes, 12),
+        rkey: u32_at(bytes, 20),
+        swap_add: u64_at(bytes, 24),
+        compare: compare_at(bytes),
     }
 }
 
-fn old_at(headers: Headers, bytes: &[u8]) -> Option<u64>
-    requires { 16 + headers_len headers ≤ length bytes.now }
-    ensures { result ≡ when (has_old headers) (number_at 16 8 bytes.now) }
+fn resume_at(bytes: &[u8]) -> ResumeBody
+    requires { 22 ≤ length bytes.now }
+    ensures { result ≡ read_resume bytes.now }
 {
-    match headers {
-        Headers::AethOld => Some(u64_at(bytes, 16)),
-        _ => None,
-    }
-}
-
-fn resume_at(headers: Headers, bytes: &[u8]) -> Option<ResumeBody>
-    requires { 16 + headers_len headers ≤ length bytes.now }
-    ensures { result ≡ when (has_resume headers) (read_resume bytes.now) }
-{
-    match headers {
-        Headers::Resume => Some(ResumeBody {
-            count: u32_at(bytes, 12),
-            address: Address {
-                ip: u32_at(bytes, 16),
-                port: u16_at(bytes, 20),
-            },
-        }),
-        _ => None,
-    }
-}
-
-fn psn_at(headers: Headers, bytes: &[u8]) -> u32
-    requires { 16 + headers_len headers ≤ length bytes.now }
-    ensures { result ≡ (if has_resume headers then 0 else number_at 9 3 bytes.now) }
-{
-    match headers {
-        Headers::Resume => 0,
-        _ => u24_at(bytes, 9),
+    ResumeBody {
+        count: u32_at(bytes, 12),
+        address: Address {
+            ip: u32_at(bytes, 16),
+            port: u16_at(bytes, 20),
+        },
     }
 }
 
@@ -183,13 +140,13 @@ fn has_bad_syndrome(headers: Headers, bytes: &[u8]) -> bool
     }
 }
 
-// Whether the bytes keep to the row of their opcode.
-#[tactic(auto, unfolding(protocol::specs::Wire::layout_offence))]
-fn check(layout: Layout, bytes: &[u8]) -> Result<(), Malformed>
+// The payload, where the bytes keep to the row of their opcode.
+#[tactic(auto, unfolding(protocol::specs::Wire::layout_offence, protocol::specs::Bytes::bytes_at))]
+fn check(layout: Layout, bytes: &[u8]) -> Result<&[u8], Malformed>
     requires { 16 ≤ length bytes.now }
     ensures kept { OnOk result (layout_offence layout bytes.now ≡ None) }
     ensures long { OnOk result (16 + headers_len layout.headers ≤ length bytes.now) }
-    ensures padded { OnOk result (pad_of bytes.now ≤ body_of layout.headers bytes.now) }
+    ensures payload { IfOk result (λ payload. payload.now ≡ bytes_at (12 + headers_len layout.headers) (body_of layout.headers bytes.now - pad_of bytes.now) bytes.now) }
     ensures refused { IfErr result (λ m. layout_offence layout bytes.now ≡ Some m) }
 {
     if bytes[1] % 16 != 0 {
@@ -206,44 +163,61 @@ fn check(layout: Layout, bytes: &[u8]) -> Result<(), Malformed>
     if body != 0 && !layout.payload || body % 4 != 0 || body > 4096 {
         return Err(refusal(end, MalformedWhy::Length));
     }
-    if body < (bytes[1] / 16 % 4) as usize {
+    let pad = (bytes[1] / 16 % 4) as usize;
+    if body < pad {
         return Err(refusal(1, MalformedWhy::Pad));
     }
-    Ok(())
+    Ok(&bytes[end..end + body - pad])
 }
 
-#[tactic(auto, unfolding(protocol::specs::Bytes::bytes_at))]
-fn payload_at(headers: Headers, bytes: &[u8]) -> &[u8]
-    requires long { 16 + headers_len headers ≤ length bytes.now }
-    requires padded { pad_of bytes.now ≤ body_of headers bytes.now }
-    ensures { result.now ≡ bytes_at (12 + headers_len headers) (body_of headers bytes.now - pad_of bytes.now) bytes.now }
-{
-    let start = 12 + opcodes::headers_len(headers);
-    let pad = (bytes[1] / 16 % 4) as usize;
-    let len = bytes.len() - start - 4 - pad;
-    &bytes[start..start + len]
-}
-
-// Each part at its place.
-#[tactic(auto, unfolding(protocol::specs::Wire::fields_of))]
-fn fields(headers: Headers, bytes: &[u8]) -> Datagram<'_>
-    requires long { 16 + headers_len headers ≤ length bytes.now }
-    requires padded { pad_of bytes.now ≤ body_of headers bytes.now }
-    ensures { packet result ≡ fields_of headers bytes.now }
+// The base header and the payload.
+fn base<'a>(bytes: &[u8], payload: &'a [u8]) -> Datagram<'a>
+    requires { 16 ≤ length bytes.now }
+    ensures { packet result ≡ record (plain (byte_at 0 bytes.now) (number_at 5 3 bytes.now) (number_at 9 3 bytes.now)) { ack_request = nat_le 128 (byte_at 8 bytes.now); payload = payload.now } }
 {
     Datagram {
         opcode: bytes[0],
         dest: u24_at(bytes, 5),
         ack_request: bytes[8] >= 128,
-        psn: psn_at(headers, bytes),
-        reth: reth_at(headers, bytes),
-        imm: imm_at(headers, bytes),
-        aeth: aeth_at(headers, bytes),
-        atomic: atomic_at(headers, bytes),
-        old: old_at(headers, bytes),
-        resume: resume_at(headers, bytes),
-        payload: payload_at(headers, bytes),
+        psn: u24_at(bytes, 9),
+        reth: None,
+        imm: None,
+        aeth: None,
+        atomic: None,
+        old: None,
+        resume: None,
+        payload,
     }
+}
+
+// Each header at its place.
+#[tactic(auto, unfolding(protocol::specs::Wire::fields_of))]
+fn fields<'a>(headers: Headers, bytes: &[u8], payload: &'a [u8]) -> Datagram<'a>
+    requires long { 16 + headers_len headers ≤ length bytes.now }
+    requires payload { payload.now ≡ bytes_at (12 + headers_len headers) (body_of headers bytes.now - pad_of bytes.now) bytes.now }
+    ensures { packet result ≡ fields_of headers bytes.now }
+{
+    let mut d = base(bytes, payload);
+    match headers {
+        Headers::Bare => {}
+        Headers::Imm => d.imm = Some(u32_at(bytes, 12)),
+        Headers::Reth => d.reth = Some(reth_at(bytes)),
+        Headers::RethImm => {
+            d.reth = Some(reth_at(bytes));
+            d.imm = Some(u32_at(bytes, 28));
+        }
+        Headers::Aeth => d.aeth = Some(aeth_at(bytes)),
+        Headers::AethOld => {
+            d.aeth = Some(aeth_at(bytes));
+            d.old = Some(u64_at(bytes, 16));
+        }
+        Headers::Atomic => d.atomic = Some(atomic_at(bytes)),
+        Headers::Resume => {
+            d.psn = 0;
+            d.resume = Some(resume_at(bytes));
+        }
+    }
+    d
 }
 
 #[tactic(auto, unfolding(protocol::specs::Wire::offence_of))]
@@ -258,8 +232,8 @@ fn read(bytes: &[u8]) -> Result<Datagram<'_>, Malformed>
     let Some(layout) = opcodes::layout(bytes[0]) else {
         return Err(refusal(0, MalformedWhy::Opcode));
     };
-    check(layout, bytes)?;
-    Ok(fields(layout.headers, bytes))
+    let payload = check(layout, bytes)?;
+    Ok(fields(layout.headers, bytes, payload))
 }
 
 /// The datagram that the bytes spell, with its payload where it lies in them. It takes no memory.
