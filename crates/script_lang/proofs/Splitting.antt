@@ -1,6 +1,6 @@
 -- The words of a line, taken one at a time.
-use Rattle.std.proofs.Common.{not, ◌≤◌, ◌≡◌, ℕ, suc, ◌+◌, ◌-◌, ◌<◌, ◌==◌, Bool, true, false, List, [], ◌∷◌, length, take, drop, refl, ap, sym, ◌∙◌, arith, one-add, get_or, drop-cons, drop-drop, length-drop, subst}
-use Rattle.std.proofs.lemmas.List.{length-take-le, take_all, get_or-drop}
+use Rattle.std.proofs.Common.{not, ◌≤◌, ◌≡◌, ℕ, suc, ◌+◌, ◌-◌, ◌<◌, ◌==◌, Bool, true, false, List, [], ◌∷◌, length, take, drop, refl, ap, sym, ◌∙◌, arith, one-add, get_or, drop-cons, drop-drop, length-drop}
+use Rattle.std.proofs.lemmas.List.{length-take-le, get_or-drop}
 use Rattle.std.proofs.lemmas.List.Sums.{prefix_len-le-length}
 use Rattle.std.specs.List.{slice_split, position_or_len, before_first}
 use Rattle.std.proofs.lemmas.Bool.Decides.{nat_tests}
@@ -77,74 +77,27 @@ space_first : (column : ℕ) (bs : List ℕ) → words_from column (32 ∷ bs) �
 unfolding words_from
 space_first column bs = refl
 
--- a space in front is passed
-pub space_passed : (column : ℕ) (bs : List ℕ) (i : ℕ) → i < length bs → get_or bs i 0 ≡ 32 → words_from (column + (i + 1)) (drop (i + 1) bs) ≡ words_from (column + i) (drop i bs)
-space_passed column bs i h e =
-    let shift : column + (i + 1) ≡ column + i + 1 = omega arith in
+-- a space at a place of a line is passed
+pub space_passed : (line : List ℕ) (i : ℕ) → i < length line → get_or line i 0 ≡ 32 → words_from (i + 1 + 1) (drop (i + 1) line) ≡ words_from (i + 1) (drop i line)
+space_passed line i h e =
     let back : i + 1 ≡ suc i = omega arith in
-    let front : drop i bs ≡ 32 ∷ drop (suc i) bs = drop-cons bs i 0 h ∙ ap (λ (b : ℕ). b ∷ drop (suc i) bs) e in
-    ap (λ (n : ℕ). words_from n (drop (i + 1) bs)) shift
-    ∙ ap (λ (n : ℕ). words_from (column + i + 1) (drop n bs)) back
-    ∙ sym (ap (words_from (column + i)) front ∙ space_first (column + i) (drop (suc i) bs))
+    let front : drop i line ≡ 32 ∷ drop (suc i) line = drop-cons line i 0 h ∙ ap (λ (b : ℕ). b ∷ drop (suc i) line) e in
+    ap (λ (n : ℕ). words_from (i + 1 + 1) (drop n line)) back
+    ∙ sym (ap (words_from (i + 1)) front ∙ space_first (i + 1) (drop (suc i) line))
 
--- what is left of a line from a place on
-pub rest_of : (line : List ℕ) (at : ℕ) → take (length line - at) (drop at line) ≡ drop at line
-rest_of line at = take_all (length line - at) (drop at line) (omega (arith, length-drop at line))
-
--- that many spaces stand in front
-pub record IsPassed (bytes : List ℕ) (count : ℕ) : Type 0 where
-  pub words : (column : ℕ) → words_from (column + count) (drop count bytes) ≡ words_from column bytes
-  pub front : count < length bytes → is_space (get_or bytes count 0) ≡ false
-
--- spaces behind a place are passed
-passed_spaces : (line : List ℕ) (at count : ℕ) → IsPassed (drop at line) count → words_from (at + 1) (drop at line) ≡ words_from (at + count + 1) (drop (at + count) line)
-passed_spaces line at count passed =
-    let shift : at + 1 + count ≡ at + count + 1 = omega arith in
-    sym (passed.words (at + 1)) ∙ ap (λ (n : ℕ). words_from n (drop count (drop at line))) shift
-    ∙ ap (words_from (at + count + 1)) (drop-drop count at line)
-
--- behind the spaces stands no space
-no_space : (line : List ℕ) (at count : ℕ) → IsPassed (drop at line) count → 0 < length (drop (at + count) line) → is_space (get_or (drop (at + count) line) 0 0) ≡ false
-no_space line at count passed some =
-    let more : length (drop (at + count) line) ≡ length line - (at + count) = length-drop (at + count) line in
-    let all : length (drop at line) ≡ length line - at = length-drop at line in
-    let none : at + count + 0 ≡ at + count = omega arith in
-    let here : get_or (drop (at + count) line) 0 0 ≡ get_or (drop at line) count 0 = get_or-drop (at + count) line 0 0 ∙ ap (λ (n : ℕ). get_or line n 0) none ∙ sym (get_or-drop at line count 0) in
-    rw here (passed.front (omega (arith, more, all)))
-
--- the next word from a place on, behind spaces
-next_after : (line : List ℕ) (at count size : ℕ) → IsPassed (drop at line) count
-    → size ≡ position_or_len is_space (drop (at + count) line)
-    → 0 < length (drop (at + count) line)
-    → words_from (at + 1) (drop at line) ≡ at_column (at + count + 1) (take size (drop (at + count) line)) ∷ words_from (at + count + size + 1) (drop (at + count + size) line)
-next_after line at count size passed place some =
-    let rest : List ℕ = drop (at + count) line in
-    let column : ℕ = at + count + 1 in
-    let shift : column + size ≡ at + count + size + 1 = omega arith in
-    passed_spaces line at count passed
-    ∙ first_word column rest some (no_space line at count passed some)
-    ∙ ap (λ (n : ℕ). at_column column (take n rest) ∷ words_from (column + n) (drop n rest)) (sym place)
-    ∙ ap (λ (n : ℕ). at_column column (take size rest) ∷ words_from n (drop size rest)) shift
-    ∙ ap (λ (bs : List ℕ). at_column column (take size rest) ∷ words_from (at + count + size + 1) bs) (drop-drop size (at + count) line)
-
--- the same as the code takes its parts
-pub word_after : (line : List ℕ) (at count size : ℕ)
-    → IsPassed (take (length line - at) (drop at line)) count
-    → size ≡ position_or_len is_space (take (length line - (at + count)) (drop (at + count) line))
-    → 0 < length (take (length line - (at + count)) (drop (at + count) line))
-    → words_from (at + 1) (drop at line)
-    ≡ at_column (at + count + 1) (take size (take (length line - (at + count)) (drop (at + count) line))) ∷ words_from (at + count + size + 1) (drop (at + count + size) line)
-word_after line at count size passed place some =
-    let e : take (length line - (at + count)) (drop (at + count) line) ≡ drop (at + count) line = rest_of line (at + count) in
-    let behind : IsPassed (drop at line) count = subst (λ (bs : List ℕ). IsPassed bs count) (rest_of line at) passed in
-    rw e (next_after line at count size behind (rw e at place) (rw e at some))
-
--- no word from a place on, behind spaces
-pub none_after : (line : List ℕ) (at count : ℕ)
-    → IsPassed (take (length line - at) (drop at line)) count
-    → length (take (length line - (at + count)) (drop (at + count) line)) ≡ 0
-    → words_from (at + 1) (drop at line) ≡ []
-none_after line at count passed none =
-    let e : take (length line - (at + count)) (drop (at + count) line) ≡ drop (at + count) line = rest_of line (at + count) in
-    let behind : IsPassed (drop at line) count = subst (λ (bs : List ℕ). IsPassed bs count) (rest_of line at) passed in
-    passed_spaces line at count behind ∙ no_words_in (at + count + 1) (drop (at + count) line) (rw e at none)
+-- the word of a line from a place on where no space stands, and those behind it
+pub word_at : (line : List ℕ) (start end : ℕ) → start < length line → is_space (get_or line start 0) ≡ false
+    → end ≡ start + position_or_len is_space (drop start line)
+    → words_from (start + 1) (drop start line) ≡ at_column (start + 1) (take (end - start) (drop start line)) ∷ words_from (end + 1) (drop end line)
+word_at line start end some none place =
+    let rest : List ℕ = drop start line in
+    let size : position_or_len is_space rest ≡ end - start = omega arith in
+    let some_left : 0 < length rest = omega (arith, length-drop start line) in
+    let same : start + 0 ≡ start = omega arith in
+    let front : is_space (get_or rest 0 0) ≡ false = ap is_space (get_or-drop start line 0 0 ∙ ap (λ (n : ℕ). get_or line n 0) same) ∙ none in
+    let column : start + 1 + (end - start) ≡ end + 1 = omega arith in
+    let whole : start + (end - start) ≡ end = omega arith in
+    first_word (start + 1) rest some_left front
+    ∙ ap (λ (n : ℕ). at_column (start + 1) (take n rest) ∷ words_from (start + 1 + n) (drop n rest)) size
+    ∙ ap (λ (n : ℕ). at_column (start + 1) (take (end - start) rest) ∷ words_from n (drop (end - start) rest)) column
+    ∙ ap (λ (bs : List ℕ). at_column (start + 1) (take (end - start) rest) ∷ words_from (end + 1) bs) (drop-drop (end - start) start line ∙ ap (λ (n : ℕ). drop n line) whole)

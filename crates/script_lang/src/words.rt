@@ -1,11 +1,11 @@
 //! The words of a line with their columns, read one after the other.
 
 ghost use Rattle.std.specs.Prelude.{◌≡◌, ℕ, ◌+◌, ◌<◌, ◌≤◌, Bool, false, [], ◌∷◌, length, drop, slice_index, IfSome, IfNone, IfOk, IfErr};
+ghost use Rattle.std.specs.List.{position_or_len};
 ghost use Rattle.script_lang.specs.Words as words;
 ghost use Rattle.script_lang.specs.Words.{Gives, words_from, is_space, input_of};
 
 use crate::lines::{LineWhy, Offence};
-use crate::texts::length_before;
 use std::marker::Model;
 
 /// A word and its column in the line, from 1.
@@ -33,18 +33,33 @@ impl<'a> Model for Words<'a> {
     ghost invariant = { λ w. w.at ≤ length w.line.now };
 }
 
-/// How many spaces the bytes begin with.
-fn spaces_before(bytes: &[u8]) -> usize
-    ensures words { (column : ℕ) → words_from (column + result) (drop result bytes.now) ≡ words_from column bytes.now }
-    ensures within { result ≤ length bytes.now }
-    ensures front { result < length bytes.now → is_space (slice_index bytes.now result) ≡ false }
+/// Where the first byte stands that is no space, from a place of a line on.
+fn past_spaces(line: &[u8], at: usize) -> usize
+    requires { at ≤ length line.now }
+    ensures words { words_from (result + 1) (drop result line.now) ≡ words_from (at + 1) (drop at line.now) }
+    ensures within { result ≤ length line.now }
+    ensures front { result < length line.now → is_space (slice_index line.now result) ≡ false }
 {
-    for (i, b) in bytes.iter().enumerate() {
-        if *b != b' ' {
+    for i in at..line.len() {
+        if line[i] != b' ' {
             return i;
         }
     }
-    bytes.len()
+    line.len()
+}
+
+/// Where the first space stands, from a place of a line on.
+fn past_letters(line: &[u8], at: usize) -> usize
+    requires { at ≤ length line.now }
+    ensures place { result ≡ at + position_or_len is_space (drop at line.now) }
+    ensures within { result ≤ length line.now }
+{
+    for i in at..line.len() {
+        if line[i] == b' ' {
+            return i;
+        }
+    }
+    line.len()
 }
 
 /// The next word of a line from a place on, and where it ends.
@@ -54,17 +69,16 @@ fn word_after(line: &[u8], at: usize) -> Option<(Word<'_>, usize)>
     ensures within { IfSome result (λ f. f.1 ≤ length line.now) }
     ensures end { IfNone result (words_from (at + 1) (drop at line.now) ≡ []) }
 {
-    let start = at + spaces_before(&line[at..]);
-    let rest = &line[start..];
-    if rest.is_empty() {
+    let start = past_spaces(line, at);
+    if start == line.len() {
         return None;
     }
-    let length = length_before(rest, b' ');
+    let end = past_letters(line, start);
     let word = Word {
         column: start + 1,
-        text: &rest[..length],
+        text: &line[start..end],
     };
-    Some((word, start + length))
+    Some((word, end))
 }
 
 impl<'a> Words<'a> {
