@@ -1,6 +1,6 @@
 //! The lines of verbs, which scripts of a world and of a node share.
 
-ghost use Rattle.std.specs.Prelude.{◌≡◌, Ok, Err, IfOk};
+ghost use Rattle.std.specs.Prelude.{◌≡◌, ◌≢◌, Err, IfOk};
 ghost use Rattle.script_lang.specs.declared.lines.LineFault.TheVariants as fault;
 ghost use Rattle.script_lang.specs.declared.forms.VerbForm.TheVariants as form_is;
 ghost use Rattle.rdma_types.specs.Shapes.{IsLawfulShape};
@@ -148,11 +148,11 @@ fn posting(words: &mut Words<'_>) -> Result<PostHead, Offence>
 
 /// A request of this shape, with its options.
 #[tactic(auto, unfolding(crate::specs::Verbs::posted))]
-fn posted(words: &mut Words<'_>, at: &PostHead, shape: Shape) -> Verb
+fn posted(words: &mut Words<'_>, at: &PostHead, shape: Shape) -> Result<Verb, Offence>
     requires { IsLawfulShape shape }
-    ensures value { verbs.posted at.now.end at.now.id at.now.lkey at.now.local shape words.old ≡ Ok (result, words.new) }
-    ensures lawful { IsLawfulVerb result }
-    ensures shared { IsOfNode result }
+    ensures value { Gives result words.new (verbs.posted at.now.end at.now.id at.now.lkey at.now.local shape words.old) }
+    ensures lawful { IfOk result IsLawfulVerb }
+    ensures shared { IfOk result IsOfNode }
 {
     let fence = words.option(b"fence");
     let quiet = words.option(b"quiet");
@@ -164,10 +164,10 @@ fn posted(words: &mut Words<'_>, at: &PostHead, shape: Shape) -> Verb
         signaled: !quiet,
         fence,
     };
-    Verb::PostSend {
+    Ok(Verb::PostSend {
         end: at.end,
         request,
-    }
+    })
 }
 
 /// `write` O id lkey address length raddress rkey, and perhaps `imm` i, `fence`, `quiet`
@@ -191,7 +191,7 @@ fn write(words: &mut Words<'_>) -> Result<Verb, Offence>
         swap_add: 0,
         compare: 0,
     };
-    Ok(posted(words, &at, shape))
+    posted(words, &at, shape)
 }
 
 /// `send` O id lkey address length, and perhaps `imm` i, `fence`, `quiet`
@@ -213,7 +213,7 @@ fn send(words: &mut Words<'_>) -> Result<Verb, Offence>
         swap_add: 0,
         compare: 0,
     };
-    Ok(posted(words, &at, shape))
+    posted(words, &at, shape)
 }
 
 /// `read` O id lkey address length raddress rkey, and perhaps `fence`, `quiet`
@@ -236,7 +236,7 @@ fn read(words: &mut Words<'_>) -> Result<Verb, Offence>
         swap_add: 0,
         compare: 0,
     };
-    Ok(posted(words, &at, shape))
+    posted(words, &at, shape)
 }
 
 /// `cas` O id lkey address raddress rkey compare swap, and perhaps `fence`, `quiet`
@@ -260,7 +260,7 @@ fn cas(words: &mut Words<'_>) -> Result<Verb, Offence>
         swap_add,
         compare,
     };
-    Ok(posted(words, &at, shape))
+    posted(words, &at, shape)
 }
 
 /// `add` O id lkey address raddress rkey value, and perhaps `fence`, `quiet`
@@ -283,7 +283,7 @@ fn add(words: &mut Words<'_>) -> Result<Verb, Offence>
         swap_add,
         compare: 0,
     };
-    Ok(posted(words, &at, shape))
+    posted(words, &at, shape)
 }
 
 /// `recv` O id lkey address length
@@ -319,6 +319,31 @@ fn poll(words: &mut Words<'_>) -> Result<Verb, Offence>
     Ok(Verb::Poll { cq, max })
 }
 
+/// What the words behind the first say, of a verb that takes no memory.
+fn plain_verb(form: VerbForm, words: &mut Words<'_>) -> Result<Verb, Offence>
+    requires { form ≢ form_is.Store }
+    ensures value { Gives result words.new (verbs.verb_line form words.old) }
+    ensures lawful { IfOk result IsLawfulVerb }
+    ensures shared { IfOk result IsOfNode }
+{
+    match form {
+        VerbForm::Store => unreachable!(),
+        VerbForm::Domain => domain(words),
+        VerbForm::Region => region(words),
+        VerbForm::Cq => cq(words),
+        VerbForm::Qp => qp(words),
+        VerbForm::Drop => drop_region(words),
+        VerbForm::Load => load(words),
+        VerbForm::Write => write(words),
+        VerbForm::Send => send(words),
+        VerbForm::Read => read(words),
+        VerbForm::CompareSwap => cas(words),
+        VerbForm::FetchAdd => add(words),
+        VerbForm::Recv => recv(words),
+        VerbForm::Poll => poll(words),
+    }
+}
+
 /// What the words behind the first say.
 ///
 /// # Errors
@@ -330,21 +355,11 @@ pub fn read_verb(alloc: Global, form: VerbForm, words: &mut Words<'_>) -> Result
     ensures shared { IfOk result IsOfNode }
     ensures memory { result ≡ Err fault.OutOfMemory → form ≡ form_is.Store }
 {
-    let verb = match form {
-        VerbForm::Store => return store(alloc, words),
-        VerbForm::Domain => domain(words)?,
-        VerbForm::Region => region(words)?,
-        VerbForm::Cq => cq(words)?,
-        VerbForm::Qp => qp(words)?,
-        VerbForm::Drop => drop_region(words)?,
-        VerbForm::Load => load(words)?,
-        VerbForm::Write => write(words)?,
-        VerbForm::Send => send(words)?,
-        VerbForm::Read => read(words)?,
-        VerbForm::CompareSwap => cas(words)?,
-        VerbForm::FetchAdd => add(words)?,
-        VerbForm::Recv => recv(words)?,
-        VerbForm::Poll => poll(words)?,
-    };
-    Ok(verb)
+    if let VerbForm::Store = form {
+        return store(alloc, words);
+    }
+    match plain_verb(form, words) {
+        Ok(verb) => Ok(verb),
+        Err(offence) => Err(offence.into()),
+    }
 }
