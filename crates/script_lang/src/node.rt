@@ -1,7 +1,8 @@
 //! What a line of a script of a node says.
 
-ghost use Rattle.std.specs.Prelude.{◌≡◌, IfOk, ◌+◌, Some, Err, length};
+ghost use Rattle.std.specs.Prelude.{◌≡◌, ◌≢◌, IfOk, ◌+◌, Some, Err, length};
 ghost use Rattle.script_lang.specs.declared.forms.NodeForm.TheVariants as form_is;
+ghost use Rattle.script_lang.specs.declared.forms.VerbForm.{VerbForm};
 ghost use Rattle.script_lang.specs.declared.forms.VerbForm.TheVariants as verb_is;
 ghost use Rattle.script_lang.specs.declared.lines.LineFault.TheVariants as fault;
 ghost use Rattle.script_lang.specs.declared.lines.NodeLine.TheVariants as line_is;
@@ -10,7 +11,7 @@ ghost use Rattle.script_lang.specs.Lines.{node_reading_of, reading_of_words, beg
 ghost use Rattle.script_lang.specs.Ranges.{IsLawfulNodeLine};
 ghost use Rattle.script_lang.specs.Words.{Gives, GivesOr, words_from};
 
-use crate::forms::{self, NodeForm};
+use crate::forms::{self, NodeForm, VerbForm};
 use crate::lines::{LineFault, LineWhy, NodeLine, Offence};
 use crate::reading::check_bytes;
 use crate::verbs;
@@ -56,28 +57,55 @@ fn serve(words: &mut Words<'_>) -> Result<NodeLine, Offence>
     Ok(NodeLine::Serve(turns))
 }
 
-/// What the words behind the first say.
+/// What the words behind the first say, of a line that is no verb.
 #[tactic(auto, unfolding(crate::specs::Lines::node_line_of))]
+fn plain_line(form: NodeForm, words: &mut Words<'_>) -> Result<NodeLine, Offence>
+    requires { (verb : VerbForm) → form ≢ form_is.Verb verb }
+    ensures value { Gives result words.new (lines.node_line_of form words.old) }
+    ensures lawful { IfOk result IsLawfulNodeLine }
+{
+    match form {
+        NodeForm::Verb(_) => unreachable!(),
+        NodeForm::Context => Ok(NodeLine::Context(words.name()?)),
+        NodeForm::Link => link(words),
+        NodeForm::Go => Ok(NodeLine::Go(words.object()?)),
+        NodeForm::Expire => Ok(NodeLine::Expire(words.object()?)),
+        NodeForm::Rnr => Ok(NodeLine::Rnr(words.object()?)),
+        NodeForm::Stop => stop(words),
+        NodeForm::Restore => Ok(NodeLine::Restore {
+            file: words.name()?,
+        }),
+        NodeForm::Release => Ok(NodeLine::Release(words.name()?)),
+        NodeForm::Serve => serve(words),
+    }
+}
+
+/// What the words behind the first say, of a verb.
+#[tactic(auto, unfolding(crate::specs::Lines::node_line_of))]
+fn verb_line(alloc: Global, verb: VerbForm, words: &mut Words<'_>) -> Result<NodeLine, LineFault>
+    ensures value { GivesOr result words.new (lines.node_line_of (form_is.Verb verb) words.old) }
+    ensures lawful { IfOk result IsLawfulNodeLine }
+    ensures memory { result ≡ Err fault.OutOfMemory → verb ≡ verb_is.Store }
+{
+    match verbs::read_verb(alloc, verb, words) {
+        Ok(verb) => Ok(NodeLine::Verb(verb)),
+        Err(fault) => Err(fault),
+    }
+}
+
+/// What the words behind the first say.
 fn line_of(alloc: Global, form: NodeForm, words: &mut Words<'_>) -> Result<NodeLine, LineFault>
     ensures value { GivesOr result words.new (lines.node_line_of form words.old) }
     ensures lawful { IfOk result IsLawfulNodeLine }
     ensures memory { result ≡ Err fault.OutOfMemory → form ≡ form_is.Verb verb_is.Store }
 {
-    let line = match form {
-        NodeForm::Verb(verb) => NodeLine::Verb(verbs::read_verb(alloc, verb, words)?),
-        NodeForm::Context => NodeLine::Context(words.name()?),
-        NodeForm::Link => link(words)?,
-        NodeForm::Go => NodeLine::Go(words.object()?),
-        NodeForm::Expire => NodeLine::Expire(words.object()?),
-        NodeForm::Rnr => NodeLine::Rnr(words.object()?),
-        NodeForm::Stop => stop(words)?,
-        NodeForm::Restore => NodeLine::Restore {
-            file: words.name()?,
-        },
-        NodeForm::Release => NodeLine::Release(words.name()?),
-        NodeForm::Serve => serve(words)?,
-    };
-    Ok(line)
+    if let NodeForm::Verb(verb) = form {
+        return verb_line(alloc, verb, words);
+    }
+    match plain_line(form, words) {
+        Ok(line) => Ok(line),
+        Err(offence) => Err(offence.into()),
+    }
 }
 
 /// What the words behind the first say, where none is left.
@@ -86,9 +114,12 @@ fn whole_line(alloc: Global, form: NodeForm, words: &mut Words<'_>) -> Result<No
     ensures lawful { IfOk result IsLawfulNodeLine }
     ensures memory { result ≡ Err fault.OutOfMemory → form ≡ form_is.Verb verb_is.Store }
 {
-    let line = line_of(alloc, form, words)?;
+    let read = line_of(alloc, form, words);
+    if read.is_err() {
+        return read;
+    }
     words.end()?;
-    Ok(line)
+    read
 }
 
 /// What a line says that begins with this word.

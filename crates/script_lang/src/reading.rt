@@ -1,8 +1,9 @@
 //! What a line of a script of a world says.
 
-ghost use Rattle.std.specs.Prelude.{◌≡◌, ◌+◌, ℕ, not, Some, None, Ok, Err, OnOk, IfErr, IfOk, length};
+ghost use Rattle.std.specs.Prelude.{◌≡◌, ◌≢◌, ◌+◌, ℕ, not, Some, None, Ok, Err, OnOk, IfErr, IfOk, length};
 ghost use Rattle.std.specs.List.{list_all, position_or_len};
 ghost use Rattle.script_lang.specs.declared.forms.Form.TheVariants as form_is;
+ghost use Rattle.script_lang.specs.declared.forms.VerbForm.{VerbForm};
 ghost use Rattle.script_lang.specs.declared.forms.VerbForm.TheVariants as verb_is;
 ghost use Rattle.script_lang.specs.declared.lines.Line.TheVariants as line_is;
 ghost use Rattle.script_lang.specs.declared.lines.LineFault.TheVariants as fault;
@@ -11,7 +12,7 @@ ghost use Rattle.script_lang.specs.Lines.{bytes_offence, is_printable, printable
 ghost use Rattle.script_lang.specs.Ranges.{IsLawfulLine};
 ghost use Rattle.script_lang.specs.Words.{Gives, GivesOr, words_from};
 
-use crate::forms::{self, Form};
+use crate::forms::{self, Form, VerbForm};
 use crate::lines::{Line, LineFault, LineWhy, Offence};
 use crate::verbs;
 use crate::words::{Word, Words};
@@ -129,31 +130,58 @@ fn release(words: &mut Words<'_>) -> Result<Line, Offence>
     Ok(Line::Release { name, device })
 }
 
-/// What the words behind the first say.
+/// What the words behind the first say, of a line that is no verb.
 #[tactic(auto, unfolding(crate::specs::Lines::line_of))]
+fn plain_line(form: Form, words: &mut Words<'_>) -> Result<Line, Offence>
+    requires { (verb : VerbForm) → form ≢ form_is.Verb verb }
+    ensures value { Gives result words.new (lines.line_of form words.old) }
+    ensures lawful { IfOk result IsLawfulLine }
+{
+    match form {
+        Form::Verb(_) => unreachable!(),
+        Form::Device => device(words),
+        Form::Context => context(words),
+        Form::Connect => connect(words),
+        Form::Go => Ok(Line::Go(words.object()?)),
+        Form::Deliver => Ok(Line::Deliver(words.long()?)),
+        Form::Lose => Ok(Line::Lose(words.long()?)),
+        Form::Wire => Ok(Line::Wire(words.long()?)),
+        Form::Expire => Ok(Line::Expire(words.object()?)),
+        Form::Rnr => Ok(Line::Rnr(words.object()?)),
+        Form::Stop => Ok(Line::Stop(words.name()?)),
+        Form::Restore => restore(words),
+        Form::Release => release(words),
+        Form::Dump => Ok(Line::Dump(words.name()?)),
+        Form::Settle => Ok(Line::Settle),
+    }
+}
+
+/// What the words behind the first say, of a verb.
+#[tactic(auto, unfolding(crate::specs::Lines::line_of))]
+fn verb_line(alloc: Global, verb: VerbForm, words: &mut Words<'_>) -> Result<Line, LineFault>
+    ensures value { GivesOr result words.new (lines.line_of (form_is.Verb verb) words.old) }
+    ensures lawful { IfOk result IsLawfulLine }
+    ensures memory { result ≡ Err fault.OutOfMemory → verb ≡ verb_is.Store }
+{
+    match verbs::read_verb(alloc, verb, words) {
+        Ok(verb) => Ok(Line::Verb(verb)),
+        Err(fault) => Err(fault),
+    }
+}
+
+/// What the words behind the first say.
 fn line_of(alloc: Global, form: Form, words: &mut Words<'_>) -> Result<Line, LineFault>
     ensures value { GivesOr result words.new (lines.line_of form words.old) }
     ensures lawful { IfOk result IsLawfulLine }
     ensures memory { result ≡ Err fault.OutOfMemory → form ≡ form_is.Verb verb_is.Store }
 {
-    let line = match form {
-        Form::Verb(verb) => Line::Verb(verbs::read_verb(alloc, verb, words)?),
-        Form::Device => device(words)?,
-        Form::Context => context(words)?,
-        Form::Connect => connect(words)?,
-        Form::Go => Line::Go(words.object()?),
-        Form::Deliver => Line::Deliver(words.long()?),
-        Form::Lose => Line::Lose(words.long()?),
-        Form::Wire => Line::Wire(words.long()?),
-        Form::Expire => Line::Expire(words.object()?),
-        Form::Rnr => Line::Rnr(words.object()?),
-        Form::Stop => Line::Stop(words.name()?),
-        Form::Restore => restore(words)?,
-        Form::Release => release(words)?,
-        Form::Dump => Line::Dump(words.name()?),
-        Form::Settle => Line::Settle,
-    };
-    Ok(line)
+    if let Form::Verb(verb) = form {
+        return verb_line(alloc, verb, words);
+    }
+    match plain_line(form, words) {
+        Ok(line) => Ok(line),
+        Err(offence) => Err(offence.into()),
+    }
 }
 
 /// What the words behind the first say, where none is left.
@@ -162,9 +190,12 @@ fn whole_line(alloc: Global, form: Form, words: &mut Words<'_>) -> Result<Line, 
     ensures lawful { IfOk result IsLawfulLine }
     ensures memory { result ≡ Err fault.OutOfMemory → form ≡ form_is.Verb verb_is.Store }
 {
-    let line = line_of(alloc, form, words)?;
+    let read = line_of(alloc, form, words);
+    if read.is_err() {
+        return read;
+    }
     words.end()?;
-    Ok(line)
+    read
 }
 
 /// What a line says that begins with this word.
