@@ -194,3 +194,31 @@ fn bytes_are_lowered_and_lifted(rt: HostRuntime) -> Result<(), PoolFault> {
     );
     Ok(())
 }
+
+/// Two whole pages that are lowered, lifted and lowered again, then shared, and written over their seam: how many pages are
+/// free after the first step and how many bytes the list has, the two bytes there of both lists, and two bytes that are
+/// lifted at last.
+fn told_of_whole(
+    pool: &mut PagePool,
+    alloc: Global,
+) -> Option<((u32, u64), Both, Option<[u8; 2]>)> {
+    let list = lowered(pool, alloc, &[7; 8192], 0)?;
+    let sizes = sizes(pool, &list);
+    let run = lifted(pool, alloc, list, 0, 8192)?;
+    let mut list = pool.lower(alloc, run, 0).ok()?;
+    let other = shared(pool, alloc, &list).ok()?;
+    put_two(pool, &mut list, 4095, [1, 2]);
+    let bytes = [two_at(pool, &list, 4095), two_at(pool, &other, 4095)];
+    pool.give(other);
+    let run = lifted(pool, alloc, list, 4094, 2)?;
+    Some((sizes, bytes, two_of(&run)))
+}
+
+#[test]
+fn whole_pages_are_lowered_and_lifted(rt: HostRuntime) -> Result<(), PoolFault> {
+    let mut pool = PagePool::make(rt.alloc(), 4)?;
+    let told = told_of_whole(&mut pool, rt.alloc());
+    let wanted = ((2, 8192), [Some([1, 2]), Some([7, 7])], Some([7, 1]));
+    assert_eq!(rt; (told, pool.free()), (Some(wanted), 4));
+    Ok(())
+}

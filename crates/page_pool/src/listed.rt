@@ -1,6 +1,6 @@
 //! How a pool keeps a list.
 
-ghost use Rattle.std.specs.Prelude.{◌≡◌, ℕ, ◌*◌, ◌/◌, ◌<◌, ◌≤◌, ◌^◌, length, vec_capacity};
+ghost use Rattle.std.specs.Prelude.{◌≡◌, ◌*◌, ◌/◌, ◌<◌, ◌≤◌, ◌^◌, length, vec_capacity};
 
 use byte_run::ByteRun;
 use std::alloc::{AllocError, Global};

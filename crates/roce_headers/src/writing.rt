@@ -280,6 +280,7 @@ pub fn encode_in(d: &Datagram<'_>, memory: Vec<u8>) -> Vec<u8>
 {
     let mut bytes = with_headers(d, memory);
     bytes.extend_from_slice(d.payload).unwrap();
-    bytes.resize(encoded_len(d), 0).unwrap();
+    let end = bytes.len() + padding_len(d.payload.len()) + 4;
+    bytes.resize(end, 0).unwrap();
     bytes
 }
