@@ -35,6 +35,9 @@ impl<'a, G: Gate> Polling<'a, G> {
     fn poll<R: Wait>(&mut self, rt: &R, alloc: Global) -> Result<bool, PlanFault> {
         for _ in rt.forever() {
             let seen = self.hand.end_turn(rt);
+            if self.hand.is_halted(rt) {
+                return Ok(false);
+            }
             self.poll_once(rt, alloc)?;
             if !self.waiting.is_empty() {
                 self.hand.end_turn(rt);

@@ -7,7 +7,7 @@ ghost use Rattle.cq_fanout.specs.HandedOut.{IsFanPlan, IsHandedOut};
 
 use crate::drainer::{Drained, Drainer};
 use crate::plan::FanPlan;
-use crate::pumping::{Pumped, join_pump, run_pump, start_pump};
+use crate::pumping::{Pumped, join_pump, start_pump};
 use crate::told::are_told;
 use fan_queue::{FanEntry, HandedOut, PopGate, hand_out};
 use rdma_types::{Completion, Items};
@@ -50,8 +50,10 @@ struct Ended {
     pumped: Option<Pumped>,
 }
 
-/// Runs pump, drainer and consumers in a scope, each in a thread of its own, and joins them. A thread whose start is refused is
-/// run by the caller once the others are started, the pump first. Errors: out of memory; all is then halted.
+/// Runs pump, drainer and consumers in a scope, each in a thread of its own, and joins them. Where the start of the pump or of
+/// the drainer is refused, all is halted. A consumer whose start is refused is run by the caller once the others are started.
+/// The queue has a place for each end mark, so that the caller can put them all for a drainer without a thread. Errors: out of
+/// memory; all is then halted.
 fn run_in<'s, E, R: Threads + Wait + Sync, G: Gate + Sync>(
     scope: &'s Scope<'s, E>,
     rt: &'s R,
@@ -76,20 +78,16 @@ fn run_in<'s, E, R: Threads + Wait + Sync, G: Gate + Sync>(
     let started = start_pump(scope, rt, alloc, site, gate, adds);
     let is_refused = started.is_none();
     let most = adds as usize + 1;
-    let beside = move || -> Option<Pumped>
-        requires { adds ≤ 10000 }
-    {
-        if is_refused {
-            Some(run_pump(rt, alloc, site, gate, adds))
-        } else {
-            None
+    let beside = move |is_alone: bool| {
+        if is_refused || is_alone {
+            site.orders.halt(rt);
         }
     };
     let handed = hand_out(
         rt,
         alloc,
         consumers,
-        capacity as usize,
+        capacity.max(consumers) as usize,
         most,
         &pops,
         drainer,
@@ -98,11 +96,11 @@ fn run_in<'s, E, R: Threads + Wait + Sync, G: Gate + Sync>(
     if handed.is_err() {
         site.orders.halt(rt);
     }
-    let (out, drainer, own) = handed?;
+    let (out, drainer, ()) = handed?;
     Ok(Ended {
         out,
         drained: drainer.end(),
-        pumped: join_pump(rt, started, own),
+        pumped: join_pump(rt, started),
     })
 }
 
@@ -161,14 +159,13 @@ fn lists(
 }
 
 /// A run of the plan by threads: one worker makes the additions and delivers datagrams, one drains their completions, and
-/// the consumers take these. Each completion is taken by one consumer, and none is left. A thread whose start is refused is
-/// run by the caller once the others are started, the worker first. It may wait, and so it does for ever where two or more
-/// starts are refused.
+/// the consumers take these. Each completion is taken by one consumer, and none is left. A consumer whose start is refused is
+/// run by the caller once the others are started. It may wait.
 ///
 /// # Errors
 ///
-/// `PlanFault::OutOfMemory`, and `PlanFault::NotAsPlanned` where there are more or fewer completions than additions, or where
-/// they are not those that the drainer's receipts tell of.
+/// `PlanFault::OutOfMemory`, and `PlanFault::NotAsPlanned` where the start of the worker or of the one who drains is refused,
+/// where there are more or fewer completions than additions, or where they are not those that the drainer's receipts tell of.
 #[tactic(auto, using(crate::proofs::Handing::handed_out))]
 pub fn fan_out<R: Threads + Wait + Sync, G: Gate + Sync>(
     rt: &R,

@@ -52,14 +52,10 @@ pub fn start_pump<'s, E, R: Threads + Wait + Sync, G: Gate + Sync>(
         .ok()
 }
 
-/// The pump when it has ended: in its thread, or the one that the caller ran.
-pub fn join_pump<R: Threads>(
-    rt: &R,
-    started: Option<JoinHandle<Pumped>>,
-    own: Option<Pumped>,
-) -> Option<Pumped> {
+/// The pump when it has ended; None where it was not started.
+pub fn join_pump<R: Threads>(rt: &R, started: Option<JoinHandle<Pumped>>) -> Option<Pumped> {
     match started {
         Some(handle) => Some(handle.join(rt)),
-        None => own,
+        None => None,
     }
 }

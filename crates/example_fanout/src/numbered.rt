@@ -75,7 +75,7 @@ fn handed_with<R: Threads + Wait + Sync>(
         room,
         &OpenGate,
         source,
-        || (),
+        |_| (),
     )
     .ok()?;
     let mut taken = 0usize;

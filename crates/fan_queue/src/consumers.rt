@@ -1,6 +1,6 @@
 //! Consumers in threads.
 
-ghost use Rattle.std.specs.Prelude.{◌≡◌, ◌<◌, ◌≤◌, ◌+◌, [], vec_len, IfOk};
+ghost use Rattle.std.specs.Prelude.{◌≡◌, ◌<◌, ◌≤◌, ◌+◌, [], Bool, vec_len, IfOk};
 ghost use Rattle.crossbeam_queue.specs.Passes.{view, IsPassOf};
 ghost use Rattle.fan_queue.specs.Feeding.{IsFeeding};
 ghost use Rattle.fan_queue.specs.Rule.{root_share, writer_share};
@@ -77,7 +77,7 @@ pub(crate) fn consume_all<
     R: Threads + Wait + Sync,
     G: PopGate + Sync,
     S: Source + Send + Drop + 's,
-    L: FnOnce() -> T,
+    L: FnOnce(bool) -> T,
     T: Drop,
 >(
     scope: &'s Scope<'s, E>,
@@ -95,7 +95,7 @@ pub(crate) fn consume_all<
     requires few { vec_len rooms ≤ 4 }
     requires feeder { IsPassOf queue.now feeder.pass × (view feeder.pass ≡ writer_share [] 0) }
     requires given { S.given feeder.source ≡ [] }
-    requires beside { L.pre beside }
+    requires beside { (b : Bool) → L.pre beside b }
     ensures all { IfOk result (λ r. AreServed queue.now (view root).parts r.root r.lists.items r.is_out_of_memory) }
     ensures lists { IfOk result (λ r. vec_len r.lists ≡ vec_len rooms) }
     ensures feeding { IfOk result (λ r. IsFeeding S.given queue.now r.feeding) }

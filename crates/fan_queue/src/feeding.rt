@@ -1,6 +1,6 @@
 //! The one who puts.
 
-ghost use Rattle.std.specs.Prelude.{◌≡◌, ◌++◌, ◌∷◌, [], List, MatchOption};
+ghost use Rattle.std.specs.Prelude.{◌≡◌, ◌++◌, ◌∷◌, [], Bool, List, MatchOption};
 ghost use Rattle.crossbeam_queue.specs.Passes.{view, IsPassOf};
 ghost use Rattle.fan_queue.specs.Feeding.{IsFeeding};
 ghost use Rattle.fan_queue.specs.Rule.{writer_share};
@@ -110,13 +110,14 @@ impl<'a, S: Source> Feeding<'a, S> {
     }
 }
 
-/// Starts the one who puts in a thread, and runs `beside`. Where the start is refused, the caller then puts.
+/// Starts the one who puts in a thread, and runs `beside`, which is told whether that start is refused. Where it is, the caller
+/// then puts.
 pub(crate) fn start<
     's,
     E,
     R: Threads + Wait + Sync,
     S: Source + Send + Drop + 's,
-    L: FnOnce() -> T,
+    L: FnOnce(bool) -> T,
     T: Drop,
 >(
     scope: &'s Scope<'s, E>,
@@ -127,11 +128,11 @@ pub(crate) fn start<
 ) -> (Feeding<'s, S>, T)
     requires feeder { IsPassOf queue.now feeder.pass × (view feeder.pass ≡ writer_share [] 0) }
     requires given { S.given feeder.source ≡ [] }
-    requires beside { L.pre beside }
+    requires beside { (b : Bool) → L.pre beside b }
     ensures { IsFeeding S.given queue.now result.0 }
 {
     let started = scope.spawn_with(FedAt(queue), move || feed(rt, queue, feeder));
-    let done = beside();
+    let done = beside(started.is_err());
     let feeding = match started {
         Ok(handle) => Feeding::There(handle),
         Err(refused) => Feeding::Here((refused.value)()),

@@ -1,6 +1,6 @@
 //! Completions handed to consumers in threads.
 
-ghost use Rattle.std.specs.Prelude.{◌≡◌, ◌<◌, ◌≤◌, [], length, vec_len, IfOk};
+ghost use Rattle.std.specs.Prelude.{◌≡◌, ◌<◌, ◌≤◌, [], Bool, length, vec_len, IfOk};
 ghost use Rattle.crossbeam_queue.specs.Passes.{view, IsPassOf};
 ghost use Rattle.fan_queue.specs.Fanned.{IsFanned};
 ghost use Rattle.fan_queue.specs.Rule.{root_share, writer_share};
@@ -36,7 +36,7 @@ fn run<
     R: Threads + Wait + Sync,
     G: PopGate + Sync,
     S: Source + Send + Drop + 's,
-    L: FnOnce() -> T,
+    L: FnOnce(bool) -> T,
     T: Drop,
 >(
     scope: &'s Scope<'s, E>,
@@ -54,7 +54,7 @@ fn run<
     requires marks { feeder.consumers ≡ vec_len rooms }
     requires given { S.given feeder.source ≡ [] }
     requires rooms { (0 < vec_len rooms) × (vec_len rooms ≤ 4) }
-    requires beside { L.pre beside }
+    requires beside { (b : Bool) → L.pre beside b }
     ensures fanned { IfOk result (λ out. IsFanned (S.given out.1) out.0.taken out.0.left) }
     ensures lists { IfOk result (λ out. length out.0.taken ≡ vec_len rooms) }
     ensures none { IfOk result (λ out. out.0.left ≡ []) }
@@ -76,7 +76,11 @@ fn run<
 /// Hands the completions of a source, in their order, to 1 to 4 consumers over a queue of that many places. Each consumer
 /// takes in a thread of its own, and one thread puts; the caller runs `beside` when all are started. Each completion that the
 /// source gave is taken once, under its place, and nothing is left. A thread whose start is refused is run by the caller after
-/// that. `most` is for how many completions each consumer has room from the start. It may wait.
+/// that: first the one who puts, and then each such consumer. `beside` is told whether the one who puts is among them. `most`
+/// is for how many completions each consumer has room from the start.
+///
+/// It may wait, and does so for ever where the starts of the one who puts and of all consumers are refused, and the completions
+/// and an end mark for each consumer do not fit in the queue. So a caller who is told so makes its source end.
 ///
 /// # Errors
 ///
@@ -85,7 +89,7 @@ pub fn hand_out<
     R: Threads + Wait + Sync,
     G: PopGate + Sync,
     S: Source + Send + Drop,
-    L: FnOnce() -> T,
+    L: FnOnce(bool) -> T,
     T: Drop,
 >(
     rt: &R,
@@ -100,7 +104,7 @@ pub fn hand_out<
     requires consumers { (1 ≤ consumers) × (consumers ≤ 4) }
     requires capacity { 0 < capacity }
     requires given { S.given source ≡ [] }
-    requires beside { L.pre beside }
+    requires beside { (b : Bool) → L.pre beside b }
     ensures fanned { IfOk result (λ out. IsFanned (S.given out.1) out.0.taken out.0.left) }
     ensures lists { IfOk result (λ out. length out.0.taken ≡ consumers) }
     ensures none { IfOk result (λ out. out.0.left ≡ []) }
@@ -113,7 +117,7 @@ pub fn hand_out<
         thread::scope_env(),
         rt,
         move |scope| -> Result<(HandedOut, S, T), AllocError>
-            requires { IsPassOf row.now root × (view root ≡ root_share 1023 [] 0) × IsPassOf row.now pass × (view pass ≡ writer_share [] 0) × (consumers ≡ vec_len rooms) × (0 < vec_len rooms) × (vec_len rooms ≤ 4) × (S.given source ≡ []) × L.pre beside }
+            requires { IsPassOf row.now root × (view root ≡ root_share 1023 [] 0) × IsPassOf row.now pass × (view pass ≡ writer_share [] 0) × (consumers ≡ vec_len rooms) × (0 < vec_len rooms) × (vec_len rooms ≤ 4) × (S.given source ≡ []) × ((b : Bool) → L.pre beside b) }
             ensures { IfOk result (λ out. IsFanned (S.given out.1) out.0.taken out.0.left × (length out.0.taken ≡ vec_len rooms) × (out.0.left ≡ [])) }
         {
             let feeder = Feeder {

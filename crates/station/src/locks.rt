@@ -75,6 +75,11 @@ impl Orders {
         self.changes.notify_all();
     }
 
+    /// Whether each wait ends.
+    pub fn is_halted<R: Wait>(&self, rt: &R) -> bool {
+        self.desk.lock(rt).halted
+    }
+
     /// Waits until more turns than `seen` have ended with news, or the orders are halted; and whether they are not halted.
     pub fn wait_past<R: Wait>(&self, rt: &R, seen: u64) -> bool {
         let desk = self.changes.wait_while(

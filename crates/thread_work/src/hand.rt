@@ -232,6 +232,11 @@ impl<'a, G: Gate> Hand<'a, G> {
         }
     }
 
+    /// Whether all was halted.
+    pub fn is_halted<R: Wait>(&self, rt: &R) -> bool {
+        self.site.orders.is_halted(rt)
+    }
+
     /// Where its turn did nothing, waits until another one's turn has ended with news. Says whether to go on, and not where all
     /// was halted.
     pub fn rest<R: Wait>(&mut self, rt: &R, seen: u64) -> bool {
