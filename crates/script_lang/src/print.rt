@@ -113,31 +113,31 @@ fn left_text(why: LeftWhy) -> &'static [u8]
     }
 }
 
-/// What an arrival did: a word, and what is told of it, each possibly without bytes.
+/// What an arrival did: `took` and a word, and what is told of it, possibly without bytes.
 #[tactic(auto, unfolding(crate::specs::Printed::took_text))]
 fn took_text(took: Took) -> (&'static [u8], &'static [u8])
-    ensures { result.0.now ++ result.1.now ≡ text.took_text took }
+    ensures { result.0.now ++ result.1.now ≡ codes "took " ++ text.took_text took }
 {
     match took {
-        Took::Acted => (b"acted", b""),
-        Took::Ack => (b"ack", b""),
-        Took::Bytes => (b"bytes", b""),
-        Took::Old => (b"old", b""),
-        Took::SeqNak => (b"seqnak", b""),
-        Took::NotReady => (b"notready", b""),
-        Took::DupAck => (b"dupack", b""),
-        Took::Refused(why) => (b"refused ", why_text(why)),
-        Took::Acked => (b"acked", b""),
-        Took::Landed => (b"landed", b""),
-        Took::Rewound => (b"rewound", b""),
-        Took::Waits => (b"waits", b""),
-        Took::Ended(status) => (b"ended ", status_text(status)),
-        Took::Stopped => (b"stopped", b""),
-        Took::Paused => (b"paused", b""),
-        Took::Resumed => (b"resumed", b""),
-        Took::ResumeAck => (b"resumeack", b""),
-        Took::Running => (b"running", b""),
-        Took::Silent(why) => (b"silent ", silent_text(why)),
+        Took::Acted => (b"took acted", b""),
+        Took::Ack => (b"took ack", b""),
+        Took::Bytes => (b"took bytes", b""),
+        Took::Old => (b"took old", b""),
+        Took::SeqNak => (b"took seqnak", b""),
+        Took::NotReady => (b"took notready", b""),
+        Took::DupAck => (b"took dupack", b""),
+        Took::Refused(why) => (b"took refused ", why_text(why)),
+        Took::Acked => (b"took acked", b""),
+        Took::Landed => (b"took landed", b""),
+        Took::Rewound => (b"took rewound", b""),
+        Took::Waits => (b"took waits", b""),
+        Took::Ended(status) => (b"took ended ", status_text(status)),
+        Took::Stopped => (b"took stopped", b""),
+        Took::Paused => (b"took paused", b""),
+        Took::Resumed => (b"took resumed", b""),
+        Took::ResumeAck => (b"took resumeack", b""),
+        Took::Running => (b"took running", b""),
+        Took::Silent(why) => (b"took silent ", silent_text(why)),
     }
 }
 
@@ -255,9 +255,8 @@ fn put_took(out: &mut Vec<u8>, took: Took, first: u64, count: u64) -> Result<(),
         ≡ out.old.items ++ (codes "took " ++ (text.took_text took ++ ended (text.sent_words first count)))) }
     ensures err { OnErr result (Keeps out.old.items out.new.items) }
 {
-    let (word, more) = took_text(took);
-    put(out, b"took ")?;
-    put_pair(out, word, more)?;
+    let (words, more) = took_text(took);
+    put_pair(out, words, more)?;
     put_sent(out, first, count)
 }
 
