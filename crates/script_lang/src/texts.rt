@@ -144,7 +144,7 @@ pub fn bytes(alloc: Global, text: &[u8]) -> Result<Option<Items<u8>>, AllocError
 }
 
 /// How many bytes stand before the first one that is `end`.
-pub fn length_before(bytes: &[u8], end: u8) -> usize
+fn length_before(bytes: &[u8], end: u8) -> usize
     ensures place { result ≡ position_or_len (λ b. b == end) bytes.now }
     ensures within { result ≤ length bytes.now }
 {
