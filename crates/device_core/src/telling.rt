@@ -149,13 +149,18 @@ pub(crate) fn told_arrival(
 ) -> Result<Answered, AllocError>
     ensures { sent_told result ≡ arrival_told arrived }
 {
-    let ArrivalOutcome { took, sent } = arrived?;
-    let answer = Answer::Took {
-        took,
-        first: 0,
-        count: sent.len() as u64,
-    };
-    Ok(Answered { answer, sent })
+    match arrived {
+        Ok(ArrivalOutcome { took, sent }) => {
+            let count = sent.len() as u64;
+            let answer = Answer::Took {
+                took,
+                first: 0,
+                count,
+            };
+            Ok(Answered { answer, sent })
+        }
+        Err(fault) => Err(fault),
+    }
 }
 
 /// A step that may run out of memory.

@@ -152,18 +152,21 @@ impl World {
         ensures touched { IfOk result (λ answer. (f : state.Flight) → (d : state.Device) → kept_flight self.old.sent k ≡ Some f → slice_get self.old.devices place ≡ Some d → ChangesWorldOnly (is_touched_on d f) self.old self.new) }
         ensures err { OnErr result (self.new ≡ self.old) }
     {
-        let answered = reach(&self.fabric, &mut self.devices[place], alloc, k, found)?;
-        let Answered { answer, sent } = answered;
-        let address = self.devices[place].address();
-        self.fabric.took(k);
-        Ok(send_outcome(
-            &mut self.fabric,
-            &mut self.devices,
-            &self.ports,
-            SendingDevice { place, address },
-            answer,
-            sent,
-        ))
+        match reach(&self.fabric, &mut self.devices[place], alloc, k, found) {
+            Ok(Answered { answer, sent }) => {
+                let address = self.devices[place].address();
+                self.fabric.took(k);
+                Ok(send_outcome(
+                    &mut self.fabric,
+                    &mut self.devices,
+                    &self.ports,
+                    SendingDevice { place, address },
+                    answer,
+                    sent,
+                ))
+            }
+            Err(fault) => Err(fault),
+        }
     }
 
     /// Datagram k is lost.

@@ -155,28 +155,31 @@ impl World {
         self.homes.reserve(1)?;
         self.carried.reserve(1)?;
         self.stopped.reserve(1)?;
-        let outcome = self.devices[place].step(alloc, event)?;
-        let Outcome {
-            answer,
-            sent,
-            image,
-        } = outcome;
-        let address = self.devices[place].address();
-        let answer = send_outcome(
-            &mut self.fabric,
-            &mut self.devices,
-            &self.ports,
-            SendingDevice { place, address },
-            answer,
-            sent,
-        );
-        carry(&mut self.carried, &mut self.stopped, image);
-        note_home(
-            &mut self.homes,
-            self.devices.as_slice(),
-            moved_context(event),
-        );
-        Ok(answer)
+        match self.devices[place].step(alloc, event) {
+            Ok(Outcome {
+                answer,
+                sent,
+                image,
+            }) => {
+                let address = self.devices[place].address();
+                let answer = send_outcome(
+                    &mut self.fabric,
+                    &mut self.devices,
+                    &self.ports,
+                    SendingDevice { place, address },
+                    answer,
+                    sent,
+                );
+                carry(&mut self.carried, &mut self.stopped, image);
+                note_home(
+                    &mut self.homes,
+                    self.devices.as_slice(),
+                    moved_context(event),
+                );
+                Ok(answer)
+            }
+            Err(fault) => Err(fault),
+        }
     }
 
     /// An end of a context of the device at a place transmits once, and its datagrams are sent.
@@ -191,16 +194,19 @@ impl World {
         ensures ok { IfOk result (λ answer. (d : Device) → slice_get self.old.devices place ≡ Some d → Makes (runs self.old d (event.Transmit end.now)) answer self.new) }
         ensures err { OnErr result (self.new ≡ self.old) }
     {
-        let answered = self.devices[place].transmit(alloc, end)?;
-        let Answered { answer, sent } = answered;
-        let address = self.devices[place].address();
-        Ok(send_outcome(
-            &mut self.fabric,
-            &mut self.devices,
-            &self.ports,
-            SendingDevice { place, address },
-            answer,
-            sent,
-        ))
+        match self.devices[place].transmit(alloc, end) {
+            Ok(Answered { answer, sent }) => {
+                let address = self.devices[place].address();
+                Ok(send_outcome(
+                    &mut self.fabric,
+                    &mut self.devices,
+                    &self.ports,
+                    SendingDevice { place, address },
+                    answer,
+                    sent,
+                ))
+            }
+            Err(fault) => Err(fault),
+        }
     }
 }

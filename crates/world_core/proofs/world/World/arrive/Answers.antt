@@ -14,36 +14,36 @@ use Rattle.world_core.proofs.Stepping.{answered_all, parts_after, parts_same}
 use Rattle.world_core.proofs.Places.{read_set, some_there}
 use Rattle.world_core.proofs.world.World.arrive.Goals as goal
 
-pub invariant_of-self-2 : goal.invariant_of-self-2
-invariant_of-self-2 c =
+pub invariant_of-self : goal.invariant_of-self
+invariant_of-self c =
     let ds = c.self.inside.devices.items in
-    let a = c.in_ok-answered.answered in
+    let a = c.in-Ok.field-0 in
     let o : Outcome = record { answer = a.answer; sent = a.sent; image = None } in
     let lt : c.args.place < length ds = subst (λ (w : World). c.args.place < length w.devices) (sym c.self.view_is) c.requires.place in
     let here : slice_get ds c.args.place ≡ Some c.index_mut.result.now = slice_get_read ds (length ds) c.args.place c.index_mut.result.now refl lt c.index_mut.ensures.value in
-    let step : (f : Flight) → kept_flight c.self.inside.fabric c.args.k ≡ Some f → device_step c.index_mut.result.now (event.Arrive f.from f.bytes) ≡ record { device = c.reach.new.device; outcome = o } = c.in_ok-answered.ensures.ok in
+    let step : (f : Flight) → kept_flight c.self.inside.fabric c.args.k ≡ Some f → device_step c.index_mut.result.now (event.Arrive f.from f.bytes) ≡ record { device = c.reach.new.device; outcome = o } = c.in-Ok.ensures.ok in
     let kept : is_some (kept_flight c.self.inside.fabric c.args.k) ≡ true = ap (λ (w : World). is_some (kept_flight w.sent c.args.k)) c.self.view_is ∙ c.requires.kept in
     let f : (f : Flight) × (kept_flight c.self.inside.fabric c.args.k ≡ Some f) = some_there _ kept in
     parts_same _ _ _ _ _ _ c.send_outcome.ensures.devices
     (parts_after _ _ _ _ ds c.self.inside.carried.items c.args.place c.index_mut.result.now c.reach.new.device (event.Arrive f.0.from f.0.bytes) o c.self.invariant here c.reach.ensures.same.0 c.reach.ensures.same.1 (step f.0 f.1) (λ m. refl))
 
-pub returns-clause-ok : goal.returns-clause-ok
-returns-clause-ok c = λ f d kept h.
+pub returns-in-Ok-clause-ok : goal.returns-in-Ok-clause-ok
+returns-in-Ok-clause-ok c = λ f d kept h.
     let ds = c.self.inside.devices.items in
-    let a = c.in_ok-answered.answered in
+    let a = c.in-Ok.field-0 in
     let e : Event = event.Arrive f.from f.bytes in
     let lt : c.args.place < length ds = subst (λ (w : World). c.args.place < length w.devices) (sym c.self.view_is) c.requires.place in
     let here : slice_get ds c.args.place ≡ Some c.index_mut.result.now = slice_get_read ds (length ds) c.args.place c.index_mut.result.now refl lt c.index_mut.ensures.value in
     let there : c.index.result.now ≡ c.reach.new.device = read_set ds c.args.place c.reach.new.device c.index.result.now lt c.index.ensures in
     answered_all _ (with_taken c.args.self.now c.args.k) _ c.args.place d c.index_mut.result.now c.reach.new.device e a.answer a.sent c.send_outcome.result c.address-address.result (length c.took.new.self + 1)
     (ap (λ (w : World). with_taken w c.args.k) c.self.view_is) c.self.invariant.ids here
-    (c.in_ok-answered.ensures.ok f (ap (λ (w : World). kept_flight w.sent c.args.k) c.self.view_is ∙ kept)) c.reach.ensures.same.0
+    (c.in-Ok.ensures.ok f (ap (λ (w : World). kept_flight w.sent c.args.k) c.self.view_is ∙ kept)) c.reach.ensures.same.0
     c.send_outcome.ensures.devices (c.address-address.ensures ∙ ap (λ x. x.address) there)
     (c.send_outcome.ensures.sent ∙ ap (λ s. forgetting (sending s c.address-address.result a.sent)) c.took.ensures.taken)
     refl refl (ap (λ s. length s + 1) c.took.ensures.taken) c.send_outcome.ensures.answer h
 
-pub returns-clause-touched : goal.returns-clause-touched
-returns-clause-touched c = λ f d kept h.
+pub returns-in-Ok-clause-touched : goal.returns-in-Ok-clause-touched
+returns-in-Ok-clause-touched c = λ f d kept h.
     let ds = c.self.inside.devices.items in
     let lt : c.args.place < length ds = subst (λ (w : World). c.args.place < length w.devices) (sym c.self.view_is) c.requires.place in
     let here : slice_get ds c.args.place ≡ Some c.index_mut.result.now = slice_get_read ds (length ds) c.args.place c.index_mut.result.now refl lt c.index_mut.ensures.value in
