@@ -1,20 +1,20 @@
--- An arrival hands out no image.
-use Rattle.std.proofs.Common.{◌≡◌, ◌∙◌, Some, ap, rules, subst, sym}
+-- An arrival is of the datagram that is kept.
+use Rattle.std.proofs.Common.{◌≡◌, ◌∙◌, IfOk, Result, Ok, Err, Some, ap, rules, subst, sym}
 use Rattle.std.specs.Option.{option_copied}
 use Rattle.protocol.specs.Bytes.{number_at}
+use Rattle.protocol.specs.DeviceStep.{device_step}
 use Rattle.protocol.specs.Fabric.{kept_flight}
 use Rattle.protocol.specs.State.{Flight}
-use Rattle.device_core.specs.Finding.{IsFound}
-use Rattle.protocol.specs.DeviceStep.{device_step}
 use Rattle.protocol.specs.declared.events.Event.TheVariants as event
-use Rattle.law_settling.proofs.steps.Bare as handing
-use Rattle.world_core.proofs.Stepping.{without_image}
+use Rattle.device_core.specs.Finding.{IsFound}
 use Rattle.world_core.proofs.network.reach.Goals as goal
 
+if_ok : {T E : Type 0} (r : Result T E) (P Q : T → Type 0) → IfOk r P → ((x : T) → P x → Q x) → IfOk r Q
+if_ok (Ok x) P Q known then = then x known
+if_ok (Err e) P Q known then = tt
+
 pub returns-clause-ok : goal.returns-clause-ok
-returns-clause-ok c = λ f kept.
-    let step : device_step c.args.device.now (event.Arrive f.from f.bytes) ≡ record { device = c.arrive_at.new.self; outcome = c.in_ok-outcome.outcome } = search rules in
-    without_image _ c.arrive_at.new.self c.in_ok-outcome.outcome step (handing.bare c.args.device.now (event.Arrive f.from f.bytes) tt)
+returns-clause-ok c = if_ok c.arrive_at.result _ _ c.arrive_at.ensures.ok (λ a step f kept. search rules)
 
 pub arrive_at-requires : goal.arrive_at-requires
 arrive_at-requires c =
