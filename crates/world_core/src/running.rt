@@ -156,11 +156,13 @@ impl World {
         self.carried.reserve(1)?;
         self.stopped.reserve(1)?;
         match self.devices[place].step(alloc, event) {
-            Ok(Outcome {
-                answer,
-                sent,
-                image,
-            }) => {
+            Ok(
+                Outcome {
+                    answer,
+                    sent,
+                    image,
+                },
+            ) => {
                 let address = self.devices[place].address();
                 let answer = send_outcome(
                     &mut self.fabric,
