@@ -39,6 +39,9 @@ fn meet_one(book: &Book, met: &mut usize, receipt: &Receipt) -> Result<(), RunFa
 {
     let place = receipt.place();
     same(place, place, *met as u64)?;
+    if place >= book.len() {
+        return Err(missing(place));
+    }
     let Some(step) = book.step_at(place) else {
         return Err(missing(place));
     };
