@@ -1,20 +1,19 @@
 -- Runs of bytes in pages.
-use Rattle.std.proofs.Common.{◌≡◌, ℕ, zero, suc, ◌+◌, ◌*◌, ◌/◌, ◌%◌, ◌<◌, ◌≤◌, ◌⊎◌, inl, inr, List, [], ◌∷◌, ◌++◌, length, take, drop, get_or, set, arith, refl, ap, sym, subst, ◌∙◌}
-use Rattle.std.specs.Prelude.{All, OnErr, Result, Ok, Err, Option, Some, None, IfOk, IfSome, MatchOption, IsOk, vec_len}
+use Rattle.std.proofs.Common.{◌≡◌, ℕ, ◌+◌, ◌*◌, ◌/◌, ◌%◌, ◌<◌, ◌≤◌, ◌⊎◌, inl, inr, List, [], ◌∷◌, ◌++◌, length, take, drop, get_or, set, arith, refl, ap, sym, subst, ◌∙◌}
+use Rattle.std.specs.Prelude.{OnErr, Result, Ok, Err, Option, Some, None, MatchOption, IsOk, vec_len}
 use Rattle.std.specs.List.{AllZip}
-use Rattle.std.specs.Result.{result_ok}
 use Rattle.std.specs.Arc.{arc_value}
 use Rattle.std.specs.declared.sync.Arc.{Arc}
 use Rattle.std.specs.declared.vec.Vec.{Vec}
-use Rattle.std.proofs.lemmas.List.{append_assoc, places, same_lists, length-take, length-set, length-append, take_all, take-take, take-append-le, length-take-le, length-drop, drop-drop, get_or_default, get_or-set_same, get_or-set_other, append-nil, set-get_or, length_push}
+use Rattle.std.proofs.lemmas.List.{append_assoc, places, same_lists, length-take, length-set, length-append, take_all, take-take, take-append-le, length-take-le, length-drop, drop-drop, get_or_default, get_or-set_same, get_or-set_other, append-nil, set-get_or}
 use Rattle.std.proofs.lemmas.Slice.{take-put_mid}
 use borrow.Rule.Slice.PartMut.{put_mid, mid_of}
-use Rattle.std.proofs.lemmas.List.Elements.{All-get_or, All-set, All-append, All-take, All-cons, All-head, All-tail}
+use Rattle.std.proofs.lemmas.List.Elements.{All-get_or, All-set, All-cons, All-head, All-tail}
 use Rattle.std.proofs.lemmas.List.Concat.{flat_map-append}
 use Rattle.rdma_types.specs.Memory.{cut, put}
 use Rattle.byte_run.specs.Pages.{joined, pages_in, ArePages, IsRun}
 use Rattle.byte_run.proofs.Joined.{AreEven, length-joined, cut-joined, put-joined, joined-part}
-use Rattle.byte_run.proofs.Cuts.{length-cut, length-put, put-meet, cut-meet, cut-whole}
+use Rattle.byte_run.proofs.Cuts.{length-cut, length-put, put-meet, cut-meet}
 
 -- a part of a front
 pub cut-take : (a n m : ℕ) (bytes : List ℕ) → a + n ≤ m → m ≤ length bytes → cut a n (take m bytes) ≡ cut a n bytes
@@ -149,53 +148,25 @@ module _ {A : Type 0} where
   pub page_left : (pages : List (Arc (List ℕ) A)) (i : ℕ) (x d : Arc (List ℕ) A) → x ≡ get_or pages i x → d ≡ x → set pages i d ≡ pages
   page_left pages i x d read e = ap (set pages i) (e ∙ read) ∙ set-get_or pages i x
 
-  -- a whole page
-  pub page_found : (pages : List (Arc (List ℕ) A)) (n place : ℕ) (self : List ℕ) (x : Arc (List ℕ) A) → IsRun pages n → 4096 * place + 4096 ≤ n → x ≡ get_or pages place x → take n (joined pages) ≡ self → x.value ≡ cut (4096 * place) 4096 self
-  page_found pages n place self x h l read view =
-      let whole : length (joined pages) ≡ 4096 * length pages = length-pages pages h.even in
-      let room : n ≤ 4096 * length pages = h.room in
-      let there : place < length pages = omega arith in
-      let size : length x.value ≡ 4096 = page_even pages place x h.even there read in
-      let zero_more : 4096 * place + 0 ≡ 4096 * place = omega arith in
-      sym (ap (cut (4096 * place) 4096) (sym view)
-      ∙ (cut-take (4096 * place) 4096 n (joined pages) l (omega arith)
-      ∙ (ap (λ a. cut a 4096 (joined pages)) (sym zero_more)
-      ∙ (cut-joined (λ p. p.value) 4096 x pages place 0 4096 (even pages x h.even) there (omega arith)
-      ∙ (ap (λ (b : Arc (List ℕ) A). cut 0 4096 b.value) (sym read)
-      ∙ cut-whole x.value 4096 (omega arith))))))
-
   -- the first pages
   pub joined_front : (pages : List (Arc (List ℕ) A)) (k : ℕ) (d : Arc (List ℕ) A) → ArePages pages → k ≤ length pages → joined (take k pages) ≡ take (4096 * k) (joined pages)
   unfolding cut
   joined_front pages k d h l = joined-part (λ p. p.value) 4096 d pages 0 k (even pages d h) (omega arith)
 
-  all_one : (P : Arc (List ℕ) A → Type 0) (page : Arc (List ℕ) A) → P page → All P (page ∷ [])
-  all_one P page p zero d l = p
-  all_one P page p (suc k) d l = absurd (omega arith)
-
-  -- a page behind the whole pages of a run
-  module _ (pages later : List (Arc (List ℕ) A)) (page : Arc (List ℕ) A) (n n' : ℕ) (h : IsRun pages n) (round : n % 4096 ≡ 0) (size : length page.value ≡ 4096) (added : later ≡ take (n / 4096) pages ++ page ∷ []) (more : n' ≡ n + 4096) where
-    front_length : length (take (n / 4096) pages) ≡ n / 4096
-    front_length = let room : n ≤ 4096 * length pages = h.room in length-take-le (n / 4096) pages (omega arith)
-
-    pub run_more : IsRun later n'
-    run_more =
-        let count : length later ≡ length (take (n / 4096) pages) + 1 = ap length added ∙ length_push (take (n / 4096) pages) page in
-        let front : length (take (n / 4096) pages) ≡ n / 4096 = front_length in
-        record {
-          even = rw added (All-append (λ page. length page.value ≡ 4096) (take (n / 4096) pages) (page ∷ []) (All-take (λ page. length page.value ≡ 4096) (n / 4096) pages h.even) (all_one (λ page. length page.value ≡ 4096) page size));
-          room = omega arith;
-        }
-
-    pub bytes_more : (self : List ℕ) → take n (joined pages) ≡ self → take n' (joined later) ≡ self ++ page.value
-    bytes_more self view =
-        let room : n ≤ 4096 * length pages = h.room in
-        let all : 4096 * (n / 4096) ≡ n = omega arith in
-        let front : joined (take (n / 4096) pages) ≡ self = joined_front pages (n / 4096) page h.even (omega arith) ∙ (ap (λ k. take k (joined pages)) all ∙ view) in
-        let both : joined later ≡ self ++ page.value = ap joined added ∙ (flat_map-append (λ (p : Arc (List ℕ) A). p.value) (take (n / 4096) pages) (page ∷ []) ∙ (ap (λ xs. joined (take (n / 4096) pages) ++ xs) (append-nil page.value) ∙ ap (λ xs. xs ++ page.value) front)) in
-        let count : length self ≡ n = ap length (sym view) ∙ length-run pages n h in
-        let total : length (self ++ page.value) ≡ length self + length page.value = length-append self page.value in
-        ap (take n') both ∙ take_all n' (self ++ page.value) (omega arith)
+  -- the whole pages of a run
+  pub whole_front : (pages : List (Arc (List ℕ) A)) (n : ℕ) (self : List ℕ) → IsRun pages n → take n (joined pages) ≡ self → joined (take (n / 4096) pages) ≡ take (length self / 4096 * 4096) self
+  whole_front [] n self h view =
+      let room : n ≤ 4096 * 0 = h.room in
+      let none : n ≡ 0 = omega arith in
+      let empty : self ≡ [] = sym view ∙ ap (λ k. take k []) none in
+      rw (none, empty) refl
+  whole_front (p ∷ ps) n self h view =
+      let room : n ≤ 4096 * length (p ∷ ps) = h.room in
+      let size : length self ≡ n = ap length (sym view) ∙ length-run (p ∷ ps) n h in
+      let count : 4096 * (n / 4096) ≡ length self / 4096 * 4096 = omega (arith, ap (λ k. k / 4096) size) in
+      joined_front (p ∷ ps) (n / 4096) p h.even (omega arith)
+      ∙ (ap (λ k. take k (joined (p ∷ ps))) count
+      ∙ (sym (take-take (length self / 4096 * 4096) n (joined (p ∷ ps)) (omega arith)) ∙ ap (take (length self / 4096 * 4096)) view))
 
   -- a piece read from one page
   pub piece_found : (pages : List (Arc (List ℕ) A)) (n at count k : ℕ) (page self : List ℕ) (x : Arc (List ℕ) A) → IsRun pages n → at < n → at + count ≤ n → at % 4096 + count ≤ 4096 → x ≡ get_or pages (at / 4096) x → page ≡ x.value → k ≡ count → take n (joined pages) ≡ self
@@ -250,33 +221,12 @@ module _ {A : Type 0} where
   pub run_same : (pages later : List (Arc (List ℕ) A)) (n : ℕ) → AreSame pages later → IsRun pages n → IsRun later n
   run_same pages later n same h = record { even = same.even h.even; room = omega (arith, h.room, same.count) }
 
-  -- the whole pages of a run
-  module _ (pages later : List (Arc (List ℕ) A)) (n : ℕ) (h : IsRun pages n) (round : n % 4096 ≡ 0) (cut : later ≡ take (n / 4096) pages) where
-    pub run_front : IsRun later n
-    run_front =
-        let room : n ≤ 4096 * length pages = h.room in
-        let count : length later ≡ n / 4096 = ap length cut ∙ length-take-le (n / 4096) pages (omega arith) in
-        record { even = rw cut (All-take (λ page. length page.value ≡ 4096) (n / 4096) pages h.even); room = omega arith }
-
-    pub bytes_front : (d : Arc (List ℕ) A) → take n (joined later) ≡ take n (joined pages)
-    bytes_front d =
-        let room : n ≤ 4096 * length pages = h.room in
-        let all : 4096 * (n / 4096) ≡ n = omega arith in
-        ap (λ xs. take n (joined xs)) cut
-        ∙ (ap (take n) (joined_front pages (n / 4096) d h.even (omega arith) ∙ ap (λ k. take k (joined pages)) all)
-        ∙ take-take n n (joined pages) (omega arith))
-
 -- a result that is an error, or that is none
 pub at_error : {T E P : Type 0} (r : Result T E) (e : E) → r ≡ Err e → OnErr r P → P
 at_error {P} r e is h = subst (λ q. OnErr q P) is h
 
 pub at_ok : {T E : Type 0} (r : Result T E) (x : T) → r ≡ Ok x → IsOk r
 at_ok r x is = subst IsOk (sym is) refl
-
--- what is known of a result is known of its value
-pub some_of : {T E : Type 0} (r : Result T E) (o : Option T) (P Q : T → Type 0) → o ≡ result_ok r → IfOk r P → ((x : T) → P x → Q x) → IfSome o Q
-some_of (Ok x) o P Q e h f = rw e (f x h)
-some_of (Err x) o P Q e h f = rw e h
 
 -- what holds anyway holds at an error
 pub on_err : {T E P : Type 0} (r : Result T E) → P → OnErr r P

@@ -4,7 +4,7 @@ ghost use Rattle.std.specs.Prelude.{◌≡◌, ℕ, ◌+◌, ◌-◌, ◌*◌, �
 ghost use Rattle.std.specs.Arc.{arc_value};
 ghost use Rattle.std.specs.Bool.{OnTrue};
 ghost use Rattle.rdma_types.specs.Memory.{cut, put};
-ghost use Rattle.byte_run.specs.Pages.{joined, pages_in, IsRun};
+ghost use Rattle.byte_run.specs.Pages.{joined, pages_in, ArePages, IsRun};
 
 use crate::PAGE;
 use std::alloc::{AllocError, Global};
@@ -96,36 +96,25 @@ impl ByteRun {
         Ok(())
     }
 
-    /// The page of 4,096 bytes from `4096 * place` on, to be shared; None where the run ends before its end.
-    pub fn shared_page(&self, place: u64) -> Option<Arc<[u8; 4096]>>
-        ensures whole { IfSome result (λ page. length (arc_value page) ≡ 4096) }
-        ensures inside { IsSome result → 4096 * place + 4096 ≤ length self.now }
-        ensures bytes { IfSome result (λ page. arc_value page ≡ cut (4096 * place) 4096 self.now) }
+    /// The whole pages of 4,096 bytes, in their order, each to be shared.
+    pub fn whole_pages(&self) -> &[Arc<[u8; 4096]>]
+        ensures even { ArePages result.now }
+        ensures bytes { joined result.now ≡ take (length self.now / 4096 * 4096) self.now }
     {
-        let place = place as usize;
-        if self.len / PAGE <= place {
-            return None;
-        }
-        Arc::try_clone(&list(&self.pages)[place]).ok()
+        &list(&self.pages)[..self.len / PAGE]
     }
 
-    /// Puts a page at the end of whole pages, and shares it. Errors: `AllocError` when out of memory; the run is as it was.
-    pub fn append_page(&mut self, page: Arc<[u8; 4096]>) -> Result<(), AllocError>
-        requires whole { length (arc_value page) ≡ 4096 }
-        requires even { length self.old % 4096 ≡ 0 }
-        ensures ok { OnOk result (self.new ≡ self.old ++ arc_value page) }
-        ensures err { OnErr result (self.new ≡ self.old) }
+    /// The bytes of whole pages, which the run shares. Errors: `AllocError` when out of memory.
+    pub fn of_pages(alloc: Global, pages: Vec<Arc<[u8; 4096]>>) -> Result<ByteRun, AllocError>
+        requires { ArePages pages.items }
+        ensures { IfOk result (λ run. run ≡ joined pages.items) }
     {
-        let len = self.len.checked_add(PAGE).ok_or(AllocError)?;
-        let alloc = self.alloc;
-        let shared = self
-            .pages
-            .get_or_try_insert_with(|| Arc::new(alloc, Vec::new(alloc)))?;
-        let pages = Arc::make_mut(shared)?;
-        pages.truncate(self.len / PAGE);
-        pages.push(page)?;
-        self.len = len;
-        Ok(())
+        let len = pages.len().checked_mul(PAGE).ok_or(AllocError)?;
+        Ok(ByteRun {
+            alloc,
+            pages: Some(Arc::new(alloc, pages)?),
+            len,
+        })
     }
 
     /// A run of the same bytes, which shares the list of pages. Errors: `AllocError` when out of memory.
