@@ -1,9 +1,9 @@
 -- How often a page stands in a list, and how many pages nobody holds.
-use Rattle.std.proofs.Common.{◌≡◌, ℕ, zero, suc, ◌+◌, ◌<◌, ◌≤◌, ◌≢◌, List, [], ◌∷◌, ◌++◌, length, take, get_or, set, sum, arith, refl}
+use Rattle.std.proofs.Common.{◌≡◌, ℕ, zero, suc, ◌+◌, ◌<◌, ◌≤◌, ◌≢◌, List, [], ◌∷◌, ◌++◌, length, get_or, set, sum, arith, refl}
 use Rattle.std.specs.Prelude.{◌==◌, if◌then◌else◌, replicate, count_by}
 use Rattle.std.proofs.lemmas.Bool.Decides.{nat_tests}
 use Rattle.std.proofs.lemmas.List.{get_or-set_same, get_or-set_other, get_or_default, get_or_past}
-use Rattle.std.proofs.lemmas.List.Sums.{sum_by_push, sum_by-cons, sum_by_more, sum_by-set, get_or-le-sum_by, sum_by-take-le}
+use Rattle.std.proofs.lemmas.List.Sums.{sum_by_push, sum_by-cons, sum_by-set, get_or-le-sum_by}
 use Rattle.page_pool.specs.Store.{times, idle_pages, idle}
 
 -- 1 where two numbers are equal
@@ -24,24 +24,12 @@ pub times-push : (p : ℕ) (ps : List ℕ) (q : ℕ) → times p (ps ++ q ∷ []
 unfolding times
 times-push p ps q = sum_by_push (λ x. one_if x p) ps q
 
-pub times-more : (p : ℕ) (ps : List ℕ) (i : ℕ) → i < length ps → times p (take (i + 1) ps) ≡ times p (take i ps) + one_if (get_or ps i 0) p
-unfolding times
-times-more p ps i h = sum_by_more (λ x. one_if x p) ps i 0 h
-
-pub times-take : (p : ℕ) (ps : List ℕ) (i : ℕ) → times p (take i ps) ≤ times p ps
-unfolding times
-times-take p ps i = sum_by-take-le (λ x. one_if x p) ps i
-
 -- what stands in a list stands there once at least
 pub times-there : (ps : List ℕ) (i : ℕ) → i < length ps → 0 < times (get_or ps i 0) ps
 unfolding times
 times-there ps i h =
     let one : one_if (get_or ps i 0) (get_or ps i 0) ≡ 1 = one_if-same (get_or ps i 0) in
     omega (arith, get_or-le-sum_by (λ x. one_if x (get_or ps i 0)) ps i 0 h)
-
-pub times-set : (p : ℕ) (ps : List ℕ) (i q : ℕ) → i < length ps → times p (set ps i q) + one_if (get_or ps i 0) p ≡ times p ps + one_if q p
-unfolding times
-times-set p ps i q h = sum_by-set (λ x. one_if x p) ps i q 0 h
 
 pub idle-set_same : (hs : List ℕ) (p v : ℕ) → p < length hs → idle p (set hs p v) ≡ one_if v 0
 unfolding idle

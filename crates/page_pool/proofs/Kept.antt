@@ -1,15 +1,14 @@
 -- What the pages are after each change.
 use Rattle.std.proofs.Common.{◌≡◌, ℕ, ◌+◌, ◌-◌, ◌*◌, ◌<◌, ◌≤◌, ◌≢◌, ◌^◌, List, [], ◌∷◌, ◌++◌, length, get_or, set, sum, arith, refl, ap, sym, ◌∙◌, inl, inr}
 use Rattle.std.specs.Prelude.{◌⊎◌, replicate}
-use Rattle.std.proofs.lemmas.Bool.{cases_lt}
-use Rattle.std.proofs.lemmas.List.{length-replicate, length-set, get_or-set_same}
+use Rattle.std.proofs.lemmas.Bool.{cases_lt, cases_eq}
+use Rattle.std.proofs.lemmas.List.{length-replicate, length-set, get_or_read, get_or-set_same, get_or-set_other}
 use Rattle.rdma_types.specs.Memory.{cut, put}
-use Rattle.page_pool.specs.Ledger.{page_at}
 use Rattle.page_pool.specs.Store.{Store, IsStock, IsMade, padded, later_pages, waiting, times, idle, idle_pages}
 use Rattle.page_pool.proofs.Counts.{one_if, times-none, idle-is, idle-past, sum-none, idle_pages-all}
 use Rattle.page_pool.proofs.Padded.{padded-none, length-padded, zero_at, zeros, padded-at, padded-set, padded-put, padded-cut, in_front, later-in, later-past, waiting-push, waiting-same, length-waiting, times-waiting}
-use Rattle.page_pool.proofs.Stock.{read_is, held_more, held_less, held_last, stock_room, rewritten}
-use Rattle.page_pool.proofs.Drawn.{restated}
+use Rattle.page_pool.proofs.Steps.{inside}
+use Rattle.page_pool.proofs.Stock.{counted_anew, given, restated, stock_room}
 
 -- ---- a page that is held
 
@@ -23,15 +22,7 @@ front_inside bs hs now pages page bytes_room holders_room m e held = omega (arit
 
 -- the number read of it
 pub read_now : (hs now : List ℕ) (pages page x : ℕ) → padded pages hs ≡ now → page < length hs → x ≡ get_or hs page x → get_or now page 0 ≡ x
-read_now hs now pages page x e l r = ap (λ ys. get_or ys page 0) (sym e) ∙ (padded-at pages hs page 0 l ∙ read_is hs page x l r)
-
-read_padded : (hs : List ℕ) (pages page x : ℕ) → page < length hs → x ≡ get_or hs page x → x ≡ get_or (padded pages hs) page x
-read_padded hs pages page x l r = r ∙ sym (padded-at pages hs page x l)
-
-there : (hs now : List ℕ) (pages page : ℕ) → page < length hs → length hs ≤ pages → padded pages hs ≡ now → page < length now
-there hs now pages page l within e =
-    let size : length (padded pages hs) ≡ pages = length-padded pages hs within in
-    omega (arith, ap length e)
+read_now hs now pages page x e l r = ap (λ ys. get_or ys page 0) (sym e) ∙ (padded-at pages hs page 0 l ∙ sym (get_or_read hs page x l r 0))
 
 -- ---- the counts after a change
 
@@ -40,33 +31,36 @@ made_set bs bs' hs pages page v bytes_room bytes_room' holders_room holders_room
     let count : length (set hs page v) ≡ length hs = length-set hs page v in
     record { whole = omega (arith, m.whole); within = omega (arith, m.within); bytes_fit = omega (arith, m.bytes_fit); holders_fit = omega (arith, m.holders_fit) }
 
-set_counts : (bytes hs st : List ℕ) (pages spare cap page v : ℕ) → page < length hs → IsStock bytes (set (padded pages hs) page v) (waiting hs pages st) spare cap → IsStock bytes (padded pages (set hs page v)) (waiting (set hs page v) pages st) spare cap
-set_counts bytes hs st pages spare cap page v l k = restated bytes bytes (set (padded pages hs) page v) (padded pages (set hs page v)) (waiting hs pages st) (waiting (set hs page v) pages st) spare spare cap cap k refl (sym (padded-set pages hs page v l)) (waiting-same hs (set hs page v) pages st (sym (length-set hs page v))) refl (omega arith)
+set_counts : (bytes hs st : List ℕ) (pages cap page v : ℕ) → page < length hs → IsStock bytes (set (padded pages hs) page v) (waiting hs pages st) cap → IsStock bytes (padded pages (set hs page v)) (waiting (set hs page v) pages st) cap
+set_counts bytes hs st pages cap page v l k = restated bytes bytes (set (padded pages hs) page v) (padded pages (set hs page v)) (waiting hs pages st) (waiting (set hs page v) pages st) cap cap k refl (sym (padded-set pages hs page v l)) (waiting-same hs (set hs page v) pages st (sym (length-set hs page v))) k.room
 
-pub holds_more : (bytes hs now st : List ℕ) (pages spare cap page x : ℕ) → IsStock bytes (padded pages hs) (waiting hs pages st) spare cap → length hs ≤ pages → padded pages hs ≡ now → 0 < get_or now page 0 → sum now < length now → x ≡ get_or hs page x → IsStock bytes (padded pages (set hs page (x + 1))) (waiting (set hs page (x + 1)) pages st) (spare - 1) cap
-holds_more bytes hs now st pages spare cap page x k within e held room r =
+-- a page that is held is there, also among those that are not made
+held_there : (hs now : List ℕ) (pages page : ℕ) → length hs ≤ pages → padded pages hs ≡ now → 0 < get_or now page 0 → (page < length (padded pages hs)) × (0 < get_or (padded pages hs) page 0)
+held_there hs now pages page within e held =
     let l : page < length hs = front hs now pages page e held in
-    set_counts bytes hs st pages (spare - 1) cap page (x + 1) l
-    (held_more bytes (padded pages hs) now (waiting hs pages st) spare cap page x k e (there hs now pages page l within e) held room (read_padded hs pages page x l r))
+    (omega (arith, length-padded pages hs within), omega (arith, ap (λ ys. get_or ys page 0) e))
 
-pub holds_less : (bytes hs now st : List ℕ) (pages spare cap page x : ℕ) → IsStock bytes (padded pages hs) (waiting hs pages st) spare cap → length hs ≤ pages → padded pages hs ≡ now → 0 < get_or now page 0 → 1 < x → x ≡ get_or hs page x → IsStock bytes (padded pages (set hs page (x - 1))) (waiting (set hs page (x - 1)) pages st) (spare + 1) cap
-holds_less bytes hs now st pages spare cap page x k within e held more r =
-    let l : page < length hs = front hs now pages page e held in
-    set_counts bytes hs st pages (spare + 1) cap page (x - 1) l
-    (held_less bytes (padded pages hs) now (waiting hs pages st) spare cap page x k e (there hs now pages page l within e) more (read_padded hs pages page x l r))
+-- a page that is held, and stays held
+pub holds_still : (bytes hs now st : List ℕ) (pages cap page v : ℕ) → IsStock bytes (padded pages hs) (waiting hs pages st) cap → length hs ≤ pages → padded pages hs ≡ now → 0 < get_or now page 0 → 0 < v → sum now + v ≤ length now + get_or now page 0 → IsStock bytes (padded pages (set hs page v)) (waiting (set hs page v) pages st) cap
+holds_still bytes hs now st pages cap page v k within e held left room =
+    let t = held_there hs now pages page within e held in
+    set_counts bytes hs st pages cap page v (front hs now pages page e held)
+    (counted_anew bytes (padded pages hs) (waiting hs pages st) cap page v k t.0 t.1 left
+    (omega (arith, room, ap sum e, ap length e, ap (λ ys. get_or ys page 0) e)))
 
-pub holds_none : (bytes hs now st st' : List ℕ) (pages spare cap cap' page x : ℕ) → IsStock bytes (padded pages hs) (waiting hs pages st) spare cap → length hs ≤ pages → padded pages hs ≡ now → 0 < get_or now page 0 → x ≡ 1 → x ≡ get_or hs page x → st' ≡ st ++ page ∷ [] → cap ≤ cap' → IsStock bytes (padded pages (set hs page (x - 1))) (waiting (set hs page (x - 1)) pages st') (spare + 1) cap'
-holds_none bytes hs now st st' pages spare cap cap' page x k within e held one r s c =
-    let l : page < length hs = front hs now pages page e held in
-    set_counts bytes hs st' pages (spare + 1) cap' page (x - 1) l
-    (held_last bytes (padded pages hs) now (waiting hs pages st) (waiting hs pages st') spare cap cap' page x k e (there hs now pages page l within e) one (read_padded hs pages page x l r) (ap (waiting hs pages) s ∙ waiting-push hs pages st page) c)
+-- the last holder gone
+pub holds_none : (bytes hs now st st' : List ℕ) (pages cap cap' page v : ℕ) → IsStock bytes (padded pages hs) (waiting hs pages st) cap → length hs ≤ pages → padded pages hs ≡ now → get_or now page 0 ≡ 1 → v ≡ 0 → st' ≡ st ++ page ∷ [] → cap ≤ cap' → IsStock bytes (padded pages (set hs page v)) (waiting (set hs page v) pages st') cap'
+holds_none bytes hs now st st' pages cap cap' page v k within e one none s c =
+    let held : 0 < get_or now page 0 = omega arith in
+    set_counts bytes hs st' pages cap' page v (front hs now pages page e held)
+    (rw none (given bytes (padded pages hs) (waiting hs pages st) (waiting hs pages st') cap cap' page k (held_there hs now pages page within e held).0
+    (ap (λ ys. get_or ys page 0) e ∙ one) (ap (waiting hs pages) s ∙ waiting-push hs pages st page) c))
 
 -- the stock has room for a page that is held
-pub room_left : (bytes hs now st : List ℕ) (pages spare cap page : ℕ) → IsStock bytes (padded pages hs) (waiting hs pages st) spare cap → length hs ≤ pages → padded pages hs ≡ now → 0 < get_or now page 0 → length st < cap
-room_left bytes hs now st pages spare cap page k within e held =
-    let l : page < length hs = front hs now pages page e held in
-    let count : length (waiting hs pages st) ≡ pages - length hs + length st = length-waiting hs pages st in
-    omega (arith, stock_room bytes (padded pages hs) now (waiting hs pages st) spare cap page 0 k e (there hs now pages page l within e) held)
+pub room_left : (bytes hs now st : List ℕ) (pages cap page : ℕ) → IsStock bytes (padded pages hs) (waiting hs pages st) cap → length hs ≤ pages → padded pages hs ≡ now → 0 < get_or now page 0 → length st < cap
+room_left bytes hs now st pages cap page k within e held =
+    let t = held_there hs now pages page within e held in
+    omega (arith, length-waiting hs pages st, stock_room bytes (padded pages hs) (waiting hs pages st) cap page k t.0 t.1)
 
 -- ---- what callers see of a change
 
@@ -87,18 +81,13 @@ seen_put bs bs' hs w now n pages a b e new l same =
 pub seen_cut : (bs : List ℕ) (now : Store) (hs : List ℕ) (n page a : ℕ) → store (padded n bs) hs ≡ now → a + 4096 ≤ length bs → a ≡ 4096 * page → cut a 4096 bs ≡ cut (4096 * page) 4096 now.bytes
 seen_cut bs now hs n page a e l same = sym (padded-cut n bs a 4096 l) ∙ (ap (cut a 4096) (ap (λ (s : Store). s.bytes) e) ∙ ap (λ k. cut k 4096 now.bytes) same)
 
--- the bytes of a page that is held, where another has no holder any longer
-pub seen_kept : (bs bs' hs : List ℕ) (now : Store) (pages page left bytes_room holders_room : ℕ) → IsMade bs hs pages bytes_room holders_room → store (padded (4096 * pages) bs) (padded pages hs) ≡ now → page < length hs → left ≡ 0 → ((other : ℕ) → 4096 * other + 4096 ≤ length bs → other ≢ page → cut (4096 * other) 4096 bs' ≡ cut (4096 * other) 4096 bs) → length bs' ≡ length bs → (other : ℕ) → 0 < get_or (padded pages (set hs page left)) other 0 → page_at (padded (4096 * pages) bs') other ≡ page_at now.bytes other
-unfolding page_at
-seen_kept bs bs' hs now pages page left bytes_room holders_room m e l none same size other held =
-    let count : length (set hs page left) ≡ length hs = length-set hs page left in
-    let made : other < length (set hs page left) = in_front pages (set hs page left) other held in
-    let inside : 4096 * other + 4096 ≤ length bs = omega (arith, m.whole) in
-    let apart : other ≢ page = λ i. absurd (omega (arith, held, ap (λ p. get_or (padded pages (set hs page left)) p 0) i, padded-at pages (set hs page left) page 0 (omega arith), get_or-set_same hs page left 0 l)) in
-    padded-cut (4096 * pages) bs' (4096 * other) 4096 (omega arith)
-    ∙ (same other inside apart
-    ∙ (sym (padded-cut (4096 * pages) bs (4096 * other) 4096 inside)
-    ∙ ap (λ (s : Store). cut (4096 * other) 4096 s.bytes) e))
+-- who has no holder after a page has one less of several had none before
+pub idle_before : (hs : List ℕ) (page other : ℕ) → 1 < get_or hs page 0 → get_or (set hs page (get_or hs page 0 - 1)) other 0 ≡ 0 → get_or hs other 0 ≡ 0
+idle_before hs page other more free = by_place (cases_eq other page)
+  where
+    by_place : (other ≡ page) ⊎ (other ≢ page) → get_or hs other 0 ≡ 0
+    by_place (inl i) = absurd (omega (arith, free, ap (λ q. get_or (set hs page (get_or hs page 0 - 1)) q 0) i, get_or-set_same hs page (get_or hs page 0 - 1) 0 (inside hs page (omega arith))))
+    by_place (inr n) = sym (get_or-set_other hs page other (get_or hs page 0 - 1) 0 n) ∙ free
 
 -- ---- no page is made yet
 
@@ -120,7 +109,7 @@ none_waiting n q = times-waiting q [] n [] ∙ by_place (cases_lt q n)
         let idle_none : idle q (zeros n) ≡ 0 = idle-past (zeros n) q (omega (arith, size)) in
         omega arith
 
-pub none_made : (bs hs st : List ℕ) (pages bytes_room holders_room cap : ℕ) → bs ≡ [] → hs ≡ [] → st ≡ [] → pages < 2 ^ 32 → 4096 * pages ≤ bytes_room → pages ≤ holders_room → pages ≤ cap → IsMade bs hs pages bytes_room holders_room × IsStock (padded (4096 * pages) bs) (padded pages hs) (waiting hs pages st) pages cap
+pub none_made : (bs hs st : List ℕ) (pages bytes_room holders_room cap : ℕ) → bs ≡ [] → hs ≡ [] → st ≡ [] → pages < 2 ^ 32 → 4096 * pages ≤ bytes_room → pages ≤ holders_room → pages ≤ cap → IsMade bs hs pages bytes_room holders_room × IsStock (padded (4096 * pages) bs) (padded pages hs) (waiting hs pages st) cap
 none_made bs hs st pages bytes_room holders_room cap b h s small br hr c =
     let bytes_is : padded (4096 * pages) bs ≡ replicate (4096 * pages) 0 = ap (padded (4096 * pages)) b ∙ padded-none (4096 * pages) in
     let holders_is : padded pages hs ≡ replicate pages 0 = ap (padded pages) h ∙ padded-none pages in
@@ -133,7 +122,7 @@ none_made bs hs st pages bytes_room holders_room cap b h s small br hr c =
       record {
         whole = omega arith;
         few = omega arith;
-        spared = omega arith;
+        within = omega arith;
         once = λ q. ap (times q) waits ∙ (none_waiting pages q ∙ ap (idle q) (sym holders_is));
         counted = omega (arith, ap length h, ap length s, ap idle_pages holders_is, idle_pages-all pages);
         room = omega arith;
@@ -148,8 +137,17 @@ none_seen bs hs pages b h = store_is _ _ _ _ (ap (padded (4096 * pages)) b ∙ p
 pub still_made : (bs bs' hs : List ℕ) (pages bytes_room bytes_room' holders_room : ℕ) → IsMade bs hs pages bytes_room holders_room → length bs' ≡ length bs → bytes_room ≤ bytes_room' → IsMade bs' hs pages bytes_room' holders_room
 still_made bs bs' hs pages bytes_room bytes_room' holders_room m b br = record { whole = b ∙ m.whole; within = m.within; bytes_fit = omega (arith, m.bytes_fit); holders_fit = m.holders_fit }
 
-pub still_stocked : (bs bs' hs stock : List ℕ) (pages spare cap bytes_room holders_room : ℕ) → IsMade bs hs pages bytes_room holders_room → IsStock (padded (4096 * pages) bs) (padded pages hs) stock spare cap → length bs' ≡ length bs → IsStock (padded (4096 * pages) bs') (padded pages hs) stock spare cap
-still_stocked bs bs' hs stock pages spare cap bytes_room holders_room m k b =
+pub still_stocked : (bs bs' hs stock : List ℕ) (pages cap bytes_room holders_room : ℕ) → IsMade bs hs pages bytes_room holders_room → IsStock (padded (4096 * pages) bs) (padded pages hs) stock cap → length bs' ≡ length bs → IsStock (padded (4096 * pages) bs') (padded pages hs) stock cap
+still_stocked bs bs' hs stock pages cap bytes_room holders_room m k b =
     let within : length bs ≤ 4096 * pages = omega (arith, m.whole, m.within) in
-    rewritten (padded (4096 * pages) bs) (padded (4096 * pages) bs') (padded pages hs) stock spare cap k
-    (length-padded (4096 * pages) bs' (omega arith) ∙ sym (length-padded (4096 * pages) bs within))
+    restated (padded (4096 * pages) bs) (padded (4096 * pages) bs') (padded pages hs) (padded pages hs) stock stock cap cap k
+    (length-padded (4096 * pages) bs' (omega arith) ∙ sym (length-padded (4096 * pages) bs within)) refl refl k.room
+
+-- ---- pages that are copied, with room for as many
+
+module _ (bs bs' hs hs' st st' : List ℕ) (pages : ℕ) (same_bs : bs' ≡ bs) (same_hs : hs' ≡ hs) (same_st : st' ≡ st) where
+  pub copied_made : (bytes_room bytes_room' holders_room holders_room' : ℕ) → IsMade bs hs pages bytes_room holders_room → 4096 * pages ≤ bytes_room' → pages ≤ holders_room' → IsMade bs' hs' pages bytes_room' holders_room'
+  copied_made r r' q q' m br hr = rw (same_bs, same_hs) (record { whole = m.whole; within = m.within; bytes_fit = br; holders_fit = hr })
+
+  pub copied_stock : (cap cap' : ℕ) → length hs ≤ pages → IsStock (padded (4096 * pages) bs) (padded pages hs) (waiting hs pages st) cap → pages ≤ cap' → IsStock (padded (4096 * pages) bs') (padded pages hs') (waiting hs' pages st') cap'
+  copied_stock cap cap' within k fits = rw (same_bs, same_hs, same_st) (restated (padded (4096 * pages) bs) (padded (4096 * pages) bs) (padded pages hs) (padded pages hs) (waiting hs pages st) (waiting hs pages st) cap cap' k refl refl refl (omega (arith, fits, length-padded pages hs within)))

@@ -3,13 +3,12 @@ pub mod Places
 pub mod Shown
 pub mod Padded
 pub mod Pages
-pub mod Shared
 pub mod Steps
+pub mod Owned
+pub mod Listed
 pub mod Ledgers
 pub mod Writes
-pub mod Whole
 pub mod Stock
 pub mod Drawn
 pub mod Kept
-pub mod Anew
 pub mod Copied

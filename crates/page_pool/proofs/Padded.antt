@@ -3,10 +3,12 @@ use Rattle.std.proofs.Common.{◌≡◌, ℕ, zero, suc, ◌+◌, ◌-◌, ◌<�
 use Rattle.std.specs.Prelude.{◌⊎◌, replicate}
 use Rattle.std.proofs.lemmas.Bool.{cases_lt, cases_eq}
 use Rattle.std.proofs.lemmas.List.{length-append, length-replicate, length-set, length_push, get_or_append_left, get_or-append_right, set-append_left, append_assoc, append-nil, replicate-append-replicate}
+use Rattle.std.proofs.Math.Seq.{set-append_seam}
 use Rattle.std.proofs.lemmas.List.Sums.{sum_by-append}
 use Rattle.rdma_types.specs.Memory.{cut, put}
 use Rattle.byte_run.proofs.Cuts.{length-put, cut-middle, put-middle}
 use Rattle.page_pool.specs.Store.{padded, later_pages, waiting, times}
+use Rattle.page_pool.proofs.Pages.{put-whole}
 use Rattle.page_pool.proofs.Counts.{one_if, one_if-same, one_if-other, times-none, times-push}
 
 -- zeros are zeros, also where none stands
@@ -65,18 +67,42 @@ pub padded-cut : (n : ℕ) (xs : List ℕ) (a k : ℕ) → a + k ≤ length xs �
 unfolding padded
 padded-cut n xs a k l = ap (λ j. cut j k (xs ++ replicate (n - length xs) 0)) (sym (no_more a)) ∙ cut-middle [] xs (replicate (n - length xs) 0) a k l
 
+more_zeros : (xs : List ℕ) (k r m : ℕ) → k + r ≡ m → (xs ++ zeros k) ++ zeros r ≡ xs ++ zeros m
+more_zeros xs k r m e = append_assoc xs (zeros k) (zeros r) ∙ ap (λ ys. xs ++ ys) (replicate-append-replicate k r 0 ∙ ap zeros e)
+
 -- zeros behind the front
-pub padded-more : (n : ℕ) (xs : List ℕ) (k : ℕ) → length xs + k ≤ n → padded n (xs ++ replicate k 0) ≡ padded n xs
+padded-more : (n : ℕ) (xs : List ℕ) (k : ℕ) → length xs + k ≤ n → padded n (xs ++ replicate k 0) ≡ padded n xs
 unfolding padded
 padded-more n xs k h =
-    let size : length (xs ++ replicate k 0) ≡ length xs + k = length-append xs (replicate k 0) ∙ ap (λ m. length xs + m) (length-replicate k 0) in
-    let rest : k + (n - length (xs ++ replicate k 0)) ≡ n - length xs = omega arith in
-    append_assoc xs (replicate k 0) (replicate (n - length (xs ++ replicate k 0)) 0)
-    ∙ ap (λ ys. xs ++ ys) (replicate-append-replicate k (n - length (xs ++ replicate k 0)) 0 ∙ ap (λ m. replicate m 0) rest)
+    let size : length (xs ++ zeros k) ≡ length xs + k = length-append xs (zeros k) ∙ ap (λ m. length xs + m) (length-replicate k 0) in
+    more_zeros xs k (n - length (xs ++ zeros k)) (n - length xs) (omega arith)
+
+-- one number more in the front
+pub padded-next : (n : ℕ) (xs : List ℕ) (v : ℕ) → length xs < n → padded n (xs ++ v ∷ []) ≡ set (padded n xs) (length xs) v
+padded-next n xs v h =
+    ap (padded n) (sym (set-append_seam xs 0 [] v))
+    ∙ (padded-set n (xs ++ 0 ∷ []) (length xs) v (omega (arith, length_push xs 0))
+    ∙ ap (λ ys. set ys (length xs) v) (padded-more n xs 1 (omega arith)))
+
+put_zeros : (xs w : List ℕ) (r m : ℕ) → length w + r ≡ m → put (xs ++ zeros m) (length xs) w ≡ xs ++ (w ++ zeros r)
+put_zeros xs w r m e =
+    let place : length xs ≡ length xs + 0 = omega arith in
+    let size : length (zeros (length w)) ≡ length w = length-replicate (length w) 0 in
+    ap (λ k. put (xs ++ zeros m) k w) place
+    ∙ (ap (λ ys. put (xs ++ ys) (length xs + 0) w) (ap zeros (sym e) ∙ sym (replicate-append-replicate (length w) r 0))
+    ∙ (put-middle xs (zeros (length w)) (zeros r) 0 w (omega arith)
+    ∙ ap (λ ys. xs ++ (ys ++ zeros r)) (put-whole (zeros (length w)) w size)))
+
+-- a list more in the front
+pub padded-append : (n : ℕ) (xs w : List ℕ) → length xs + length w ≤ n → padded n (xs ++ w) ≡ put (padded n xs) (length xs) w
+unfolding padded
+padded-append n xs w h =
+    let size : length (xs ++ w) ≡ length xs + length w = length-append xs w in
+    append_assoc xs w (zeros (n - length (xs ++ w))) ∙ sym (put_zeros xs w (n - length (xs ++ w)) (n - length xs) (omega arith))
 
 -- ---- the pages that are not made
 
-pub length-later : (first n : ℕ) → length (later_pages first n) ≡ n
+length-later : (first n : ℕ) → length (later_pages first n) ≡ n
 unfolding later_pages
 length-later first zero = refl
 length-later first (suc n) =
@@ -84,7 +110,7 @@ length-later first (suc n) =
     let more : length (later_pages (suc first) n ++ first ∷ []) ≡ length (later_pages (suc first) n) + 1 = length_push (later_pages (suc first) n) first in
     omega arith
 
-pub later-below : (first n q : ℕ) → q < first → times q (later_pages first n) ≡ 0
+later-below : (first n q : ℕ) → q < first → times q (later_pages first n) ≡ 0
 unfolding later_pages
 later-below first zero q l = times-none q
 later-below first (suc n) q l =

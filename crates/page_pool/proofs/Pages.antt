@@ -1,13 +1,18 @@
 -- The bytes of a page, after a write.
-use Rattle.std.proofs.Common.{◌≡◌, ℕ, zero, suc, ◌+◌, ◌-◌, ◌*◌, ◌<◌, ◌≤◌, ◌≢◌, List, [], ◌∷◌, ◌++◌, length, take, drop, get_or, min, arith, refl, ap, sym, ◌∙◌, inl, inr}
+use Rattle.std.proofs.Common.{◌≡◌, ℕ, ◌+◌, ◌-◌, ◌*◌, ◌/◌, ◌<◌, ◌≤◌, ◌≢◌, List, ◌++◌, length, take, drop, get_or, min, arith, refl, ap, sym, ◌∙◌, inl, inr}
 use Rattle.std.specs.Prelude.{◌⊎◌, replicate}
-use Rattle.std.specs.List.{flat_map}
+use Rattle.std.specs.Arc.{arc_value}
+use Rattle.std.specs.declared.sync.Arc.{Arc}
 use Rattle.std.proofs.lemmas.Bool.{cases_lt}
-use Rattle.std.proofs.lemmas.List.{places, same_lists, get_or-take, get_or-drop, drop_all, drop-drop, take-append-drop, length-append, length-take, length-drop, length-replicate, append-nil}
+use Rattle.std.proofs.lemmas.List.{places, same_lists, get_or-take, get_or-drop, drop_all, length-append, length-take, length-drop, length-replicate, append-nil}
 use Rattle.rdma_types.specs.Memory.{cut, put}
-use Rattle.byte_run.proofs.Cuts.{length-cut, cut-put_below, cut-put_above, cut-put_inside}
+use Rattle.byte_run.specs.Pages.{ArePages, joined}
+use Rattle.byte_run.proofs.Runs.{cut-take, length-pages}
+use Rattle.byte_run.proofs.Joined.{cut-joined}
+use Rattle.byte_run.proofs.Cuts.{length-cut, length-put, cut-whole, cut-put_below, cut-put_above, cut-put_inside}
 use Rattle.page_pool.specs.Store.{blank}
 use Rattle.page_pool.specs.Ledger.{page_at}
+use Rattle.page_pool.proofs.Places.{length-blank}
 
 -- a page has 4,096 bytes
 pub length-page : (bytes : List ℕ) (n p : ℕ) → length bytes ≡ 4096 * n → p < n → length (page_at bytes p) ≡ 4096
@@ -38,6 +43,10 @@ pub cut-blank : (n a m : ℕ) → a + m ≤ n → cut a m (blank n) ≡ blank m
 unfolding cut blank
 cut-blank n a m h = same_lists _ _ (simp (length-take, length-drop, length-replicate) (omega arith)) (λ i d l. grind (arith, places))
 
+-- a page of what is laid
+pub length-laid : (bytes : List ℕ) (first at n : ℕ) → at + 4096 ≤ n → first + length bytes ≤ n → length (cut at 4096 (put (blank n) first bytes)) ≡ 4096
+length-laid bytes first at n a b = length-cut at 4096 (put (blank n) first bytes) (omega (arith, length-put (blank n) first bytes (omega (arith, length-blank n)), length-blank n))
+
 -- all of a list written
 pub put-whole : (xs w : List ℕ) → length xs ≡ length w → put xs 0 w ≡ w
 unfolding put
@@ -57,16 +66,29 @@ page-put_whole_other bytes w n q p e l k ne =
     let at : 4096 * q ≡ 4096 * q + 0 = omega arith in
     ap (λ a. page_at (put bytes a w) p) at ∙ page-put_other bytes w n q 0 p e l (omega arith) ne
 
--- the pages of a list, joined
-pub joined-pages : (f : ℕ → List ℕ) (ns all : List ℕ) → length all ≡ 4096 * length ns → ((i : ℕ) → i < length ns → f (get_or ns i 0) ≡ page_at all i) → flat_map f ns ≡ all
-unfolding page_at cut
-joined-pages f [] all size h = sym (drop_all 0 all (omega arith))
-joined-pages f (n ∷ ns) all size h =
-    let rest : flat_map f ns ≡ drop 4096 all = joined-pages f ns (drop 4096 all) (simp length-drop (omega arith)) (λ i l. h (suc i) (omega arith) ∙ ap (take 4096) (ap (λ k. drop k all) (next i) ∙ sym (drop-drop (4096 * i) 4096 all))) in
-    ap (λ xs. xs ++ flat_map f ns) (h zero (omega arith)) ∙ (ap (λ xs. take 4096 all ++ xs) rest ∙ take-append-drop 4096 all)
-  where
-    next : (i : ℕ) → 4096 * suc i ≡ 4096 + 4096 * i
-    next i = omega arith
+-- a whole page of a run
+pub whole-at : {A : Type 0} (pages : List (Arc (List ℕ) A)) (bytes : List ℕ) (i : ℕ) (d : Arc (List ℕ) A) → ArePages pages → joined pages ≡ take (length bytes / 4096 * 4096) bytes → i < length pages → arc_value (get_or pages i d) ≡ cut (4096 * i) 4096 bytes
+whole-at pages bytes i d even is l =
+    let size : length (joined pages) ≡ 4096 * length pages = length-pages pages even in
+    let front : length (take (length bytes / 4096 * 4096) bytes) ≡ length bytes / 4096 * 4096 = simp length-take (omega arith) in
+    let all : 4096 * length pages ≡ length bytes / 4096 * 4096 = omega (arith, ap length is) in
+    let at : 4096 * i + 0 ≡ 4096 * i = omega arith in
+    let page : length (arc_value (get_or pages i d)) ≡ 4096 = even i d l in
+    sym (cut-whole (arc_value (get_or pages i d)) 4096 (omega arith))
+    ∙ (sym (cut-joined arc_value 4096 d pages i 0 4096 (λ j k. even j d k) l (omega arith))
+    ∙ (ap (cut (4096 * i + 0) 4096) is
+    ∙ (cut-take (4096 * i + 0) 4096 (length bytes / 4096 * 4096) bytes (omega arith) (omega arith)
+    ∙ ap (λ a. cut a 4096 bytes) at)))
+
+-- and of a list in which the run lies
+pub whole-laid : {A : Type 0} (pages : List (Arc (List ℕ) A)) (bytes : List ℕ) (first at n i : ℕ) (d : Arc (List ℕ) A) → ArePages pages → joined pages ≡ take (length bytes / 4096 * 4096) bytes → i < length pages → at ≡ first + 4096 * i → first + length bytes ≤ n → arc_value (get_or pages i d) ≡ cut at 4096 (put (blank n) first bytes)
+whole-laid pages bytes first at n i d even is l place inside =
+    let size : length (joined pages) ≡ 4096 * length pages = length-pages pages even in
+    let front : length (take (length bytes / 4096 * 4096) bytes) ≡ length bytes / 4096 * 4096 = simp length-take (omega arith) in
+    let all : 4096 * length pages ≡ length bytes / 4096 * 4096 = omega (arith, ap length is) in
+    whole-at pages bytes i d even is l
+    ∙ (sym (cut-put_within (blank n) first bytes (4096 * i) 4096 (omega (arith, length-blank n)) (omega arith))
+    ∙ ap (λ k. cut k 4096 (put (blank n) first bytes)) (sym place))
 
 -- a page of zeros, of bytes and of zeros, in parts that are the same
 pub laid-parts : (x y z bytes : List ℕ) (b f n b' f' m r : ℕ) → x ≡ replicate b 0 → y ≡ cut f m bytes → z ≡ replicate r 0 → b ≡ b' → f ≡ f' → m ≡ n → r ≡ 4096 - b' - n → x ++ (y ++ z) ≡ replicate b' 0 ++ (cut f' n bytes ++ replicate (4096 - b' - n) 0)

@@ -1,21 +1,21 @@
 -- The stock of pages that nobody holds.
-use Rattle.std.proofs.Common.{◌≡◌, ℕ, ◌+◌, ◌-◌, ◌<◌, ◌≤◌, ◌≢◌, List, [], ◌∷◌, ◌++◌, length, get_or, set, sum, arith, refl, ap, sym, ◌∙◌}
+use Rattle.std.proofs.Common.{◌≡◌, ℕ, ◌+◌, ◌*◌, ◌<◌, ◌≤◌, ◌≢◌, List, [], ◌∷◌, ◌++◌, length, get_or, set, sum, arith, refl, ap, sym, ◌∙◌}
 use Rattle.std.specs.Prelude.{◌⊎◌, ◌==◌, Result, Ok, Err, OnErr, IsOk, is_ok, if◌then◌else◌}
 use Rattle.std.proofs.lemmas.List.Sums.{count_by-le-length}
 use Rattle.std.proofs.Common.{inl, inr}
 use Rattle.std.proofs.lemmas.Bool.{cases_lt, cases_eq}
-use Rattle.std.proofs.lemmas.List.{length-set, length-append, get_or_read}
+use Rattle.std.proofs.lemmas.List.{length-set, length-append}
 use Rattle.std.proofs.lemmas.Bool.Decides.{nat_tests}
 use Rattle.page_pool.specs.Store.{IsStock, IsSound, times, idle, idle_pages}
 use Rattle.page_pool.proofs.Counts.{one_if, one_if-same, one_if-other, times-push, idle-set_same, idle-set_other, idle-is, idle-past, idle_pages-set, sum-set, idle_pages-enough}
 
 -- fewer holders than pages: the stock has a page
-pub stocked : (bytes hs stock : List ℕ) (spare cap : ℕ) → IsStock bytes hs stock spare cap → sum hs < length hs → 0 < length stock
-stocked bytes hs stock spare cap k h = omega (arith, idle_pages-enough hs, k.counted)
+pub stocked : (bytes hs stock : List ℕ) (cap : ℕ) → IsStock bytes hs stock cap → sum hs < length hs → 0 < length stock
+stocked bytes hs stock cap k h = omega (arith, idle_pages-enough hs, k.counted)
 
 -- a page of the stock is there, and nobody holds it
-pub in_stock : (bytes hs stock rest : List ℕ) (spare cap page : ℕ) → IsStock bytes hs stock spare cap → stock ≡ rest ++ page ∷ [] → (page < length hs) × (get_or hs page 0 ≡ 0)
-in_stock bytes hs stock rest spare cap page k e = by_place (cases_lt page (length hs))
+pub in_stock : (bytes hs stock rest : List ℕ) (cap page : ℕ) → IsStock bytes hs stock cap → stock ≡ rest ++ page ∷ [] → (page < length hs) × (get_or hs page 0 ≡ 0)
+in_stock bytes hs stock rest cap page k e = by_place (cases_lt page (length hs))
   where
     there : idle page hs ≡ times page rest + 1
     there = sym (k.once page) ∙ (ap (times page) e ∙ (times-push page rest page ∙ ap (λ n. times page rest + n) (one_if-same page)))
@@ -28,9 +28,9 @@ in_stock bytes hs stock rest spare cap page k e = by_place (cases_lt page (lengt
     by_place (inr l) = absurd (omega (arith, idle-past hs page l, there))
 
 -- a page taken from the stock has one holder
-pub taken : (bytes bytes' hs stock rest : List ℕ) (spare cap page : ℕ) → IsStock bytes hs stock spare cap → stock ≡ rest ++ page ∷ [] → length bytes' ≡ length bytes → 0 < spare → IsStock bytes' (set hs page 1) rest (spare - 1) cap
-taken bytes bytes' hs stock rest spare cap page k e b s =
-    let there = in_stock bytes hs stock rest spare cap page k e in
+pub taken : (bytes bytes' hs stock rest : List ℕ) (cap page : ℕ) → IsStock bytes hs stock cap → stock ≡ rest ++ page ∷ [] → length bytes' ≡ length bytes → sum hs < length hs → IsStock bytes' (set hs page 1) rest cap
+taken bytes bytes' hs stock rest cap page k e b s =
+    let there = in_stock bytes hs stock rest cap page k e in
     let l : page < length hs = there.0 in
     let none : get_or hs page 0 ≡ 0 = there.1 in
     let size : length (set hs page 1) ≡ length hs = length-set hs page 1 in
@@ -40,7 +40,7 @@ taken bytes bytes' hs stock rest spare cap page k e b s =
     record {
       whole = omega (arith, k.whole);
       few = omega (arith, k.few);
-      spared = omega (arith, k.spared, sum-set hs page 1 l);
+      within = omega (arith, sum-set hs page 1 l);
       once = λ q. once_at q l (cases_eq q page);
       counted = omega (arith, k.counted);
       room = omega (arith, k.room);
@@ -51,7 +51,7 @@ taken bytes bytes' hs stock rest spare cap page k e b s =
 
     once_at : (q : ℕ) → page < length hs → (q ≡ page) ⊎ (q ≢ page) → times q rest ≡ idle q (set hs page 1)
     once_at q l (inl i) =
-        let none : get_or hs page 0 ≡ 0 = (in_stock bytes hs stock rest spare cap page k e).1 in
+        let none : get_or hs page 0 ≡ 0 = (in_stock bytes hs stock rest cap page k e).1 in
         let was : idle page hs ≡ one_if (get_or hs page 0) 0 = idle-is hs page l in
         let one : one_if (get_or hs page 0) 0 ≡ 1 = ap (λ n. one_if n 0) none in
         let now : idle page (set hs page 1) ≡ one_if 1 0 = idle-set_same hs page 1 l in
@@ -66,8 +66,8 @@ taken bytes bytes' hs stock rest spare cap page k e b s =
         omega arith
 
 -- a page of one holder given back to the stock
-pub given : (bytes hs stock stock' : List ℕ) (spare spare' cap cap' page : ℕ) → IsStock bytes hs stock spare cap → page < length hs → get_or hs page 0 ≡ 1 → stock' ≡ stock ++ page ∷ [] → spare' ≡ spare + 1 → cap ≤ cap' → IsStock bytes (set hs page 0) stock' spare' cap'
-given bytes hs stock stock' spare spare' cap cap' page k l one e s c =
+pub given : (bytes hs stock stock' : List ℕ) (cap cap' page : ℕ) → IsStock bytes hs stock cap → page < length hs → get_or hs page 0 ≡ 1 → stock' ≡ stock ++ page ∷ [] → cap ≤ cap' → IsStock bytes (set hs page 0) stock' cap'
+given bytes hs stock stock' cap cap' page k l one e c =
     let size : length (set hs page 0) ≡ length hs = length-set hs page 0 in
     let count : length stock' ≡ length stock + 1 = ap length e ∙ length-append stock (page ∷ []) in
     let pages : idle_pages (set hs page 0) + one_if (get_or hs page 0) 0 ≡ idle_pages hs + one_if 0 0 = idle_pages-set hs page 0 l in
@@ -75,7 +75,7 @@ given bytes hs stock stock' spare spare' cap cap' page k l one e s c =
     record {
       whole = omega (arith, k.whole);
       few = omega (arith, k.few);
-      spared = omega (arith, k.spared, sum-set hs page 0 l);
+      within = omega (arith, k.within, sum-set hs page 0 l);
       once = λ q. once_at q (cases_eq q page);
       counted = omega (arith, k.counted);
       room = omega (arith, k.room);
@@ -100,8 +100,8 @@ given bytes hs stock stock' spare spare' cap cap' page k l one e s c =
         omega arith
 
 -- a page that is held, and stays held
-pub counted_anew : (bytes bytes' hs stock : List ℕ) (spare spare' cap page v : ℕ) → IsStock bytes hs stock spare cap → page < length hs → 0 < get_or hs page 0 → 0 < v → length bytes' ≡ length bytes → spare' + v ≡ spare + get_or hs page 0 → IsStock bytes' (set hs page v) stock spare' cap
-counted_anew bytes bytes' hs stock spare spare' cap page v k l held held' b s =
+pub counted_anew : (bytes hs stock : List ℕ) (cap page v : ℕ) → IsStock bytes hs stock cap → page < length hs → 0 < get_or hs page 0 → 0 < v → sum hs + v ≤ length hs + get_or hs page 0 → IsStock bytes (set hs page v) stock cap
+counted_anew bytes hs stock cap page v k l held held' room =
     let size : length (set hs page v) ≡ length hs = length-set hs page v in
     let pages : idle_pages (set hs page v) + one_if (get_or hs page 0) 0 ≡ idle_pages hs + one_if v 0 = idle_pages-set hs page v l in
     let was : one_if (get_or hs page 0) 0 ≡ 0 = one_if-other (get_or hs page 0) 0 (λ e. absurd (omega arith)) in
@@ -109,7 +109,7 @@ counted_anew bytes bytes' hs stock spare spare' cap page v k l held held' b s =
     record {
       whole = omega (arith, k.whole);
       few = omega (arith, k.few);
-      spared = omega (arith, k.spared, sum-set hs page v l);
+      within = omega (arith, sum-set hs page v l);
       once = λ q. once_at q (cases_eq q page);
       counted = omega (arith, k.counted);
       room = omega (arith, k.room);
@@ -124,12 +124,23 @@ counted_anew bytes bytes' hs stock spare spare' cap page v k l held held' b s =
         rw i (k.once page ∙ (was ∙ (none ∙ sym (now ∙ none'))))
     once_at q (inr n) = k.once q ∙ sym (idle-set_other hs page q v n)
 
+-- the same stock, written otherwise
+pub restated : (bytes bytes' hs hs' stock stock' : List ℕ) (cap cap' : ℕ) → IsStock bytes hs stock cap → length bytes' ≡ length bytes → hs ≡ hs' → stock ≡ stock' → length hs ≤ cap' → IsStock bytes' hs' stock' cap'
+restated bytes bytes' hs hs' stock stock' cap cap' k b h s c = record {
+  whole = b ∙ (k.whole ∙ ap (λ ys. 4096 * length ys) h);
+  few = omega (arith, k.few, ap length h);
+  within = omega (arith, k.within, ap sum h, ap length h);
+  once = λ q. ap (times q) (sym s) ∙ (k.once q ∙ ap (idle q) h);
+  counted = ap length (sym s) ∙ (k.counted ∙ ap idle_pages h);
+  room = omega (arith, ap length h);
+}
+
 -- what callers know of a stock
-pub sound : (bytes hs stock : List ℕ) (spare cap : ℕ) → IsStock bytes hs stock spare cap → IsSound (record { bytes = bytes; holders = hs })
-sound bytes hs stock spare cap k = record { whole = k.whole; few = k.few; within = omega (arith, k.spared) }
+pub sound : (bytes hs stock : List ℕ) (cap : ℕ) → IsStock bytes hs stock cap → IsSound (record { bytes = bytes; holders = hs })
+sound bytes hs stock cap k = record { whole = k.whole; few = k.few; within = k.within }
 
 -- fewer pages are idle than there are, where one is held
-pub idle_pages-less : (hs : List ℕ) (page : ℕ) → page < length hs → 0 < get_or hs page 0 → idle_pages hs < length hs
+idle_pages-less : (hs : List ℕ) (page : ℕ) → page < length hs → 0 < get_or hs page 0 → idle_pages hs < length hs
 unfolding idle_pages
 idle_pages-less hs page l held =
     let changed : idle_pages (set hs page 0) + one_if (get_or hs page 0) 0 ≡ idle_pages hs + one_if 0 0 = idle_pages-set hs page 0 l in
@@ -138,42 +149,9 @@ idle_pages-less hs page l held =
     let size : length (set hs page 0) ≡ length hs = length-set hs page 0 in
     omega arith
 
--- the number read
-pub read_is : (hs : List ℕ) (page x : ℕ) → page < length hs → x ≡ get_or hs page x → get_or hs page 0 ≡ x
-read_is hs page x l e = sym (get_or_read hs page x l e 0)
-
--- one more holder
-pub held_more : (bytes hs now stock : List ℕ) (spare cap page x : ℕ) → IsStock bytes hs stock spare cap → hs ≡ now → page < length now → 0 < get_or now page 0 → sum now < length now → x ≡ get_or hs page x → IsStock bytes (set hs page (x + 1)) stock (spare - 1) cap
-held_more bytes hs now stock spare cap page x k e l held room r =
-    let l' : page < length hs = omega (arith, ap length e) in
-    let x_is : get_or hs page 0 ≡ x = read_is hs page x l' r in
-    let n_is : get_or hs page 0 ≡ get_or now page 0 = ap (λ ys. get_or ys page 0) e in
-    counted_anew bytes bytes hs stock spare (spare - 1) cap page (x + 1) k l' (omega arith) (omega arith) refl (omega (arith, k.spared, ap length e, ap sum e))
-
--- one holder less, and one left at least
-pub held_less : (bytes hs now stock : List ℕ) (spare cap page x : ℕ) → IsStock bytes hs stock spare cap → hs ≡ now → page < length now → 1 < x → x ≡ get_or hs page x → IsStock bytes (set hs page (x - 1)) stock (spare + 1) cap
-held_less bytes hs now stock spare cap page x k e l more r =
-    let l' : page < length hs = omega (arith, ap length e) in
-    let x_is : get_or hs page 0 ≡ x = read_is hs page x l' r in
-    counted_anew bytes bytes hs stock spare (spare + 1) cap page (x - 1) k l' (omega arith) (omega arith) refl (omega arith)
-
--- the last holder gone
-pub held_last : (bytes hs now stock stock' : List ℕ) (spare cap cap' page x : ℕ) → IsStock bytes hs stock spare cap → hs ≡ now → page < length now → x ≡ 1 → x ≡ get_or hs page x → stock' ≡ stock ++ page ∷ [] → cap ≤ cap' → IsStock bytes (set hs page (x - 1)) stock' (spare + 1) cap'
-held_last bytes hs now stock stock' spare cap cap' page x k e l one r s c =
-    let l' : page < length hs = omega (arith, ap length e) in
-    let x_is : get_or hs page 0 ≡ x = read_is hs page x l' r in
-    let none : x - 1 ≡ 0 = omega arith in
-    rw none (given bytes hs stock stock' spare (spare + 1) cap cap' page k l' (x_is ∙ one) s refl c)
-
--- the same store with other bytes, as many
-pub rewritten : (bytes bytes' hs stock : List ℕ) (spare cap : ℕ) → IsStock bytes hs stock spare cap → length bytes' ≡ length bytes → IsStock bytes' hs stock spare cap
-rewritten bytes bytes' hs stock spare cap k e = record { whole = e ∙ k.whole; few = k.few; spared = k.spared; once = k.once; counted = k.counted; room = k.room }
-
 -- the stock has room for a page that is held
-pub stock_room : (bytes hs now stock : List ℕ) (spare cap page x : ℕ) → IsStock bytes hs stock spare cap → hs ≡ now → page < length now → 0 < get_or now page 0 → length stock < cap
-stock_room bytes hs now stock spare cap page x k e l held =
-    let n_is : get_or hs page 0 ≡ get_or now page 0 = ap (λ ys. get_or ys page 0) e in
-    omega (arith, k.counted, k.room, idle_pages-less hs page (omega (arith, ap length e)) (omega arith))
+pub stock_room : (bytes hs stock : List ℕ) (cap page : ℕ) → IsStock bytes hs stock cap → page < length hs → 0 < get_or hs page 0 → length stock < cap
+stock_room bytes hs stock cap page k l held = omega (arith, k.counted, k.room, idle_pages-less hs page l held)
 
 -- what is refused for one reason alone is done where it does not hold
 pub done_unless : {T E P : Type 0} (r : Result T E) → OnErr r P → (P → ⊥) → IsOk r
@@ -183,7 +161,3 @@ done_unless (Err x) e n = absurd (n e)
 -- what a push that is done leaves
 pub pushed_items : {T E X : Type 0} (r : Result T E) (x : T) (new old : List X) (page : X) → r ≡ Ok x → new ≡ (if is_ok r then old ++ page ∷ [] else old) → new ≡ old ++ page ∷ []
 pushed_items r x new old page e h = h ∙ ap (λ s. if is_ok s then old ++ page ∷ [] else old) e
-
--- what an append that is done leaves
-pub appended_items : {T E : Type 0} (r : Result T E) (x : T) (new old more : List ℕ) → r ≡ Ok x → new ≡ (if is_ok r then old ++ more else old) → new ≡ old ++ more
-appended_items r x new old more e h = h ∙ ap (λ s. if is_ok s then old ++ more else old) e

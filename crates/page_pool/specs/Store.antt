@@ -1,5 +1,5 @@
 -- Pages with the counts of their holders.
-use Rattle.std.specs.Prelude.{ℕ, zero, suc, ◌≡◌, ◌⊎◌, ◌+◌, ◌-◌, ◌*◌, ◌<◌, ◌≤◌, ◌^◌, ◌==◌, if◌then◌else◌, List, [], ◌∷◌, ◌++◌, length, sum, count_by, replicate, slice_index_or}
+use Rattle.std.specs.Prelude.{ℕ, zero, suc, ◌≡◌, ◌-◌, ◌*◌, ◌<◌, ◌≤◌, ◌^◌, ◌==◌, if◌then◌else◌, List, [], ◌∷◌, ◌++◌, length, sum, count_by, replicate, slice_index_or}
 
 -- the bytes of all pages, one page after another, and how many hold each page
 pub record Store : Type 0 where
@@ -48,41 +48,11 @@ pub record IsMade (bytes holders : List ℕ) (pages bytes_room holders_room : �
   pub bytes_fit : 4096 * pages ≤ bytes_room
   pub holders_fit : pages ≤ holders_room
 
--- the stock has each page that nobody holds once, and `spare` is the pages less their holders
-pub record IsStock (bytes holders stock : List ℕ) (spare capacity : ℕ) : Type 0 where
+-- the stock has each page that nobody holds once, and there are no more holders than pages
+pub record IsStock (bytes holders stock : List ℕ) (capacity : ℕ) : Type 0 where
   pub whole : length bytes ≡ 4096 * length holders
   pub few : length holders < 2 ^ 32
-  pub spared : spare + sum holders ≡ length holders
+  pub within : sum holders ≤ length holders
   pub once : (page : ℕ) → times page stock ≡ idle page holders
   pub counted : length stock ≡ idle_pages holders
   pub room : length holders ≤ capacity
-
--- one page more can be made
-pub record HasRoom (bytes holders bytes_room holders_room : ℕ) : Type 0 where
-  pub few : holders < 2 ^ 32
-  pub bytes_fit : bytes + 4096 ≤ bytes_room
-  pub holders_fit : holders < holders_room
-
--- the pages that are made, and the stock
-pub record Parts : Type 0 where
-  pub bytes : List ℕ
-  pub holders : List ℕ
-  pub stock : List ℕ
-
--- the last page of the stock is drawn
-pub record DrawsLast (old new : Parts) (page : ℕ) : Type 0 where
-  pub stock : old.stock ≡ new.stock ++ page ∷ []
-  pub bytes : new.bytes ≡ old.bytes
-  pub holders : new.holders ≡ old.holders
-
--- the stock is empty, and the next page is made, of zeros
-pub record DrawsNext (old new : Parts) (page : ℕ) : Type 0 where
-  pub empty : old.stock ≡ []
-  pub stock : new.stock ≡ []
-  pub number : page ≡ length old.holders
-  pub bytes : new.bytes ≡ old.bytes ++ blank 4096
-  pub holders : new.holders ≡ old.holders ++ 0 ∷ []
-
--- a page is drawn in one way or the other
-abbrev pub Draws : Parts → Parts → ℕ → Type 0
-Draws old new page = DrawsLast old new page ⊎ DrawsNext old new page

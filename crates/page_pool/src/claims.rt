@@ -1,13 +1,15 @@
 //! Many pages taken, held and given back.
 
-ghost use Rattle.std.specs.Prelude.{◌≡◌, ℕ, ◌+◌, ◌-◌, ◌*◌, ◌<◌, ◌≤◌, ◌++◌, [], length, min, sum, replicate, slice_index, slice_set, vec_capacity, IfSome};
+ghost use Rattle.std.specs.Prelude.{◌≡◌, ℕ, ◌+◌, ◌-◌, ◌*◌, ◌<◌, ◌≤◌, ◌++◌, [], All, length, min, sum, replicate, slice_index, slice_set, vec_capacity, IfSome};
+ghost use Rattle.std.specs.List.{flat_map};
 ghost use Rattle.std.specs.Arc.{arc_value};
 ghost use Rattle.rdma_types.specs.Memory.{cut, put};
 ghost use Rattle.page_pool.specs.Store.{IsSound, times, blank};
-ghost use Rattle.page_pool.specs.Ledger.{page_at};
+ghost use Rattle.page_pool.specs.Ledger.{IsWholePage, own_number, own_numbers, page_at, page_bytes};
 
 use crate::PAGE;
 use crate::frames::Frames;
+use crate::page::Page;
 use byte_run::ByteRun;
 use std::sync::Arc;
 
@@ -27,8 +29,15 @@ fn lay_page(bytes: &ByteRun, first: u64, at: u64, page: &mut [u8])
     rest.fill(0);
 }
 
-/// The page to share that has what a page from byte `at` of a list on has; None where there is none.
-fn whole_page(frames: &Frames, bytes: &ByteRun, first: u64, at: u64) -> Option<Arc<[u8; 4096]>>
+/// The page to share that has what a page from byte `at` of a list on has; None where there is none. `zeros` is a page of
+/// zeros.
+fn whole_page(
+    zeros: &Arc<[u8; 4096]>,
+    bytes: &ByteRun,
+    first: u64,
+    at: u64,
+) -> Option<Arc<[u8; 4096]>>
+    requires zeros { arc_value zeros.now ≡ blank 4096 }
     ensures whole { IfSome result (λ page. length (arc_value page) ≡ 4096) }
     ensures bytes { IfSome result (λ page. (n : ℕ) → at + 4096 ≤ n → first + length bytes.now ≤ n → arc_value page ≡ cut at 4096 (put (blank n) first bytes.now)) }
 {
@@ -37,26 +46,39 @@ fn whole_page(frames: &Frames, bytes: &ByteRun, first: u64, at: u64) -> Option<A
     }
     let from = at - first;
     if from >= bytes.len() {
-        return frames.blank();
+        return Arc::try_clone(zeros).ok();
     }
     if from % 4096 != 0 {
         return None;
     }
-    bytes.shared_page(from / 4096)
+    match bytes.whole_pages().get((from / 4096) as usize) {
+        Some(page) => Arc::try_clone(page).ok(),
+        None => None,
+    }
 }
 
-/// Takes a new page, which has what a page from byte `at` of a list on has.
-fn take_page(frames: &mut Frames, bytes: &ByteRun, first: u64, at: u64) -> u32
+/// A page that has what a page from byte `at` of a list on has: one to share, or a new one of the pool's own.
+fn take_page(
+    frames: &mut Frames,
+    zeros: &Arc<[u8; 4096]>,
+    bytes: &ByteRun,
+    first: u64,
+    at: u64,
+) -> Page
+    requires sound { IsSound frames.old }
     requires room { sum frames.old.holders < length frames.old.holders }
-    ensures page { result < length frames.old.holders }
-    ensures idle { slice_index frames.old.holders result ≡ 0 }
-    ensures holders { frames.new.holders ≡ slice_set frames.old.holders result 1 }
-    ensures bytes { (n : ℕ) → at + 4096 ≤ n → first + length bytes.now ≤ n → frames.new.bytes ≡ put frames.old.bytes (4096 * result) (cut at 4096 (put (blank n) first bytes.now)) }
+    requires zeros { arc_value zeros.now ≡ blank 4096 }
     ensures sound { IsSound frames.new }
+    ensures pages { length frames.new.holders ≡ length frames.old.holders }
+    ensures counted { (page : ℕ) → slice_index frames.new.holders page ≡ slice_index frames.old.holders page + times page (own_number result) }
+    ensures total { sum frames.new.holders ≡ sum frames.old.holders + length (own_number result) }
+    ensures kept { (page : ℕ) → 0 < slice_index frames.old.holders page → page_at frames.new.bytes page ≡ page_at frames.old.bytes page }
+    ensures whole { IsWholePage result }
+    ensures bytes { (n : ℕ) → at + 4096 ≤ n → first + length bytes.now ≤ n → page_bytes frames.new.bytes result ≡ cut at 4096 (put (blank n) first bytes.now) }
 {
-    match whole_page(frames, bytes, first, at) {
-        Some(page) => frames.fresh_shared(page),
-        None => take_copy(frames, bytes, first, at),
+    match whole_page(zeros, bytes, first, at) {
+        Some(page) => Page::Shared(page),
+        None => Page::Own(take_copy(frames, bytes, first, at)),
     }
 }
 
@@ -74,61 +96,69 @@ fn take_copy(frames: &mut Frames, bytes: &ByteRun, first: u64, at: u64) -> u32
     frames.fresh(&page)
 }
 
-/// Takes new pages, and lists their numbers. They have the bytes of a run from byte `first` of the first page on, and zeros
-/// elsewhere.
+/// Pages in a row that have the bytes of a run from byte `first` of the first page on, and zeros elsewhere. `zeros` is a
+/// page of zeros.
 pub fn take_pages(
     frames: &mut Frames,
-    numbers: &mut Vec<u32>,
+    zeros: &Arc<[u8; 4096]>,
+    pages: &mut Vec<Page>,
     count: u32,
     bytes: &ByteRun,
     first: u64,
 )
     requires sound { IsSound frames.old }
-    requires empty { numbers.old.items ≡ [] }
-    requires room { count ≤ vec_capacity numbers.old }
+    requires zeros { arc_value zeros.now ≡ blank 4096 }
+    requires empty { pages.old.items ≡ [] }
+    requires room { count ≤ vec_capacity pages.old }
     requires free { sum frames.old.holders + count ≤ length frames.old.holders }
     requires inside { first + length bytes.now ≤ 4096 * count }
     ensures sound { IsSound frames.new }
     ensures pages { length frames.new.holders ≡ length frames.old.holders }
-    ensures counted { (page : ℕ) → slice_index frames.new.holders page ≡ slice_index frames.old.holders page + times page numbers.new.items }
-    ensures total { sum frames.new.holders ≡ sum frames.old.holders + count }
+    ensures counted { (page : ℕ) → slice_index frames.new.holders page ≡ slice_index frames.old.holders page + times page (own_numbers pages.new.items) }
+    ensures total { sum frames.new.holders ≡ sum frames.old.holders + length (own_numbers pages.new.items) }
     ensures kept { (page : ℕ) → 0 < slice_index frames.old.holders page → page_at frames.new.bytes page ≡ page_at frames.old.bytes page }
-    ensures bytes { (i : ℕ) → i < count → page_at frames.new.bytes (slice_index numbers.new.items i) ≡ page_at (put (blank (4096 * count)) first bytes.now) i }
-    ensures len { length numbers.new.items ≡ count }
+    ensures whole { All IsWholePage pages.new.items }
+    ensures bytes { flat_map (page_bytes frames.new.bytes) pages.new.items ≡ put (blank (4096 * count)) first bytes.now }
+    ensures len { length pages.new.items ≡ count }
 {
     for taken in 0..count {
-        let number = take_page(frames, bytes, first, u64::from(taken) * 4096);
-        numbers.push(number).unwrap();
+        let page = take_page(frames, zeros, bytes, first, u64::from(taken) * 4096);
+        pages.push(page).unwrap();
     }
 }
 
-/// One more holder of each page.
-pub fn hold_pages(frames: &mut Frames, numbers: &[u32])
+/// One more holder of each of these pages that is the pool's own.
+pub fn hold_pages(frames: &mut Frames, pages: &[Page])
     requires sound { IsSound frames.old }
-    requires held { (i : ℕ) → i < length numbers.now → 0 < slice_index frames.old.holders (slice_index numbers.now i) }
-    requires free { sum frames.old.holders + length numbers.now ≤ length frames.old.holders }
+    requires held { (i : ℕ) → i < length (own_numbers pages.now) → 0 < slice_index frames.old.holders (slice_index (own_numbers pages.now) i) }
+    requires free { sum frames.old.holders + length (own_numbers pages.now) ≤ length frames.old.holders }
     ensures sound { IsSound frames.new }
     ensures pages { length frames.new.holders ≡ length frames.old.holders }
-    ensures counted { (page : ℕ) → slice_index frames.new.holders page ≡ slice_index frames.old.holders page + times page numbers.now }
-    ensures total { sum frames.new.holders ≡ sum frames.old.holders + length numbers.now }
+    ensures counted { (page : ℕ) → slice_index frames.new.holders page ≡ slice_index frames.old.holders page + times page (own_numbers pages.now) }
+    ensures total { sum frames.new.holders ≡ sum frames.old.holders + length (own_numbers pages.now) }
     ensures bytes { frames.new.bytes ≡ frames.old.bytes }
 {
-    for number in numbers {
-        frames.hold(*number);
+    for page in pages {
+        if let Page::Own(number) = page {
+            frames.hold(*number);
+        }
     }
 }
 
-/// One holder of each page less. The bytes of pages that nobody holds any longer are not told.
-pub fn give_pages(frames: &mut Frames, numbers: &[u32])
+/// One holder less of each of these pages that is the pool's own. The bytes of pages that nobody holds any longer are not
+/// told.
+pub fn give_pages(frames: &mut Frames, pages: &[Page])
     requires sound { IsSound frames.old }
-    requires held { (page : ℕ) → times page numbers.now ≤ slice_index frames.old.holders page }
+    requires held { (page : ℕ) → times page (own_numbers pages.now) ≤ slice_index frames.old.holders page }
     ensures sound { IsSound frames.new }
     ensures pages { length frames.new.holders ≡ length frames.old.holders }
-    ensures counted { (page : ℕ) → slice_index frames.new.holders page + times page numbers.now ≡ slice_index frames.old.holders page }
-    ensures total { sum frames.new.holders + length numbers.now ≡ sum frames.old.holders }
+    ensures counted { (page : ℕ) → slice_index frames.new.holders page + times page (own_numbers pages.now) ≡ slice_index frames.old.holders page }
+    ensures total { sum frames.new.holders + length (own_numbers pages.now) ≡ sum frames.old.holders }
     ensures kept { (page : ℕ) → 0 < slice_index frames.new.holders page → page_at frames.new.bytes page ≡ page_at frames.old.bytes page }
 {
-    for number in numbers {
-        frames.release(*number);
+    for page in pages {
+        if let Page::Own(number) = page {
+            frames.release(*number);
+        }
     }
 }

@@ -1,16 +1,13 @@
 //! Pages that several lists may hold, each with the count of its holders.
 
-ghost use Rattle.std.specs.Prelude.{◌≡◌, ℕ, ◌+◌, ◌-◌, ◌*◌, ◌<◌, ◌≤◌, ◌^◌, length, sum, nat_lt, replicate, slice_index, slice_set, IfOk, IfSome};
-ghost use Rattle.std.specs.Arc.{arc_value};
+ghost use Rattle.std.specs.Prelude.{◌≡◌, ℕ, ◌+◌, ◌-◌, ◌*◌, ◌<◌, ◌≤◌, length, sum, nat_lt, replicate, slice_index, slice_set, IfOk};
 ghost use Rattle.rdma_types.specs.Memory.{cut, put};
-ghost use Rattle.page_pool.specs.Store.{IsSound, blank};
+ghost use Rattle.page_pool.specs.Store.{IsSound};
 ghost use Rattle.page_pool.specs.Ledger.{page_at};
 
 use crate::page_bytes::PageBytes;
-use crate::parts::draw;
 use std::alloc::{AllocError, Global};
 use std::marker::Model;
-use std::sync::Arc;
 
 /// The pages of a pool. A page is made as it is first taken: until then contracts see its zeros, and no memory holds them.
 /// Pages that were held, and that nobody holds, wait in a stack.
@@ -19,7 +16,6 @@ pub struct Frames {
     bytes: PageBytes,
     holders: Vec<u32>,
     stock: Vec<u32>,
-    spare: u32,
     pages: u32,
 }
 
@@ -31,7 +27,7 @@ impl Model for Frames {
 
     ghost view = { λ f. record { bytes = padded (4096 * f.pages) f.bytes.items; holders = padded f.pages f.holders.items } };
 
-    ghost invariant = { λ f. IsMade f.bytes.items f.holders.items f.pages f.bytes.room (vec_capacity f.holders) × IsStock (padded (4096 * f.pages) f.bytes.items) (padded f.pages f.holders.items) (waiting f.holders.items f.pages f.stock.items) f.spare (vec_capacity f.stock) };
+    ghost invariant = { λ f. IsMade f.bytes.items f.holders.items f.pages f.bytes.room (vec_capacity f.holders) × IsStock (padded (4096 * f.pages) f.bytes.items) (padded f.pages f.holders.items) (waiting f.holders.items f.pages f.stock.items) (vec_capacity f.stock) };
 }
 
 impl Frames {
@@ -44,13 +40,11 @@ impl Frames {
             bytes: PageBytes::make(alloc, pages)?,
             holders: Vec::with_capacity(alloc, count)?,
             stock: Vec::with_capacity(alloc, count)?,
-            spare: pages,
             pages,
         })
     }
 
-    /// Equal pages, with as much room. Those that runs of bytes share are shared with these too. Errors: `AllocError` when
-    /// out of memory.
+    /// Equal pages, with as much room. Errors: `AllocError` when out of memory.
     pub fn copy(&self, alloc: Global) -> Result<Frames, AllocError>
         ensures { IfOk result (λ f. f ≡ self.now) }
     {
@@ -64,17 +58,15 @@ impl Frames {
             bytes,
             holders,
             stock,
-            spare: self.spare,
             pages: self.pages,
         })
     }
 
-    /// The pages less the holders of all.
-    pub fn spare(&self) -> u32
-        ensures spare { result + sum self.now.holders ≡ length self.now.holders }
-        ensures sound { IsSound self.now }
+    /// How many pages there are.
+    pub fn pages(&self) -> u32
+        ensures { result ≡ length self.now.holders }
     {
-        self.spare
+        self.pages
     }
 
     /// Whether more than one list holds a page.
@@ -86,27 +78,11 @@ impl Frames {
     }
 
     /// The bytes of a page.
-    pub fn page(&self, page: u32) -> &[u8]
+    pub fn page(&self, page: u32) -> &[u8; 4096]
         requires { 0 < slice_index self.now.holders page }
         ensures { result.now ≡ cut (4096 * page) 4096 self.now.bytes }
     {
         self.bytes.page(page as usize)
-    }
-
-    /// A page to be shared with runs of bytes; None where it lies in memory of the pool's own.
-    pub fn shared(&self, page: u32) -> Option<Arc<[u8; 4096]>>
-        requires { 0 < slice_index self.now.holders page }
-        ensures whole { IfSome result (λ shared. length (arc_value shared) ≡ 4096) }
-        ensures bytes { IfSome result (λ shared. arc_value shared ≡ cut (4096 * page) 4096 self.now.bytes) }
-    {
-        self.bytes.shared(page as usize)
-    }
-
-    /// A page of zeros, to be shared; None where it is shared too often.
-    pub fn blank(&self) -> Option<Arc<[u8; 4096]>>
-        ensures { IfSome result (λ shared. arc_value shared ≡ blank 4096) }
-    {
-        self.bytes.blank()
     }
 
     /// Writes bytes into a page.
@@ -127,7 +103,6 @@ impl Frames {
         ensures sound { IsSound self.new }
     {
         self.holders[page as usize] += 1;
-        self.spare -= 1;
     }
 
     /// One holder of a page less. The bytes of a page that nobody holds any longer are not told.
@@ -139,15 +114,13 @@ impl Frames {
     {
         let left = self.holders[page as usize] - 1;
         self.holders[page as usize] = left;
-        self.spare += 1;
         if left == 0 {
             self.stock.push(page).unwrap();
-            self.bytes.forget(page as usize);
         }
     }
 
     /// A page that nobody held, with these bytes.
-    pub fn fresh(&mut self, bytes: &[u8]) -> u32
+    pub fn fresh(&mut self, bytes: &[u8; 4096]) -> u32
         requires room { sum self.old.holders < length self.old.holders }
         requires whole { length bytes.now ≡ 4096 }
         ensures page { result < length self.old.holders }
@@ -158,30 +131,19 @@ impl Frames {
         } }
         ensures sound { IsSound self.new }
     {
-        let page = draw(&mut self.bytes, &mut self.holders, &mut self.stock);
-        self.bytes.write_page(page as usize, bytes);
-        self.holders[page as usize] = 1;
-        self.spare -= 1;
-        page
-    }
-
-    /// A page that nobody held, with the bytes of a page that runs of bytes may share.
-    pub fn fresh_shared(&mut self, bytes: Arc<[u8; 4096]>) -> u32
-        requires room { sum self.old.holders < length self.old.holders }
-        requires whole { length (arc_value bytes) ≡ 4096 }
-        ensures page { result < length self.old.holders }
-        ensures idle { slice_index self.old.holders result ≡ 0 }
-        ensures new { self.new ≡ record {
-          bytes = put self.old.bytes (4096 * result) (arc_value bytes);
-          holders = slice_set self.old.holders result 1;
-        } }
-        ensures sound { IsSound self.new }
-    {
-        let page = draw(&mut self.bytes, &mut self.holders, &mut self.stock);
-        self.bytes.share(page as usize, bytes);
-        self.holders[page as usize] = 1;
-        self.spare -= 1;
-        page
+        match self.stock.pop() {
+            Some(page) => {
+                self.bytes.write_page(page as usize, bytes);
+                self.holders[page as usize] = 1;
+                page
+            }
+            None => {
+                let page = self.holders.len() as u32;
+                self.bytes.push(bytes);
+                self.holders.push(1).unwrap();
+                page
+            }
+        }
     }
 
     /// A copy of a page with one holder, who holds the page no longer.
@@ -195,10 +157,8 @@ impl Frames {
         } }
         ensures sound { IsSound self.new }
     {
+        let bytes = *self.bytes.page(page as usize);
         self.holders[page as usize] -= 1;
-        let copy = draw(&mut self.bytes, &mut self.holders, &mut self.stock);
-        self.holders[copy as usize] = 1;
-        self.bytes.copy_page(page as usize, copy as usize);
-        copy
+        self.fresh(&bytes)
     }
 }

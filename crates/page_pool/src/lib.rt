@@ -7,9 +7,8 @@ ghost use Rattle.page_pool.specs.declared.PoolFault.TheVariants.{OutOfMemory};
 
 mod claims;
 mod frames;
-mod listed;
+mod page;
 mod page_bytes;
-mod parts;
 mod pool;
 
 pub use byte_run::ByteRun;

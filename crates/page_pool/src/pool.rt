@@ -1,16 +1,17 @@
 //! The pool and its lists.
 
-ghost use Rattle.std.specs.Prelude.{◌≡◌, ◌≢◌, ℕ, ◌+◌, ◌-◌, ◌*◌, ◌%◌, ◌<◌, ◌≤◌, ◌↔◌, ◌++◌, [], length, sum, take, drop, slice_index, vec_capacity, IsSome, Some, None, OnOk, OnErr, IfOk, IfErr, IfSome, IsErrOf};
-ghost use Rattle.slab.specs.Slab.{HasRoomFor};
+ghost use Rattle.std.specs.Prelude.{◌≡◌, ℕ, ◌+◌, ◌-◌, ◌*◌, ◌/◌, ◌%◌, ◌<◌, ◌≤◌, ◌↔◌, ◌++◌, [], All, length, sum, take, drop, slice_index, IsSome, IsTrue, Some, None, OnOk, OnErr, IfOk, IfErr, IfSome, IsErrOf};
+ghost use Rattle.std.specs.List.{AllZip, flat_map};
 ghost use Rattle.std.specs.Arc.{arc_value};
 ghost use Rattle.rdma_types.specs.Memory.{cut, put};
-ghost use Rattle.page_pool.specs.Store.{blank};
-ghost use Rattle.page_pool.specs.Ledger.{IsLedger, IsPaged, IsPool, numbers, slot, shown, pool_of};
+ghost use Rattle.page_pool.specs.Store.{IsSound, blank};
+ghost use Rattle.page_pool.specs.Ledger.{IsPool, IsSamePage, IsWholePage, own_number, own_numbers, page_bytes, pages, slot, pool_of};
+ghost use Rattle.byte_run.specs.Pages.{joined};
 ghost use Rattle.page_pool.specs.Pool.{Pool, bytes_of, bytes_in, IsIn, Puts, pages_of, free_pages, held_pages, pages_for};
 
 use crate::claims::{give_pages, hold_pages, take_pages};
 use crate::frames::Frames;
-use crate::listed::{Listed, pages_in};
+use crate::page::{self, Page};
 use crate::{PAGE, PoolFault, Unlowered};
 use byte_run::ByteRun;
 use slab::Slab;
@@ -41,17 +42,21 @@ impl PageList {
     }
 }
 
-/// Pages of 4,096 bytes, and the lists that share them. A list that was lowered from whole pages is kept as the run that it
-/// came from until it is written or shared. `kept` counts the pages of such lists: they are held, and so many others wait
-/// to be drawn for them.
+/// Pages of 4,096 bytes, and the lists that share them. A page of a list is shared with runs of bytes where it came from
+/// one, or was never written; else it is one of the pool's own. `held` counts the pages of all lists, and so many of the
+/// pool's own there are at least, so that each can be written.
 #[derive(Drop)]
 pub struct PagePool {
     frames: Frames,
-    lists: Slab<Listed>,
-    kept: u32,
+    zeros: Arc<[u8; 4096]>,
+    lists: Slab<Vec<Page>>,
+    held: u32,
 }
 
 impl Model for PagePool {
+    ghost use Rattle.std.specs.Prelude.{◌≡◌};
+    ghost use Rattle.std.specs.Arc.{arc_value};
+    ghost use Rattle.page_pool.specs.Store.{blank};
     ghost use Rattle.page_pool.specs.Pool.{Pool};
     ghost use Rattle.page_pool.specs.Ledger.{pool_of, IsPool};
 
@@ -59,7 +64,7 @@ impl Model for PagePool {
 
     ghost view = { λ p. pool_of p.frames p.lists.slots };
 
-    ghost invariant = { λ p. IsPool p.frames p.lists.slots p.kept };
+    ghost invariant = { λ p. IsPool p.frames p.lists.slots p.held × (arc_value p.zeros ≡ blank 4096) };
 }
 
 impl PagePool {
@@ -69,8 +74,9 @@ impl PagePool {
     {
         Ok(PagePool {
             frames: Frames::make(alloc, pages)?,
+            zeros: Arc::new(alloc, [0; PAGE])?,
             lists: Slab::new(alloc),
-            kept: 0,
+            held: 0,
         })
     }
 
@@ -82,8 +88,9 @@ impl PagePool {
     {
         Ok(PagePool {
             frames: self.frames.copy(alloc)?,
+            zeros: Arc::try_clone(&self.zeros)?,
             lists: self.lists.clone()?,
-            kept: self.kept,
+            held: self.held,
         })
     }
 
@@ -92,7 +99,7 @@ impl PagePool {
         ensures free { result ≡ free_pages self.now }
         ensures all { result + held_pages self.now ≡ self.now.pages }
     {
-        self.frames.spare() - self.kept
+        self.frames.pages() - self.held
     }
 
     /// How many bytes a list has.
@@ -101,11 +108,7 @@ impl PagePool {
         ensures size { result ≡ length (bytes_in self.now list.now) }
         ensures pages { 4096 * pages_of (bytes_of self.now list.now) ≡ result }
     {
-        let listed = &self.lists[list.list];
-        match &listed.run {
-            Some(run) => run.len(),
-            None => (listed.numbers.len() * PAGE) as u64,
-        }
+        (self.lists[list.list].len() * PAGE) as u64
     }
 
     /// A list of `n` new pages of zeros. Errors: `NoPage` exactly where fewer are free, or `OutOfMemory`. The pool is
@@ -139,9 +142,11 @@ impl PagePool {
         if self.free() < n {
             return Err(PoolFault::NoPage);
         }
-        let mut numbers = make_room(alloc, &mut self.lists, n as usize)?;
-        take_pages(&mut self.frames, &mut numbers, n, bytes, first);
-        let list = self.lists.insert_reserved(Listed { run: None, numbers });
+        let mut pages = Vec::with_capacity(alloc, n as usize)?;
+        self.lists.reserve(1)?;
+        take_pages(&mut self.frames, &self.zeros, &mut pages, n, bytes, first);
+        let list = self.lists.insert_reserved(pages);
+        self.held += n;
         Ok(PageList { list })
     }
 
@@ -165,16 +170,16 @@ impl PagePool {
         if self.free() < count {
             return Err(PoolFault::NoPage);
         }
-        lay_out(&mut self.frames, &mut self.lists, &mut self.kept, list.list);
-        let numbers = part_of(
+        let pages = part_of(
             alloc,
-            &self.lists[list.list].numbers,
+            &self.lists[list.list],
             first as usize,
             count as usize,
         )?;
         self.lists.reserve(1)?;
-        hold_pages(&mut self.frames, &numbers);
-        let list = self.lists.insert_reserved(Listed { run: None, numbers });
+        hold_pages(&mut self.frames, &pages);
+        let list = self.lists.insert_reserved(pages);
+        self.held += count;
         Ok(PageList { list })
     }
 
@@ -184,11 +189,9 @@ impl PagePool {
         ensures puts { Puts self.old self.new list None }
         ensures free { free_pages self.new ≡ free_pages self.old + pages_of (bytes_of self.old list) }
     {
-        let Listed { run, numbers } = self.lists.remove(list.list);
-        match run {
-            Some(run) => self.kept -= pages_in(&run),
-            None => give_pages(&mut self.frames, &numbers),
-        }
+        let pages = self.lists.remove(list.list);
+        give_pages(&mut self.frames, &pages);
+        self.held -= pages.len() as u32;
     }
 
     /// The bytes of a list from `at` on to the end of their page of 4,096 bytes.
@@ -198,14 +201,9 @@ impl PagePool {
         ensures bytes { result.now ≡ cut at (4096 - at % 4096) (bytes_in self.now list.now) }
         ensures length { length result.now ≡ 4096 - at % 4096 }
     {
-        let listed = &self.lists[list.list];
-        match &listed.run {
-            Some(run) => run.piece(at),
-            None => {
-                let number = listed.numbers[at as usize / PAGE];
-                rest_of(self.frames.page(number), at as usize % PAGE)
-            }
-        }
+        let at = at as usize;
+        let page = &self.lists[list.list][at / PAGE];
+        rest_of(page_of(&self.frames, page), at % PAGE)
     }
 
     /// Copies the bytes of a list from `at` on into `out`, as many as it has. It takes no memory.
@@ -243,8 +241,8 @@ impl PagePool {
         }
     }
 
-    /// Takes bytes of a list out, and ends the list. Where all bytes are asked for of a list that is kept as a run, that is
-    /// the run itself, at no cost for a page. Errors: the list itself when out of memory; the pool is then as it was.
+    /// Takes bytes of a list out, and ends the list. Errors: the list itself when out of memory; the pool is then as it
+    /// was.
     pub fn lift(
         &mut self,
         alloc: Global,
@@ -260,9 +258,6 @@ impl PagePool {
         ensures back { IfErr result (λ other. other ≡ list) }
         ensures err { OnErr result (self.new ≡ self.old) }
     {
-        if let Some(run) = self.hand_over(&list, first, count) {
-            return Ok(run);
-        }
         match self.copy_out(alloc, &list, first, count as usize) {
             Ok(run) => {
                 self.give(list);
@@ -270,25 +265,6 @@ impl PagePool {
             }
             Err(_) => Err(list),
         }
-    }
-
-    /// The run that a list is kept as, where all of its bytes are asked for: the list is then ended. Else None, and the pool
-    /// is as it was.
-    fn hand_over(&mut self, list: &PageList, first: u64, count: u32) -> Option<ByteRun>
-        requires held { IsIn self.old list.now }
-        requires inside { first + count ≤ length (bytes_in self.old list.now) }
-        ensures bytes { IfSome result (λ run. run ≡ cut first count (bytes_in self.old list.now)) }
-        ensures puts { IsSome result → Puts self.old self.new list.now None }
-        ensures free { IsSome result → free_pages self.new ≡ free_pages self.old + pages_of (bytes_of self.old list.now) }
-        ensures left { result ≡ None → self.new ≡ self.old }
-    {
-        if u64::from(count) < self.size(list) {
-            return None;
-        }
-        let run = self.lists[list.list].run.take()?;
-        self.kept -= pages_in(&run);
-        drop(self.lists.remove(list.list));
-        Some(run)
     }
 
     /// A copy of `count` bytes of a list from `first` on, which shares whole pages where it can. Errors: `AllocError` when
@@ -304,71 +280,24 @@ impl PagePool {
         requires inside { first + count ≤ length (bytes_in self.now list.now) }
         ensures { IfOk result (λ run. run ≡ cut first count (bytes_in self.now list.now)) }
     {
-        if count as u64 == self.size(list)
-            && let Some(run) = &self.lists[list.list].run
-        {
-            return run.copy(alloc);
-        }
-        let mut run = ByteRun::make(alloc);
-        let mut done = 0;
+        let _size = self.size(list);
+        let whole = if first % 4096 == 0 { count / PAGE } else { 0 };
+        let from = (first / 4096) as usize;
+        let pages = &self.lists[list.list][from..from + whole];
+        let mut run = run_of(alloc, &self.frames, pages)?;
+        let mut done = whole * PAGE;
         while done < count {
-            done += self.copy_piece(alloc, list, first + done as u64, count - done, &mut run)?;
+            let piece = self.piece(list, first + done as u64);
+            let taken = piece.len().min(count - done);
+            run.append(alloc, &piece[..taken])?;
+            done += taken;
         }
         Ok(run)
     }
 
-    /// Puts the bytes of a list from `at` on at the end of a run, to the end of their page, or `most`; and how many. A whole
-    /// page is shared where it can be.
-    fn copy_piece(
-        &self,
-        alloc: Global,
-        list: &PageList,
-        at: u64,
-        most: usize,
-        run: &mut ByteRun,
-    ) -> Result<usize, AllocError>
-        requires held { IsIn self.now list.now }
-        requires inside { at < length (bytes_in self.now list.now) }
-        requires some { 0 < most }
-        ensures ok { IfOk result (λ taken. run.new ≡ run.old ++ cut at taken (bytes_in self.now list.now)) }
-        ensures taken { IfOk result (λ taken. 0 < taken) }
-        ensures most { IfOk result (λ taken. taken ≤ most) }
-    {
-        if let Some(page) = self.whole_page(list, at, most, run.len()) {
-            run.append_page(page)?;
-            return Ok(PAGE);
-        }
-        let piece = self.piece(list, at);
-        let taken = piece.len().min(most);
-        run.append(alloc, &piece[..taken])?;
-        Ok(taken)
-    }
-
-    /// The page of a list that begins at `at`, to be shared at the end of `len` bytes; None where they do not end with a
-    /// page, where fewer than a page are wanted, and where it cannot be shared.
-    fn whole_page(&self, list: &PageList, at: u64, most: usize, len: u64) -> Option<Arc<[u8; 4096]>>
-        requires held { IsIn self.now list.now }
-        requires inside { at < length (bytes_in self.now list.now) }
-        ensures whole { IfSome result (λ page. length (arc_value page) ≡ 4096) }
-        ensures bytes { IfSome result (λ page. arc_value page ≡ cut at 4096 (bytes_in self.now list.now)) }
-        ensures round { IsSome result → len % 4096 ≡ 0 }
-        ensures enough { IsSome result → 4096 ≤ most }
-    {
-        if at % 4096 != 0 || len % 4096 != 0 || most < PAGE {
-            return None;
-        }
-        let listed = &self.lists[list.list];
-        match &listed.run {
-            Some(run) => run.shared_page(at / 4096),
-            None => self.frames.shared(listed.numbers[at as usize / PAGE]),
-        }
-    }
-
-    /// A list of the fewest pages that hold `first` and the bytes: the bytes from `first` on, and zeros elsewhere. Where the
-    /// bytes fill their pages, the list is kept as the run, at no cost for a page. The first write into it, or the first
-    /// list that shares its pages, then draws and shares every page of it, as is done here where the bytes do not fill
-    /// them. Errors: the bytes, with `NoPage` exactly where fewer pages are free, or with `OutOfMemory`. The pool is then
-    /// as it was.
+    /// A list of the fewest pages that hold `first` and the bytes: the bytes from `first` on, and zeros elsewhere.
+    /// Errors: the bytes, with `NoPage` exactly where fewer pages are free, or with `OutOfMemory`. The pool is then as
+    /// it was.
     pub fn lower(
         &mut self,
         alloc: Global,
@@ -389,38 +318,10 @@ impl PagePool {
             let why = PoolFault::NoPage;
             return Err(Unlowered { bytes, why });
         }
-        if first == 0 && bytes.len() % 4096 == 0 {
-            return self.keep(alloc, bytes);
-        }
         let pages = (first + bytes.len()).div_ceil(4096) as u32;
         match self.take_with(alloc, pages, first, &bytes) {
             Ok(list) => Ok(list),
             Err(why) => Err(Unlowered { bytes, why }),
-        }
-    }
-
-    /// A list that is kept as a run of whole pages. Errors: the bytes, when out of memory; the pool is then as it was.
-    fn keep(&mut self, alloc: Global, bytes: ByteRun) -> Result<PageList, Unlowered>
-        requires whole { length bytes % 4096 ≡ 0 }
-        requires enough { length bytes ≤ 4096 * free_pages self.old }
-        ensures new { IfOk result (λ list. bytes_of self.old list ≡ None) }
-        ensures puts { IfOk result (λ list. Puts self.old self.new list (Some bytes)) }
-        ensures free { OnOk result (4096 * free_pages self.new + length bytes ≡ 4096 * free_pages self.old) }
-        ensures back { IfErr result (λ unlowered. unlowered.bytes ≡ bytes) }
-        ensures memory { IfErr result (λ unlowered. unlowered.why ≡ PoolFault.OutOfMemory) }
-        ensures err { OnErr result (self.new ≡ self.old) }
-    {
-        match make_room(alloc, &mut self.lists, bytes.len() as usize / PAGE) {
-            Ok(numbers) => {
-                self.kept += pages_in(&bytes);
-                let run = Some(bytes);
-                let list = self.lists.insert_reserved(Listed { run, numbers });
-                Ok(PageList { list })
-            }
-            Err(_) => {
-                let why = PoolFault::OutOfMemory;
-                Err(Unlowered { bytes, why })
-            }
         }
     }
 
@@ -450,9 +351,8 @@ impl PagePool {
         ensures puts { Puts self.old self.new list.now (Some (put (bytes_in self.old list.now) at bytes.now)) }
         ensures free { free_pages self.new ≡ free_pages self.old }
     {
-        lay_out(&mut self.frames, &mut self.lists, &mut self.kept, list.list);
-        let number = own_page(&mut self.frames, &mut self.lists, list.list, at / PAGE);
-        self.frames.put(number, at % PAGE, bytes);
+        let pages = &mut self.lists[list.list];
+        page::write_page(&mut self.frames, &mut pages[at / PAGE], at % PAGE, bytes);
     }
 }
 
@@ -464,67 +364,55 @@ fn rest_of(bytes: &[u8], from: usize) -> &[u8]
     &bytes[from..]
 }
 
-/// Some numbers in a row.
+/// The bytes of a page of a list.
+fn page_of<'a>(frames: &'a Frames, page: &'a Page) -> &'a [u8]
+    requires held { All (λ number. 0 < slice_index frames.now.holders number) (own_number page.now) }
+    ensures { result.now ≡ page_bytes frames.now.bytes page.now }
+{
+    match page {
+        Page::Own(number) => frames.page(*number),
+        Page::Shared(page) => page.as_slice(),
+    }
+}
+
+/// A page of a list, to be shared: the page itself where it is one to share, and else a copy. Errors: `AllocError` when out
+/// of memory.
+fn shared_page(alloc: Global, frames: &Frames, page: &Page) -> Result<Arc<[u8; 4096]>, AllocError>
+    requires sound { IsSound frames.now }
+    requires held { All (λ number. 0 < slice_index frames.now.holders number) (own_number page.now) }
+    requires whole { IsWholePage page.now }
+    ensures bytes { IfOk result (λ shared. arc_value shared ≡ page_bytes frames.now.bytes page.now) }
+    ensures whole { IfOk result (λ shared. length (arc_value shared) ≡ 4096) }
+{
+    match page {
+        Page::Own(number) => Ok(Arc::new(alloc, *frames.page(*number))?),
+        Page::Shared(page) => Arc::try_clone(page),
+    }
+}
+
+/// The bytes of pages in a row, of which those to share are shared. Errors: `AllocError` when out of memory.
+fn run_of(alloc: Global, frames: &Frames, pages: &[Page]) -> Result<ByteRun, AllocError>
+    requires sound { IsSound frames.now }
+    requires held { All (λ number. 0 < slice_index frames.now.holders number) (own_numbers pages.now) }
+    requires whole { All IsWholePage pages.now }
+    ensures { IfOk result (λ run. run ≡ flat_map (page_bytes frames.now.bytes) pages.now) }
+{
+    let mut shared = Vec::with_capacity(alloc, pages.len())?;
+    for page in pages {
+        shared.push(shared_page(alloc, frames, page)?)?;
+    }
+    ByteRun::of_pages(alloc, shared)
+}
+
+/// Some pages in a row. Errors: `AllocError` when out of memory.
 fn part_of(
     alloc: Global,
-    numbers: &[u32],
+    pages: &[Page],
     first: usize,
     count: usize,
-) -> Result<Vec<u32>, AllocError>
-    requires { first + count ≤ length numbers.now }
-    ensures { IfOk result (λ part. part.items ≡ take count (drop first numbers.now)) }
+) -> Result<Vec<Page>, AllocError>
+    requires { first + count ≤ length pages.now }
+    ensures { IfOk result (λ part. AllZip IsSamePage (take count (drop first pages.now)) part.items) }
 {
-    Vec::from_slice(alloc, &numbers[first..first + count])
-}
-
-/// Room for one more list, of so many pages.
-fn make_room(alloc: Global, lists: &mut Slab<Listed>, pages: usize) -> Result<Vec<u32>, AllocError>
-    ensures none { IfOk result (λ numbers. numbers.items ≡ []) }
-    ensures room { IfOk result (λ numbers. pages ≤ vec_capacity numbers) }
-    ensures one { OnOk result (HasRoomFor lists.new 1) }
-    ensures same { lists.new.slots ≡ lists.old.slots }
-{
-    let numbers = Vec::with_capacity(alloc, pages)?;
-    lists.reserve(1)?;
-    Ok(numbers)
-}
-
-/// Lays a list that is kept as a run out in pages. Its bytes are the same, and it takes no memory.
-fn lay_out(frames: &mut Frames, lists: &mut Slab<Listed>, kept: &mut u32, list: usize)
-    requires pool { IsPool frames.old lists.old.slots kept.old }
-    requires held { IsSome (slot lists.old.slots list) }
-    ensures pool { IsPool frames.new lists.new.slots kept.new }
-    ensures paged { IsPaged (slot lists.new.slots list) }
-    ensures same { pool_of frames.new lists.new.slots ≡ pool_of frames.old lists.old.slots }
-{
-    let listed = &mut lists[list];
-    if let Some(run) = listed.run.take() {
-        let pages = pages_in(&run);
-        take_pages(frames, &mut listed.numbers, pages, &run, 0);
-        *kept -= pages;
-    }
-}
-
-/// The page at a place of a list in pages, which no other list holds: a copy, where another list held it.
-fn own_page(frames: &mut Frames, lists: &mut Slab<Listed>, list: usize, place: usize) -> u32
-    requires ledger { IsLedger frames.old lists.old.slots }
-    requires paged { IsPaged (slot lists.old.slots list) }
-    requires inside { place < length (numbers (slot lists.old.slots list)) }
-    ensures ledger { IsLedger frames.new lists.new.slots }
-    ensures number { slice_index (numbers (slot lists.new.slots list)) place ≡ result }
-    ensures len { length (numbers (slot lists.new.slots list)) ≡ length (numbers (slot lists.old.slots list)) }
-    ensures paged { IsPaged (slot lists.new.slots list) }
-    ensures others { (other : ℕ) → other ≢ list → slot lists.new.slots other ≡ slot lists.old.slots other }
-    ensures alone { slice_index frames.new.holders result ≡ 1 }
-    ensures same { Puts (pool_of frames.old lists.old.slots) (pool_of frames.new lists.new.slots) list (shown frames.old.bytes (slot lists.old.slots list)) }
-    ensures total { sum frames.new.holders ≡ sum frames.old.holders }
-{
-    let number = lists[list].numbers[place];
-    if !frames.is_shared(number) {
-        return number;
-    }
-    let copy = frames.fork(number);
-    let listed = &mut lists[list];
-    listed.numbers[place] = copy;
-    copy
+    pages[first..first + count].to_vec(alloc)
 }

@@ -1,28 +1,23 @@
 use Rattle.std.proofs.Common.{◌≡◌, ◌+◌, ◌-◌, ◌*◌, ◌/◌, ◌∙◌, ap, sym, length, arith}
 use Rattle.std.specs.Arc.{arc_value}
-use Rattle.rdma_types.specs.Memory.{cut, put}
-use Rattle.page_pool.specs.Store.{blank}
 use Rattle.byte_run.proofs.Cuts.{cut-put_above}
+use Rattle.page_pool.specs.Store.{blank}
 use Rattle.page_pool.proofs.Places.{length-blank}
-use Rattle.page_pool.proofs.Pages.{cut-put_within, cut-blank}
-use Rattle.page_pool.proofs.Shown.{some_map, some_with}
+use Rattle.page_pool.proofs.Pages.{cut-blank, whole-laid}
+use Rattle.page_pool.proofs.Owned.{some_of}
 use Rattle.page_pool.proofs.claims.whole_page.Goals as goal
 
 pub returns-then-from-len-clause-whole : goal.returns-then-from-len-clause-whole
-returns-then-from-len-clause-whole c = some_map c.blank.result _ (λ page. length (arc_value page) ≡ 4096) c.blank.ensures (λ x e. ap length e ∙ length-blank 4096)
+returns-then-from-len-clause-whole c = some_of c.try_clone.result c.ok.result (λ page. arc_value page ≡ arc_value c.args.zeros.now) (λ page. length (arc_value page) ≡ 4096) c.ok.ensures.value c.try_clone.ensures (λ x e. ap length (e ∙ c.requires.zeros) ∙ length-blank 4096)
 
 pub returns-then-from-len-clause-bytes : goal.returns-then-from-len-clause-bytes
 returns-then-from-len-clause-bytes c =
-    some_map c.blank.result (λ page. arc_value page ≡ blank 4096) _ c.blank.ensures
-    (λ x e n a b. e ∙ sym (cut-put_above (blank n) c.args.first c.args.bytes.now c.args.at 4096 (omega (arith, length-blank n)) (omega (arith, c.len.ensures)) ∙ cut-blank n c.args.at 4096 a))
+    some_of c.try_clone.result c.ok.result (λ page. arc_value page ≡ arc_value c.args.zeros.now) _ c.ok.ensures.value c.try_clone.ensures
+    (λ x e n a b. e ∙ (c.requires.zeros ∙ sym (cut-put_above (blank n) c.args.first c.args.bytes.now c.args.at 4096 (omega (arith, length-blank n)) (omega (arith, c.len.ensures)) ∙ cut-blank n c.args.at 4096 a)))
 
-pub returns-clause-bytes : goal.returns-clause-bytes
-returns-clause-bytes c =
-    some_with c.shared_page.result _ (λ page. arc_value page ≡ cut (4096 * ((c.args.at - c.args.first) / 4096)) 4096 c.args.bytes.now) _ c.shared_page.ensures.inside c.shared_page.ensures.bytes
-    (λ x inside e n a b.
-    let whole : 4096 * ((c.args.at - c.args.first) / 4096) ≡ c.args.at - c.args.first = omega arith in
-    let place : c.args.first + (c.args.at - c.args.first) ≡ c.args.at = omega arith in
-    e
-    ∙ (ap (λ k. cut k 4096 c.args.bytes.now) whole
-    ∙ (sym (cut-put_within (blank n) c.args.first c.args.bytes.now (c.args.at - c.args.first) 4096 (omega (arith, length-blank n)) (omega (arith, inside)))
-    ∙ ap (λ k. cut k 4096 (put (blank n) c.args.first c.args.bytes.now)) place)))
+pub returns-in-Some-clause-bytes : goal.returns-in-Some-clause-bytes
+returns-in-Some-clause-bytes c =
+    let found = c.in-Some.ensures.lookup in
+    let place : c.args.at ≡ c.args.first + 4096 * ((c.args.at - c.args.first) / 4096) = omega arith in
+    some_of c.try_clone-in-Some.result c.ok-in-Some.result (λ page. arc_value page ≡ arc_value c.in-Some.page.now) _ c.ok-in-Some.ensures.value c.try_clone-in-Some.ensures
+    (λ x e n a b. e ∙ (ap arc_value found.1 ∙ whole-laid c.whole_pages.result.now c.args.bytes.now c.args.first c.args.at n ((c.args.at - c.args.first) / 4096) c.in-Some.page.now c.whole_pages.ensures.even c.whole_pages.ensures.bytes found.3.0 place b))

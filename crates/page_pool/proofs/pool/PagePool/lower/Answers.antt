@@ -1,10 +1,9 @@
-use Rattle.std.proofs.Common.{◌+◌, ◌*◌, ◌%◌, ◌∙◌, ap, sym, length, refl, arith, subst}
+use Rattle.std.proofs.Common.{◌+◌, ◌*◌, ap, length, refl, arith, subst}
 use Rattle.rdma_types.specs.Memory.{put}
 use Rattle.page_pool.specs.Store.{blank}
-use Rattle.page_pool.specs.Pool.{Puts, free_pages, pages_for}
-use Rattle.std.specs.Prelude.{Err, Some, IfOk}
+use Rattle.page_pool.specs.Pool.{Puts, free_pages}
+use Rattle.std.specs.Prelude.{Err, Some}
 use Rattle.page_pool.proofs.Writes.{too-few, enough-pages, pages-hold, pages-for-is}
-use Rattle.page_pool.proofs.Whole.{whole-pages, whole-put, on_ok, done, memory-no_page}
 use Rattle.page_pool.proofs.pool.PagePool.lower.Goals as goal
 use Rattle.page_pool.proofs.pool.PagePool.lower.Goals.{then-room-first-via-then-room-first, then-room-first-via-else-room-first+then-room-first-2}
 
@@ -40,22 +39,3 @@ returns-in-Err-clause-no_page c =
     let pages = pages-for-is c.div_ceil-pages.result c.args.first c.len-2.result (length c.args.bytes) c.div_ceil-pages.ensures c.len-2.ensures in
     let room = enough-pages (free_pages c.args.self.now) (c.args.first + length c.args.bytes) (omega (arith, c.from-room.ensures, c.free.ensures.free, c.if-room-first.false, c.len.ensures, c.if-room-first-2.false)) in
     (λ e. absurd (omega (arith, room, pages, c.in-Err.ensures.no_page.0 (ap Err e))), λ few. absurd (omega (arith, room, few)))
-
--- whole pages
-pub returns-then-len-eq0-clause-puts : goal.returns-then-len-eq0-clause-puts
-returns-then-len-eq0-clause-puts c =
-    let even = ap (λ n. n % 4096) (sym c.len-then-first-eq0.ensures) ∙ c.if-len-eq0.true in
-    subst (λ xs. IfOk c.keep.result (λ list. Puts c.args.self.now c.keep.new.self list (Some xs))) (sym (whole-put c.args.bytes c.args.first c.if-first-eq0.true even)) c.keep.ensures.puts
-
-pub returns-then-len-eq0-clause-free : goal.returns-then-len-eq0-clause-free
-returns-then-len-eq0-clause-free c =
-    let even = ap (λ n. n % 4096) (sym c.len-then-first-eq0.ensures) ∙ c.if-len-eq0.true in
-    on_ok c.keep.result c.keep.ensures.free (λ f. omega (arith, f, whole-pages c.args.bytes even, ap (λ n. pages_for (n + length c.args.bytes)) c.if-first-eq0.true))
-
-pub returns-then-len-eq0-clause-no_page : goal.returns-then-len-eq0-clause-no_page
-returns-then-len-eq0-clause-no_page c =
-    let room = enough-pages (free_pages c.args.self.now) (c.args.first + length c.args.bytes) (omega (arith, c.from-room.ensures, c.free.ensures.free, c.if-room-first.false, c.len.ensures, c.if-room-first-2.false)) in
-    memory-no_page c.keep.result _ _ c.keep.ensures.memory room
-
-pub returns-then-len-eq0-clause-enough : goal.returns-then-len-eq0-clause-enough
-returns-then-len-eq0-clause-enough c = done c.keep.result (enough-pages (free_pages c.args.self.now) (c.args.first + length c.args.bytes) (omega (arith, c.from-room.ensures, c.free.ensures.free, c.if-room-first.false, c.len.ensures, c.if-room-first-2.false)))

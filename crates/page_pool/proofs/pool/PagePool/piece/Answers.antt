@@ -1,31 +1,32 @@
-use Rattle.std.proofs.Common.{◌∙◌, arith, ap, sym, length}
+use Rattle.std.proofs.Common.{◌/◌, ◌∙◌, arith, ap, sym, length}
 use Rattle.page_pool.specs.Ledger.{slot}
-use Rattle.page_pool.proofs.Ledgers.{size-is, run-none}
-use Rattle.page_pool.proofs.Writes.{read-place, read-bytes}
+use Rattle.page_pool.proofs.Writes.{place-there, read-held, read-size, read-bytes}
 use Rattle.page_pool.proofs.pool.PagePool.piece.Goals as goal
 
-pub index-number-requires : goal.index-number-requires
-index-number-requires c =
-    let at = ap (slot c.self.inside.lists.slots) (sym c.list.view_is) ∙ run-none _ _ c.index-listed.ensures c.in-None.is in
-    omega (arith, c.index-listed.result.now.numbers.ok.0, c.requires.inside, (size-is c.self.inside.frames c.self.inside.lists.slots c.args.self.now c.args.list.now c.index-listed.result.now.numbers c.self.invariant.ledger c.self.view_is at).0)
+pub index-page-requires : goal.index-page-requires
+index-page-requires c =
+    let at = ap (slot c.self.inside.lists.slots) (sym c.list.view_is) ∙ c.index.ensures in
+    omega (arith, c.index.result.now.ok.0, place-there c.self.inside.frames c.self.inside.lists.slots c.args.self.now c.args.list.now c.index.result.now c.self.invariant.0.ledger c.self.view_is at c.args.at c.requires.inside)
 
-pub page-requires : goal.page-requires
-page-requires c =
-    let at = ap (slot c.self.inside.lists.slots) (sym c.list.view_is) ∙ run-none _ _ c.index-listed.ensures c.in-None.is in
-    (read-place c.self.inside.frames c.self.inside.lists.slots c.args.self.now c.args.list.now c.args.at c.index-number.result.now c.index-listed.result.now.numbers c.self.invariant.ledger c.self.view_is at c.requires.inside c.index-number.ensures).0
+pub page_of-requires : goal.page_of-requires
+page_of-requires c =
+    let at = ap (slot c.self.inside.lists.slots) (sym c.list.view_is) ∙ c.index.ensures in
+    let place = place-there c.self.inside.frames c.self.inside.lists.slots c.args.self.now c.args.list.now c.index.result.now c.self.invariant.0.ledger c.self.view_is at c.args.at c.requires.inside in
+    record { held = read-held c.self.inside.frames c.self.inside.lists.slots c.args.self.now c.args.list.now c.index.result.now c.self.invariant.0.ledger c.self.view_is at (c.args.at / 4096) c.index-page.result.now place c.index-page.ensures }
 
 pub rest_of-requires : goal.rest_of-requires
 rest_of-requires c =
-    let at = ap (slot c.self.inside.lists.slots) (sym c.list.view_is) ∙ run-none _ _ c.index-listed.ensures c.in-None.is in
-    let size = (read-place c.self.inside.frames c.self.inside.lists.slots c.args.self.now c.args.list.now c.args.at c.index-number.result.now c.index-listed.result.now.numbers c.self.invariant.ledger c.self.view_is at c.requires.inside c.index-number.ensures).1 in
-    omega (arith, size, ap length c.page.ensures)
+    let at = ap (slot c.self.inside.lists.slots) (sym c.list.view_is) ∙ c.index.ensures in
+    let place = place-there c.self.inside.frames c.self.inside.lists.slots c.args.self.now c.args.list.now c.index.result.now c.self.invariant.0.ledger c.self.view_is at c.args.at c.requires.inside in
+    let size = read-size c.self.inside.frames c.self.inside.lists.slots c.args.self.now c.args.list.now c.index.result.now c.self.invariant.0.ledger c.self.view_is at (c.args.at / 4096) c.index-page.result.now place c.index-page.ensures in
+    omega (arith, size, ap length c.page_of.ensures)
 
-pub returns-in-None-clause-bytes : goal.returns-in-None-clause-bytes
-returns-in-None-clause-bytes c =
-    let at = ap (slot c.self.inside.lists.slots) (sym c.list.view_is) ∙ run-none _ _ c.index-listed.ensures c.in-None.is in
-    (read-bytes c.self.inside.frames c.self.inside.lists.slots c.args.self.now c.args.list.now c.args.at c.index-number.result.now c.index-listed.result.now.numbers c.page.result.now c.rest_of.result.now c.self.invariant.ledger c.self.view_is at c.requires.inside c.index-number.ensures c.page.ensures c.rest_of.ensures).0
+pub returns-clause-bytes : goal.returns-clause-bytes
+returns-clause-bytes c =
+    let at = ap (slot c.self.inside.lists.slots) (sym c.list.view_is) ∙ c.index.ensures in
+    (read-bytes c.self.inside.frames c.self.inside.lists.slots c.args.self.now c.args.list.now c.index.result.now c.self.invariant.0.ledger c.self.view_is at c.args.at c.index-page.result.now c.page_of.result.now c.rest_of.result.now c.requires.inside c.index-page.ensures c.page_of.ensures c.rest_of.ensures).0
 
-pub returns-in-None-clause-length : goal.returns-in-None-clause-length
-returns-in-None-clause-length c =
-    let at = ap (slot c.self.inside.lists.slots) (sym c.list.view_is) ∙ run-none _ _ c.index-listed.ensures c.in-None.is in
-    (read-bytes c.self.inside.frames c.self.inside.lists.slots c.args.self.now c.args.list.now c.args.at c.index-number.result.now c.index-listed.result.now.numbers c.page.result.now c.rest_of.result.now c.self.invariant.ledger c.self.view_is at c.requires.inside c.index-number.ensures c.page.ensures c.rest_of.ensures).1
+pub returns-clause-length : goal.returns-clause-length
+returns-clause-length c =
+    let at = ap (slot c.self.inside.lists.slots) (sym c.list.view_is) ∙ c.index.ensures in
+    (read-bytes c.self.inside.frames c.self.inside.lists.slots c.args.self.now c.args.list.now c.index.result.now c.self.invariant.0.ledger c.self.view_is at c.args.at c.index-page.result.now c.page_of.result.now c.rest_of.result.now c.requires.inside c.index-page.ensures c.page_of.ensures c.rest_of.ensures).1
