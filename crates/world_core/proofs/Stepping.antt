@@ -76,12 +76,6 @@ ran_all v w new place d x x' e o a from next seen ids here step same devices add
     some_is : (y z : Device) → Some y ≡ Some z → y ≡ z
     some_is y z h = cc
 
--- a step that hands out no image
-pub without_image : (s : device.Step) (d : Device) (o : Outcome) → s ≡ record { device = d; outcome = o } → s.outcome.image ≡ None → s ≡ record { device = d; outcome = record { answer = o.answer; sent = o.sent; image = None } }
-without_image s d o h bare =
-    let none : o.image ≡ None = sym (ap (λ (x : device.Step). x.outcome.image) h) ∙ bare in
-    h ∙ ap (λ i. record { device = d; outcome = record { answer = o.answer; sent = o.sent; image = i } }) none
-
 -- nothing is carried off
 pub bare_carried : (carried : List ContextImage) (o : Option ContextImage) → o ≡ None → carried ≡ carried ++ images_of o
 bare_carried carried o none = sym (append-nil carried) ∙ ap (λ x. carried ++ images_of x) (sym none)

@@ -1,5 +1,6 @@
 -- An arrival is of the datagram that is kept.
-use Rattle.std.proofs.Common.{◌≡◌, ◌∙◌, IfOk, Result, Ok, Err, Some, ap, rules, subst, sym}
+use Rattle.std.proofs.Common.{◌≡◌, ◌∙◌, Some, ap, rules, subst, sym}
+use Rattle.std.proofs.lemmas.Result.{IfOk-weaker}
 use Rattle.std.specs.Option.{option_copied}
 use Rattle.protocol.specs.Bytes.{number_at}
 use Rattle.protocol.specs.DeviceStep.{device_step}
@@ -9,12 +10,8 @@ use Rattle.protocol.specs.declared.events.Event.TheVariants as event
 use Rattle.device_core.specs.Finding.{IsFound}
 use Rattle.world_core.proofs.network.reach.Goals as goal
 
-if_ok : {T E : Type 0} (r : Result T E) (P Q : T → Type 0) → IfOk r P → ((x : T) → P x → Q x) → IfOk r Q
-if_ok (Ok x) P Q known then = then x known
-if_ok (Err e) P Q known then = tt
-
 pub returns-clause-ok : goal.returns-clause-ok
-returns-clause-ok c = if_ok c.arrive_at.result _ _ c.arrive_at.ensures.ok (λ a step f kept. search rules)
+returns-clause-ok c = IfOk-weaker c.arrive_at.result _ _ (λ a step f kept. search rules) c.arrive_at.ensures.ok
 
 pub arrive_at-requires : goal.arrive_at-requires
 arrive_at-requires c =
