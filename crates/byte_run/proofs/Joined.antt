@@ -4,7 +4,7 @@ use Rattle.std.specs.List.{flat_map}
 use Rattle.std.proofs.lemmas.List.{take-append-drop, length-take, length-drop, length-append, append_assoc, get_or-take, get_or-drop}
 use Rattle.std.proofs.lemmas.List.Concat.{flat_map-append}
 use Rattle.rdma_types.specs.Memory.{cut, put}
-use Rattle.byte_run.proofs.Cuts.{cut-middle, cut-whole, put-middle}
+use Rattle.rdma_types.proofs.Cuts.{cut-middle, cut-whole, put-middle}
 
 module _ {X : Type 0} where
   -- each page has so many bytes

@@ -13,7 +13,7 @@ use Rattle.std.proofs.lemmas.List.Concat.{flat_map-append}
 use Rattle.rdma_types.specs.Memory.{cut, put}
 use Rattle.byte_run.specs.Pages.{joined, pages_in, ArePages, IsRun}
 use Rattle.byte_run.proofs.Joined.{AreEven, length-joined, cut-joined, put-joined, joined-part}
-use Rattle.byte_run.proofs.Cuts.{length-cut, length-put, put-meet, cut-meet}
+use Rattle.rdma_types.proofs.Cuts.{length-cut, length-put, put-meet, cut-meet}
 
 -- a part of a front
 pub cut-take : (a n m : ℕ) (bytes : List ℕ) → a + n ≤ m → m ≤ length bytes → cut a n (take m bytes) ≡ cut a n bytes

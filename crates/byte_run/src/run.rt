@@ -146,7 +146,8 @@ fn add_bytes(alloc: Global, pages: &mut Pages, at: usize, bytes: &[u8]) -> Resul
     ensures run { IsRun pages.new.items at }
     ensures kept { take at (joined pages.new.items) ≡ take at (joined pages.old.items) }
     ensures room { OnOk result (IsRun pages.new.items (at + length bytes.now)) }
-    ensures bytes { OnOk result (take (at + length bytes.now) (joined pages.new.items) ≡ take at (joined pages.old.items) ++ bytes.now) }
+    ensures bytes { OnOk result (take (at + length bytes.now) (joined pages.new.items)
+        ≡ take at (joined pages.old.items) ++ bytes.now) }
 {
     let mut done = 0;
     while done < bytes.len() {
@@ -164,7 +165,8 @@ fn add_piece(alloc: Global, pages: &mut Pages, at: usize, bytes: &[u8]) -> Resul
     requires page { at % 4096 + length bytes.now ≤ 4096 }
     ensures err { OnErr result (pages.new.items ≡ pages.old.items) }
     ensures run { OnOk result (IsRun pages.new.items (at + length bytes.now)) }
-    ensures bytes { OnOk result (take (at + length bytes.now) (joined pages.new.items) ≡ take at (joined pages.old.items) ++ bytes.now) }
+    ensures bytes { OnOk result (take (at + length bytes.now) (joined pages.new.items)
+        ≡ take at (joined pages.old.items) ++ bytes.now) }
 {
     if at / PAGE < pages.len() {
         put_page(alloc, &mut pages[at / PAGE], at % PAGE, bytes)?;

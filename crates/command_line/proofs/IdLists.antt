@@ -6,7 +6,7 @@ use Rattle.std.proofs.lemmas.Bool.Decides.{nat_tests}
 use Rattle.std.proofs.lemmas.List.{length-append}
 use Rattle.clap.specs.Words.{Text}
 use Rattle.script_lang.specs.Texts.{◌>>=◌, number_in}
-use Rattle.law_program.specs.Commands as rules
+use Rattle.program_rules.specs.Commands as rules
 use Rattle.command_line.specs.Ids.{few_ids}
 
 -- ids behind others

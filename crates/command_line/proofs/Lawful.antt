@@ -8,8 +8,8 @@ use Rattle.std.proofs.lemmas.Slice.Eq.{bytes_eq-Decides}
 use Rattle.rdma_types.specs.Spelled.{is_letter, is_name, is_name_byte}
 use Rattle.script_lang.specs.Texts.{Cut, address_of, cut_at, digits_after, greatest_u64, host_of, is_decimal, is_digit, name_of, number_in, part_of}
 use Rattle.script_lang.specs.Words.{is_space}
-use Rattle.law_program.specs.Commands as rules
-use Rattle.law_program.specs.Commands.{placed_of}
+use Rattle.program_rules.specs.Commands as rules
+use Rattle.program_rules.specs.Commands.{placed_of}
 use Rattle.clap.specs.Words.{Text, subcommand_of, takes}
 use Rattle.command_line.specs.Splitting.{spelled_in, splitter_app}
 use Rattle.command_line.proofs.Plain.{IsPlain, plain}

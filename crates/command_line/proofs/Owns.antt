@@ -3,7 +3,7 @@ use Rattle.std.proofs.Common.{arith, ◌==◌, length, ◌≡◌, ◌∙◌, ℕ
 use Rattle.std.proofs.lemmas.Bool.Decides.{nat_tests}
 use Rattle.std.specs.List.{list_any, slice_split}
 use Rattle.std.specs.Result.{result_ok}
-use Rattle.law_program.specs.Commands as rules
+use Rattle.program_rules.specs.Commands as rules
 use Rattle.rdma_types.specs.declared.requests.Address.{Address}
 use Rattle.script_lang.specs.declared.lines.Offence.{Offence}
 use Rattle.script_lang.specs.declared.lines.LineWhy.TheVariants as why

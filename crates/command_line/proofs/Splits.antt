@@ -4,8 +4,8 @@ use Rattle.clap.specs.Walk.{Row, Text, Walk, rows_after, stop_after, walked, fin
 use Rattle.clap.specs.Words.{Shape, built, subcommand_of, takes}
 use Rattle.clap.specs.Simple.{entered, names_of}
 use Rattle.clap.proofs.OnLiterals.{clap_on_literals}
-use Rattle.law_program.specs.Commands as rules
-use Rattle.law_program.specs.Commands.{placed_of}
+use Rattle.program_rules.specs.Commands as rules
+use Rattle.program_rules.specs.Commands.{placed_of}
 use Rattle.command_line.specs.Splitting.{spelled_in, splitter_app}
 use Rattle.command_line.proofs.Plain.{IsPlain}
 use Rattle.command_line.proofs.Leaves.{bulk_rules, bulk_walk, node_rules, node_walk, show_dump_rules, show_dump_walk, row}

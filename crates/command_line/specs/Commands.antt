@@ -1,8 +1,8 @@
 -- A command as the rules know it.
 use Rattle.std.specs.Prelude.{◌≤◌, Option, Some, None}
-use Rattle.law_program.specs.Commands.{Play, Bulk, ShowDump, Evacuate, Audit, Record, Node}
-use Rattle.law_program.specs.Commands as rules
-use Rattle.law_program.specs.Mixes.{IsMix}
+use Rattle.program_rules.specs.Commands.{Play, Bulk, ShowDump, Evacuate, Audit, Record, Node}
+use Rattle.program_rules.specs.Commands as rules
+use Rattle.program_rules.specs.Mixes.{IsMix}
 use Rattle.command_line.specs.declared.command.Command.{Command}
 use Rattle.command_line.specs.declared.command.Command.TheVariants as command
 

@@ -1,7 +1,7 @@
 -- The words of `evacuate`, as the code reads them.
 use Rattle.std.specs.Prelude.{ℕ, List, length, nat_le, Option, Some, None, if◌then◌else◌}
 use Rattle.arrayvec.specs.ArrayVec.{ArrayVec}
-use Rattle.law_program.specs.Commands as rules
+use Rattle.program_rules.specs.Commands as rules
 
 -- the ids that were read
 abbrev pub told_ids : Option (ArrayVec ℕ) → Option (List ℕ)

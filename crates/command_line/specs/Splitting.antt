@@ -1,7 +1,7 @@
 -- The commands as they are told to `clap`, and what is read of its matches.
 use Rattle.std.specs.Prelude.{◌≡◌, true, false, List, [], ◌∷◌, Option, Some, None, bytes_eq, codes, if◌then◌else◌}
 use Rattle.script_lang.specs.Texts.{◌>>=◌}
-use Rattle.law_program.specs.Commands as rules
+use Rattle.program_rules.specs.Commands as rules
 use Rattle.clap.specs.Words.{App, Row, Rule, Shape, Text, app_of, first_of, new_app, new_rule, with_rule, with_subcommand}
 use Rattle.clap.specs.declared.builder.command.Command.{Command}
 use Rattle.clap.specs.declared.builder.command.Command.TheViews.{out-Command}

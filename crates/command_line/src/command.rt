@@ -2,7 +2,7 @@
 
 ghost use Rattle.std.specs.Prelude.{◌≡◌, map, None, Ok, IfOk, IfSome};
 ghost use Rattle.std.specs.String.{string_bytes};
-ghost use Rattle.law_program.specs.Commands.{command_of, placed_of};
+ghost use Rattle.program_rules.specs.Commands.{command_of, placed_of};
 ghost use Rattle.command_line.specs.Commands.{IsInRange, known_if};
 
 use crate::ids::evacuate_of;
@@ -48,7 +48,7 @@ fn placed(alloc: Global, words: &[String]) -> Result<Option<Command>, AllocError
 impl Command {
     /// The command of these words, without the program's name; `Ok(None)` exactly where they are of none. Errors:
     /// `AllocError` when out of memory, and never where the words are of no command.
-    #[tactic(auto, unfolding(law_program::specs::Commands::command_of))]
+    #[tactic(auto, unfolding(program_rules::specs::Commands::command_of))]
     pub fn of(alloc: Global, words: &[String]) -> Result<Option<Command>, AllocError>
         ensures value { IfOk result (λ r. known_if r ≡ command_of (map string_bytes words.now)) }
         ensures none { command_of (map string_bytes words.now) ≡ None → result ≡ Ok None }

@@ -4,7 +4,7 @@ ghost use Rattle.std.specs.Prelude.{◌≡◌, ◌==◌, ◌&&◌, not, nat_le, 
 ghost use Rattle.std.specs.List.{list_any};
 ghost use Rattle.std.specs.String.{string_bytes};
 ghost use Rattle.script_lang.specs.Texts.{number_in};
-ghost use Rattle.law_program.specs.Commands as rules;
+ghost use Rattle.program_rules.specs.Commands as rules;
 ghost use Rattle.command_line.specs.Commands.{IsInRange, known_if};
 ghost use Rattle.command_line.specs.Ids.{few_ids, told_ids};
 

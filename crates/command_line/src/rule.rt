@@ -5,9 +5,9 @@ ghost use Rattle.std.specs.List.{list_all, list_any};
 ghost use Rattle.std.specs.String.{string_bytes};
 ghost use Rattle.script_lang.specs.Texts.{is_decimal, is_digit, number_in};
 ghost use Rattle.script_lang.specs.Words.{is_space};
-ghost use Rattle.law_program.specs.Commands as rules;
-ghost use Rattle.law_program.specs.Commands.{placed_of};
-ghost use Rattle.law_program.specs.Mixes.{IsMix};
+ghost use Rattle.program_rules.specs.Commands as rules;
+ghost use Rattle.program_rules.specs.Commands.{placed_of};
+ghost use Rattle.program_rules.specs.Mixes.{IsMix};
 ghost use Rattle.command_line.specs.Commands.{IsInRange, known_if};
 
 use crate::command::Command;
@@ -66,7 +66,8 @@ fn mix_of(connections: &str, messages: &str, moves: &str) -> Option<Mix>
 
 /// `bulk` with its seed, connections, messages and moves.
 pub(crate) fn bulk_of(seed: &str, connections: &str, messages: &str, moves: &str) -> Option<Command>
-    ensures value { known_if result ≡ rules.bulk_of (seed.now ∷ connections.now ∷ messages.now ∷ moves.now ∷ []) }
+    ensures value { known_if result ≡ rules.bulk_of
+        (seed.now ∷ connections.now ∷ messages.now ∷ moves.now ∷ []) }
     ensures within { IfSome result IsInRange }
 {
     let seed = number(seed, 0, u64::MAX)?;
@@ -166,7 +167,7 @@ fn takes_node(words: &[String]) -> bool
 }
 
 /// Whether the words, without the program's name, are of a command.
-#[tactic(auto, unfolding(law_program::specs::Commands::placed_of))]
+#[tactic(auto, unfolding(program_rules::specs::Commands::placed_of))]
 pub(crate) fn is_lawful(words: &[String]) -> bool
     ensures { result ≡ is_some (placed_of (map string_bytes words.now)) }
 {

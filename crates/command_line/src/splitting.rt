@@ -2,7 +2,7 @@
 
 ghost use Rattle.std.specs.Prelude.{◌≡◌, map, option_map, true, false, is_some, IfOk, IfSome};
 ghost use Rattle.std.specs.String.{string_bytes};
-ghost use Rattle.law_program.specs.Commands.{placed_of};
+ghost use Rattle.program_rules.specs.Commands.{placed_of};
 ghost use Rattle.clap.specs.Words.{app_of, first_of, found_of, rows_of, rule_of, subcommand_rows_of};
 ghost use Rattle.command_line.specs.Commands.{IsInRange, known_if};
 ghost use Rattle.command_line.specs.Splitting.{MakesLeaf, audit_shape, bulk_in, bulk_shape, node_in, node_shape, place_rule, play_shape, record_shape, show_dump_in, show_dump_shape, spelled_in, splitter_app};
@@ -89,7 +89,8 @@ fn forms<'a>(alloc: Global) -> Result<clap::Command<'a>, AllocError>
 /// Splits words that are of a command. They are refused only when out of memory.
 pub(crate) fn split<'a>(alloc: Global, words: &'a [String]) -> Result<ArgMatches<'a>, AllocError>
     requires { is_some (placed_of (map string_bytes words.now)) ≡ true }
-    ensures { IfOk result (λ m. spelled_in (subcommand_rows_of m) ≡ placed_of (map string_bytes words.entry.now)) }
+    ensures { IfOk result (λ m. spelled_in (subcommand_rows_of m)
+        ≡ placed_of (map string_bytes words.entry.now)) }
 {
     match forms(alloc)?.try_get_matches_from(words) {
         Ok(matches) => Ok(matches),

@@ -7,7 +7,7 @@ use Rattle.std.proofs.lemmas.List.Elements.{All-from_recursion, recursion_from_A
 use Rattle.rdma_types.specs.declared.answers.Answer.TheVariants as answer
 use Rattle.rdma_types.specs.declared.names.Name.{Name}
 use Rattle.page_pool.specs.Pool.{Pool}
-use Rattle.completion_queue.specs.Queue.{Queue, unreserved}
+use Rattle.end_queues.specs.Completions.{Queue, unreserved}
 use Rattle.protocol.specs.DeviceStep.{answers, makes_domain, makes_queue, with_context, with_domain, with_new_queue}
 use Rattle.protocol.specs.Memory.{pages_of_context}
 use Rattle.protocol.specs.State.{Device, End}

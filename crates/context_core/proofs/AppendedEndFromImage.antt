@@ -9,7 +9,7 @@ use Rattle.std.proofs.lemmas.List.Sums.{sum_by-cons, sum_by_more_le}
 use Rattle.rdma_types.specs.declared.names.Name.{Name}
 use Rattle.rdma_types.specs.Objects.{CompletionQueue}
 use Rattle.page_pool.specs.Pool.{Pool}
-use Rattle.completion_queue.specs.Queue.{Queue, used_places}
+use Rattle.end_queues.specs.Completions.{Queue, used_places}
 use Rattle.memory_keys.specs.Regions.{regions_of}
 use Rattle.protocol.specs.declared.images.ContextImage.{ContextImage}
 use Rattle.protocol.specs.declared.images.CqImage.{CqImage}

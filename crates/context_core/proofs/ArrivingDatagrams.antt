@@ -8,16 +8,16 @@ use Rattle.std.specs.Option.{option_map_or}
 use Rattle.std.specs.Bool.{OnTrue}
 use Rattle.std.specs.Map.{values_of}
 use Rattle.rdma_types.specs.declared.answers.Sent.{Sent}
-use Rattle.rdma_types.specs.declared.answers.Took.{Took}
+use Rattle.rdma_types.specs.declared.answers.ArrivalEffect.{ArrivalEffect}
 use Rattle.rdma_types.specs.declared.names.Name.{Name}
 use Rattle.rdma_types.specs.Objects.{Region}
 use Rattle.rdma_types.specs.Spans.{pieces}
 use Rattle.page_pool.specs.Pool.{Pool}
-use Rattle.completion_queue.specs.Queue.{Queue}
-use Rattle.memory_keys.specs.declared.Held.{Held}
+use Rattle.end_queues.specs.Completions.{Queue}
+use Rattle.memory_keys.specs.declared.RegisteredRegion.{RegisteredRegion}
 use Rattle.memory_keys.specs.Regions.{regions_of}
 use Rattle.protocol.specs.EndStep.{takes}
-use Rattle.move_core.specs.Table.{phase_of}
+use Rattle.transport.specs.Table.{phase_of}
 use Rattle.protocol.specs.EndWords.{EndStep, is_paused}
 use Rattle.protocol.specs.State.{Context, End, Link}
 use Rattle.protocol.specs.Wire.{Packet, is_request}
@@ -134,12 +134,12 @@ has-room opcode new r kept made none = by (is_request opcode) (opcode == 0x1E) r
 
 -- ---- the rule
 
-by-parts : (z : EndStep) (c : Context) (t : Took) (s : List Sent) → z.context ≡ c → z.took ≡ t → z.sent ≡ s → z ≡ record { context = c; took = t; sent = s }
+by-parts : (z : EndStep) (c : Context) (t : ArrivalEffect) (s : List Sent) → z.context ≡ c → z.took ≡ t → z.sent ≡ s → z ≡ record { context = c; took = t; sent = s }
 by-parts z c t s one two three =
     ap {A = Context} (λ x. record { context = x; took = z.took; sent = z.sent }) one
-    ∙ (ap {A = Took} (λ x. record { context = c; took = x; sent = z.sent }) two ∙ ap {A = List Sent} (λ x. record { context = c; took = t; sent = x }) three)
+    ∙ (ap {A = ArrivalEffect} (λ x. record { context = c; took = x; sent = z.sent }) two ∙ ap {A = List Sent} (λ x. record { context = c; took = t; sent = x }) three)
 
-pub takes-is : (a b : Pool) (h : Holding) (i : ℕ) (v : EndSlot) (held : List Held) (queues : List (Name × Queue)) (x : Endpoint) (n : Name) (e : End) (l : Link) (d : Packet) (t : Took) (sent : List Sent)
+pub takes-is : (a b : Pool) (h : Holding) (i : ℕ) (v : EndSlot) (held : List RegisteredRegion) (queues : List (Name × Queue)) (x : Endpoint) (n : Name) (e : End) (l : Link) (d : Packet) (t : ArrivalEffect) (sent : List Sent)
     → slice_get (values_of h.ends) i ≡ Some v → Steps a b h i v held queues x → slice_get (context_in a n h).ends i ≡ Some e → e.link ≡ Some l
     → ((c : Context) (names : Names) → IsHome c names (site_in a h (entry h.ends i v)) → (taken_at c (end_at names (site_in a h (entry h.ends i v))) (end_at names (site_in a h (entry h.ends i v))).link d).context ≡ home c names (site_after b (entry h.ends i v) held queues x))
     → ((c : Context) (names : Names) → IsHome c names (site_in a h (entry h.ends i v)) → (taken_at c (end_at names (site_in a h (entry h.ends i v))) (end_at names (site_in a h (entry h.ends i v))).link d).took ≡ t)

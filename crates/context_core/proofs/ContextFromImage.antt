@@ -11,7 +11,7 @@ use Rattle.rdma_types.specs.declared.names.Name.{Name}
 use Rattle.rdma_types.specs.Lists.{some}
 use Rattle.rdma_types.specs.Objects.{CompletionQueue, Region}
 use Rattle.page_pool.specs.Pool.{Pool, IsIn, bytes_of, pages_for}
-use Rattle.memory_keys.specs.declared.Held.{Held}
+use Rattle.memory_keys.specs.declared.RegisteredRegion.{RegisteredRegion}
 use Rattle.memory_keys.specs.Regions.{AreKeyed, regions_of}
 use Rattle.protocol.specs.declared.images.ContextImage.{ContextImage}
 use Rattle.protocol.specs.declared.images.CqImage.{CqImage}
@@ -102,10 +102,10 @@ distinct-empty = tt
 -- ---- the regions
 
 -- what has no ends yet
-abbrev pub with_regions : ContextImage → List Held → Holding
+abbrev pub with_regions : ContextImage → List RegisteredRegion → Holding
 with_regions c hs = record (bare_after c) { regions = hs }
 
-pages-same : (hs : List Held) → region_pages hs ≡ sum_by (λ h. pages_for h.head.length) hs
+pages-same : (hs : List RegisteredRegion) → region_pages hs ≡ sum_by (λ h. pages_for h.head.length) hs
 unfolding pages_for
 pages-same [] = refl
 pages-same (h ∷ hs) =
@@ -114,7 +114,7 @@ pages-same (h ∷ hs) =
     ∙ (ap (λ n. pages_for h.head.length + n) (pages-same hs)
     ∙ sym (sum_by-cons (λ r. pages_for r.head.length) h hs)))
 
-module _ (old new : Pool) (c : ContextImage) (hs : List Held) (law : IsLawful c) (made : AreMade old new hs) (keyed : AreKeyed hs) where
+module _ (old new : Pool) (c : ContextImage) (hs : List RegisteredRegion) (law : IsLawful c) (made : AreMade old new hs) (keyed : AreKeyed hs) where
   pub regions-context : IsContext new (with_regions c hs)
   regions-context = record {
     is = record {
@@ -153,10 +153,10 @@ module _ (old new : Pool) (c : ContextImage) (hs : List Held) (law : IsLawful c)
   regions-part shown = record { domains = refl; regions = shown; queues = queues-shown c.queues; ends = refl }
 
 -- what is of the domains and the queues alone, with regions
-pub bare-so : (P : Holding → Type 0) (h s : Holding) (c : ContextImage) (hs : List Held) → h ≡ s → s ≡ bare_after c → P (with_regions c hs) → P (record h { regions = hs })
+pub bare-so : (P : Holding → Type 0) (h s : Holding) (c : ContextImage) (hs : List RegisteredRegion) → h ≡ s → s ≡ bare_after c → P (with_regions c hs) → P (record h { regions = hs })
 bare-so P h s c hs same bare p = subst (λ k. P (record k { regions = hs })) (sym (same ∙ bare)) p
 
-pub shown-so : (new : Pool) (c : ContextImage) (hs : List Held) (domains : List Name) (images : List RegionImage) → domains ≡ c.domains → images ≡ c.regions → regions_of new hs ≡ map (region_of_image domains) images → regions_of new hs ≡ map (region_of_image c.domains) c.regions
+pub shown-so : (new : Pool) (c : ContextImage) (hs : List RegisteredRegion) (domains : List Name) (images : List RegionImage) → domains ≡ c.domains → images ≡ c.regions → regions_of new hs ≡ map (region_of_image domains) images → regions_of new hs ≡ map (region_of_image c.domains) c.regions
 shown-so new c hs domains images one two e = e ∙ (ap (λ ds. map (region_of_image ds) images) one ∙ ap (map (region_of_image c.domains)) two)
 
 -- ---- the loop

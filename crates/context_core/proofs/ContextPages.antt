@@ -8,16 +8,16 @@ use Rattle.rdma_types.specs.declared.names.Name.{Name}
 use Rattle.rdma_types.specs.Objects as objects
 use Rattle.rdma_types.specs.Objects.{Region}
 use Rattle.page_pool.specs.Pool.{Pool, bytes_of, pages_of}
-use Rattle.completion_queue.specs.Queue.{Queue}
-use Rattle.memory_keys.specs.declared.Held.{Held}
+use Rattle.end_queues.specs.Completions.{Queue}
+use Rattle.memory_keys.specs.declared.RegisteredRegion.{RegisteredRegion}
 use Rattle.memory_keys.specs.Regions.{regions_of}
-use Rattle.work_queues.specs.declared.posted.QueuedRequest.{QueuedRequest}
-use Rattle.work_queues.specs.Untold.{posted_in, untold_in}
+use Rattle.end_queues.specs.declared.work_queues.posted.QueuedRequest.{QueuedRequest}
+use Rattle.end_queues.specs.Untold.{posted_in, untold_in}
 use Rattle.protocol.specs.Memory.{pages_of_context, pages_of_length, pages_of_request, region_of_key, untold_of}
 use Rattle.protocol.specs.State.{no_context}
 use Rattle.endpoint_core.specs.declared.end.EndLink.{EndLink}
 use Rattle.endpoint_core.specs.Ends.{link_in, untold_by}
-use Rattle.end_memory.specs.Payloads.{payload_pages}
+use Rattle.end_completions.specs.Payloads.{payload_pages}
 use Rattle.context_core.specs.declared.state.EndSlot.{EndSlot}
 use Rattle.context_core.specs.Context.{Holding, IsHolding, IsPaged, context_in, end_of, untold_at}
 use Rattle.context_core.proofs.SamePayloads.{AreSame}
@@ -31,17 +31,17 @@ sum-map f [] = refl
 sum-map f (x ∷ xs) = sum-cons (f x) (map f xs) ∙ (ap (λ n. f x + n) (sum-map f xs) ∙ sym (sum_by-cons f x xs))
 
 -- the pages of regions, and those of the payloads of ends
-abbrev pub region_pages : List Held → ℕ
+abbrev pub region_pages : List RegisteredRegion → ℕ
 region_pages held = sum_by (λ r. pages_of_length r.head.length) held
 
 abbrev pub end_pages : Pool → List (Name × EndSlot) → ℕ
 end_pages pool ends = sum_by (λ e. payload_pages pool (untold_at e)) ends
 
-regions-are : (pool : Pool) (held : List Held) → sum (map (λ r. pages_of_length r.length) (regions_of pool held)) ≡ region_pages held
+regions-are : (pool : Pool) (held : List RegisteredRegion) → sum (map (λ r. pages_of_length r.length) (regions_of pool held)) ≡ region_pages held
 regions-are pool [] = refl
 regions-are pool (h ∷ hs) = sum-cons (pages_of_length h.head.length) (map (λ r. pages_of_length r.length) (regions_of pool hs)) ∙ (ap (λ n. pages_of_length h.head.length + n) (regions-are pool hs) ∙ sym (sum_by-cons (λ r. pages_of_length r.head.length) h hs))
 
-posted-are : (pool : Pool) (held : List Held) (f : objects.Posted → ℕ) → ((p : QueuedRequest) → f (posted_in pool p) ≡ pages_of_request (record no_context { regions = regions_of pool held }) p.request) → (ps : List QueuedRequest) → AllByRecursion (IsPaged pool held) ps → sum (map f (untold_in pool ps)) ≡ payload_pages pool ps
+posted-are : (pool : Pool) (held : List RegisteredRegion) (f : objects.Posted → ℕ) → ((p : QueuedRequest) → f (posted_in pool p) ≡ pages_of_request (record no_context { regions = regions_of pool held }) p.request) → (ps : List QueuedRequest) → AllByRecursion (IsPaged pool held) ps → sum (map f (untold_in pool ps)) ≡ payload_pages pool ps
 unfolding payload_pages
 posted-are pool held f same [] h = refl
 posted-are pool held f same (p ∷ ps) h =
@@ -50,12 +50,12 @@ posted-are pool held f same (p ∷ ps) h =
     ∙ (ap (λ n. pages_of (bytes_of pool p.payload.list) + n) (posted-are pool held f same ps h.1)
     ∙ sym (sum_by-cons (λ q. pages_of (bytes_of pool q.payload.list)) p ps)))
 
-link-are : (pool : Pool) (held : List Held) (f : objects.Posted → ℕ) → ((p : QueuedRequest) → f (posted_in pool p) ≡ pages_of_request (record no_context { regions = regions_of pool held }) p.request) → (l : Option EndLink) → AllByRecursion (IsPaged pool held) (untold_by l) → sum (map f (untold_of (option_map (link_in pool) l))) ≡ payload_pages pool (untold_by l)
+link-are : (pool : Pool) (held : List RegisteredRegion) (f : objects.Posted → ℕ) → ((p : QueuedRequest) → f (posted_in pool p) ≡ pages_of_request (record no_context { regions = regions_of pool held }) p.request) → (l : Option EndLink) → AllByRecursion (IsPaged pool held) (untold_by l) → sum (map f (untold_of (option_map (link_in pool) l))) ≡ payload_pages pool (untold_by l)
 unfolding payload_pages
 link-are pool held f same None h = refl
 link-are pool held f same (Some l) h = posted-are pool held f same l.requester.items h
 
-ends-are : (pool : Pool) (held : List Held) (queues : List (Name × Queue)) (f : objects.Posted → ℕ) → ((p : QueuedRequest) → f (posted_in pool p) ≡ pages_of_request (record no_context { regions = regions_of pool held }) p.request) → (es : List (Name × EndSlot)) → AllByRecursion (λ e. All (IsPaged pool held) (untold_at e)) es
+ends-are : (pool : Pool) (held : List RegisteredRegion) (queues : List (Name × Queue)) (f : objects.Posted → ℕ) → ((p : QueuedRequest) → f (posted_in pool p) ≡ pages_of_request (record no_context { regions = regions_of pool held }) p.request) → (es : List (Name × EndSlot)) → AllByRecursion (λ e. All (IsPaged pool held) (untold_at e)) es
     → sum (map (λ e. sum (map f (untold_of e.link))) (map (end_of pool queues) es)) ≡ end_pages pool es
 ends-are pool held queues f same [] h = refl
 ends-are pool held queues f same (e ∷ es) h =

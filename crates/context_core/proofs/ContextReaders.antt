@@ -6,8 +6,8 @@ use Rattle.std.specs.List.{position_or_len}
 use Rattle.std.specs.Map.{keys_of}
 use Rattle.rdma_types.specs.declared.names.Name.{Name}
 use Rattle.page_pool.specs.Pool.{Pool}
-use Rattle.completion_queue.specs.Queue.{Queue}
-use Rattle.memory_keys.specs.declared.Held.{Held}
+use Rattle.end_queues.specs.Completions.{Queue}
+use Rattle.memory_keys.specs.declared.RegisteredRegion.{RegisteredRegion}
 use Rattle.memory_keys.specs.declared.RegionHead.{RegionHead}
 use Rattle.memory_keys.specs.Regions.{regions_of}
 use Rattle.context_core.specs.declared.state.EndSlot.{EndSlot}
@@ -38,7 +38,7 @@ place-is pool n h name =
     ap (λ k. if nat_lt k (length (keys_of h.ends)) then Some k else None) (sym same)
     ∙ ap (λ l. if nat_lt (position_or_len (λ e. bytes_eq name e.name) (map (end_of pool h.queues) h.ends)) l then Some (position_or_len (λ e. bytes_eq name e.name) (map (end_of pool h.queues) h.ends)) else None) (keys ∙ sym ends)
 
-keys-map : (pool : Pool) (hs : List Held) (i : ℕ) → option_map (λ h. h.head.keys) (slice_get hs i) ≡ option_map (λ r. r.keys) (slice_get (regions_of pool hs) i)
+keys-map : (pool : Pool) (hs : List RegisteredRegion) (i : ℕ) → option_map (λ h. h.head.keys) (slice_get hs i) ≡ option_map (λ r. r.keys) (slice_get (regions_of pool hs) i)
 keys-map pool [] i = refl
 keys-map pool (h ∷ hs) zero = refl
 keys-map pool (h ∷ hs) (suc i) = keys-map pool hs i
@@ -50,6 +50,6 @@ keys-is pool n h i = keys-map pool h.regions i
 pub keys-told : (pool : Pool) (n : Name) (h : Holding) (i : ℕ) (o : Option RegionHead) → o ≡ option_map (λ x. x.head) (slice_get h.regions i) → option_map (λ k. k.keys) o ≡ option_map (λ r. r.keys) (slice_get (context_in pool n h).regions i)
 keys-told pool n h i o e = ap (option_map (λ k. k.keys)) e ∙ (twice (slice_get h.regions i) ∙ keys-is pool n h i)
   where
-    twice : (x : Option Held) → option_map (λ k. k.keys) (option_map (λ y. y.head) x) ≡ option_map (λ y. y.head.keys) x
+    twice : (x : Option RegisteredRegion) → option_map (λ k. k.keys) (option_map (λ y. y.head) x) ≡ option_map (λ y. y.head.keys) x
     twice None = refl
     twice (Some y) = refl

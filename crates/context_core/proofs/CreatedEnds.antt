@@ -16,14 +16,14 @@ use Rattle.rdma_types.specs.Limits.{most_ends, most_numbers}
 use Rattle.rdma_types.specs.Lists.{has_name, has_word}
 use Rattle.rdma_types.proofs.Tables.{name_is}
 use Rattle.page_pool.specs.Pool.{Pool}
-use Rattle.completion_queue.specs.Queue.{Queue}
+use Rattle.end_queues.specs.Completions.{Queue}
 use Rattle.responder.specs.Sound.{IsPlace}
 use Rattle.protocol.specs.DeviceStep.{answers, counting_qp, makes_end, number_of, with_context, with_new_end, word_of}
 use Rattle.protocol.specs.Memory.{pages_of_context}
 use Rattle.protocol.specs.Refusals.{qp_causes}
 use Rattle.protocol.specs.State.{Device, End}
 use Rattle.endpoint_core.specs.Queues.{count_at, nothing, promised}
-use Rattle.end_memory.specs.Payloads.{payload_pages}
+use Rattle.end_completions.specs.Payloads.{payload_pages}
 use Rattle.endpoint_core.specs.Sound.{IsEnd, payload_lists}
 use Rattle.context_core.specs.declared.making.NewEnd.{NewEnd}
 use Rattle.context_core.specs.declared.new_ends.Parts.{Parts}

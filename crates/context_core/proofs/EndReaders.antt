@@ -8,7 +8,7 @@ use Rattle.std.proofs.lemmas.Option.{slice_get-map}
 use Rattle.rdma_types.specs.declared.names.Name.{Name}
 use Rattle.rdma_types.specs.Lists.{some}
 use Rattle.page_pool.specs.Pool.{Pool}
-use Rattle.completion_queue.specs.Queue.{Queue}
+use Rattle.end_queues.specs.Completions.{Queue}
 use Rattle.protocol.specs.EndWords.{is_paused_link}
 use Rattle.protocol.specs.Refusals.{has_moved_out, links_of}
 use Rattle.protocol.specs.State.{Link}

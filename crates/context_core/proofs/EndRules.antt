@@ -2,7 +2,7 @@
 use Rattle.std.proofs.Common.{◌≡◌, ◌+◌, refl, ap, sym, ◌∙◌, Bool, true, false}
 use Rattle.std.specs.Prelude.{Option, Some, None, IfSome, IsSome, ◌==◌, if◌then◌else◌}
 use Rattle.rdma_types.specs.declared.answers.Answer.TheVariants as answer
-use Rattle.rdma_types.specs.declared.answers.NotWhy.{NotWhy}
+use Rattle.rdma_types.specs.declared.answers.ExpiryIgnored.{ExpiryIgnored}
 use Rattle.rdma_types.specs.declared.requests.WcStatus.TheVariants as status
 use Rattle.protocol.specs.DeviceStep.{answers, at_link, counts, expires, expires_by, rnr_over, waits_out, with_context}
 use Rattle.protocol.specs.EndWords.{linked, with_end, with_link, with_sender}
@@ -10,7 +10,7 @@ use Rattle.protocol.specs.Requester.{counted, ended_with, not_counted, waited_ou
 use Rattle.protocol.specs.State.{Context, Device, End, Link}
 use Rattle.endpoint_core.specs.Answers.{expired_answer, expired_at, expired_by, expiry_of, waited_at}
 
-by-reason : (d : Device) (c : Context) (e : End) (l : Link) (w : Option NotWhy) → with_context d c ≡ d → expires_by d c e l w ≡ answers (with_context d (expired_by c e l w)) (expired_answer l w)
+by-reason : (d : Device) (c : Context) (e : End) (l : Link) (w : Option ExpiryIgnored) → with_context d c ≡ d → expires_by d c e l w ≡ answers (with_context d (expired_by c e l w)) (expired_answer l w)
 unfolding counts
 by-reason d c e l (Some w) same = ap (λ x. answers x (answer.NotCounted w)) (sym same)
 by-reason d c e l None same = by (l.sender.spent == l.terms.retry)

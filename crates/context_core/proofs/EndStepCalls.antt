@@ -8,16 +8,16 @@ use Rattle.std.proofs.lemmas.List.Elements.{recursion_from_All}
 use Rattle.std.proofs.lemmas.List.Sums.{sum_by-cons}
 use Rattle.rdma_types.specs.declared.names.Name.{Name}
 use Rattle.page_pool.specs.Pool.{Pool, bytes_of, free_pages}
-use Rattle.completion_queue.specs.Queue.{Queue}
-use Rattle.memory_keys.specs.declared.Held.{Held}
-use Rattle.work_queues.specs.declared.posted.QueuedRequest.{QueuedRequest}
+use Rattle.end_queues.specs.Completions.{Queue}
+use Rattle.memory_keys.specs.declared.RegisteredRegion.{RegisteredRegion}
+use Rattle.end_queues.specs.declared.work_queues.posted.QueuedRequest.{QueuedRequest}
 use Rattle.protocol.specs.Memory.{pages_of_context}
 use Rattle.endpoint_core.specs.declared.end.Endpoint.{Endpoint}
 use Rattle.endpoint_core.specs.declared.end.EndLink.{EndLink}
 use Rattle.endpoint_core.specs.Queues.{nothing, promised, reserved_in}
 use Rattle.endpoint_core.specs.Ends.{untold_by}
 use Rattle.endpoint_core.specs.Sites.{IsHome, IsSound, Keeps, KeepsEnd, home}
-use Rattle.end_memory.specs.Payloads.{payload_lists, payload_pages}
+use Rattle.end_completions.specs.Payloads.{payload_lists, payload_pages}
 use Rattle.endpoint_core.specs.Sound.{IsEnd}
 use Rattle.context_core.specs.declared.state.EndSlot.{EndSlot}
 use Rattle.context_core.specs.Context.{HasQueues, Holding, IsContext, IsHolding, Moves, context_in, lists_of, names_in, payloads_of, site_in}
@@ -75,7 +75,7 @@ none-new a h = record { others = apart-none (payloads_of h.ends); paged = tt }
     apart-none (x ∷ xs) = (tt, apart-none xs)
 
 -- a step where nothing is posted
-pub record Steps (a b : Pool) (h : Holding) (i : ℕ) (v : EndSlot) (held : List Held) (queues : List (Name × Queue)) (x : Endpoint) : Type 0 where
+pub record Steps (a b : Pool) (h : Holding) (i : ℕ) (v : EndSlot) (held : List RegisteredRegion) (queues : List (Name × Queue)) (x : Endpoint) : Type 0 where
   pub is : IsContext b (after h i (entry h.ends i v) held queues x)
   pub moves : Moves a b h (after h i (entry h.ends i v) held queues x)
   pub numbers : (n : Name) → map (λ e. e.number) (context_in b n (after h i (entry h.ends i v) held queues x)).ends ≡ map (λ e. e.number) (context_in a n h).ends
@@ -83,7 +83,7 @@ pub record Steps (a b : Pool) (h : Holding) (i : ℕ) (v : EndSlot) (held : List
   pub shown : (n : Name) → home (context_in a n h) (names_in h.queues (entry h.ends i v)) (site_after b (entry h.ends i v) held queues x) ≡ context_in b n (after h i (entry h.ends i v) held queues x)
 
 -- the number of an end stays
-pub numbers-same : (h : Holding) (i : ℕ) (e : Name × EndSlot) (held : List Held) (queues : List (Name × Queue)) (x : Endpoint) → slice_get h.ends i ≡ Some e → x.number ≡ e.1.endpoint.number → map (λ y. y.1.endpoint.number) (after h i e held queues x).ends ≡ map (λ y. y.1.endpoint.number) h.ends
+pub numbers-same : (h : Holding) (i : ℕ) (e : Name × EndSlot) (held : List RegisteredRegion) (queues : List (Name × Queue)) (x : Endpoint) → slice_get h.ends i ≡ Some e → x.number ≡ e.1.endpoint.number → map (λ y. y.1.endpoint.number) (after h i e held queues x).ends ≡ map (λ y. y.1.endpoint.number) h.ends
 numbers-same h i e held queues x there same =
     let s = split-at h.ends i e there in
     ap (map (λ y. y.1.endpoint.number)) (s.changed (record { send = e.1.send; recv = e.1.recv; endpoint = x }))
@@ -91,7 +91,7 @@ numbers-same h i e held queues x there same =
     ∙ (ap (λ k. map (λ y. y.1.endpoint.number) s.front ++ k ∷ map (λ y. y.1.endpoint.number) s.back) same
     ∙ (sym (map-append (λ y. y.1.endpoint.number) s.front (e ∷ s.back)) ∙ ap (map (λ y. y.1.endpoint.number)) (sym s.whole))))
 
-pub steps : (a b : Pool) (h : Holding) (i : ℕ) (v : EndSlot) (held : List Held) (queues : List (Name × Queue)) (x : Endpoint)
+pub steps : (a b : Pool) (h : Holding) (i : ℕ) (v : EndSlot) (held : List RegisteredRegion) (queues : List (Name × Queue)) (x : Endpoint)
     → IsContext a h → slice_get (values_of h.ends) i ≡ Some v
     → Keeps (site_in a h (entry h.ends i v)) (site_after b (entry h.ends i v) held queues x) [] nothing
     → IsSound (site_after b (entry h.ends i v) held queues x) nothing
@@ -161,7 +161,7 @@ lists-still h i v x value untold =
     ∙ (ap (λ ps. payloads_of s.front ++ (payload_lists ps ++ payloads_of s.back)) untold
     ∙ (sym (payloads-split s.front s.back (entry h.ends i v)) ∙ ap payloads_of (sym s.whole)))))
 
-pub numbers-still : (a b : Pool) (n : Name) (h : Holding) (i : ℕ) (v : EndSlot) (held : List Held) (queues : List (Name × Queue)) (x : Endpoint) → slice_get (values_of h.ends) i ≡ Some v → x.number ≡ v.endpoint.number
+pub numbers-still : (a b : Pool) (n : Name) (h : Holding) (i : ℕ) (v : EndSlot) (held : List RegisteredRegion) (queues : List (Name × Queue)) (x : Endpoint) → slice_get (values_of h.ends) i ≡ Some v → x.number ≡ v.endpoint.number
     → map (λ e. e.number) (context_in b n (after h i (entry h.ends i v) held queues x)).ends ≡ map (λ e. e.number) (context_in a n h).ends
 numbers-still a b n h i v held queues x value same =
     numbers-in b n (after h i (entry h.ends i v) held queues x) ∙ (numbers-same h i (entry h.ends i v) held queues x (entry-there h.ends i v value) same ∙ sym (numbers-in a n h))

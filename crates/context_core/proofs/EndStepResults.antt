@@ -9,10 +9,10 @@ use Rattle.std.proofs.lemmas.Grind.{flat_map-append}
 use Rattle.indexmap.specs.IndexMap.{set_value_at}
 use Rattle.rdma_types.specs.declared.names.Name.{Name}
 use Rattle.page_pool.specs.Pool.{Pool, IsIn, bytes_of, free_pages}
-use Rattle.completion_queue.specs.Queue.{Queue}
-use Rattle.memory_keys.specs.declared.Held.{Held}
+use Rattle.end_queues.specs.Completions.{Queue}
+use Rattle.memory_keys.specs.declared.RegisteredRegion.{RegisteredRegion}
 use Rattle.memory_keys.specs.Regions.{AreKeyed, regions_of}
-use Rattle.work_queues.specs.declared.posted.QueuedRequest.{QueuedRequest}
+use Rattle.end_queues.specs.declared.work_queues.posted.QueuedRequest.{QueuedRequest}
 use Rattle.protocol.specs.EndWords.{with_end}
 use Rattle.protocol.specs.State.{Context, End}
 use Rattle.endpoint_core.specs.declared.end.Endpoint.{Endpoint}
@@ -29,7 +29,7 @@ use Rattle.context_core.proofs.SamePayloads.{AreSame, all-paged}
 use Rattle.context_core.proofs.SplitEntries.{IsSplit, map-append, split-at}
 use Rattle.context_core.proofs.EndSteps.{AreNew, EndsSame, after, ends-paged, ends-sound, kept-ends, own-distinct, shown-same, site_after, with-end}
 
-module _ (a b : Pool) (h : Holding) (more : ℕ → ℕ) (i : ℕ) (e : Name × EndSlot) (held : List Held) (queues : List (Name × Queue)) (x : Endpoint) (posted : List QueuedRequest) where
+module _ (a b : Pool) (h : Holding) (more : ℕ → ℕ) (i : ℕ) (e : Name × EndSlot) (held : List RegisteredRegion) (queues : List (Name × Queue)) (x : Endpoint) (posted : List QueuedRequest) where
   -- what is known of a step of the end at a place
   pub record IsStep : Type 0 where
     pub is : IsHolding a h more
@@ -79,7 +79,7 @@ pieces a h more i e posted is there new =
       back = distinct-back (payload_lists (untold_at e)) (payloads_of s.back) later;
     }
 
-module _ {a b : Pool} {h : Holding} {more : ℕ → ℕ} {i : ℕ} {e : Name × EndSlot} {held : List Held} {queues : List (Name × Queue)} {x : Endpoint} {posted : List QueuedRequest} (step : IsStep a b h more i e held queues x posted) where
+module _ {a b : Pool} {h : Holding} {more : ℕ → ℕ} {i : ℕ} {e : Name × EndSlot} {held : List RegisteredRegion} {queues : List (Name × Queue)} {x : Endpoint} {posted : List QueuedRequest} (step : IsStep a b h more i e held queues x posted) where
   parts : ArePieces h i e (payload_lists (untold_at e)) (payload_lists posted)
   parts = pieces a h more i e posted step.is step.there step.new
 

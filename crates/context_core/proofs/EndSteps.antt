@@ -8,9 +8,9 @@ use Rattle.indexmap.specs.IndexMap.{set_value_at}
 use Rattle.rdma_types.specs.declared.names.Name.{Name}
 use Rattle.rdma_types.specs.Lists.{store_named}
 use Rattle.page_pool.specs.Pool.{Pool}
-use Rattle.completion_queue.specs.Queue.{Queue}
-use Rattle.memory_keys.specs.declared.Held.{Held}
-use Rattle.work_queues.specs.declared.posted.QueuedRequest.{QueuedRequest}
+use Rattle.end_queues.specs.Completions.{Queue}
+use Rattle.memory_keys.specs.declared.RegisteredRegion.{RegisteredRegion}
+use Rattle.end_queues.specs.declared.work_queues.posted.QueuedRequest.{QueuedRequest}
 use Rattle.protocol.specs.EndWords.{with_end}
 use Rattle.protocol.specs.State.{End}
 use Rattle.endpoint_core.specs.declared.end.Endpoint.{Endpoint}
@@ -68,16 +68,16 @@ is-home pool n h more i e is there has =
 -- ---- what a step leaves
 
 -- the untold requests of a sound end are posted ones
-pub each-posted : (pool : Pool) (held : List Held) (e : Endpoint) (l : Option EndLink) → IsInState pool held e l → AllByRecursion (IsPosted pool held e.domain) (untold_by l)
+pub each-posted : (pool : Pool) (held : List RegisteredRegion) (e : Endpoint) (l : Option EndLink) → IsInState pool held e l → AllByRecursion (IsPosted pool held e.domain) (untold_by l)
 each-posted pool held e None h = tt
 each-posted pool held e (Some l) h = recursion_from_All (IsPosted pool held e.domain) l.requester.items h.posted
 
-pub own-distinct : (pool : Pool) (held : List Held) (e : Endpoint) (l : Option EndLink) → IsInState pool held e l → IsDistinct nat_eq (payload_lists (untold_by l))
+pub own-distinct : (pool : Pool) (held : List RegisteredRegion) (e : Endpoint) (l : Option EndLink) → IsInState pool held e l → IsDistinct nat_eq (payload_lists (untold_by l))
 own-distinct pool held e None h = distinct-none
 own-distinct pool held e (Some l) h = h.apart
 
 -- lists that are none of the regions' and none of these are as they were
-kept-lists : (a b : Pool) (held : List Held) (own : List ℕ) (domain : Name) → KeepsLists a b held own → (ps : List QueuedRequest) → AllByRecursion (IsPosted a held domain) ps → AreApart (payload_lists ps) own → AreSame a b ps
+kept-lists : (a b : Pool) (held : List RegisteredRegion) (own : List ℕ) (domain : Name) → KeepsLists a b held own → (ps : List QueuedRequest) → AllByRecursion (IsPosted a held domain) ps → AreApart (payload_lists ps) own → AreSame a b ps
 kept-lists a b held own domain k [] h n = tt
 kept-lists a b held own domain k (p ∷ ps) h n = (k.others p.payload.list h.0.payload.holds.lives h.0.payload.apart (lacks-all p.payload.list own n.0), kept-lists a b held own domain k ps h.1 n.1)
 
@@ -85,7 +85,7 @@ kept-lists a b held own domain k (p ∷ ps) h n = (k.others p.payload.list h.0.p
 abbrev pub EndsSame : Pool → Pool → List (Name × EndSlot) → Type 0
 EndsSame a b es = AllByRecursion (λ e. AreSame a b (untold_at e)) es
 
-pub kept-ends : (a b : Pool) (held : List Held) (own : List ℕ) → KeepsLists a b held own → (es : List (Name × EndSlot)) → AllByRecursion (λ e. IsEnd a held e.1.endpoint) es → AreApart (payloads_of es) own → EndsSame a b es
+pub kept-ends : (a b : Pool) (held : List RegisteredRegion) (own : List ℕ) → KeepsLists a b held own → (es : List (Name × EndSlot)) → AllByRecursion (λ e. IsEnd a held e.1.endpoint) es → AreApart (payloads_of es) own → EndsSame a b es
 kept-ends a b held own k [] h n = tt
 kept-ends a b held own k (e ∷ es) h n = (
   kept-lists a b held own e.1.endpoint.domain k (untold_at e) (each-posted a held e.1.endpoint e.1.endpoint.link h.0.state) (each-front (Lacks own) (payload_lists (untold_at e)) (payloads_of es) n),
@@ -101,11 +101,11 @@ shown-same a b old new keys (e ∷ es) s =
     let rest : map (end_of b new) es ≡ map (end_of a old) es = shown-same a b old new keys es s.1 in
     cc
 
-pub ends-sound : (a b : Pool) (held : List Held) (es : List (Name × EndSlot)) → EndsSame a b es → AllByRecursion (λ e. IsEnd a held e.1.endpoint) es → AllByRecursion (λ e. IsEnd b held e.1.endpoint) es
+pub ends-sound : (a b : Pool) (held : List RegisteredRegion) (es : List (Name × EndSlot)) → EndsSame a b es → AllByRecursion (λ e. IsEnd a held e.1.endpoint) es → AllByRecursion (λ e. IsEnd b held e.1.endpoint) es
 ends-sound a b held [] s h = tt
 ends-sound a b held (e ∷ es) s h = (sound-same a b held e.1.endpoint s.0 h.0, ends-sound a b held es s.1 h.1)
 
-pub ends-paged : (a b : Pool) (held : List Held) (es : List (Name × EndSlot)) → EndsSame a b es → AllByRecursion (λ e. All (IsPaged a held) (untold_at e)) es → AllByRecursion (λ e. All (IsPaged b held) (untold_at e)) es
+pub ends-paged : (a b : Pool) (held : List RegisteredRegion) (es : List (Name × EndSlot)) → EndsSame a b es → AllByRecursion (λ e. All (IsPaged a held) (untold_at e)) es → AllByRecursion (λ e. All (IsPaged b held) (untold_at e)) es
 ends-paged a b held [] s h = tt
 ends-paged a b held (e ∷ es) s h = (
   All-from_recursion (IsPaged b held) (untold_at e) (all-paged a b held (untold_at e) s.0 (recursion_from_All (IsPaged a held) (untold_at e) h.0)),
@@ -115,11 +115,11 @@ ends-paged a b held (e ∷ es) s h = (
 -- ---- the step
 
 -- the context after a step of the end at a place
-abbrev pub after : Holding → ℕ → Name × EndSlot → List Held → List (Name × Queue) → Endpoint → Holding
+abbrev pub after : Holding → ℕ → Name × EndSlot → List RegisteredRegion → List (Name × Queue) → Endpoint → Holding
 after h i e held queues x = record h { regions = held; queues = queues; ends = set_value_at h.ends i (record { send = e.1.send; recv = e.1.recv; endpoint = x }) }
 
 -- what the end of a context has after a step
-abbrev pub site_after : Pool → Name × EndSlot → List Held → List (Name × Queue) → Endpoint → EndWithMemory
+abbrev pub site_after : Pool → Name × EndSlot → List RegisteredRegion → List (Name × Queue) → Endpoint → EndWithMemory
 site_after pool e held queues x = record { pool = pool; held = held; queues = queues; send = e.1.send; recv = e.1.recv; end = x }
 
 -- the payloads of requests that are posted are of no end, and have the pages that the requests take

@@ -6,7 +6,7 @@ use Rattle.std.specs.Map.{keys_of, lookup}
 use Rattle.rdma_types.specs.declared.names.Name.{Name}
 use Rattle.rdma_types.specs.Lists.{has_name, named}
 use Rattle.page_pool.specs.Pool.{Pool}
-use Rattle.completion_queue.specs.Queue.{Queue}
+use Rattle.end_queues.specs.Completions.{Queue}
 use Rattle.protocol.specs.State.{no_end}
 use Rattle.protocol.specs.Refusals.{is_init}
 use Rattle.endpoint_core.specs.declared.end.EndLink.{EndLink}

@@ -11,11 +11,11 @@ use Rattle.rdma_types.specs.Lists.{first_that}
 use Rattle.rdma_types.specs.Memory.{LocalWrite, Right, RemoteWrite, allows, granted, grants, holds, is_granted, local_key}
 use Rattle.rdma_types.specs.Objects.{Region}
 use Rattle.page_pool.specs.Pool.{Pool}
-use Rattle.memory_keys.specs.declared.Held.{Held}
+use Rattle.memory_keys.specs.declared.RegisteredRegion.{RegisteredRegion}
 use Rattle.memory_keys.specs.Regions.{AreKeyed, held_at, region_of, regions_of}
-use Rattle.work_queues.specs.declared.posted.QueuedRequest.{QueuedRequest}
-use Rattle.work_queues.specs.Queue.{Queue, empty_queue}
-use Rattle.work_queues.specs.Untold.{untold_in}
+use Rattle.end_queues.specs.declared.work_queues.posted.QueuedRequest.{QueuedRequest}
+use Rattle.end_queues.specs.Postings.{Queue, empty_queue}
+use Rattle.end_queues.specs.Untold.{untold_in}
 use Rattle.protocol.specs.declared.images.ContextImage.{ContextImage}
 use Rattle.protocol.specs.declared.images.EndImage.{EndImage}
 use Rattle.protocol.specs.declared.images.LinkImage.{LinkImage}
@@ -28,7 +28,7 @@ use Rattle.protocol.specs.Lawful.{IsLawfulEnd, IsLawfulLink, IsLawfulProgress, I
 use Rattle.protocol.specs.EndWords.{in_use_by}
 use Rattle.protocol.specs.State.{Link}
 use Rattle.responder.specs.Sound.{IsPlace, IsUnderWay}
-use Rattle.move_core.specs.declared.Phase.TheVariants as phase
+use Rattle.transport.specs.declared.move_core.Phase.TheVariants as phase
 use Rattle.endpoint_core.specs.declared.end.Endpoint.{Endpoint}
 use Rattle.endpoint_core.specs.Ends.{Names, end_in, link_in, untold_by, used_by}
 use Rattle.endpoint_core.specs.Sound.{HoldsQueue, IsEnd, IsInState, IsLinked}
@@ -36,7 +36,7 @@ use Rattle.context_core.specs.Coming.{Come, IsEndAfter, MayCome, end_after, link
 
 -- ---- places, whatever bytes lie there
 
-granted-any : (a b : Pool) (domain : Name) (key at count : ℕ) (right : Right) (hs : List Held) → is_granted local_key (regions_of a hs) domain key at count right ≡ is_granted local_key (regions_of b hs) domain key at count right
+granted-any : (a b : Pool) (domain : Name) (key at count : ℕ) (right : Right) (hs : List RegisteredRegion) → is_granted local_key (regions_of a hs) domain key at count right ≡ is_granted local_key (regions_of b hs) domain key at count right
 unfolding is_granted granted first_that grants holds
 granted-any a b domain key at count right [] = refl
 granted-any a b domain key at count right (h ∷ hs) = by_test (grants local_key domain key at count right (region_of a h)) refl (granted-any a b domain key at count right hs)
@@ -47,10 +47,10 @@ granted-any a b domain key at count right (h ∷ hs) = by_test (grants local_key
     by_test false t rest = rw t rest
 
 -- what an image grants is granted by the regions that come of it
-granted-here : (pool other : Pool) (c : ContextImage) (hs : List Held) (domain : Name) (key at count : ℕ) (right : Right) → regions_of pool hs ≡ (context_of c).regions → is_granted local_key (context_of c).regions domain key at count right ≡ true → is_granted local_key (regions_of other hs) domain key at count right ≡ true
+granted-here : (pool other : Pool) (c : ContextImage) (hs : List RegisteredRegion) (domain : Name) (key at count : ℕ) (right : Right) → regions_of pool hs ≡ (context_of c).regions → is_granted local_key (context_of c).regions domain key at count right ≡ true → is_granted local_key (regions_of other hs) domain key at count right ≡ true
 granted-here pool other c hs domain key at count right same g = granted-any other pool domain key at count right hs ∙ (ap (λ rs. is_granted local_key rs domain key at count right) same ∙ g)
 
-module _ (pool : Pool) (c : ContextImage) (hs : List Held) (same : regions_of pool hs ≡ (context_of c).regions) where
+module _ (pool : Pool) (c : ContextImage) (hs : List RegisteredRegion) (same : regions_of pool hs ≡ (context_of c).regions) where
   place-of : (domain : ℕ) (r : Receive) → IsLawfulReceive c domain r → IsPlace hs (name_at c.domains domain) r
   place-of domain r h = record { few = h.length'; granted = λ other. granted-here pool other c hs (name_at c.domains domain) r.lkey r.local r.length LocalWrite same h.granted }
 
@@ -87,25 +87,25 @@ key-there (x ∷ xs) zero r e = let same : x ≡ r = cc in ap (λ (y : RegionIma
 key-there (x ∷ xs) (suc i) r e = key-there xs i r e
 
 -- a key among keys that differ from one is another
-other-key : (key : ℕ) (hs : List Held) (i : ℕ) (h : Held) → AllByRecursion (λ y. nat_eq key y ≡ false) (map (λ x. x.head.keys.local) hs) → slice_get hs i ≡ Some h → (key == h.head.keys.local) ≡ false
+other-key : (key : ℕ) (hs : List RegisteredRegion) (i : ℕ) (h : RegisteredRegion) → AllByRecursion (λ y. nat_eq key y ≡ false) (map (λ x. x.head.keys.local) hs) → slice_get hs i ≡ Some h → (key == h.head.keys.local) ≡ false
 other-key key [] i h d e = absurd (cc)
-other-key key (x ∷ xs) zero h d e = let same : x ≡ h = cc in subst (λ (y : Held). (key == y.head.keys.local) ≡ false) same d.0
+other-key key (x ∷ xs) zero h d e = let same : x ≡ h = cc in subst (λ (y : RegisteredRegion). (key == y.head.keys.local) ≡ false) same d.0
 other-key key (x ∷ xs) (suc i) h d e = other-key key xs i h d.1 e
 
 -- the region at a place is found under its key
-found-there : (hs : List Held) (i : ℕ) (h : Held) → IsDistinct nat_eq (map (λ x. x.head.keys.local) hs) → slice_get hs i ≡ Some h → held_at h.head.keys.local hs ≡ Some h
+found-there : (hs : List RegisteredRegion) (i : ℕ) (h : RegisteredRegion) → IsDistinct nat_eq (map (λ x. x.head.keys.local) hs) → slice_get hs i ≡ Some h → held_at h.head.keys.local hs ≡ Some h
 unfolding first_that IsDistinct
 found-there [] i h d e = absurd (cc)
 found-there (x ∷ xs) zero h d e =
     let same : x ≡ h = cc in
-    let yes : (x.head.keys.local == h.head.keys.local) ≡ true = subst (λ (y : Held). (x.head.keys.local == y.head.keys.local) ≡ true) same (self x.head.keys.local) in
+    let yes : (x.head.keys.local == h.head.keys.local) ≡ true = subst (λ (y : RegisteredRegion). (x.head.keys.local == y.head.keys.local) ≡ true) same (self x.head.keys.local) in
     rw yes (ap Some same)
   where
     self : (n : ℕ) → (n == n) ≡ true
     self n = grind (arith, nat_tests)
 found-there (x ∷ xs) (suc i) h d e = rw (other-key x.head.keys.local xs i h d.0 e) (found-there xs i h d.1 e)
 
-module _ (pool : Pool) (c : ContextImage) (hs : List Held) (same : regions_of pool hs ≡ (context_of c).regions) (keyed : AreKeyed hs) where
+module _ (pool : Pool) (c : ContextImage) (hs : List RegisteredRegion) (same : regions_of pool hs ≡ (context_of c).regions) (keyed : AreKeyed hs) where
   image-there : (i : ℕ) (r : RegionImage) → slice_get c.regions i ≡ Some r → slice_get (regions_of pool hs) i ≡ Some (region_of_image c.domains r)
   unfolding context_of
   image-there i r e = ap (λ rs. slice_get rs i) same ∙ at-map (region_of_image c.domains) c.regions i r e
@@ -147,7 +147,7 @@ untold-after pool c e queue shown None h = sym (shown-empty pool queue.items e.u
 untold-after pool c e queue shown (Some l) h = refl
 
 -- the untold requests are those that came
-pub untold-is : (old new : Pool) (hs : List Held) (c : ContextImage) (e : EndImage) (x : Endpoint) → IsLawfulEnd c e → (after : IsEndAfter old new hs c e x) → untold_by x.link ≡ after.queue.items
+pub untold-is : (old new : Pool) (hs : List RegisteredRegion) (c : ContextImage) (e : EndImage) (x : Endpoint) → IsLawfulEnd c e → (after : IsEndAfter old new hs c e x) → untold_by x.link ≡ after.queue.items
 untold-is old new hs c e x law after = ap (λ (y : Endpoint). untold_by y.link) after.is ∙ untold-after new c e after.queue after.come.shown e.linked law.state
 
 -- ---- it is sound
@@ -156,7 +156,7 @@ ended-phase : (b : Bool) → b ≡ true → (if b then phase.Running else phase.
 ended-phase true e = refl
 ended-phase false e = absurd (cc)
 
-module _ (old new : Pool) (c : ContextImage) (e : EndImage) (hs : List Held) (same : regions_of new hs ≡ (context_of c).regions) (keyed : AreKeyed hs) (law : IsLawfulEnd c e) (queue : Queue QueuedRequest) (depth : queue.depth ≡ e.send_depth) (come : Come old new hs (name_at c.domains e.domain) e.untold queue.items) where
+module _ (old new : Pool) (c : ContextImage) (e : EndImage) (hs : List RegisteredRegion) (same : regions_of new hs ≡ (context_of c).regions) (keyed : AreKeyed hs) (law : IsLawfulEnd c e) (queue : Queue QueuedRequest) (depth : queue.depth ≡ e.send_depth) (come : Come old new hs (name_at c.domains e.domain) e.untold queue.items) where
   linked-sound : (l : LinkImage) → IsLawfulLink c e l → IsLinked new hs (end_after c e queue) (link_after c.regions l queue)
   linked-sound l h = record {
     terms = h.terms;
@@ -187,7 +187,7 @@ module _ (old new : Pool) (c : ContextImage) (e : EndImage) (hs : List Held) (sa
   pub after-sound : IsEnd new hs (end_after c e queue)
   after-sound = record { queue = queue-held e.linked law.state; depth = refl; state = state-sound e.linked law.state }
 
-pub end-sound : (old new : Pool) (c : ContextImage) (e : EndImage) (hs : List Held) (x : Endpoint) → regions_of new hs ≡ (context_of c).regions → AreKeyed hs → IsLawfulEnd c e → IsEndAfter old new hs c e x → IsEnd new hs x
+pub end-sound : (old new : Pool) (c : ContextImage) (e : EndImage) (hs : List RegisteredRegion) (x : Endpoint) → regions_of new hs ≡ (context_of c).regions → AreKeyed hs → IsLawfulEnd c e → IsEndAfter old new hs c e x → IsEnd new hs x
 end-sound old new c e hs x same keyed law after = subst (IsEnd new hs) (sym after.is) (after-sound old new c e hs same keyed law after.queue after.depth after.come)
 
 -- ---- what it is
@@ -204,7 +204,7 @@ links-shown : (new : Pool) (c : ContextImage) (e : EndImage) (queue : Queue Queu
 links-shown new c e queue shown None h = refl
 links-shown new c e queue shown (Some l) h = ap Some (link-shown new c e l queue h shown)
 
-pub end-shown : (old new : Pool) (c : ContextImage) (e : EndImage) (hs : List Held) (x : Endpoint) (names : Names) → IsLawfulEnd c e → IsEndAfter old new hs c e x → names.name ≡ e.name → names.send_cq ≡ name_at (map (λ q. q.name) c.queues) e.send_cq → names.recv_cq ≡ name_at (map (λ q. q.name) c.queues) e.recv_cq
+pub end-shown : (old new : Pool) (c : ContextImage) (e : EndImage) (hs : List RegisteredRegion) (x : Endpoint) (names : Names) → IsLawfulEnd c e → IsEndAfter old new hs c e x → names.name ≡ e.name → names.send_cq ≡ name_at (map (λ q. q.name) c.queues) e.send_cq → names.recv_cq ≡ name_at (map (λ q. q.name) c.queues) e.recv_cq
     → end_in new names x ≡ moved_end (end_of_image c e)
 unfolding moved_end end_of_image
 end-shown old new c e hs x names law after one two three =
@@ -225,5 +225,5 @@ used-by : (c : ContextImage) (queue : Queue QueuedRequest) (o : Option LinkImage
 used-by c queue None = refl
 used-by c queue (Some l) = used-count c.regions l.progress
 
-pub used-is : (old new : Pool) (hs : List Held) (c : ContextImage) (e : EndImage) (x : Endpoint) → IsEndAfter old new hs c e x → length (used_by x.link) ≡ used_of_image e.linked
+pub used-is : (old new : Pool) (hs : List RegisteredRegion) (c : ContextImage) (e : EndImage) (x : Endpoint) → IsEndAfter old new hs c e x → length (used_by x.link) ≡ used_of_image e.linked
 used-is old new hs c e x after = ap (λ (y : Endpoint). length (used_by y.link)) after.is ∙ used-by c after.queue e.linked

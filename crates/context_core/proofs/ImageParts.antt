@@ -10,11 +10,11 @@ use Rattle.rdma_types.specs.declared.names.Name.{Name}
 use Rattle.rdma_types.specs.declared.requests.Receive.{Receive}
 use Rattle.page_pool.specs.Pool.{Pool}
 use Rattle.page_pool.specs.Held.{HoldsPayload}
-use Rattle.completion_queue.specs.Queue.{Queue}
-use Rattle.memory_keys.specs.declared.Held.{Held}
+use Rattle.end_queues.specs.Completions.{Queue}
+use Rattle.memory_keys.specs.declared.RegisteredRegion.{RegisteredRegion}
 use Rattle.memory_keys.specs.declared.RegionHead.{RegionHead}
 use Rattle.memory_keys.specs.Regions.{region_of, regions_of}
-use Rattle.move_core.specs.Table.{phase_of}
+use Rattle.transport.specs.Table.{phase_of}
 use Rattle.protocol.specs.declared.images.ContextImage.{ContextImage}
 use Rattle.protocol.specs.declared.images.CqImage.{CqImage}
 use Rattle.protocol.specs.declared.images.EndImage.{EndImage}
@@ -45,7 +45,7 @@ abbrev pub region_with : RegionHead → ℕ → List ℕ → RegionImage
 region_with head domain bytes = record { name = head.name; domain = domain; base = head.base; length = head.length; rights = head.rights; keys = head.keys; bytes = bytes }
 
 -- the region at a place
-pub region-is : (pool : Pool) (domains : List Name) (o : Option Held) (head : RegionHead) (domain : ℕ) (bytes : List ℕ) → option_map (λ h. h.head) o ≡ Some head → domain ≡ place_of_name head.domain domains → IfSome o (λ h. bytes ≡ (region_of pool h).bytes) → IfSome o (λ h. region_with head domain bytes ≡ region_image domains (region_of pool h))
+pub region-is : (pool : Pool) (domains : List Name) (o : Option RegisteredRegion) (head : RegionHead) (domain : ℕ) (bytes : List ℕ) → option_map (λ h. h.head) o ≡ Some head → domain ≡ place_of_name head.domain domains → IfSome o (λ h. bytes ≡ (region_of pool h).bytes) → IfSome o (λ h. region_with head domain bytes ≡ region_image domains (region_of pool h))
 region-is pool domains None head domain bytes e d b = absurd (cc)
 region-is pool domains (Some h) head domain bytes e d b =
     let same : h.head ≡ head = cc in
@@ -83,7 +83,7 @@ link_with l n p resuming progress kept = record {
   kept = kept;
 }
 
-pub link-is : (pool : Pool) (held : List Held) (l : EndLink) (n : RequesterParts) (p : ResponderParts) (resuming : Bool) (progress : images.Progress) (kept : List KeptReply) → n ≡ l.requester.numbers → p ≡ parts_of l.responder.receiver → resuming ≡ is_resuming (phase_of l.moves.phase) → progress ≡ progress_image (regions_of pool held) (progress_of p.flow) → kept ≡ l.responder.receiver.kept → link_with l n p resuming progress kept ≡ link_image (regions_of pool held) (link_in pool l)
+pub link-is : (pool : Pool) (held : List RegisteredRegion) (l : EndLink) (n : RequesterParts) (p : ResponderParts) (resuming : Bool) (progress : images.Progress) (kept : List KeptReply) → n ≡ l.requester.numbers → p ≡ parts_of l.responder.receiver → resuming ≡ is_resuming (phase_of l.moves.phase) → progress ≡ progress_image (regions_of pool held) (progress_of p.flow) → kept ≡ l.responder.receiver.kept → link_with l n p resuming progress kept ≡ link_image (regions_of pool held) (link_in pool l)
 unfolding link_image
 link-is pool held l n p resuming progress kept en ep er eg ek =
     let flow : progress ≡ progress_image (regions_of pool held) l.responder.receiver.progress = eg ∙ (ap (λ (x : ResponderParts). progress_image (regions_of pool held) (progress_of x.flow)) ep ∙ ap (progress_image (regions_of pool held)) (flow-back l.responder.receiver.progress)) in
@@ -96,7 +96,7 @@ link-is pool held l n p resuming progress kept en ep er eg ek =
 -- ---- queue pairs
 
 -- the payloads of untold requests lie in the pool
-pub payloads-held : (pool : Pool) (held : List Held) (e : Endpoint) (l : Option EndLink) → IsInState pool held e l → All (λ p. HoldsPayload pool p.payload) (untold_by l)
+pub payloads-held : (pool : Pool) (held : List RegisteredRegion) (e : Endpoint) (l : Option EndLink) → IsInState pool held e l → All (λ p. HoldsPayload pool p.payload) (untold_by l)
 payloads-held pool held e None s = λ k d i. absurd (omega arith)
 payloads-held pool held e (Some l) s = λ k d i. (s.posted k d i).payload.holds
 

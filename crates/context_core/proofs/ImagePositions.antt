@@ -7,8 +7,8 @@ use Rattle.std.proofs.lemmas.Bool.Decides.{nat_tests}
 use Rattle.std.proofs.lemmas.List.{length-map}
 use Rattle.rdma_types.specs.declared.names.Name.{Name}
 use Rattle.page_pool.specs.Pool.{Pool}
-use Rattle.completion_queue.specs.Queue.{Queue}
-use Rattle.memory_keys.specs.declared.Held.{Held}
+use Rattle.end_queues.specs.Completions.{Queue}
+use Rattle.memory_keys.specs.declared.RegisteredRegion.{RegisteredRegion}
 use Rattle.memory_keys.specs.Regions.{regions_of}
 use Rattle.protocol.specs.Images.{place_of_key, place_of_name}
 use Rattle.endpoint_core.specs.Queues.{queues_of}
@@ -61,7 +61,7 @@ name-missing n ns e = none-found (bytes_eq n) ns e ∙ sym (name-place n ns)
 
 -- ---- keys
 
-key-place : (pool : Pool) (k : ℕ) (hs : List Held) → place_of_key k (regions_of pool hs) ≡ position_or_len (λ h. h.head.keys.local == k) hs
+key-place : (pool : Pool) (k : ℕ) (hs : List RegisteredRegion) → place_of_key k (regions_of pool hs) ≡ position_or_len (λ h. h.head.keys.local == k) hs
 unfolding place_of_key
 key-place pool k [] = refl
 key-place pool k (x ∷ xs) = by (x.head.keys.local == k) refl (key-place pool k xs)
@@ -70,10 +70,10 @@ key-place pool k (x ∷ xs) = by (x.head.keys.local == k) refl (key-place pool k
     by true t rest = grind (arith, t)
     by false t rest = grind (arith, t, rest)
 
-pub key-found : (pool : Pool) (k : ℕ) (hs : List Held) (i : ℕ) → position (λ h. h.head.keys.local == k) hs ≡ Some i → i ≡ place_of_key k (regions_of pool hs)
+pub key-found : (pool : Pool) (k : ℕ) (hs : List RegisteredRegion) (i : ℕ) → position (λ h. h.head.keys.local == k) hs ≡ Some i → i ≡ place_of_key k (regions_of pool hs)
 key-found pool k hs i e = first-found (λ h. h.head.keys.local == k) hs i e ∙ sym (key-place pool k hs)
 
-pub key-missing : (pool : Pool) (k : ℕ) (hs : List Held) → position (λ h. h.head.keys.local == k) hs ≡ None → length hs ≡ place_of_key k (regions_of pool hs)
+pub key-missing : (pool : Pool) (k : ℕ) (hs : List RegisteredRegion) → position (λ h. h.head.keys.local == k) hs ≡ None → length hs ≡ place_of_key k (regions_of pool hs)
 key-missing pool k hs e = none-found (λ h. h.head.keys.local == k) hs e ∙ sym (key-place pool k hs)
 
 -- ---- completion queues

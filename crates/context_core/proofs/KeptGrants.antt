@@ -12,11 +12,11 @@ use Rattle.rdma_types.specs.Lists.{at}
 use Rattle.rdma_types.specs.Memory.{LocalWrite, Right, granted, is_granted, landing_right, local_key}
 use Rattle.rdma_types.specs.Objects.{no_region}
 use Rattle.page_pool.specs.Pool.{Pool}
-use Rattle.memory_keys.specs.declared.Held.{Held}
+use Rattle.memory_keys.specs.declared.RegisteredRegion.{RegisteredRegion}
 use Rattle.memory_keys.specs.Regions.{AreKeyed, held_at, regions_of}
 use Rattle.memory_keys.proofs.Found.{none_with, one_with}
 use Rattle.memory_keys.proofs.Protocol.{found-region}
-use Rattle.work_queues.specs.declared.posted.QueuedRequest.{QueuedRequest}
+use Rattle.end_queues.specs.declared.work_queues.posted.QueuedRequest.{QueuedRequest}
 use Rattle.responder.specs.Sound.{IsPlace, IsUnderWay}
 use Rattle.protocol.specs.EndWords.{in_use_by}
 use Rattle.protocol.specs.Memory.{pages_of_range, pages_of_request, region_of_key}
@@ -29,34 +29,34 @@ use Rattle.context_core.specs.Context.{IsPaged}
 use Rattle.context_core.proofs.DisjointLists.{each-append}
 
 -- what a key finds among the regions, it finds among the others
-abbrev pub Finds : List Held → List Held → ℕ → Type 0
-Finds old new key = (w : Held) → held_at key old ≡ Some w → held_at key new ≡ Some w
+abbrev pub Finds : List RegisteredRegion → List RegisteredRegion → ℕ → Type 0
+Finds old new key = (w : RegisteredRegion) → held_at key old ≡ Some w → held_at key new ≡ Some w
 
 -- .. where bytes are named
-abbrev pub Reaches : List Held → List Held → ℕ → ℕ → Type 0
+abbrev pub Reaches : List RegisteredRegion → List RegisteredRegion → ℕ → ℕ → Type 0
 Reaches old new key count = 0 < count → Finds old new key
 
 -- the message in progress of a responder names a region that stays
-abbrev pub MessageStays : List Held → List Held → Progress → Type 0
+abbrev pub MessageStays : List RegisteredRegion → List RegisteredRegion → Progress → Type 0
 MessageStays old new NoMessage = Unit {0}
 MessageStays old new (InSend done receive) = Unit {0}
 MessageStays old new (InWrite region off count done) = Finds old new region
 
 -- .. of a connection
-abbrev pub LinkStays : List Held → List Held → Option EndLink → Type 0
+abbrev pub LinkStays : List RegisteredRegion → List RegisteredRegion → Option EndLink → Type 0
 LinkStays old new None = Unit {0}
 LinkStays old new (Some l) = MessageStays old new l.responder.receiver.progress
 
 -- what an end names among the regions stays, and its payloads are apart from the new ones
-pub record Still (old new : List Held) (e : Endpoint) : Type 0 where
+pub record Still (old new : List RegisteredRegion) (e : Endpoint) : Type 0 where
   pub requests : AllByRecursion (λ p. Reaches old new p.request.lkey p.request.shape.length) (untold_by e.link)
   pub unused : AllByRecursion (λ r. Reaches old new r.lkey r.length) e.recvs.items
   pub used : AllByRecursion (λ r. Reaches old new r.lkey r.length) (used_by e.link)
   pub message : LinkStays old new e.link
   pub apart : AllByRecursion (λ p. All (λ h. h.list ≢ p.payload.list) new) (untold_by e.link)
 
-module _ (old new : List Held) (keyed : AreKeyed old) (keyed' : AreKeyed new) where
-  granted-by : (pool : Pool) (domain : Name) (key from count : ℕ) (right : Right) → Finds old new key → (o : Option Held) → held_at key old ≡ o
+module _ (old new : List RegisteredRegion) (keyed : AreKeyed old) (keyed' : AreKeyed new) where
+  granted-by : (pool : Pool) (domain : Name) (key from count : ℕ) (right : Right) → Finds old new key → (o : Option RegisteredRegion) → held_at key old ≡ o
       → is_some (granted local_key (regions_of pool old) domain key from count right) ≡ true → is_some (granted local_key (regions_of pool new) domain key from count right) ≡ true
   granted-by pool domain key from count right finds None e g =
       let none : granted local_key (regions_of pool old) domain key from count right ≡ None = none_with pool domain key from count right old e in
@@ -141,7 +141,7 @@ module _ (old new : List Held) (keyed : AreKeyed old) (keyed' : AreKeyed new) wh
 -- ---- pages
 
 -- a granted place of some bytes has its region
-granted-found : (old : List Held) (pool : Pool) (domain : Name) (key from count : ℕ) (right : Right) → 0 < count → is_granted local_key (regions_of pool old) domain key from count right ≡ true → held_at key old ≡ None → ⊥
+granted-found : (old : List RegisteredRegion) (pool : Pool) (domain : Name) (key from count : ℕ) (right : Right) → 0 < count → is_granted local_key (regions_of pool old) domain key from count right ≡ true → held_at key old ≡ None → ⊥
 unfolding is_granted
 granted-found old pool domain key from count right some g e =
     let no : (count == 0) ≡ false = grind (arith, nat_tests) in
@@ -149,11 +149,11 @@ granted-found old pool domain key from count right some g e =
     let g' : (false || is_some (granted local_key (regions_of pool old) domain key from count right)) ≡ true = subst (λ b. (b || is_some (granted local_key (regions_of pool old) domain key from count right)) ≡ true) no g in
     absurd (let is : is_some (granted local_key (regions_of pool old) domain key from count right) ≡ false = ap is_some none in cc)
 
-module _ (old new : List Held) (pool : Pool) where
+module _ (old new : List RegisteredRegion) (pool : Pool) where
   base-still : (domain : Name) (r : Request) → IsPlaced old domain r → Reaches old new r.lkey r.shape.length → 0 < r.shape.length → at local_key no_region r.lkey (regions_of pool new) ≡ at local_key no_region r.lkey (regions_of pool old)
   base-still domain r placed reaches some = by (held_at r.lkey old) refl
     where
-      by : (o : Option Held) → held_at r.lkey old ≡ o → at local_key no_region r.lkey (regions_of pool new) ≡ at local_key no_region r.lkey (regions_of pool old)
+      by : (o : Option RegisteredRegion) → held_at r.lkey old ≡ o → at local_key no_region r.lkey (regions_of pool new) ≡ at local_key no_region r.lkey (regions_of pool old)
       by None e = absurd (granted-found old pool domain r.lkey r.local r.shape.length (landing_right r.shape.kind) some (placed pool) e)
       by (Some w) e = found-region pool r.lkey new w (reaches some w e) ∙ sym (found-region pool r.lkey old w e)
 

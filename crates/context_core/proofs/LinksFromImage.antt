@@ -5,8 +5,8 @@ use Rattle.std.proofs.lemmas.List.{get_or-take, get_or_default, length-take-le, 
 use Rattle.rdma_types.specs.declared.requests.Request.{Request}
 use Rattle.rdma_types.specs.Spans.{end_number, span}
 use Rattle.page_pool.specs.Pool.{Pool}
-use Rattle.work_queues.specs.declared.posted.QueuedRequest.{QueuedRequest}
-use Rattle.work_queues.specs.Untold.{untold_in}
+use Rattle.end_queues.specs.declared.work_queues.posted.QueuedRequest.{QueuedRequest}
+use Rattle.end_queues.specs.Untold.{untold_in}
 use Rattle.requester.specs.Sending.{AreInOrder, bares, sender_with}
 use Rattle.protocol.specs.declared.images.ContextImage.{ContextImage}
 use Rattle.protocol.specs.declared.images.EndImage.{EndImage}

@@ -10,13 +10,13 @@ use Rattle.std.proofs.lemmas.List.Sums.{sum_by_push}
 use Rattle.std.proofs.lemmas.Grind.{flat_map-append}
 use Rattle.rdma_types.specs.declared.names.Name.{Name}
 use Rattle.page_pool.specs.Pool.{Pool, IsIn, bytes_of, free_pages}
-use Rattle.completion_queue.specs.Queue.{Queue}
+use Rattle.end_queues.specs.Completions.{Queue}
 use Rattle.protocol.specs.declared.images.ContextImage.{ContextImage}
 use Rattle.protocol.specs.declared.images.EndImage.{EndImage}
 use Rattle.protocol.specs.Images.{context_of, end_of_image, moved, moved_end, name_at}
 use Rattle.protocol.specs.Lawful.{IsLawful, IsLawfulEnd}
 use Rattle.protocol.specs.Memory.{pages_of_context}
-use Rattle.end_memory.specs.Payloads.{payload_lists, payload_pages}
+use Rattle.end_completions.specs.Payloads.{payload_lists, payload_pages}
 use Rattle.endpoint_core.specs.declared.end.Endpoint.{Endpoint}
 use Rattle.endpoint_core.specs.Ends.{untold_by, used_by}
 use Rattle.endpoint_core.specs.Queues.{count_at, nothing, promised, reserved_in}

@@ -14,8 +14,8 @@ use Rattle.protocol.specs.Bytes.{big_bytes}
 use Rattle.protocol.specs.Segments.{atomic_packet, message_packet, packet_of_piece, read_packet}
 use Rattle.protocol.specs.Wire as wire
 use Rattle.protocol.specs.Wire.{Fits, FitsAeth, FitsResume, Packet, extension_bytes, has_aeth, has_atomic, has_imm, has_old, has_resume, has_reth, layout_of, padding, plain, wire_of}
-use Rattle.roce_headers.proofs.Fitting.{few_bytes, fits, of_kind, on_false, piece-fits, resume-fits}
-use Rattle.roce_headers.proofs.Written.{written_len}
+use Rattle.protocol.proofs.FittingPackets.{few_bytes, fits, of_kind, on_false, piece-fits, resume-fits}
+use Rattle.protocol.proofs.WrittenPackets.{written_len}
 use Rattle.context_core.specs.Sending.{IsInRange, addressed}
 
 -- ---- the destination has 24 bits

@@ -9,7 +9,7 @@ use Rattle.std.proofs.lemmas.List.Elements.{recursion_from_All}
 use Rattle.indexmap.specs.IndexMap.{set_value_at}
 use Rattle.rdma_types.specs.declared.names.Name.{Name}
 use Rattle.rdma_types.proofs.Tables.{name_is}
-use Rattle.completion_queue.specs.Queue.{Queue, used_places}
+use Rattle.end_queues.specs.Completions.{Queue, used_places}
 use Rattle.endpoint_core.specs.Queues.{count_at, queues_of, reserved_in}
 use Rattle.protocol.specs.declared.images.CqImage.{CqImage}
 use Rattle.protocol.specs.declared.images.EndImage.{EndImage}

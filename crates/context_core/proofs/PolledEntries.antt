@@ -10,7 +10,7 @@ use Rattle.rdma_types.specs.declared.requests.Completion.{Completion}
 use Rattle.rdma_types.specs.Lists.{named, store_named}
 use Rattle.rdma_types.specs.Objects.{CompletionQueue, no_queue}
 use Rattle.page_pool.specs.Pool.{Pool}
-use Rattle.completion_queue.specs.Queue.{Queue, polled}
+use Rattle.end_queues.specs.Completions.{Queue, polled}
 use Rattle.protocol.specs.DeviceStep.{answers, polls, with_context}
 use Rattle.protocol.specs.EndWords.{with_entries, with_queue}
 use Rattle.protocol.specs.State.{Context, Device, End, queue_at}

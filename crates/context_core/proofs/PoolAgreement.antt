@@ -5,9 +5,9 @@ use Rattle.std.specs.List.{AllByRecursion}
 use Rattle.std.proofs.lemmas.List.Elements.{All-from_recursion, recursion_from_All, All-contains, Contains-append_left, Contains-append_right}
 use Rattle.rdma_types.specs.declared.names.Name.{Name}
 use Rattle.page_pool.specs.Pool.{Pool, IsIn, bytes_of}
-use Rattle.memory_keys.specs.declared.Held.{Held}
+use Rattle.memory_keys.specs.declared.RegisteredRegion.{RegisteredRegion}
 use Rattle.memory_keys.specs.Regions.{Lies, region_of, regions_of}
-use Rattle.work_queues.specs.declared.posted.QueuedRequest.{QueuedRequest}
+use Rattle.end_queues.specs.declared.work_queues.posted.QueuedRequest.{QueuedRequest}
 use Rattle.protocol.specs.State.{End}
 use Rattle.endpoint_core.specs.Sound.{IsEnd, IsPosted, payload_lists}
 use Rattle.context_core.specs.declared.state.EndSlot.{EndSlot}
@@ -30,7 +30,7 @@ agree-ends a b (e ∷ es) g = (
   agree-ends a b es (λ list c. g list (Contains-append_right (payload_lists (untold_at e)) (payloads_of es) list c)),
 )
 
-agree-regions : (a b : Pool) (hs : List Held) → Agree a b (map (λ r. r.list) hs) → regions_of b hs ≡ regions_of a hs
+agree-regions : (a b : Pool) (hs : List RegisteredRegion) → Agree a b (map (λ r. r.list) hs) → regions_of b hs ≡ regions_of a hs
 agree-regions a b [] g = refl
 agree-regions a b (h ∷ hs) g =
     let bytes : bytes_of b h.list ≡ bytes_of a h.list = g h.list (zero, omega arith, refl) in
@@ -38,7 +38,7 @@ agree-regions a b (h ∷ hs) g =
     let rest : regions_of b hs ≡ regions_of a hs = agree-regions a b hs (λ list c. g list (Contains-append_right (h.list ∷ []) (map (λ r. r.list) hs) list c)) in
     cc
 
-pub agree-lie : (a b : Pool) (hs : List Held) → Agree a b (map (λ r. r.list) hs) → AllByRecursion (Lies a) hs → AllByRecursion (Lies b) hs
+pub agree-lie : (a b : Pool) (hs : List RegisteredRegion) → Agree a b (map (λ r. r.list) hs) → AllByRecursion (Lies a) hs → AllByRecursion (Lies b) hs
 agree-lie a b [] g l = tt
 agree-lie a b (h ∷ hs) g l =
     let bytes : bytes_of b h.list ≡ bytes_of a h.list = g h.list (zero, omega arith, refl) in (
@@ -80,7 +80,7 @@ holding-same a b h more g is =
 
 -- ---- its lists live
 
-posted-live : (pool : Pool) (held : List Held) (domain : Name) (ps : List QueuedRequest) → AllByRecursion (IsPosted pool held domain) ps → AllByRecursion (IsIn pool) (payload_lists ps)
+posted-live : (pool : Pool) (held : List RegisteredRegion) (domain : Name) (ps : List QueuedRequest) → AllByRecursion (IsPosted pool held domain) ps → AllByRecursion (IsIn pool) (payload_lists ps)
 posted-live pool held domain [] h = tt
 posted-live pool held domain (p ∷ ps) h = (h.0.payload.holds.lives, posted-live pool held domain ps h.1)
 
@@ -88,11 +88,11 @@ each-both : (P : ℕ → Type 0) (xs ys : List ℕ) → AllByRecursion P xs → 
 each-both P [] ys h k = k
 each-both P (x ∷ xs) ys h k = (h.0, each-both P xs ys h.1 k)
 
-ends-live : (pool : Pool) (held : List Held) (es : List (Name × EndSlot)) → AllByRecursion (λ e. IsEnd pool held e.1.endpoint) es → AllByRecursion (IsIn pool) (payloads_of es)
+ends-live : (pool : Pool) (held : List RegisteredRegion) (es : List (Name × EndSlot)) → AllByRecursion (λ e. IsEnd pool held e.1.endpoint) es → AllByRecursion (IsIn pool) (payloads_of es)
 ends-live pool held [] h = tt
 ends-live pool held (e ∷ es) h = each-both (IsIn pool) (payload_lists (untold_at e)) (payloads_of es) (posted-live pool held e.1.endpoint.domain (untold_at e) (each-posted pool held e.1.endpoint e.1.endpoint.link h.0.state)) (ends-live pool held es h.1)
 
-regions-live : (pool : Pool) (hs : List Held) → AllByRecursion (Lies pool) hs → AllByRecursion (IsIn pool) (map (λ r. r.list) hs)
+regions-live : (pool : Pool) (hs : List RegisteredRegion) → AllByRecursion (Lies pool) hs → AllByRecursion (IsIn pool) (map (λ r. r.list) hs)
 regions-live pool [] h = tt
 regions-live pool (x ∷ xs) h = (h.0.lives, regions-live pool xs h.1)
 

@@ -18,13 +18,13 @@ use Rattle.rdma_types.specs.Shapes.{IsLawfulShape}
 use Rattle.page_pool.specs.Pool.{Pool, IsIn, bytes_of, free_pages, pages_of}
 use Rattle.page_pool.specs.Held.{payload_bytes}
 use Rattle.page_pool.specs.declared.Payload.{Payload}
-use Rattle.completion_queue.specs.Queue.{Queue, reserving}
-use Rattle.memory_keys.specs.declared.Held.{Held}
-use Rattle.memory_keys.specs.declared.Spot.{Spot}
+use Rattle.end_queues.specs.Completions.{Queue, reserving}
+use Rattle.memory_keys.specs.declared.RegisteredRegion.{RegisteredRegion}
+use Rattle.memory_keys.specs.declared.RegionRange.{RegionRange}
 use Rattle.memory_keys.specs.Regions.{pages_touched, regions_of}
-use Rattle.work_queues.specs.declared.posted.QueuedRequest.{QueuedRequest}
-use Rattle.work_queues.specs.Untold.{posted_in}
-use Rattle.end_memory.specs.Payloads.{payload_lists, payload_pages}
+use Rattle.end_queues.specs.declared.work_queues.posted.QueuedRequest.{QueuedRequest}
+use Rattle.end_queues.specs.Untold.{posted_in}
+use Rattle.end_completions.specs.Payloads.{payload_lists, payload_pages}
 use Rattle.protocol.specs.DeviceStep.{answers, posted_at, posts, posts_at, taken_bytes, with_context}
 use Rattle.protocol.specs.EndWords.{is_in_error}
 use Rattle.protocol.specs.Memory as rule
@@ -54,7 +54,7 @@ use Rattle.context_core.proofs.EndStepCalls.{each-at, end-sound, entry, entry-th
 -- ---- before the posting
 
 -- the bytes of a request were taken, and a place of the queue is reserved
-pub record IsAsked (a m : Pool) (h : Holding) (qs : List (Name × Queue)) (i : ℕ) (v : EndSlot) (r : Request) (spot : Spot) (p : Payload) : Type 0 where
+pub record IsAsked (a m : Pool) (h : Holding) (qs : List (Name × Queue)) (i : ℕ) (v : EndSlot) (r : Request) (spot : RegionRange) (p : Payload) : Type 0 where
   pub is : IsContext a h
   pub value : slice_get (values_of h.ends) i ≡ Some v
   pub shape : IsLawfulShape r.shape
@@ -62,7 +62,7 @@ pub record IsAsked (a m : Pool) (h : Holding) (qs : List (Name × Queue)) (i : �
   pub taken : IsTaken a m h.regions spot p
   pub reserved : IfSome (slice_get (values_of h.queues) v.send) (λ q. qs ≡ set_value_at h.queues v.send (reserving q))
 
-ended-none : (pool : Pool) (held : List Held) (e : Endpoint) (o : Option EndLink) → IsInState pool held e o → is_ended_link o ≡ true → untold_by o ≡ []
+ended-none : (pool : Pool) (held : List RegisteredRegion) (e : Endpoint) (o : Option EndLink) → IsInState pool held e o → is_ended_link o ≡ true → untold_by o ≡ []
 ended-none pool held e None s t = refl
 ended-none pool held e (Some l) s t = s.none_untold t
 
@@ -77,7 +77,7 @@ of-payloads : (h : Holding) (list : ℕ) → Contains (payloads_of h.ends) list 
 unfolding lists_of
 of-payloads h list c = Contains-append_right (map (λ r. r.list) h.regions) (payloads_of h.ends) list c
 
-module _ {a m : Pool} {h : Holding} {qs : List (Name × Queue)} {i : ℕ} {v : EndSlot} {r : Request} {spot : Spot} {p : Payload} (g : IsAsked a m h qs i v r spot p) where
+module _ {a m : Pool} {h : Holding} {qs : List (Name × Queue)} {i : ℕ} {v : EndSlot} {r : Request} {spot : RegionRange} {p : Payload} (g : IsAsked a m h qs i v r spot p) where
   abbrev pub posted : QueuedRequest
   posted = record { request = r; payload = p }
 
@@ -131,7 +131,7 @@ module _ {a m : Pool} {h : Holding} {qs : List (Name × Queue)} {i : ℕ} {v : E
   own-others = lacks-all p.list (payload_lists (untold_by v.endpoint.link)) (lacks-not p.list (payload_lists (untold_by v.endpoint.link)) (λ c. own-lived p.list (of-payloads h p.list (own-in p.list c)) refl))
 
   -- what the posting needs
-  pub asked-sound : (held : List Held) → held ≡ h.regions → IsSound (record { pool = m; held = held; queues = qs; send = v.send; recv = v.recv; end = v.endpoint }) (count_at v.send 1)
+  pub asked-sound : (held : List RegisteredRegion) → held ≡ h.regions → IsSound (record { pool = m; held = held; queues = qs; send = v.send; recv = v.recv; end = v.endpoint }) (count_at v.send 1)
   asked-sound held same = subst (λ rs. IsSound (record { pool = m; held = rs; queues = qs; send = v.send; recv = v.recv; end = v.endpoint }) (count_at v.send 1)) (sym same) (end-sound m (with_queues h qs) (count_at v.send 1) i (entry h.ends i v) res-m.is there)
 
   new-size : is_ended_link v.endpoint.link ≡ false → p.length ≡ (if takes_bytes r.shape.kind then r.shape.length else 0)
@@ -141,7 +141,7 @@ module _ {a m : Pool} {h : Holding} {qs : List (Name × Queue)} {i : ℕ} {v : E
       by true t = rw t (rw running refl)
       by false t = rw t refl
 
-  pub asked-new : (held : List Held) → held ≡ h.regions → IsNew m held v.endpoint posted
+  pub asked-new : (held : List RegisteredRegion) → held ≡ h.regions → IsNew m held v.endpoint posted
   asked-new held same = subst (λ rs. IsNew m rs v.endpoint posted) (sym same) (record {
     shape = g.shape;
     holds = g.taken.holds;
@@ -178,7 +178,7 @@ module _ {a m : Pool} {h : Holding} {qs : List (Name × Queue)} {i : ℕ} {v : E
 
   -- ---- after it
 
-  module _ (b : Pool) (held : List Held) (queues : List (Name × Queue)) (x : Endpoint) where
+  module _ (b : Pool) (held : List RegisteredRegion) (queues : List (Name × Queue)) (x : Endpoint) where
     -- what the posting leaves
     pub record Sends : Type 0 where
       pub is : IsContext b (after h i (entry h.ends i v) held queues x)
@@ -252,7 +252,7 @@ module _ {a m : Pool} {h : Holding} {qs : List (Name × Queue)} {i : ℕ} {v : E
           shown = λ n. ap (λ k. home k (names_in qs (entry h.ends i v)) (site_after b (entry h.ends i v) held queues x)) (same-asked n ∙ sym (res-a.same n)) ∙ s.shown n;
         }
 
-    pub sends : (held0 : List Held) → held0 ≡ h.regions → (is_ended_link v.endpoint.link ≡ true → x ≡ v.endpoint)
+    pub sends : (held0 : List RegisteredRegion) → held0 ≡ h.regions → (is_ended_link v.endpoint.link ≡ true → x ≡ v.endpoint)
         → Keeps (record { pool = m; held = held0; queues = qs; send = v.send; recv = v.recv; end = v.endpoint }) (site_after b (entry h.ends i v) held queues x) (posted ∷ []) (count_at v.send 1)
         → IsSound (site_after b (entry h.ends i v) held queues x) nothing → Sends
     sends held0 same still keeps after-sound = by (is_ended_link v.endpoint.link) refl (subst (λ rs. Keeps (record { pool = m; held = rs; queues = qs; send = v.send; recv = v.recv; end = v.endpoint }) (site_after b (entry h.ends i v) held queues x) (posted ∷ []) (count_at v.send 1)) same keeps)
@@ -287,7 +287,7 @@ some-link : (pool : Pool) (l : Option EndLink) → IsSome l → IsSome (option_m
 some-link pool None s = s
 some-link pool (Some l) s = refl
 
-pub sent-is : {a m : Pool} {h : Holding} {qs : List (Name × Queue)} {i : ℕ} {v : EndSlot} {r : Request} {spot : Spot} {p : Payload} (g : IsAsked a m h qs i v r spot p) (b : Pool) (held : List Held) (queues : List (Name × Queue)) (x : Endpoint) (held0 : List Held) (name : Name) → held0 ≡ h.regions → Sends g b held queues x → position (bytes_eq name) (keys_of h.ends) ≡ Some i
+pub sent-is : {a m : Pool} {h : Holding} {qs : List (Name × Queue)} {i : ℕ} {v : EndSlot} {r : Request} {spot : RegionRange} {p : Payload} (g : IsAsked a m h qs i v r spot p) (b : Pool) (held : List RegisteredRegion) (queues : List (Name × Queue)) (x : Endpoint) (held0 : List RegisteredRegion) (name : Name) → held0 ≡ h.regions → Sends g b held queues x → position (bytes_eq name) (keys_of h.ends) ≡ Some i
     → ((k : Context) (names : Names) → IsHome k names (record { pool = m; held = held0; queues = qs; send = v.send; recv = v.recv; end = v.endpoint }) → posted_by k (end_in m names v.endpoint) (option_map (link_in m) v.endpoint.link) (posted_in m (record { request = r; payload = p })) ≡ home k names (site_after b (entry h.ends i v) held queues x))
     → (n : Name) (d : Device) → posts d (context_in a n h) (end_at (context_in a n h) name) r ≡ answers (with_context d (context_in b n (after h i (entry h.ends i v) held queues x))) answer.Done
 unfolding context_in
@@ -322,7 +322,7 @@ last-of (x ∷ xs) r b e = by x.holds refl (last-of xs r b)
     by true t later = absurd (let odd : None ≡ Some x.refusal = rw t at e in cc)
     by false t later = rw t (later (rw t at e))
 
-lack-is : (d : Device) (c : Context) (e : End) (pool : Pool) (held : List Held) (v : Endpoint) (r : Request) (spot : Spot) → c.regions ≡ regions_of pool held → is_in_error e.link ≡ is_ended_link v.link → rule.free_pages d ≡ free_pages pool
+lack-is : (d : Device) (c : Context) (e : End) (pool : Pool) (held : List RegisteredRegion) (v : Endpoint) (r : Request) (spot : RegionRange) → c.regions ≡ regions_of pool held → is_in_error e.link ≡ is_ended_link v.link → rule.free_pages d ≡ free_pages pool
     → ((c' : Context) → c'.regions ≡ regions_of pool held → is_ended_link v.link ≡ false → pages_of_request c' r ≡ pages_touched spot) → (is_ended_link v.link ≡ true → pages_touched spot ≡ 0) → lacks_pages d c e r ≡ nat_lt (free_pages pool) (pages_touched spot)
 lack-is d c e pool held v r spot regions error free asked none = by (is_ended_link v.link) refl
   where
@@ -335,7 +335,7 @@ lack-is d c e pool held v r spot regions error free asked none = by (is_ended_li
         let here : lacks_pages d c e r ≡ nat_lt (rule.free_pages d) (pages_of_request c r) = rw (error ∙ t) refl in
         here ∙ (ap (λ k. nat_lt k (pages_of_request c r)) free ∙ ap (λ k. nat_lt (free_pages pool) k) (asked c regions t))
 
-pub send-refused : (pool : Pool) (n : Name) (d : Device) (h : Holding) (name : Name) (i : ℕ) (e : Name × EndSlot) (r : Request) (spot : Spot) → IsContext pool h → position (bytes_eq name) (keys_of h.ends) ≡ Some i → slice_get h.ends i ≡ Some e → IsSource h.regions e.1.endpoint r spot → rule.free_pages d ≡ free_pages pool
+pub send-refused : (pool : Pool) (n : Name) (d : Device) (h : Holding) (name : Name) (i : ℕ) (e : Name × EndSlot) (r : Request) (spot : RegionRange) → IsContext pool h → position (bytes_eq name) (keys_of h.ends) ≡ Some i → slice_get h.ends i ≡ Some e → IsSource h.regions e.1.endpoint r spot → rule.free_pages d ≡ free_pages pool
     → None ≡ first_cause (end_causes (context_in pool n h) name (post_causes (context_in pool n h) (end_at (context_in pool n h) name) r))
     → (if nat_lt (free_pages pool) (pages_touched spot) then Some NoPage else None) ≡ first_cause (end_causes (context_in pool n h) name (send_causes d (context_in pool n h) (end_at (context_in pool n h) name) r))
 unfolding context_in
@@ -348,7 +348,7 @@ send-refused pool n d h name i e r spot is found there source free early =
     ∙ last-of (end_causes (context_in pool n h) name (post_causes (context_in pool n h) (end_at (context_in pool n h) name) r)) NoPage (lacks_pages d (context_in pool n h) (end_at (context_in pool n h) name) r) early
 
 -- .. at the queue pair that was found, of a context that is this holding
-pub found-refused : (pool : Pool) (n : Name) (d : Device) (h : Holding) (name : Name) (i : ℕ) (r : Request) (spot : Spot) → IsContext pool h → position (bytes_eq name) (keys_of h.ends) ≡ Some i → i < length h.ends → IfSome (slice_get h.ends i) (λ e. TakesRequest h.regions h.queues e.1 r spot) → rule.free_pages d ≡ free_pages pool
+pub found-refused : (pool : Pool) (n : Name) (d : Device) (h : Holding) (name : Name) (i : ℕ) (r : Request) (spot : RegionRange) → IsContext pool h → position (bytes_eq name) (keys_of h.ends) ≡ Some i → i < length h.ends → IfSome (slice_get h.ends i) (λ e. TakesRequest h.regions h.queues e.1 r spot) → rule.free_pages d ≡ free_pages pool
     → None ≡ first_cause (end_causes (context_in pool n h) name (post_causes (context_in pool n h) (end_at (context_in pool n h) name) r))
     → (if nat_lt (free_pages pool) (pages_touched spot) then Some NoPage else None) ≡ first_cause (end_causes (context_in pool n h) name (send_causes d (context_in pool n h) (end_at (context_in pool n h) name) r))
 found-refused pool n d h name i r spot is found inside takes free early = by (slice_get h.ends i) refl takes

@@ -8,8 +8,8 @@ use Rattle.rdma_types.specs.Memory.{cut}
 use Rattle.rdma_types.specs.Objects.{Region, no_region}
 use Rattle.rdma_types.specs.Spans.{piece_length, pieces}
 use Rattle.page_pool.specs.Pool.{Pool, bytes_in}
-use Rattle.memory_keys.specs.declared.Held.{Held}
-use Rattle.memory_keys.specs.declared.Spot.{Spot}
+use Rattle.memory_keys.specs.declared.RegisteredRegion.{RegisteredRegion}
+use Rattle.memory_keys.specs.declared.RegionRange.{RegionRange}
 use Rattle.memory_keys.specs.Regions.{IsSpot, held_at, part_of, regions_of, spot_bytes}
 use Rattle.memory_keys.proofs.Protocol.{found-region}
 use Rattle.memory_keys.proofs.Spots.{spot-empty, spot-is}
@@ -70,7 +70,7 @@ response-fits k count dest psn msn payload d p m few = by_tests (count == 1) (k 
 -- ---- its bytes
 
 -- a part of a spot in the region that the protocol finds
-pub piece-bytes : (pool : Pool) (held : List Held) (spot : Spot) (n count : ℕ) → IsSpot held spot → n + count ≤ spot.length
+pub piece-bytes : (pool : Pool) (held : List RegisteredRegion) (spot : RegionRange) (n count : ℕ) → IsSpot held spot → n + count ≤ spot.length
     → spot_bytes pool held (part_of spot n count) ≡ cut (spot.off + n) count (at (λ r. r.keys.local) no_region spot.region (regions_of pool held)).bytes
 unfolding cut
 piece-bytes pool held spot n zero is few = spot-empty pool held (part_of spot n 0) refl
@@ -79,7 +79,7 @@ piece-bytes pool held spot n (suc count) is few = found (held_at spot.region hel
     region : Region
     region = at (λ r. r.keys.local) no_region spot.region (regions_of pool held)
 
-    found : (o : Option Held) → held_at spot.region held ≡ o → IsSomeAnd o (λ h. spot.off + spot.length ≤ h.head.length) → spot_bytes pool held (part_of spot n (suc count)) ≡ cut (spot.off + n) (suc count) region.bytes
+    found : (o : Option RegisteredRegion) → held_at spot.region held ≡ o → IsSomeAnd o (λ h. spot.off + spot.length ≤ h.head.length) → spot_bytes pool held (part_of spot n (suc count)) ≡ cut (spot.off + n) (suc count) region.bytes
     found None e h = absurd h
     found (Some h) e low =
         spot-is pool held (part_of spot n (suc count)) h e
@@ -87,7 +87,7 @@ piece-bytes pool held spot n (suc count) is few = found (held_at spot.region hel
         ∙ ap (λ (r : Region). cut (spot.off + n) (suc count) r.bytes) (sym (found-region pool spot.region held h e)))
 
 -- the bytes of response k, as they are taken from the spot
-pub payload-is : (pool : Pool) (held : List Held) (spot : Spot) (k mtu from count size : ℕ) (bytes : List ℕ) → IsSpot held spot → bytes ≡ spot_bytes pool held (part_of spot from size) → count ≡ size → from ≡ k * mtu → count ≡ piece_length spot.length k mtu → from + count ≤ spot.length
+pub payload-is : (pool : Pool) (held : List RegisteredRegion) (spot : RegionRange) (k mtu from count size : ℕ) (bytes : List ℕ) → IsSpot held spot → bytes ≡ spot_bytes pool held (part_of spot from size) → count ≡ size → from ≡ k * mtu → count ≡ piece_length spot.length k mtu → from + count ≤ spot.length
     → bytes ≡ cut (spot.off + k * mtu) (piece_length spot.length k mtu) (at (λ r. r.keys.local) no_region spot.region (regions_of pool held)).bytes
 payload-is pool held spot k mtu from count size bytes is taken all here whole inside =
     let region = at (λ r. r.keys.local) no_region spot.region (regions_of pool held) in

@@ -10,9 +10,9 @@ use Rattle.rdma_types.specs.declared.names.Name.{Name}
 use Rattle.rdma_types.specs.declared.requests.Receive.{Receive}
 use Rattle.rdma_types.specs.Memory.{Right, is_granted, local_key}
 use Rattle.page_pool.specs.Pool.{Pool}
-use Rattle.completion_queue.specs.Queue.{Queue, used_places}
-use Rattle.memory_keys.specs.declared.Held.{Held}
-use Rattle.memory_keys.specs.declared.Spot.{Spot}
+use Rattle.end_queues.specs.Completions.{Queue, used_places}
+use Rattle.memory_keys.specs.declared.RegisteredRegion.{RegisteredRegion}
+use Rattle.memory_keys.specs.declared.RegionRange.{RegionRange}
 use Rattle.memory_keys.specs.Regions.{granted_spot, regions_of}
 use Rattle.memory_keys.proofs.Protocol.{place-refused}
 use Rattle.responder.specs.Sound.{IsPlace}
@@ -30,11 +30,11 @@ use Rattle.context_core.proofs.FirstCause.{first-passed, last-cause}
 use Rattle.context_core.proofs.CauseOrder.{after-three}
 
 -- no place is granted, or one is
-pub place-none : (held : List Held) (domain : Name) (key at count : ℕ) (right : Right) (o : Option Spot) → ((pool : Pool) → o ≡ granted_spot local_key (regions_of pool held) domain key at count right) → is_some o ≡ false → (pool : Pool) → not (is_granted local_key (regions_of pool held) domain key at count right) ≡ true
+pub place-none : (held : List RegisteredRegion) (domain : Name) (key at count : ℕ) (right : Right) (o : Option RegionRange) → ((pool : Pool) → o ≡ granted_spot local_key (regions_of pool held) domain key at count right) → is_some o ≡ false → (pool : Pool) → not (is_granted local_key (regions_of pool held) domain key at count right) ≡ true
 place-none held domain key at count right (Some s) g none pool = absurd (cc)
 place-none held domain key at count right None g none pool = ap not ((place-refused local_key (regions_of pool held) domain key at count right).0 (subst IsNone (g pool) refl))
 
-pub place-some : (held : List Held) (domain : Name) (key at count : ℕ) (right : Right) (o : Option Spot) → ((pool : Pool) → o ≡ granted_spot local_key (regions_of pool held) domain key at count right) → is_some o ≡ true → (pool : Pool) → is_granted local_key (regions_of pool held) domain key at count right ≡ true
+pub place-some : (held : List RegisteredRegion) (domain : Name) (key at count : ℕ) (right : Right) (o : Option RegionRange) → ((pool : Pool) → o ≡ granted_spot local_key (regions_of pool held) domain key at count right) → is_some o ≡ true → (pool : Pool) → is_granted local_key (regions_of pool held) domain key at count right ≡ true
 place-some held domain key at count right None g some pool = absurd (cc)
 place-some held domain key at count right (Some s) g some pool = by (is_granted local_key (regions_of pool held) domain key at count right) refl
   where
@@ -46,7 +46,7 @@ place-some held domain key at count right (Some s) g some pool = by (is_granted 
 pub last-of-four : (a b c d : Refusal) (p q r s : Bool) → p ≡ false → q ≡ false → r ≡ false → then_some s d ≡ first_cause (cause a p ∷ cause b q ∷ cause c r ∷ cause d s ∷ [])
 last-of-four a b c d p q r s e f g = last-cause d s ∙ sym (after-three a b c p q r (cause d s ∷ []) e f g)
 
-pub takes-none : (regions : List Held) (queues : List (Name × Queue)) (v : EndSlot) (r : Receive) (q : Queue) (full : Bool)
+pub takes-none : (regions : List RegisteredRegion) (queues : List (Name × Queue)) (v : EndSlot) (r : Receive) (q : Queue) (full : Bool)
     → IsPlace regions v.endpoint.domain r → length v.endpoint.recvs.items < v.endpoint.recv_depth → slice_get (values_of queues) v.recv ≡ Some q → (full ≡ false → used_places q < q.capacity)
     → IfNone (then_some full CqFull) (TakesReceive regions queues v r)
 takes-none regions queues v r q true place depth there room = tt

@@ -8,11 +8,11 @@ use Rattle.rdma_types.specs.declared.names.Name.{Name}
 use Rattle.rdma_types.specs.declared.requests.Receive.{Receive}
 use Rattle.rdma_types.specs.Lists.{first_that, some}
 use Rattle.page_pool.specs.Pool.{Pool, bytes_of, free_pages}
-use Rattle.completion_queue.specs.Queue.{Queue}
-use Rattle.memory_keys.specs.declared.Held.{Held}
+use Rattle.end_queues.specs.Completions.{Queue}
+use Rattle.memory_keys.specs.declared.RegisteredRegion.{RegisteredRegion}
 use Rattle.memory_keys.specs.Regions.{AreHeld, AreKeyed, KeepsOthers, held_at, regions_of}
-use Rattle.work_queues.specs.declared.posted.QueuedRequest.{QueuedRequest}
-use Rattle.work_queues.specs.Untold.{untold_in}
+use Rattle.end_queues.specs.declared.work_queues.posted.QueuedRequest.{QueuedRequest}
+use Rattle.end_queues.specs.Untold.{untold_in}
 use Rattle.protocol.specs.EndWords.{in_use_by}
 use Rattle.protocol.specs.Memory.{untold_of}
 use Rattle.protocol.specs.Refusals.{message_names, names_key, progress_names}
@@ -30,7 +30,7 @@ use Rattle.context_core.proofs.EndSteps.{EndsSame, each-posted, ends-paged, ends
 use Rattle.context_core.proofs.RegionStores.{kept-payloads, region-front}
 
 -- other regions, and what the queue pairs name stays
-pub record Rearranges (a b : Pool) (h : Holding) (new : List Held) : Type 0 where
+pub record Rearranges (a b : Pool) (h : Holding) (new : List RegisteredRegion) : Type 0 where
   pub is : IsContext a h
   pub others : KeepsOthers a b h.regions
   pub held : AreHeld b new
@@ -39,18 +39,18 @@ pub record Rearranges (a b : Pool) (h : Holding) (new : List Held) : Type 0 wher
   pub lists : (list : ℕ) → Contains (map (λ r. r.list) new) list → Contains (map (λ r. r.list) h.regions) list ⊎ (bytes_of a list ≡ None)
   pub free : free_pages b + region_pages new ≡ free_pages a + region_pages h.regions
 
-ends-still : (old new : List Held) → AreKeyed old → AreKeyed new → (pool : Pool) (es : List (Name × EndSlot)) → AllByRecursion (λ e. Still old new e.1.endpoint) es → AllByRecursion (λ e. IsEnd pool old e.1.endpoint) es → AllByRecursion (λ e. IsEnd pool new e.1.endpoint) es
+ends-still : (old new : List RegisteredRegion) → AreKeyed old → AreKeyed new → (pool : Pool) (es : List (Name × EndSlot)) → AllByRecursion (λ e. Still old new e.1.endpoint) es → AllByRecursion (λ e. IsEnd pool old e.1.endpoint) es → AllByRecursion (λ e. IsEnd pool new e.1.endpoint) es
 ends-still old new keyed keyed' pool [] s h = tt
 ends-still old new keyed keyed' pool (e ∷ es) s h = (end-still old new keyed keyed' pool e.1.endpoint s.0 h.0, ends-still old new keyed keyed' pool es s.1 h.1)
 
-all-paged-still : (old new : List Held) (pool : Pool) (es : List (Name × EndSlot)) → AllByRecursion (λ e. Still old new e.1.endpoint) es → AllByRecursion (λ e. IsEnd pool old e.1.endpoint) es → AllByRecursion (λ e. All (IsPaged pool old) (untold_at e)) es → AllByRecursion (λ e. All (IsPaged pool new) (untold_at e)) es
+all-paged-still : (old new : List RegisteredRegion) (pool : Pool) (es : List (Name × EndSlot)) → AllByRecursion (λ e. Still old new e.1.endpoint) es → AllByRecursion (λ e. IsEnd pool old e.1.endpoint) es → AllByRecursion (λ e. All (IsPaged pool old) (untold_at e)) es → AllByRecursion (λ e. All (IsPaged pool new) (untold_at e)) es
 all-paged-still old new pool [] s h p = tt
 all-paged-still old new pool (e ∷ es) s h p = (
   All-from_recursion (IsPaged pool new) (untold_at e) (paged-still old new pool e.1.endpoint.domain (untold_at e) (each-posted pool old e.1.endpoint e.1.endpoint.link h.0.state) s.0.requests (recursion_from_All (IsPaged pool old) (untold_at e) p.0)),
   all-paged-still old new pool es s.1 h.1 p.1,
 )
 
-module _ {a b : Pool} {h : Holding} {new : List Held} (r : Rearranges a b h new) where
+module _ {a b : Pool} {h : Holding} {new : List RegisteredRegion} (r : Rearranges a b h new) where
   same : EndsSame a b h.ends
   same = kept-payloads a b h.regions r.others h.ends (recursion_from_All (λ e. IsEnd a h.regions e.1.endpoint) h.ends r.is.is.ends)
 
@@ -106,7 +106,7 @@ module _ {a b : Pool} {h : Holding} {new : List Held} (r : Rearranges a b h new)
 
 -- ---- one region more
 
-finds-more : (old : List Held) (v : Held) (key : ℕ) → Finds old (old ++ v ∷ []) key
+finds-more : (old : List RegisteredRegion) (v : RegisteredRegion) (key : ℕ) → Finds old (old ++ v ∷ []) key
 unfolding first_that
 finds-more [] v key w e = absurd (cc)
 finds-more (x ∷ xs) v key w e = by (x.head.keys.local == key) refl (finds-more xs v key w)
@@ -115,7 +115,7 @@ finds-more (x ∷ xs) v key w e = by (x.head.keys.local == key) refl (finds-more
     by true t rest = grind (arith, t, e)
     by false t rest = let found : held_at key xs ≡ Some w = grind (arith, t, e) in let later = rest found in grind (arith, t, later)
 
-requests-more : (a : Pool) (old : List Held) (v : Held) (domain : Name) (ps : List QueuedRequest) → bytes_of a v.list ≡ None → AllByRecursion (IsPosted a old domain) ps → AllByRecursion (λ p. Reaches old (old ++ v ∷ []) p.request.lkey p.request.shape.length) ps × AllByRecursion (λ p. All (λ h. h.list ≢ p.payload.list) (old ++ v ∷ [])) ps
+requests-more : (a : Pool) (old : List RegisteredRegion) (v : RegisteredRegion) (domain : Name) (ps : List QueuedRequest) → bytes_of a v.list ≡ None → AllByRecursion (IsPosted a old domain) ps → AllByRecursion (λ p. Reaches old (old ++ v ∷ []) p.request.lkey p.request.shape.length) ps × AllByRecursion (λ p. All (λ h. h.list ≢ p.payload.list) (old ++ v ∷ [])) ps
 requests-more a old v domain [] none h = (tt, tt)
 requests-more a old v domain (p ∷ ps) none h =
     let rest = requests-more a old v domain ps none h.1 in (
@@ -126,11 +126,11 @@ requests-more a old v domain (p ∷ ps) none h =
     other : v.list ≢ p.payload.list
     other same = let none' : bytes_of a p.payload.list ≡ None = ap (bytes_of a) (sym same) ∙ none in cc (h.0.payload.holds.lives, none')
 
-receives-more : (old : List Held) (v : Held) (rs : List Receive) → AllByRecursion (λ r. Reaches old (old ++ v ∷ []) r.lkey r.length) rs
+receives-more : (old : List RegisteredRegion) (v : RegisteredRegion) (rs : List Receive) → AllByRecursion (λ r. Reaches old (old ++ v ∷ []) r.lkey r.length) rs
 receives-more old v [] = tt
 receives-more old v (r ∷ rs) = (λ some. finds-more old v r.lkey, receives-more old v rs)
 
-link-more : (old : List Held) (v : Held) (l : Option EndLink) → LinkStays old (old ++ v ∷ []) l
+link-more : (old : List RegisteredRegion) (v : RegisteredRegion) (l : Option EndLink) → LinkStays old (old ++ v ∷ []) l
 link-more old v None = tt
 link-more old v (Some l) = by l.responder.receiver.progress
   where
@@ -139,7 +139,7 @@ link-more old v (Some l) = by l.responder.receiver.progress
     by (InSend done receive) = tt
     by (InWrite region off count done) = finds-more old v region
 
-pub still-more : (a : Pool) (old : List Held) (v : Held) (es : List (Name × EndSlot)) → bytes_of a v.list ≡ None → AllByRecursion (λ e. IsEnd a old e.1.endpoint) es → AllByRecursion (λ e. Still old (old ++ v ∷ []) e.1.endpoint) es
+pub still-more : (a : Pool) (old : List RegisteredRegion) (v : RegisteredRegion) (es : List (Name × EndSlot)) → bytes_of a v.list ≡ None → AllByRecursion (λ e. IsEnd a old e.1.endpoint) es → AllByRecursion (λ e. Still old (old ++ v ∷ []) e.1.endpoint) es
 still-more a old v [] none h = tt
 still-more a old v (e ∷ es) none h =
     let requests = requests-more a old v e.1.endpoint.domain (untold_at e) none (each-posted a old e.1.endpoint e.1.endpoint.link h.0.state) in (
@@ -155,7 +155,7 @@ still-more a old v (e ∷ es) none h =
 
 -- ---- one region less
 
-pub finds-less : (old : List Held) (i : ℕ) (d : Held) (key : ℕ) → slice_get old i ≡ Some d → d.head.keys.local ≢ key → Finds old (remove old i) key
+pub finds-less : (old : List RegisteredRegion) (i : ℕ) (d : RegisteredRegion) (key : ℕ) → slice_get old i ≡ Some d → d.head.keys.local ≢ key → Finds old (remove old i) key
 unfolding first_that
 finds-less [] i d key at other w e = absurd (cc)
 finds-less (x ∷ xs) zero d key at other w e =
@@ -183,7 +183,7 @@ elsewhere k key count e l same =
     let some : (count == 0) ≡ false = grind (arith, nat_tests, l) in
     absurd (grind (arith, t, some, e))
 
-module _ (old new : List Held) (k : ℕ) (finds : (key : ℕ) → k ≢ key → Finds old new key) where
+module _ (old new : List RegisteredRegion) (k : ℕ) (finds : (key : ℕ) → k ≢ key → Finds old new key) where
   requests-less : (pool : Pool) (ps : List QueuedRequest) → some (λ p. p.request.lkey == k && not (p.request.shape.length == 0)) (untold_in pool ps) ≡ false → AllByRecursion (λ p. Reaches old new p.request.lkey p.request.shape.length) ps
   unfolding some
   requests-less pool [] e = tt

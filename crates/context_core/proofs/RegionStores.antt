@@ -15,11 +15,11 @@ use Rattle.rdma_types.specs.Lists.{at, has, named}
 use Rattle.rdma_types.specs.Memory.{local_key}
 use Rattle.rdma_types.specs.Objects.{Region, no_region}
 use Rattle.page_pool.specs.Pool.{Pool, free_pages}
-use Rattle.memory_keys.specs.declared.Held.{Held}
-use Rattle.memory_keys.specs.declared.Spot.{Spot}
+use Rattle.memory_keys.specs.declared.RegisteredRegion.{RegisteredRegion}
+use Rattle.memory_keys.specs.declared.RegionRange.{RegionRange}
 use Rattle.memory_keys.specs.Regions.{AreHeld, IsSpot, KeepsOthers, held_at, region_of, regions_of, stored_at}
 use Rattle.memory_keys.proofs.Protocol.{distinct-keys, found-has, found-region, written-some}
-use Rattle.work_queues.specs.declared.posted.QueuedRequest.{QueuedRequest}
+use Rattle.end_queues.specs.declared.work_queues.posted.QueuedRequest.{QueuedRequest}
 use Rattle.protocol.specs.DeviceStep.{answers, stores, with_context}
 use Rattle.protocol.specs.Memory.{pages_of_context, region_of_key, stored, with_region}
 use Rattle.protocol.specs.State.{Context, Device, End, region_at}
@@ -35,14 +35,14 @@ use Rattle.context_core.proofs.EndSteps.{EndsSame, each-posted, ends-paged, ends
 
 -- ---- the range of a region
 
-range-region : (pool : Pool) (list : List Held) (c : Context) (name : Name) (from count : ℕ) (spot : Spot) → c.regions ≡ regions_of pool list → (r : IsRange list name from count spot) → region_at c name ≡ region_of pool r.named.held
+range-region : (pool : Pool) (list : List RegisteredRegion) (c : Context) (name : Name) (from count : ℕ) (spot : RegionRange) → c.regions ≡ regions_of pool list → (r : IsRange list name from count spot) → region_at c name ≡ region_of pool r.named.held
 range-region pool list c name from count spot e r = ap (named (λ x. x.name) no_region name) e ∙ r.named.region pool
 
-key-region : (pool : Pool) (list : List Held) (c : Context) (name : Name) (from count : ℕ) (spot : Spot) → c.regions ≡ regions_of pool list → (r : IsRange list name from count spot) → region_of_key c spot.region ≡ region_of pool r.named.held
+key-region : (pool : Pool) (list : List RegisteredRegion) (c : Context) (name : Name) (from count : ℕ) (spot : RegionRange) → c.regions ≡ regions_of pool list → (r : IsRange list name from count spot) → region_of_key c spot.region ≡ region_of pool r.named.held
 unfolding region_of_key
 key-region pool list c name from count spot e r = ap (λ k. at local_key no_region k c.regions) r.region ∙ (ap (at local_key no_region r.head.keys.local) e ∙ found-region pool r.head.keys.local list r.named.held r.named.found)
 
-pub range-spot : (list : List Held) (name : Name) (from count : ℕ) (spot : Spot) → IsRange list name from count spot → IsSpot list spot
+pub range-spot : (list : List RegisteredRegion) (name : Name) (from count : ℕ) (spot : RegionRange) → IsRange list name from count spot → IsSpot list spot
 range-spot list name from count spot r some = subst (λ o. IsSomeAnd o (λ h. spot.off + spot.length ≤ h.head.length)) (sym (ap (λ k. held_at k list) r.region ∙ r.named.found)) inside
   where
     inside : spot.off + spot.length ≤ r.named.held.head.length
@@ -50,7 +50,7 @@ range-spot list name from count spot r some = subst (λ o. IsSomeAnd o (λ h. sp
         let head : r.named.held.head.length ≡ r.head.length = ap (λ h. h.length) r.named.head_is in
         omega (arith, r.low, r.high, r.off, r.length, head)
 
-pub store-is : (pool : Pool) (list : List Held) (c : Context) (name : Name) (from count : ℕ) (spot : Spot) (new : List ℕ) → c.regions ≡ regions_of pool list → IsRange list name from count spot
+pub store-is : (pool : Pool) (list : List RegisteredRegion) (c : Context) (name : Name) (from count : ℕ) (spot : RegionRange) (new : List ℕ) → c.regions ≡ regions_of pool list → IsRange list name from count spot
     → with_region c (stored (region_at c name) (from - (region_at c name).base) new) ≡ record c { regions = stored_at spot new c.regions }
 store-is pool list c name from count spot new e r =
     let region : region_at c name ≡ region_of_key c spot.region = range-region pool list c name from count spot e r ∙ sym (key-region pool list c name from count spot e r) in
@@ -63,11 +63,11 @@ store-is pool list c name from count spot new e r =
 
 -- ---- a change of the regions' bytes alone
 
-kept-posted : (a b : Pool) (held : List Held) (domain : Name) → KeepsOthers a b held → (ps : List QueuedRequest) → AllByRecursion (IsPosted a held domain) ps → AreSame a b ps
+kept-posted : (a b : Pool) (held : List RegisteredRegion) (domain : Name) → KeepsOthers a b held → (ps : List QueuedRequest) → AllByRecursion (IsPosted a held domain) ps → AreSame a b ps
 kept-posted a b held domain k [] h = tt
 kept-posted a b held domain k (p ∷ ps) h = (k.others p.payload.list h.0.payload.holds.lives h.0.payload.apart, kept-posted a b held domain k ps h.1)
 
-pub kept-payloads : (a b : Pool) (held : List Held) → KeepsOthers a b held → (es : List (Name × EndSlot)) → AllByRecursion (λ e. IsEnd a held e.1.endpoint) es → EndsSame a b es
+pub kept-payloads : (a b : Pool) (held : List RegisteredRegion) → KeepsOthers a b held → (es : List (Name × EndSlot)) → AllByRecursion (λ e. IsEnd a held e.1.endpoint) es → EndsSame a b es
 kept-payloads a b held k [] h = tt
 kept-payloads a b held k (e ∷ es) h = (kept-posted a b held e.1.endpoint.domain k (untold_at e) (each-posted a held e.1.endpoint e.1.endpoint.link h.0.state), kept-payloads a b held k es h.1)
 
@@ -117,7 +117,7 @@ changes a b h is k held free =
     heads list all = All-from_recursion (λ r. r.list ≢ list) h.regions (each-unmap (λ y. y ≢ list) (λ r. r.list) h.regions (recursion_from_All (λ y. y ≢ list) (map (λ r. r.list) h.regions) all))
 
 -- the rule of a store
-pub stores-is : (a b : Pool) (n : Name) (d : Device) (h : Holding) (name : Name) (from : ℕ) (spot : Spot) (new : List ℕ) → Changes a b h → IsRange h.regions name from (length new) spot → regions_of b h.regions ≡ stored_at spot new (regions_of a h.regions)
+pub stores-is : (a b : Pool) (n : Name) (d : Device) (h : Holding) (name : Name) (from : ℕ) (spot : RegionRange) (new : List ℕ) → Changes a b h → IsRange h.regions name from (length new) spot → regions_of b h.regions ≡ stored_at spot new (regions_of a h.regions)
     → stores d (context_in a n h) (region_at (context_in a n h) name) from new ≡ answers (with_context d (context_in b n h)) answer.Done
 unfolding stores context_in
 stores-is a b n d h name from spot new ch r e =
@@ -131,7 +131,7 @@ cut-take bs off count n l =
     ap (λ k. take count (drop off (take k bs))) split
     ∙ (ap (take count) (drop-take off (n - off) bs) ∙ take-take count (n - off) (drop off bs) (omega arith))
 
-pub loads-is : (pool : Pool) (list : List Held) (c : Context) (name : Name) (from count : ℕ) (spot : Spot) → c.regions ≡ regions_of pool list → IsRange list name from count spot → loaded (region_at c name) from count ≡ spot_bytes pool list spot
+pub loads-is : (pool : Pool) (list : List RegisteredRegion) (c : Context) (name : Name) (from count : ℕ) (spot : RegionRange) → c.regions ≡ regions_of pool list → IsRange list name from count spot → loaded (region_at c name) from count ≡ spot_bytes pool list spot
 unfolding cut
 loads-is pool list c name from count spot e r =
     let region = range-region pool list c name from count spot e r in

@@ -10,7 +10,7 @@ use Rattle.rdma_types.specs.declared.names.Name.{Name}
 use Rattle.rdma_types.specs.Lists.{first_that}
 use Rattle.rdma_types.specs.Memory.{local_key}
 use Rattle.page_pool.specs.Pool.{Pool, IsIn, bytes_of, free_pages, pages_for}
-use Rattle.memory_keys.specs.declared.Held.{Held}
+use Rattle.memory_keys.specs.declared.RegisteredRegion.{RegisteredRegion}
 use Rattle.memory_keys.specs.declared.RegionHead.{RegionHead}
 use Rattle.memory_keys.specs.Regions.{AreHeld, IsAdded, KeepsOthers, Lies, blank_region, held_at, regions_of}
 use Rattle.memory_keys.proofs.Protocol.{keys-of}
@@ -19,7 +19,7 @@ use Rattle.protocol.specs.Images.{region_of_image}
 use Rattle.context_core.specs.Coming.{AreMade, head_after}
 use Rattle.context_core.proofs.DisjointLists.{distinct-none}
 
-pub made-none : (pool : Pool) (hs : List Held) → hs ≡ [] → AreMade pool pool hs
+pub made-none : (pool : Pool) (hs : List RegisteredRegion) → hs ≡ [] → AreMade pool pool hs
 made-none pool hs e = subst (AreMade pool pool) (sym e) (record {
   pages = refl;
   others = λ list lives. refl;
@@ -36,7 +36,7 @@ not-old old mid list kept none = by_case (bytes_of old list) refl
     by_case None e = e
     by_case (Some xs) e = absurd (let lives : IsIn old list = ap is_some e in let same = kept list lives in cc)
 
-pub made-more : (old mid new : Pool) (hs next : List Held) (head : RegionHead) → AreMade old mid hs → IsAdded mid hs next head → KeepsOthers mid new hs → AreHeld new next → free_pages new + pages_for head.length ≡ free_pages mid → AreMade old new next
+pub made-more : (old mid new : Pool) (hs next : List RegisteredRegion) (head : RegionHead) → AreMade old mid hs → IsAdded mid hs next head → KeepsOthers mid new hs → AreHeld new next → free_pages new + pages_for head.length ≡ free_pages mid → AreMade old new next
 made-more old mid new hs next head made added keeps are free = record {
   pages = keeps.pages ∙ made.pages;
   others = λ list lives. keeps.others list (ap is_some (made.others list lives) ∙ lives) (differs list lives hs made.fresh) ∙ made.others list lives;
@@ -49,7 +49,7 @@ made-more old mid new hs next head made added keeps are free = record {
       omega (arith, more, here, before, free);
 }
   where
-    differs : (list : ℕ) → IsIn old list → (xs : List Held) → All (λ h. bytes_of old h.list ≡ None) xs → All (λ h. h.list ≢ list) xs
+    differs : (list : ℕ) → IsIn old list → (xs : List RegisteredRegion) → All (λ h. bytes_of old h.list ≡ None) xs → All (λ h. h.list ≢ list) xs
     differs list lives xs fresh = λ k d below same. absurd (let none : bytes_of old list ≡ None = ap (bytes_of old) (sym same) ∙ fresh k d below in let l : is_some (bytes_of old list) ≡ true = lives in let n : is_some (bytes_of old list) ≡ false = ap is_some none in cc)
 
 -- ---- keys
@@ -58,7 +58,7 @@ image-keys : (domains : List Name) (rs : List RegionImage) → map local_key (ma
 image-keys domains [] = refl
 image-keys domains (r ∷ rs) = ap (λ ks. r.keys.local ∷ ks) (image-keys domains rs)
 
-first-none : (key : ℕ) (hs : List Held) → AllByRecursion (λ k. (k == key) ≡ false) (map (λ h. h.head.keys.local) hs) → held_at key hs ≡ None
+first-none : (key : ℕ) (hs : List RegisteredRegion) → AllByRecursion (λ k. (k == key) ≡ false) (map (λ h. h.head.keys.local) hs) → held_at key hs ≡ None
 unfolding first_that
 first-none key [] h = refl
 first-none key (x ∷ xs) h = rw (h.0) (first-none key xs h.1)
@@ -68,7 +68,7 @@ keys-differ key [] h = tt
 keys-differ key (r ∷ rs) h = (h.0, keys-differ key rs h.1)
 
 -- no region before has the key of one
-pub key-new : (pool : Pool) (hs : List Held) (domains : List Name) (rs : List RegionImage) (i : ℕ) (r : RegionImage) → regions_of pool hs ≡ map (region_of_image domains) (take i rs) → i < length rs → r ≡ get_or rs i r → AllPairs (λ a b. a.keys.local ≢ b.keys.local) rs → held_at r.keys.local hs ≡ None
+pub key-new : (pool : Pool) (hs : List RegisteredRegion) (domains : List Name) (rs : List RegionImage) (i : ℕ) (r : RegionImage) → regions_of pool hs ≡ map (region_of_image domains) (take i rs) → i < length rs → r ≡ get_or rs i r → AllPairs (λ a b. a.keys.local ≢ b.keys.local) rs → held_at r.keys.local hs ≡ None
 key-new pool hs domains rs i r shown lt is pairs =
     let keys : map (λ h. h.head.keys.local) hs ≡ map (λ x. x.keys.local) (take i rs) = sym (keys-of pool hs) ∙ (ap (map local_key) shown ∙ image-keys domains (take i rs)) in
     first-none r.keys.local hs (subst (AllByRecursion (λ k. (k == r.keys.local) ≡ false)) (sym keys) (keys-differ r.keys.local (take i rs) (recursion_from_All (λ x. (x.keys.local == r.keys.local) ≡ false) (take i rs) before)))
@@ -83,7 +83,7 @@ key-new pool hs domains rs i r shown lt is pairs =
         grind (arith, nat_tests, other)
 
 -- one region more
-pub region-more : (mid new : Pool) (hs next : List Held) (domains : List Name) (rs : List RegionImage) (i : ℕ) (r : RegionImage) (head : RegionHead) → i < length rs → r ≡ get_or rs i r → head ≡ head_after domains r → regions_of mid hs ≡ map (region_of_image domains) (take i rs)
+pub region-more : (mid new : Pool) (hs next : List RegisteredRegion) (domains : List Name) (rs : List RegionImage) (i : ℕ) (r : RegionImage) (head : RegionHead) → i < length rs → r ≡ get_or rs i r → head ≡ head_after domains r → regions_of mid hs ≡ map (region_of_image domains) (take i rs)
     → regions_of new next ≡ regions_of mid hs ++ record (blank_region head) { bytes = r.bytes } ∷ [] → regions_of new next ≡ map (region_of_image domains) (take (i + 1) rs)
 region-more mid new hs next domains rs i r head lt is e shown put =
     let here : record (blank_region head) { bytes = r.bytes } ≡ region_of_image domains r = ap (λ (x : RegionHead). record (blank_region x) { bytes = r.bytes }) e in

@@ -21,7 +21,7 @@ use Rattle.memory_keys.specs.Causes as memory
 use Rattle.memory_keys.specs.Causes.{deregister_causes, region_named, register_causes}
 use Rattle.memory_keys.specs.declared.MemFault.{MemFault}
 use Rattle.memory_keys.specs.declared.MemFault.TheVariants as mem
-use Rattle.memory_keys.specs.declared.Held.{Held}
+use Rattle.memory_keys.specs.declared.RegisteredRegion.{RegisteredRegion}
 use Rattle.memory_keys.specs.declared.RegionHead.{RegionHead}
 use Rattle.memory_keys.specs.Regions.{AreHeld, AreKeyed, IsAdded, IsNamed, IsRemoved, KeepsOthers, blank_region, held_at, regions_of}
 use Rattle.memory_keys.proofs.Dropped.{all-removed}
@@ -58,7 +58,7 @@ pages-alike n = omega arith
 -- ---- a region more
 
 -- its key is that of no other
-key-apart : (key : ℕ) (old : List Held) → held_at key old ≡ None → AreApart (map (λ h. h.head.keys.local) old) (key ∷ [])
+key-apart : (key : ℕ) (old : List RegisteredRegion) → held_at key old ≡ None → AreApart (map (λ h. h.head.keys.local) old) (key ∷ [])
 unfolding first_that
 key-apart key [] e = tt
 key-apart key (x ∷ xs) e = by (x.head.keys.local == key) refl (key-apart key xs)
@@ -75,14 +75,14 @@ alone : (x : ℕ) → IsDistinct nat_eq (x ∷ [])
 unfolding IsDistinct
 alone x = (tt, tt)
 
-keyed-more : (old : List Held) (v : Held) → AreKeyed old → held_at v.head.keys.local old ≡ None → v.head.keys.remote ≡ v.head.keys.local + 1 → AreKeyed (old ++ v ∷ [])
+keyed-more : (old : List RegisteredRegion) (v : RegisteredRegion) → AreKeyed old → held_at v.head.keys.local old ≡ None → v.head.keys.remote ≡ v.head.keys.local + 1 → AreKeyed (old ++ v ∷ [])
 keyed-more old v k none pair = record {
   distinct = subst (IsDistinct nat_eq) (sym (mapped (λ h. h.head.keys.local) old v)) (distinct-both (map (λ h. h.head.keys.local) old) (v.head.keys.local ∷ []) k.distinct (alone v.head.keys.local) (key-apart v.head.keys.local old none));
   pairs = All-push (λ h. h.head.keys.remote ≡ h.head.keys.local + 1) old v k.pairs pair;
 }
 
 -- a key that the protocol's regions do not have finds nothing
-pub has-none : (pool : Pool) (key : ℕ) (held : List Held) → has local_key key (regions_of pool held) ≡ false → held_at key held ≡ None
+pub has-none : (pool : Pool) (key : ℕ) (held : List RegisteredRegion) → has local_key key (regions_of pool held) ≡ false → held_at key held ≡ None
 unfolding first_that has
 has-none pool key [] e = refl
 has-none pool key (x ∷ xs) e = by (x.head.keys.local == key) refl (has-none pool key xs)
@@ -91,7 +91,7 @@ has-none pool key (x ∷ xs) e = by (x.head.keys.local == key) refl (has-none po
     by true t rest = absurd (let there : (true || has local_key key (regions_of pool xs)) ≡ false = subst (λ b. (b || has local_key key (regions_of pool xs)) ≡ false) t e in cc)
     by false t rest = rw t (rest (subst (λ b. (b || has local_key key (regions_of pool xs)) ≡ false) t e))
 
-pub added-is : (a b : Pool) (h : Holding) (new : List Held) (head : RegionHead) → IsContext a h → IsAdded a h.regions new head → KeepsOthers a b h.regions → AreHeld b new → free_pages b + pages_for head.length ≡ free_pages a → held_at head.keys.local h.regions ≡ None → head.keys.remote ≡ head.keys.local + 1 → Rearranges a b h new
+pub added-is : (a b : Pool) (h : Holding) (new : List RegisteredRegion) (head : RegionHead) → IsContext a h → IsAdded a h.regions new head → KeepsOthers a b h.regions → AreHeld b new → free_pages b + pages_for head.length ≡ free_pages a → held_at head.keys.local h.regions ≡ None → head.keys.remote ≡ head.keys.local + 1 → Rearranges a b h new
 added-is a b h new head is added others held free none pair = subst (Rearranges a b h) (sym added.behind) (record {
   is = is;
   others = others;
@@ -102,7 +102,7 @@ added-is a b h new head is added others held free none pair = subst (Rearranges 
   free = counted (free_pages b) (free_pages a) (region_pages (h.regions ++ v ∷ [])) (region_pages h.regions) (pages_for head.length) free (sum_by-append (λ r. pages_of_length r.head.length) h.regions (v ∷ []) ∙ ap (λ n. region_pages h.regions + n) (sum_by-cons (λ r. pages_of_length r.head.length) v [] ∙ (add-none ∙ (ap (λ x. pages_of_length x.length) added.head_is ∙ pages-alike head.length))));
 })
   where
-    v : Held
+    v : RegisteredRegion
     v = added.held
 
     add-none : pages_of_length v.head.length + 0 ≡ pages_of_length v.head.length
@@ -120,20 +120,20 @@ added-is a b h new head is added others held free none pair = subst (Rearranges 
 
 -- ---- a region less
 
-each-removed : {A : Type 0} (P : A → Type 0) (f : Held → A) (xs : List Held) (i : ℕ) → AllByRecursion P (map f xs) → AllByRecursion P (map f (remove xs i))
+each-removed : {A : Type 0} (P : A → Type 0) (f : RegisteredRegion → A) (xs : List RegisteredRegion) (i : ℕ) → AllByRecursion P (map f xs) → AllByRecursion P (map f (remove xs i))
 each-removed P f [] zero h = tt
 each-removed P f [] (suc i) h = tt
 each-removed P f (x ∷ xs) zero h = h.1
 each-removed P f (x ∷ xs) (suc i) h = (h.0, each-removed P f xs i h.1)
 
-distinct-removed : (f : Held → ℕ) (xs : List Held) (i : ℕ) → IsDistinct nat_eq (map f xs) → IsDistinct nat_eq (map f (remove xs i))
+distinct-removed : (f : RegisteredRegion → ℕ) (xs : List RegisteredRegion) (i : ℕ) → IsDistinct nat_eq (map f xs) → IsDistinct nat_eq (map f (remove xs i))
 unfolding IsDistinct
 distinct-removed f [] zero d = tt
 distinct-removed f [] (suc i) d = tt
 distinct-removed f (x ∷ xs) zero d = d.1
 distinct-removed f (x ∷ xs) (suc i) d = (each-removed (λ y. nat_eq (f x) y ≡ false) f xs i d.0, distinct-removed f xs i d.1)
 
-fewer-lists : (xs : List Held) (i list : ℕ) → Contains (map (λ r. r.list) (remove xs i)) list → Contains (map (λ r. r.list) xs) list
+fewer-lists : (xs : List RegisteredRegion) (i list : ℕ) → Contains (map (λ r. r.list) (remove xs i)) list → Contains (map (λ r. r.list) xs) list
 fewer-lists [] zero list c = c
 fewer-lists [] (suc i) list c = c
 fewer-lists (x ∷ xs) zero list c = Contains-append_right (x.list ∷ []) (map (λ r. r.list) xs) list c
@@ -143,7 +143,7 @@ fewer-lists (x ∷ xs) (suc i) list c = by (fewer-lists xs i list) (Contains-app
     by later (inl k) = Contains-append_left (x.list ∷ []) (map (λ r. r.list) xs) list k
     by later (inr k) = Contains-append_right (x.list ∷ []) (map (λ r. r.list) xs) list (later k)
 
-pub removed-is : (a b : Pool) (h : Holding) (new : List Held) (name : Name) → IsContext a h → (r : IsRemoved h.regions new name) → KeepsOthers a b h.regions → AreHeld b new
+pub removed-is : (a b : Pool) (h : Holding) (new : List RegisteredRegion) (name : Name) → IsContext a h → (r : IsRemoved h.regions new name) → KeepsOthers a b h.regions → AreHeld b new
     → free_pages b ≡ free_pages a + pages_for (region_named name (regions_of a h.regions)).length → some (names_key r.held.head.keys.local) (map (end_of a h.queues) h.ends) ≡ false → Rearranges a b h new
 removed-is a b h new name is r others held free unnamed = subst (Rearranges a b h) (sym r.rest) (record {
   is = is;
@@ -172,7 +172,7 @@ or-none true t e = refl
 or-none false t e = e
 
 -- why a region with a known domain and keys is not made
-pub causes-alike : (pool : Pool) (held : List Held) (c : Context) (d : Device) (domain : Name) (head : RegionHead) → c.regions ≡ regions_of pool held → has_word domain c.domains ≡ true → rule.free_pages d ≡ free_pages pool → nat_le most_keys d.key_count ≡ false
+pub causes-alike : (pool : Pool) (held : List RegisteredRegion) (c : Context) (d : Device) (domain : Name) (head : RegionHead) → c.regions ≡ regions_of pool held → has_word domain c.domains ≡ true → rule.free_pages d ≡ free_pages pool → nat_le most_keys d.key_count ≡ false
     → first_cause (region_causes d c head.name (Some domain) head.length) ≡ first_cause (register_causes (regions_of pool held) (free_pages pool) head)
 causes-alike pool held c d domain head regions known free keys =
     first-passed NoSuch (lacks (λ x. has_word x c.domains) (Some domain)) _ (ap not known)
@@ -182,7 +182,7 @@ causes-alike pool held c d domain head regions known free keys =
     (ap (λ n. nat_lt n (pages_of_length head.length)) free ∙ ap (λ n. nat_lt (free_pages pool) n) (pages-alike head.length))
 
 -- why a region is not made where there are no keys
-pub keys-lack : (pool : Pool) (held : List Held) (c : Context) (d : Device) (domain name : Name) (count : ℕ) (r : Refusal) → c.regions ≡ regions_of pool held → has_word domain c.domains ≡ true → nat_le most_keys d.key_count ≡ true
+pub keys-lack : (pool : Pool) (held : List RegisteredRegion) (c : Context) (d : Device) (domain name : Name) (count : ℕ) (r : Refusal) → c.regions ≡ regions_of pool held → has_word domain c.domains ≡ true → nat_le most_keys d.key_count ≡ true
     → r ≡ (if has_name (λ x. x.name) name (regions_of pool held) then NumberTaken else TooMany) → first_cause (region_causes d c name (Some domain) count) ≡ Some r
 keys-lack pool held c d domain name count r regions known keys e =
     first-passed NoSuch (lacks (λ x. has_word x c.domains) (Some domain)) _ (ap not known) ∙ by (has_region c name) (nat_le most_regions (length c.regions)) (nat_le most_keys d.key_count) (ap (has_name (λ x. x.name) name) regions) keys
@@ -193,7 +193,7 @@ keys-lack pool held c d domain name count r regions known keys e =
     by false false t same s = second-holds NumberTaken TooMany false t _ refl s ∙ ap Some (sym (e ∙ ap (λ b. if b then NumberTaken else TooMany) (sym same)))
 
 -- why a region that is asked for is not made
-pub causes-of : (pool : Pool) (held : List Held) (c : Context) (d : Device) (new : NewRegion) (keys : Option Keys) (head : RegionHead) → c.regions ≡ regions_of pool held → has_word head.domain c.domains ≡ true → IsAsked new keys head → rule.free_pages d ≡ free_pages pool → nat_le most_keys d.key_count ≡ is_none keys
+pub causes-of : (pool : Pool) (held : List RegisteredRegion) (c : Context) (d : Device) (new : NewRegion) (keys : Option Keys) (head : RegionHead) → c.regions ≡ regions_of pool held → has_word head.domain c.domains ≡ true → IsAsked new keys head → rule.free_pages d ≡ free_pages pool → nat_le most_keys d.key_count ≡ is_none keys
     → first_cause (register_causes (regions_of pool held) (free_pages pool) head) ≡ first_cause (region_causes d c new.name new.domain new.length)
 causes-of pool held c d new keys head regions known asked free some-keys =
     sym (causes-alike pool held c d head.domain head regions known free (some-keys ∙ ap is_none asked.keys))
@@ -201,7 +201,7 @@ causes-of pool held c d new keys head regions known asked free some-keys =
     ∙ ap (λ o. first_cause (region_causes d c new.name o new.length)) (sym asked.domain))
 
 -- the rule of a region that is made
-pub made-is : {a b : Pool} {h : Holding} {regions : List Held} (n : Name) (d : Device) (new : NewRegion) (head : RegionHead) → Rearranges a b h regions → IsAsked new (Some (device_keys d)) head → regions_of b regions ≡ regions_of a h.regions ++ blank_region head ∷ []
+pub made-is : {a b : Pool} {h : Holding} {regions : List RegisteredRegion} (n : Name) (d : Device) (new : NewRegion) (head : RegionHead) → Rearranges a b h regions → IsAsked new (Some (device_keys d)) head → regions_of b regions ≡ regions_of a h.regions ++ blank_region head ∷ []
     → makes_region d (context_in a n h) new.name new.domain new.base new.length new.rights ≡ answers (with_context (counting_key d) (context_in b n (record h { regions = regions }))) (answer.Region (device_keys d))
 unfolding makes_region with_new_region context_in
 made-is {a} {b} {h} {regions} n d new head r asked more =
@@ -220,11 +220,11 @@ made-is {a} {b} {h} {regions} n d new head r asked more =
 -- ---- dropping
 
 -- a sound end has no more requests than its send queue is deep
-fit : (pool : Pool) (held : List Held) (e : Endpoint) (l : Option EndLink) → IsInState pool held e l → length (untold_by l) ≤ e.send_depth
+fit : (pool : Pool) (held : List RegisteredRegion) (e : Endpoint) (l : Option EndLink) → IsInState pool held e l → length (untold_by l) ≤ e.send_depth
 fit pool held e None h = omega arith
 fit pool held e (Some l) h = h.fit
 
-all-fit : (pool : Pool) (held : List Held) (es : List (Name × EndSlot)) → AllByRecursion (λ e. IsEnd pool held e.1.endpoint) es → AllByRecursion (λ e. IsFit e.1.endpoint) es
+all-fit : (pool : Pool) (held : List RegisteredRegion) (es : List (Name × EndSlot)) → AllByRecursion (λ e. IsEnd pool held e.1.endpoint) es → AllByRecursion (λ e. IsFit e.1.endpoint) es
 all-fit pool held [] h = tt
 all-fit pool held (e ∷ es) h = (fit pool held e.1.endpoint e.1.endpoint.link h.0.state, all-fit pool held es h.1)
 
@@ -232,11 +232,11 @@ pub are-fit : (pool : Pool) (h : Holding) → IsContext pool h → All (λ e. Is
 are-fit pool h is = All-from_recursion (λ e. IsFit e.1.endpoint) h.ends (all-fit pool h.regions h.ends (recursion_from_All (λ e. IsEnd pool h.regions e.1.endpoint) h.ends is.is.ends))
 
 -- there is no region to drop
-pub drop-absent : (pool : Pool) (held : List Held) (c : Context) (name : Name) → c.regions ≡ regions_of pool held → has_name (λ r. r.name) name (regions_of pool held) ≡ false → first_cause (drop_causes c name) ≡ Some NoSuch
+pub drop-absent : (pool : Pool) (held : List RegisteredRegion) (c : Context) (name : Name) → c.regions ≡ regions_of pool held → has_name (λ r. r.name) name (regions_of pool held) ≡ false → first_cause (drop_causes c name) ≡ Some NoSuch
 drop-absent pool held c name e absent = first-holds NoSuch (not (has_region c name)) _ (ap (λ rs. not (has_name (λ r. r.name) name rs)) e ∙ ap not absent)
 
 -- why the region of a name is not dropped
-pub drop-told : (pool : Pool) (held : List Held) (c : Context) (name : Name) (head : RegionHead) → c.regions ≡ regions_of pool held → has_name (λ r. r.name) name (regions_of pool held) ≡ true → IsNamed held name head → (b : Bool) → some (names_key head.keys.local) c.ends ≡ b
+pub drop-told : (pool : Pool) (held : List RegisteredRegion) (c : Context) (name : Name) (head : RegionHead) → c.regions ≡ regions_of pool held → has_name (λ r. r.name) name (regions_of pool held) ≡ true → IsNamed held name head → (b : Bool) → some (names_key head.keys.local) c.ends ≡ b
     → first_cause (drop_causes c name) ≡ (if b then Some InUse else None)
 drop-told pool held c name head e there is b named-by =
     first-passed NoSuch (not (has_region c name)) _ (ap (λ rs. not (has_name (λ r. r.name) name rs)) e ∙ ap not there)
@@ -251,7 +251,7 @@ drop-told pool held c name head e there is b named-by =
     by false = first-passed InUse false [] refl ∙ none-holds
 
 -- a region that no key is busy for is dropped
-pub drops-free : (pool : Pool) (held : List Held) (name : Name) → has_name (λ r. r.name) name (regions_of pool held) ≡ true → first_cause (deregister_causes (regions_of pool held) name []) ≡ None
+pub drops-free : (pool : Pool) (held : List RegisteredRegion) (name : Name) → has_name (λ r. r.name) name (regions_of pool held) ≡ true → first_cause (deregister_causes (regions_of pool held) name []) ≡ None
 drops-free pool held name there = first-passed NoSuch (not (has_name (λ r. r.name) name (regions_of pool held))) _ (ap not there) ∙ (first-passed InUse false [] refl ∙ none-holds)
 
 -- what holds where there is no error
@@ -260,11 +260,11 @@ all-ok (Ok x) P e p = p
 all-ok (Err x) P e p = absurd (cc)
 
 -- the key of the region that is gone
-pub removed-key : (a : Pool) (h : Holding) (new : List Held) (name : Name) (head : RegionHead) → (r : IsRemoved h.regions new name) → IsNamed h.regions name head → r.held.head.keys.local ≡ head.keys.local
+pub removed-key : (a : Pool) (h : Holding) (new : List RegisteredRegion) (name : Name) (head : RegionHead) → (r : IsRemoved h.regions new name) → IsNamed h.regions name head → r.held.head.keys.local ≡ head.keys.local
 removed-key a h new name head r is = ap (λ x. x.keys.local) (sym (r.region a) ∙ is.region a) ∙ ap (λ x. x.keys.local) is.head_is
 
 -- the rule of a region that is dropped
-pub dropped-is : {a b : Pool} {h : Holding} {regions : List Held} (n : Name) (d : Device) (name : Name) → Rearranges a b h regions → regions_of b regions ≡ without (λ r. r.name) name (regions_of a h.regions)
+pub dropped-is : {a b : Pool} {h : Holding} {regions : List RegisteredRegion} (n : Name) (d : Device) (name : Name) → Rearranges a b h regions → regions_of b regions ≡ without (λ r. r.name) name (regions_of a h.regions)
     → drops d (context_in a n h) name ≡ answers (with_context d (context_in b n (record h { regions = regions }))) answer.Done
 unfolding drops context_in
 dropped-is {a} {b} {h} {regions} n d name r less =

@@ -6,12 +6,12 @@ use Rattle.std.proofs.lemmas.List.Elements.{All-contains, All-from_recursion, re
 use Rattle.std.proofs.lemmas.List.Sums.{sum_by-cons}
 use Rattle.rdma_types.specs.declared.names.Name.{Name}
 use Rattle.page_pool.specs.Pool.{Pool, IsIn, bytes_of, free_pages, pages_for}
-use Rattle.memory_keys.specs.declared.Held.{Held}
+use Rattle.memory_keys.specs.declared.RegisteredRegion.{RegisteredRegion}
 use Rattle.memory_keys.specs.Regions.{AreHeld, KeepsOthers, Lies}
-use Rattle.work_queues.specs.declared.posted.QueuedRequest.{QueuedRequest}
+use Rattle.end_queues.specs.declared.work_queues.posted.QueuedRequest.{QueuedRequest}
 use Rattle.protocol.specs.Memory.{pages_of_length}
-use Rattle.end_memory.specs.Payloads.{GivesBack, payload_lists, payload_pages}
-use Rattle.end_memory.specs.Payloads as end_memory
+use Rattle.end_completions.specs.Payloads.{GivesBack, payload_lists, payload_pages}
+use Rattle.end_completions.specs.Payloads as end_memory
 use Rattle.endpoint_core.specs.Queues.{nothing}
 use Rattle.endpoint_core.specs.Sound.{IsEnd, IsPosted}
 use Rattle.context_core.specs.declared.state.EndSlot.{EndSlot}
@@ -35,7 +35,7 @@ unfolding payload_pages
 pages-of-all pool [] = refl
 pages-of-all pool (e ∷ es) = payloads-append pool (untold_at e) (posted_of es) ∙ (ap (λ n. payload_pages pool (untold_at e) + n) (pages-of-all pool es) ∙ sym (sum_by-cons (λ y. payload_pages pool (untold_at y)) e es))
 
-all-posted : (pool : Pool) (held : List Held) (es : List (Name × EndSlot)) → AllByRecursion (λ e. IsEnd pool held e.1.endpoint) es → (P : QueuedRequest → Type 0) → ((domain : Name) (p : QueuedRequest) → IsPosted pool held domain p → P p) → AllByRecursion P (posted_of es)
+all-posted : (pool : Pool) (held : List RegisteredRegion) (es : List (Name × EndSlot)) → AllByRecursion (λ e. IsEnd pool held e.1.endpoint) es → (P : QueuedRequest → Type 0) → ((domain : Name) (p : QueuedRequest) → IsPosted pool held domain p → P p) → AllByRecursion P (posted_of es)
 all-posted pool held [] h P f = tt
 all-posted pool held (e ∷ es) h P f = each-append P (untold_at e) (posted_of es) (each (untold_at e) (each-posted pool held e.1.endpoint e.1.endpoint.link h.0.state)) (all-posted pool held es h.1 P f)
   where
@@ -66,7 +66,7 @@ module _ {a b : Pool} {h : Holding} (is : IsContext a h) (gives : GivesBack a b 
     apart = is.is.held.apart;
   }
 
-  pages-sum : (hs : List Held) → sum_by (λ x. pages_for x.head.length) hs ≡ region_pages hs
+  pages-sum : (hs : List RegisteredRegion) → sum_by (λ x. pages_for x.head.length) hs ≡ region_pages hs
   pages-sum [] = refl
   pages-sum (x ∷ xs) = sum_by-cons (λ y. pages_for y.head.length) x xs ∙ (ap (λ n. n + sum_by (λ y. pages_for y.head.length) xs) (sym (pages-alike x.head.length)) ∙ (ap (λ n. pages_of_length x.head.length + n) (pages-sum xs) ∙ sym (sum_by-cons (λ y. pages_of_length y.head.length) x xs)))
 

@@ -7,9 +7,9 @@ use Rattle.std.proofs.lemmas.List.Elements.{All-from_recursion, recursion_from_A
 use Rattle.std.proofs.lemmas.Grind.{flat_map-append}
 use Rattle.rdma_types.specs.declared.names.Name.{Name}
 use Rattle.page_pool.specs.Pool.{Pool, IsIn, bytes_of, free_pages}
-use Rattle.work_queues.specs.declared.posted.QueuedRequest.{QueuedRequest}
-use Rattle.end_memory.specs.Payloads.{AreApart, GivesBack, payload_lists, payload_pages}
-use Rattle.end_memory.proofs.Given.{AreKept, apart-after, gives-more, gives-none, live-kept, pages-kept, rest-kept}
+use Rattle.end_queues.specs.declared.work_queues.posted.QueuedRequest.{QueuedRequest}
+use Rattle.end_completions.specs.Payloads.{AreApart, GivesBack, payload_lists, payload_pages}
+use Rattle.end_completions.proofs.Given.{AreKept, apart-after, gives-more, gives-none, live-kept, pages-kept, rest-kept}
 use Rattle.context_core.specs.declared.state.EndSlot.{EndSlot}
 use Rattle.context_core.specs.Context.{posted_of, untold_at}
 use Rattle.context_core.proofs.DisjointLists.{Lacks, apart-swap, distinct-apart, distinct-back, distinct-front, each-append, each-back, each-front, lacks-all}

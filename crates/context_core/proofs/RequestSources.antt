@@ -10,12 +10,12 @@ use Rattle.rdma_types.specs.Kinds.{takes_bytes}
 use Rattle.rdma_types.specs.Lists.{at, first_that}
 use Rattle.rdma_types.specs.Memory.{NoRight, Right, cut, granted, grants, is_granted, landing_right, local_key, put}
 use Rattle.rdma_types.specs.Objects.{Region, no_region}
-use Rattle.byte_run.proofs.Cuts.{cut-put_inside, length-cut, length-put}
+use Rattle.rdma_types.proofs.Cuts.{cut-put_inside, length-cut, length-put}
 use Rattle.page_pool.specs.Pool.{Pool, Puts, IsIn, bytes_of, bytes_in, pages_for, pages_of}
 use Rattle.page_pool.specs.Store.{blank}
 use Rattle.page_pool.proofs.Places.{length-blank}
-use Rattle.memory_keys.specs.declared.Held.{Held}
-use Rattle.memory_keys.specs.declared.Spot.{Spot}
+use Rattle.memory_keys.specs.declared.RegisteredRegion.{RegisteredRegion}
+use Rattle.memory_keys.specs.declared.RegionRange.{RegionRange}
 use Rattle.memory_keys.specs.Regions.{AreKeyed, granted_spot, pages_touched, place_in, regions_of}
 use Rattle.memory_keys.proofs.Protocol.{place-refused, place-region}
 use Rattle.memory_keys.proofs.Spots.{holds-pages}
@@ -35,14 +35,14 @@ no-right Read t = absurd (cc)
 no-right CompareSwap t = absurd (cc)
 no-right FetchAdd t = absurd (cc)
 
-whole-taken : (held : List Held) (domain : Name) (p : PostedImage) → MayCome held domain p → takes_bytes p.request.shape.kind ≡ true → length p.payload ≡ p.request.shape.length
+whole-taken : (held : List RegisteredRegion) (domain : Name) (p : PostedImage) → MayCome held domain p → takes_bytes p.request.shape.kind ≡ true → length p.payload ≡ p.request.shape.length
 whole-taken held domain p may t = may.whole ∙ ap (λ b. if b then p.request.shape.length else 0) t
 
-none-taken : (held : List Held) (domain : Name) (p : PostedImage) → MayCome held domain p → takes_bytes p.request.shape.kind ≡ false → length p.payload ≡ 0
+none-taken : (held : List RegisteredRegion) (domain : Name) (p : PostedImage) → MayCome held domain p → takes_bytes p.request.shape.kind ≡ false → length p.payload ≡ 0
 none-taken held domain p may t = may.whole ∙ ap (λ b. if b then p.request.shape.length else 0) t
 
 -- the place of the bytes is granted
-source-granted : (pool : Pool) (held : List Held) (domain : Name) (p : PostedImage) → MayCome held domain p → is_granted local_key (regions_of pool held) domain p.request.lkey p.request.local (length p.payload) NoRight ≡ true
+source-granted : (pool : Pool) (held : List RegisteredRegion) (domain : Name) (p : PostedImage) → MayCome held domain p → is_granted local_key (regions_of pool held) domain p.request.lkey p.request.local (length p.payload) NoRight ≡ true
 unfolding is_granted
 source-granted pool held domain p may = by_kind (takes_bytes p.request.shape.kind) refl
   where
@@ -52,14 +52,14 @@ source-granted pool held domain p may = by_kind (takes_bytes p.request.shape.kin
         ∙ (ap (is_granted local_key (regions_of pool held) domain p.request.lkey p.request.local p.request.shape.length) (sym (no-right p.request.shape.kind t)) ∙ may.placed pool)
     by_kind false t = ap (λ n. is_granted local_key (regions_of pool held) domain p.request.lkey p.request.local n NoRight) (none-taken held domain p may t)
 
-some-place : (pool : Pool) (held : List Held) (domain : Name) (key from count : ℕ) (o : Option Spot) → o ≡ granted_spot local_key (regions_of pool held) domain key from count NoRight → is_granted local_key (regions_of pool held) domain key from count NoRight ≡ true → IsSome o
+some-place : (pool : Pool) (held : List RegisteredRegion) (domain : Name) (key from count : ℕ) (o : Option RegionRange) → o ≡ granted_spot local_key (regions_of pool held) domain key from count NoRight → is_granted local_key (regions_of pool held) domain key from count NoRight ≡ true → IsSome o
 some-place pool held domain key from count (Some s) e h = refl
 some-place pool held domain key from count None e h = absurd (let no = (place-refused local_key (regions_of pool held) domain key from count NoRight).0 (subst IsNone e refl) in cc)
 
 no-pool : Pool
 no-pool = record { pages = 0; lists = [] }
 
-pub source-there : (held : List Held) (domain : Name) (p : PostedImage) (n : ℕ) (o : Option Spot) → MayCome held domain p → n ≡ length p.payload → ((pool : Pool) → o ≡ granted_spot local_key (regions_of pool held) domain p.request.lkey p.request.local n NoRight) → IsSome o
+pub source-there : (held : List RegisteredRegion) (domain : Name) (p : PostedImage) (n : ℕ) (o : Option RegionRange) → MayCome held domain p → n ≡ length p.payload → ((pool : Pool) → o ≡ granted_spot local_key (regions_of pool held) domain p.request.lkey p.request.local n NoRight) → IsSome o
 source-there held domain p n o may e g =
     some-place no-pool held domain p.request.lkey p.request.local n o (g no-pool)
     (ap (λ k. is_granted local_key (regions_of no-pool held) domain p.request.lkey p.request.local k NoRight) e ∙ source-granted no-pool held domain p may)
@@ -80,11 +80,11 @@ spot-some : (key_of : Region → ℕ) (rs : List Region) (domain : Name) (key fr
 spot-some key_of rs domain key from count right some = let no : (count == 0) ≡ false = grind (arith, nat_tests) in ap (λ b. if b then Some (record { region = 0; off = 0; length = 0 }) else option_map (place_in from count) (granted key_of rs domain key from count right)) no
 
 -- the spot of a place that is granted
-record IsSpotOf (c : Context) (key from count : ℕ) (spot : Spot) : Type 0 where
+record IsSpotOf (c : Context) (key from count : ℕ) (spot : RegionRange) : Type 0 where
   pub off : spot.off ≡ from - (region_of_key c key).base
   pub length : spot.length ≡ count
 
-spot-of : (pool : Pool) (held : List Held) (domain : Name) (key from count : ℕ) (spot : Spot) → AreKeyed held → 0 < count → granted_spot local_key (regions_of pool held) domain key from count NoRight ≡ Some spot → IsSpotOf (record no_context { regions = regions_of pool held }) key from count spot
+spot-of : (pool : Pool) (held : List RegisteredRegion) (domain : Name) (key from count : ℕ) (spot : RegionRange) → AreKeyed held → 0 < count → granted_spot local_key (regions_of pool held) domain key from count NoRight ≡ Some spot → IsSpotOf (record no_context { regions = regions_of pool held }) key from count spot
 spot-of pool held domain key from count spot keyed some e =
     let c : Context = record no_context { regions = regions_of pool held } in
     let found = place-region c pool held refl keyed local_key domain key from count NoRight spot some e in
@@ -96,14 +96,14 @@ spot-of pool held domain key from count spot keyed some e =
       length = ap (λ s. s.length) (sym same);
     }
 
-empty-spot : (key_of : Region → ℕ) (rs : List Region) (domain : Name) (key from count : ℕ) (right : Right) (spot : Spot) → count ≡ 0 → granted_spot key_of rs domain key from count right ≡ Some spot → pages_touched spot ≡ 0
+empty-spot : (key_of : Region → ℕ) (rs : List Region) (domain : Name) (key from count : ℕ) (right : Right) (spot : RegionRange) → count ≡ 0 → granted_spot key_of rs domain key from count right ≡ Some spot → pages_touched spot ≡ 0
 empty-spot key_of rs domain key from count right spot e s =
     let yes : (count == 0) ≡ true = grind (arith, nat_tests, e) in
     let is : Some (record { region = 0; off = 0; length = 0 }) ≡ Some spot = sym (ap (λ b. if b then Some (record { region = 0; off = 0; length = 0 }) else option_map (place_in from count) (granted key_of rs domain key from count right)) yes) ∙ s in
     let same : record { region = 0; off = 0; length = 0 } ≡ spot = cc in
     ap pages_touched (sym same)
 
-touched-some : (spot : Spot) → spot.length ≢ 0 → pages_touched spot ≡ pages_of_range spot.off spot.length
+touched-some : (spot : RegionRange) → spot.length ≢ 0 → pages_touched spot ≡ pages_of_range spot.off spot.length
 unfolding pages_for
 touched-some spot some = let no : (spot.length == 0) ≡ false = grind (arith, nat_tests) in ap (λ b. if b then 0 else pages_for (spot.off % 4096 + spot.length)) no ∙ range-is spot.off spot.length some
 
@@ -111,7 +111,7 @@ base-is : (c : Context) (key : ℕ) → (region_of_key c key).base ≡ (at (λ x
 unfolding region_of_key
 base-is c key = refl
 
-pub source-pages : (pool : Pool) (held : List Held) (domain : Name) (p : PostedImage) (n : ℕ) (spot : Spot) → MayCome held domain p → n ≡ length p.payload → AreKeyed held → granted_spot local_key (regions_of pool held) domain p.request.lkey p.request.local n NoRight ≡ Some spot
+pub source-pages : (pool : Pool) (held : List RegisteredRegion) (domain : Name) (p : PostedImage) (n : ℕ) (spot : RegionRange) → MayCome held domain p → n ≡ length p.payload → AreKeyed held → granted_spot local_key (regions_of pool held) domain p.request.lkey p.request.local n NoRight ≡ Some spot
     → pages_touched spot ≡ pages_of_request (record no_context { regions = regions_of pool held }) p.request
 source-pages pool held domain p n spot may e keyed s = by_kind (takes_bytes p.request.shape.kind) refl
   where
@@ -141,10 +141,10 @@ source-pages pool held domain p n spot may e keyed s = by_kind (takes_bytes p.re
 -- ---- bytes in new pages
 
 -- the first byte in its page
-abbrev pub first_in : Spot → ℕ
+abbrev pub first_in : RegionRange → ℕ
 first_in spot = if spot.length == 0 then 0 else spot.off % 4096
 
-fits-touched : (spot : Spot) → first_in spot + spot.length ≤ 4096 * pages_touched spot
+fits-touched : (spot : RegionRange) → first_in spot + spot.length ≤ 4096 * pages_touched spot
 fits-touched spot = by_test (spot.length == 0) refl
   where
     by_test : (b : Bool) → (spot.length == 0) ≡ b → (if b then 0 else spot.off % 4096) + spot.length ≤ 4096 * (if b then 0 else pages_for (spot.off % 4096 + spot.length))
@@ -154,14 +154,14 @@ fits-touched spot = by_test (spot.length == 0) refl
 blank-bytes : (old mid : Pool) (list n : ℕ) → Puts old mid list (Some (blank (4096 * n))) → length (bytes_in mid list) ≡ 4096 * n
 blank-bytes old mid list n puts = ap (λ o. length (unwrap_or o [])) puts.here ∙ length-blank (4096 * n)
 
-pub room-for : (old mid : Pool) (list n first count : ℕ) (spot : Spot) → Puts old mid list (Some (blank (4096 * n))) → n ≡ pages_touched spot → first ≡ first_in spot → count ≡ spot.length → first + count ≤ length (bytes_in mid list)
+pub room-for : (old mid : Pool) (list n first count : ℕ) (spot : RegionRange) → Puts old mid list (Some (blank (4096 * n))) → n ≡ pages_touched spot → first ≡ first_in spot → count ≡ spot.length → first + count ≤ length (bytes_in mid list)
 room-for old mid list n first count spot puts e f g =
     let size = blank-bytes old mid list n puts in
     let fits = fits-touched spot in
     omega (arith, size, fits, e, f, g)
 
 -- what is known of them
-pub record IsStored (new : Pool) (list first : ℕ) (spot : Spot) (bytes : List ℕ) : Type 0 where
+pub record IsStored (new : Pool) (list first : ℕ) (spot : RegionRange) (bytes : List ℕ) : Type 0 where
   pub lives : IsIn new list
   pub inside : first + spot.length ≤ length (bytes_in new list)
   pub pages : pages_of (bytes_of new list) ≡ pages_touched spot
@@ -185,7 +185,7 @@ cut-put base bytes first n e fits =
     plus-zero : (k : ℕ) → k ≡ k + 0
     plus-zero k = omega arith
 
-pub stored-in : (old mid new : Pool) (list n first : ℕ) (spot : Spot) (bytes : List ℕ) → Puts old mid list (Some (blank (4096 * n))) → n ≡ pages_touched spot → first ≡ first_in spot → length bytes ≡ spot.length → Puts mid new list (Some (put (bytes_in mid list) first bytes)) → IsStored new list first spot bytes
+pub stored-in : (old mid new : Pool) (list n first : ℕ) (spot : RegionRange) (bytes : List ℕ) → Puts old mid list (Some (blank (4096 * n))) → n ≡ pages_touched spot → first ≡ first_in spot → length bytes ≡ spot.length → Puts mid new list (Some (put (bytes_in mid list) first bytes)) → IsStored new list first spot bytes
 stored-in old mid new list n first spot bytes made e f g puts =
     let size = blank-bytes old mid list n made in
     let room : first + length bytes ≤ length (bytes_in mid list) = room-for old mid list n first (length bytes) spot made e f g in

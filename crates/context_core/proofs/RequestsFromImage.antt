@@ -9,16 +9,16 @@ use Rattle.rdma_types.specs.declared.names.Name.{Name}
 use Rattle.page_pool.specs.Pool.{Pool, Puts, IsIn, bytes_of, free_pages, pages_of}
 use Rattle.page_pool.specs.Held.{HoldsPayload, payload_bytes}
 use Rattle.page_pool.specs.declared.Payload.{Payload}
-use Rattle.memory_keys.specs.declared.Held.{Held}
+use Rattle.memory_keys.specs.declared.RegisteredRegion.{RegisteredRegion}
 use Rattle.memory_keys.specs.Regions.{AreHeld, Lies, regions_of}
-use Rattle.work_queues.specs.declared.posted.QueuedRequest.{QueuedRequest}
-use Rattle.work_queues.specs.Untold.{untold_in}
+use Rattle.end_queues.specs.declared.work_queues.posted.QueuedRequest.{QueuedRequest}
+use Rattle.end_queues.specs.Untold.{untold_in}
 use Rattle.protocol.specs.declared.images.PostedImage.{PostedImage}
 use Rattle.protocol.specs.Images.{posted_of_image}
 use Rattle.protocol.specs.Memory.{pages_of_request}
 use Rattle.protocol.specs.State.{no_context}
-use Rattle.end_memory.specs.Payloads.{AreApart, GivesBack}
-use Rattle.end_memory.proofs.Given.{AreKept, apart-after, gives-more, gives-none, gives-one, others-differ, pages-cons, pages-kept, pages-none, rest-kept}
+use Rattle.end_completions.specs.Payloads.{AreApart, GivesBack}
+use Rattle.end_completions.proofs.Given.{AreKept, apart-after, gives-more, gives-none, gives-one, others-differ, pages-cons, pages-kept, pages-none, rest-kept}
 use Rattle.endpoint_core.specs.Sound.{IsPosted, payload_lists}
 use Rattle.context_core.specs.Coming.{AreTaken, Come, IsAlike, MayCome}
 use Rattle.context_core.specs.Context.{IsPaged}
@@ -108,7 +108,7 @@ taken-none pool = record {
   free = ap (λ n. free_pages pool + n) (pages-none pool) ∙ omega arith;
 }
 
-pub come-none : (pool : Pool) (held : List Held) (domain : Name) → Come pool pool held domain [] []
+pub come-none : (pool : Pool) (held : List RegisteredRegion) (domain : Name) → Come pool pool held domain [] []
 come-none pool held domain = record {
   taken = taken-none pool;
   posted = All-nil (IsPosted pool held domain);
@@ -181,7 +181,7 @@ module _ {old mid new : Pool} {ps : List QueuedRequest} {p : QueuedRequest} (fir
         omega (arith, both, stays, a, b);
   }
 
-come-both : (old mid new : Pool) (held : List Held) (domain : Name) (images : List PostedImage) (image : PostedImage) (ps : List QueuedRequest) (p : QueuedRequest) → Come old mid held domain images ps → Come mid new held domain (image ∷ []) (p ∷ []) → Come old new held domain (images ++ image ∷ []) (ps ++ p ∷ [])
+come-both : (old mid new : Pool) (held : List RegisteredRegion) (domain : Name) (images : List PostedImage) (image : PostedImage) (ps : List QueuedRequest) (p : QueuedRequest) → Come old mid held domain images ps → Come mid new held domain (image ∷ []) (p ∷ []) → Come old new held domain (images ++ image ∷ []) (ps ++ p ∷ [])
 come-both old mid new held domain images image ps p first second =
     let stays : AreSame mid new ps = same first.taken second.taken in
     record {
@@ -194,7 +194,7 @@ come-both old mid new held domain images image ps p first second =
           ∙ (ap (λ xs. map posted_of_image images ++ xs) second.shown ∙ sym (map-append posted_of_image images (image ∷ []))));
     }
 
-pub come-more : (old mid new : Pool) (held : List Held) (domain : Name) (images : List PostedImage) (i : ℕ) (image : PostedImage) (ps : List QueuedRequest) (p : QueuedRequest) → i < length images → image ≡ get_or images i image → Come old mid held domain (take i images) ps → Come mid new held domain (image ∷ []) (p ∷ []) → Come old new held domain (take (i + 1) images) (ps ++ p ∷ [])
+pub come-more : (old mid new : Pool) (held : List RegisteredRegion) (domain : Name) (images : List PostedImage) (i : ℕ) (image : PostedImage) (ps : List QueuedRequest) (p : QueuedRequest) → i < length images → image ≡ get_or images i image → Come old mid held domain (take i images) ps → Come mid new held domain (image ∷ []) (p ∷ []) → Come old new held domain (take (i + 1) images) (ps ++ p ∷ [])
 come-more old mid new held domain images i image ps p lt is first second =
     let more : take (i + 1) images ≡ take i images ++ image ∷ [] = take_more images i image lt ∙ ap (λ x. take i images ++ x ∷ []) (sym is) in
     subst (λ xs. Come old new held domain xs (ps ++ p ∷ [])) (sym more) (come-both old mid new held domain (take i images) image ps p first second)
@@ -209,10 +209,10 @@ lists-differ old list (p ∷ ps) lives h = ((λ same. differs old list p.payload
 pub kept-list : (old new : Pool) (ps : List QueuedRequest) (list : ℕ) → AreTaken old new ps → IsIn old list → bytes_of new list ≡ bytes_of old list
 kept-list old new ps list t lives = t.others list (All-from_recursion (λ x. x ≢ list) (payload_lists ps) (lists-differ old list ps lives (recursion_from_All (IsGone old) ps t.fresh)))
 
-pub held-kept : (old new : Pool) (ps : List QueuedRequest) (hs : List Held) → AreTaken old new ps → AreHeld old hs → AreHeld new hs
+pub held-kept : (old new : Pool) (ps : List QueuedRequest) (hs : List RegisteredRegion) → AreTaken old new ps → AreHeld old hs → AreHeld new hs
 held-kept old new ps hs t are = record { lie = All-from_recursion (Lies new) hs (each hs (recursion_from_All (Lies old) hs are.lie)); apart = are.apart }
   where
-    each : (xs : List Held) → AllByRecursion (Lies old) xs → AllByRecursion (Lies new) xs
+    each : (xs : List RegisteredRegion) → AllByRecursion (Lies old) xs → AllByRecursion (Lies new) xs
     each [] h = tt
     each (x ∷ xs) h =
         let bytes : bytes_of new x.list ≡ bytes_of old x.list = kept-list old new ps x.list t h.0.lives in
@@ -220,11 +220,11 @@ held-kept old new ps hs t are = record { lie = All-from_recursion (Lies new) hs 
 
 -- ---- one request
 
-region-apart : (old : Pool) (list : ℕ) (hs : List Held) → bytes_of old list ≡ None → AllByRecursion (Lies old) hs → AllByRecursion (λ h. h.list ≢ list) hs
+region-apart : (old : Pool) (list : ℕ) (hs : List RegisteredRegion) → bytes_of old list ≡ None → AllByRecursion (Lies old) hs → AllByRecursion (λ h. h.list ≢ list) hs
 region-apart old list [] none h = tt
 region-apart old list (x ∷ xs) none h = (differs old x.list list h.0.lives none, region-apart old list xs none h.1)
 
-pub come-one : (old new : Pool) (held : List Held) (domain : Name) (image : PostedImage) (payload : Payload) → AreHeld old held → MayCome held domain image
+pub come-one : (old new : Pool) (held : List RegisteredRegion) (domain : Name) (image : PostedImage) (payload : Payload) → AreHeld old held → MayCome held domain image
     → bytes_of old payload.list ≡ None → Puts old new payload.list (bytes_of new payload.list) → HoldsPayload new payload → payload.length ≡ length image.payload → payload_bytes new payload ≡ image.payload
     → pages_of (bytes_of new payload.list) ≡ pages_of_request (record no_context { regions = regions_of new held }) image.request → free_pages new + pages_of (bytes_of new payload.list) ≡ free_pages old
     → Come old new held domain (image ∷ []) (record { request = image.request; payload = payload } ∷ [])

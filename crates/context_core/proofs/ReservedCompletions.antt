@@ -13,9 +13,9 @@ use Rattle.rdma_types.specs.Lists.{named}
 use Rattle.rdma_types.specs.Objects.{CompletionQueue, no_queue}
 use Rattle.rdma_types.proofs.Tables.{name_is, same_name}
 use Rattle.page_pool.specs.Pool.{Pool}
-use Rattle.completion_queue.specs.Queue.{Queue, reserving}
-use Rattle.work_queues.specs.declared.posted.QueuedRequest.{QueuedRequest}
-use Rattle.work_queues.specs.Untold.{untold_in}
+use Rattle.end_queues.specs.Completions.{Queue, reserving}
+use Rattle.end_queues.specs.declared.work_queues.posted.QueuedRequest.{QueuedRequest}
+use Rattle.end_queues.specs.Untold.{untold_in}
 use Rattle.protocol.specs.EndWords.{in_use}
 use Rattle.protocol.specs.Memory.{untold_of}
 use Rattle.protocol.specs.Refusals.{count_if, is_full, reserved, reserved_by}

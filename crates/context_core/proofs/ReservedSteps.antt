@@ -6,14 +6,14 @@ use Rattle.std.proofs.lemmas.List.Elements.{recursion_from_All}
 use Rattle.indexmap.specs.IndexMap.{set_value_at}
 use Rattle.rdma_types.specs.declared.names.Name.{Name}
 use Rattle.page_pool.specs.Pool.{Pool, IsIn, bytes_of, free_pages}
-use Rattle.completion_queue.specs.Queue.{Queue, reserving}
-use Rattle.memory_keys.specs.declared.Held.{Held}
-use Rattle.work_queues.specs.declared.posted.QueuedRequest.{QueuedRequest}
+use Rattle.end_queues.specs.Completions.{Queue, reserving}
+use Rattle.memory_keys.specs.declared.RegisteredRegion.{RegisteredRegion}
+use Rattle.end_queues.specs.declared.work_queues.posted.QueuedRequest.{QueuedRequest}
 use Rattle.protocol.specs.Memory.{pages_of_context}
 use Rattle.endpoint_core.specs.declared.end.Endpoint.{Endpoint}
 use Rattle.endpoint_core.specs.Queues.{count_at, nothing}
 use Rattle.endpoint_core.specs.Sites.{IsHome, IsSound, Keeps, home}
-use Rattle.end_memory.specs.Payloads.{payload_lists, payload_pages}
+use Rattle.end_completions.specs.Payloads.{payload_lists, payload_pages}
 use Rattle.context_core.specs.declared.state.EndSlot.{EndSlot}
 use Rattle.context_core.specs.Context.{HasQueues, Holding, IsContext, IsHolding, Moves, context_in, lists_of, names_in, site_in}
 use Rattle.context_core.proofs.DisjointLists.{Lacks, lacks-not}
@@ -47,7 +47,7 @@ reserves a h place queues is inside made = by (slice_get (values_of h.queues) pl
     }
 
 -- what a posting leaves
-pub record Posts (a b : Pool) (h : Holding) (old : List (Name × Queue)) (i : ℕ) (v : EndSlot) (held : List Held) (queues : List (Name × Queue)) (x : Endpoint) (posted : List QueuedRequest) : Type 0 where
+pub record Posts (a b : Pool) (h : Holding) (old : List (Name × Queue)) (i : ℕ) (v : EndSlot) (held : List RegisteredRegion) (queues : List (Name × Queue)) (x : Endpoint) (posted : List QueuedRequest) : Type 0 where
   pub is : IsContext b (after h i (entry h.ends i v) held queues x)
   pub others : (list : ℕ) → IsIn a list → (Contains (lists_of h) list → ⊥) → Lacks (payload_lists posted) list → bytes_of b list ≡ bytes_of a list
   pub fresh : (list : ℕ) → Contains (lists_of (after h i (entry h.ends i v) held queues x)) list → Contains (lists_of h) list ⊎ Contains (payload_lists posted) list
@@ -60,7 +60,7 @@ lists-same : (h : Holding) (queues : List (Name × Queue)) → lists_of (with_qu
 unfolding lists_of
 lists-same h queues = refl
 
-pub posts-step : (a b : Pool) (h : Holding) (place : ℕ) (old : List (Name × Queue)) (i : ℕ) (v : EndSlot) (held : List Held) (queues : List (Name × Queue)) (x : Endpoint) (posted : List QueuedRequest)
+pub posts-step : (a b : Pool) (h : Holding) (place : ℕ) (old : List (Name × Queue)) (i : ℕ) (v : EndSlot) (held : List RegisteredRegion) (queues : List (Name × Queue)) (x : Endpoint) (posted : List QueuedRequest)
     → Reserves a h place old → slice_get (values_of h.ends) i ≡ Some v → AreNew a h posted
     → Keeps (site_in a (with_queues h old) (entry h.ends i v)) (site_after b (entry h.ends i v) held queues x) posted (count_at place 1)
     → IsSound (site_after b (entry h.ends i v) held queues x) nothing
@@ -84,7 +84,7 @@ posts-step a b h place old i v held queues x posted res value new keeps sound =
     fresh list (inr c) = inr c
 
 -- .. and the moves, where nothing with bytes is posted
-pub posts-moves : (a b : Pool) (h : Holding) (old : List (Name × Queue)) (i : ℕ) (v : EndSlot) (held : List Held) (queues : List (Name × Queue)) (x : Endpoint) → (pages : b.pages ≡ a.pages) → Posts a b h old i v held queues x [] → Moves a b h (after h i (entry h.ends i v) held queues x)
+pub posts-moves : (a b : Pool) (h : Holding) (old : List (Name × Queue)) (i : ℕ) (v : EndSlot) (held : List RegisteredRegion) (queues : List (Name × Queue)) (x : Endpoint) → (pages : b.pages ≡ a.pages) → Posts a b h old i v held queues x [] → Moves a b h (after h i (entry h.ends i v) held queues x)
 unfolding payload_pages
 posts-moves a b h old i v held queues x pages p = record {
   pages = pages;

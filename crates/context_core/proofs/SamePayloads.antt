@@ -11,10 +11,10 @@ use Rattle.rdma_types.specs.Memory.{cut}
 use Rattle.rdma_types.specs.Objects.{no_region}
 use Rattle.page_pool.specs.Pool.{Pool, bytes_of, pages_of}
 use Rattle.page_pool.specs.Held.{HoldsPayload, payload_bytes}
-use Rattle.memory_keys.specs.declared.Held.{Held}
+use Rattle.memory_keys.specs.declared.RegisteredRegion.{RegisteredRegion}
 use Rattle.memory_keys.specs.Regions.{region_of, regions_of}
-use Rattle.work_queues.specs.declared.posted.QueuedRequest.{QueuedRequest}
-use Rattle.work_queues.specs.Untold.{posted_in, untold_in}
+use Rattle.end_queues.specs.declared.work_queues.posted.QueuedRequest.{QueuedRequest}
+use Rattle.end_queues.specs.Untold.{posted_in, untold_in}
 use Rattle.requester.specs.Sending.{sender_with}
 use Rattle.protocol.specs.Memory.{pages_of_range, pages_of_request, region_of_key}
 use Rattle.protocol.specs.State.{no_context}
@@ -55,7 +55,7 @@ end-same a b names e s = ap (λ l. record (end_in a names e) { link = l }) (link
 holds-same : (a b : Pool) (p : QueuedRequest) → IsSame a b p → HoldsPayload a p.payload → HoldsPayload b p.payload
 holds-same a b p e h = record { lives = ap is_some e ∙ h.lives; inside = subst (λ o. p.payload.first + p.payload.length ≤ length (unwrap_or o [])) (sym e) h.inside }
 
-pub posted-sound : (a b : Pool) (held : List Held) (domain : Name) (ps : List QueuedRequest) → AreSame a b ps → AllByRecursion (IsPosted a held domain) ps → AllByRecursion (IsPosted b held domain) ps
+pub posted-sound : (a b : Pool) (held : List RegisteredRegion) (domain : Name) (ps : List QueuedRequest) → AreSame a b ps → AllByRecursion (IsPosted a held domain) ps → AllByRecursion (IsPosted b held domain) ps
 posted-sound a b held domain [] s h = tt
 posted-sound a b held domain (p ∷ ps) s h = (
   record {
@@ -66,7 +66,7 @@ posted-sound a b held domain (p ∷ ps) s h = (
   posted-sound a b held domain ps s.1 h.1,
 )
 
-linked-same : (a b : Pool) (held : List Held) (e : Endpoint) (l : EndLink) → AreSame a b l.requester.items → IsLinked a held e l → IsLinked b held e l
+linked-same : (a b : Pool) (held : List RegisteredRegion) (e : Endpoint) (l : EndLink) → AreSame a b l.requester.items → IsLinked a held e l → IsLinked b held e l
 linked-same a b held e l s h = record {
   terms = h.terms;
   sending_terms = h.sending_terms;
@@ -82,17 +82,17 @@ linked-same a b held e l s h = record {
   running = h.running;
 }
 
-state-same : (a b : Pool) (held : List Held) (e : Endpoint) (l : Option EndLink) → AreSame a b (untold_by l) → IsInState a held e l → IsInState b held e l
+state-same : (a b : Pool) (held : List RegisteredRegion) (e : Endpoint) (l : Option EndLink) → AreSame a b (untold_by l) → IsInState a held e l → IsInState b held e l
 state-same a b held e None s h = h
 state-same a b held e (Some l) s h = linked-same a b held e l s h
 
-pub sound-same : (a b : Pool) (held : List Held) (e : Endpoint) → AreSame a b (untold_by e.link) → IsEnd a held e → IsEnd b held e
+pub sound-same : (a b : Pool) (held : List RegisteredRegion) (e : Endpoint) → AreSame a b (untold_by e.link) → IsEnd a held e → IsEnd b held e
 sound-same a b held e s h = record { queue = h.queue; depth = h.depth; state = state-same a b held e e.link s h.state }
 
 -- ---- pages
 
 -- where a region begins is no matter of its bytes
-base-same : (a b : Pool) (held : List Held) (key : ℕ) → (at (λ r. r.keys.local) no_region key (regions_of b held)).base ≡ (at (λ r. r.keys.local) no_region key (regions_of a held)).base
+base-same : (a b : Pool) (held : List RegisteredRegion) (key : ℕ) → (at (λ r. r.keys.local) no_region key (regions_of b held)).base ≡ (at (λ r. r.keys.local) no_region key (regions_of a held)).base
 unfolding at
 base-same a b [] key = refl
 base-same a b (h ∷ hs) key = by (h.head.keys.local == key) (base-same a b hs key)
@@ -102,13 +102,13 @@ base-same a b (h ∷ hs) key = by (h.head.keys.local == key) (base-same a b hs k
     by true rest = refl
     by false rest = rest
 
-pub taken-same : (a b : Pool) (held : List Held) (r : Request) → pages_of_request (record no_context { regions = regions_of b held }) r ≡ pages_of_request (record no_context { regions = regions_of a held }) r
+pub taken-same : (a b : Pool) (held : List RegisteredRegion) (r : Request) → pages_of_request (record no_context { regions = regions_of b held }) r ≡ pages_of_request (record no_context { regions = regions_of a held }) r
 unfolding pages_of_request region_of_key
 taken-same a b held r = ap (λ base. if takes_bytes r.shape.kind then pages_of_range (r.local - base) r.shape.length else 0) (base-same a b held r.lkey)
 
-pub paged-same : (a b : Pool) (held : List Held) (p : QueuedRequest) → IsSame a b p → IsPaged a held p → IsPaged b held p
+pub paged-same : (a b : Pool) (held : List RegisteredRegion) (p : QueuedRequest) → IsSame a b p → IsPaged a held p → IsPaged b held p
 paged-same a b held p e h = ap pages_of e ∙ (h ∙ sym (taken-same a b held p.request))
 
-pub all-paged : (a b : Pool) (held : List Held) (ps : List QueuedRequest) → AreSame a b ps → AllByRecursion (IsPaged a held) ps → AllByRecursion (IsPaged b held) ps
+pub all-paged : (a b : Pool) (held : List RegisteredRegion) (ps : List QueuedRequest) → AreSame a b ps → AllByRecursion (IsPaged a held) ps → AllByRecursion (IsPaged b held) ps
 all-paged a b held [] s h = tt
 all-paged a b held (p ∷ ps) s h = (paged-same a b held p s.0 h.0, all-paged a b held ps s.1 h.1)

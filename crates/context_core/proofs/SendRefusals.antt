@@ -19,13 +19,13 @@ use Rattle.rdma_types.specs.Spans.{end_number, span}
 use Rattle.page_pool.specs.Pool.{Pool, bytes_of, pages_for}
 use Rattle.page_pool.specs.Held.{payload_bytes}
 use Rattle.page_pool.specs.declared.Payload.{Payload}
-use Rattle.completion_queue.specs.Queue.{Queue}
-use Rattle.memory_keys.specs.declared.Held.{Held}
-use Rattle.memory_keys.specs.declared.Spot.{Spot}
+use Rattle.end_queues.specs.Completions.{Queue}
+use Rattle.memory_keys.specs.declared.RegisteredRegion.{RegisteredRegion}
+use Rattle.memory_keys.specs.declared.RegionRange.{RegionRange}
 use Rattle.memory_keys.specs.Regions.{AreKeyed, IsSpot, granted_spot, pages_touched, place_in, regions_of, spot_bytes}
 use Rattle.memory_keys.proofs.Protocol.{place-offset, place-some, spot-cut}
-use Rattle.work_queues.specs.declared.posted.QueuedRequest.{QueuedRequest}
-use Rattle.work_queues.specs.Untold.{untold_in}
+use Rattle.end_queues.specs.declared.work_queues.posted.QueuedRequest.{QueuedRequest}
+use Rattle.end_queues.specs.Untold.{untold_in}
 use Rattle.requester.specs.Sending.{bares}
 use Rattle.protocol.specs.DeviceStep.{taken_bytes}
 use Rattle.protocol.specs.Memory.{pages_of_request, region_of_key, untold_of}
@@ -147,7 +147,7 @@ request-refused pool n h name i e r o is found there refused =
 
 -- ---- bytes
 
-pub source-is : (held : List Held) (e : Endpoint) (l : EndLink) (r : Request) (place spot : Spot) → e.link ≡ Some l → spot ≡ (if takes_bytes r.shape.kind && not l.ended then place else record { region = 0; off = 0; length = 0 }) → IsSpot held place → place.length ≡ r.shape.length
+pub source-is : (held : List RegisteredRegion) (e : Endpoint) (l : EndLink) (r : Request) (place spot : RegionRange) → e.link ≡ Some l → spot ≡ (if takes_bytes r.shape.kind && not l.ended then place else record { region = 0; off = 0; length = 0 }) → IsSpot held place → place.length ≡ r.shape.length
     → ((pool : Pool) → Some place ≡ granted_spot local_key (regions_of pool held) e.domain r.lkey r.local r.shape.length (landing_right r.shape.kind)) → IsSource held e r spot
 source-is held e l r place spot linked is inside size granted =
     by (takes_bytes r.shape.kind && not (is_ended_link e.link)) refl (is ∙ ap (λ o. if takes_bytes r.shape.kind && not (is_ended_link o) then place else record { region = 0; off = 0; length = 0 }) (sym linked))
@@ -180,7 +180,7 @@ granted-key (x ∷ xs) domain key from count right r e = by (grants local_key do
     by true t rest = let same : x ≡ r = grind (arith, t, e) in let key' : x.keys.local ≡ key = grind (arith, nat_tests, t) in ap (λ y. y.keys.local) (sym same) ∙ key'
     by false t rest = rest (grind (arith, t, e))
 
-spot-key : (rs : List Region) (domain : Name) (key from count : ℕ) (right : Right) (spot : Spot) → 0 < count → granted_spot local_key rs domain key from count right ≡ Some spot → spot.region ≡ key
+spot-key : (rs : List Region) (domain : Name) (key from count : ℕ) (right : Right) (spot : RegionRange) → 0 < count → granted_spot local_key rs domain key from count right ≡ Some spot → spot.region ≡ key
 spot-key rs domain key from count right spot some e = by (granted local_key rs domain key from count right) refl (sym (place-some local_key rs domain key from count right some) ∙ e)
   where
     by : (o : Option Region) → granted local_key rs domain key from count right ≡ o → option_map (place_in from count) (granted local_key rs domain key from count right) ≡ Some spot → spot.region ≡ key
@@ -195,11 +195,11 @@ unfolding pages_for
 touched off count some = omega arith
 
 -- the pages and the bytes of a request that takes some
-record IsWhole (c : Context) (pool : Pool) (held : List Held) (r : Request) (spot : Spot) : Type 0 where
+record IsWhole (c : Context) (pool : Pool) (held : List RegisteredRegion) (r : Request) (spot : RegionRange) : Type 0 where
   pub pages : pages_of_request c r ≡ pages_touched spot
   pub bytes : spot_bytes pool held spot ≡ taken_bytes c r
 
-whole : (c : Context) (pool : Pool) (held : List Held) (e : Endpoint) (r : Request) (spot : Spot) → c.regions ≡ regions_of pool held → AreKeyed held → IsSource held e r spot → is_ended_link e.link ≡ false → takes_bytes r.shape.kind ≡ true → 0 < r.shape.length → IsWhole c pool held r spot
+whole : (c : Context) (pool : Pool) (held : List RegisteredRegion) (e : Endpoint) (r : Request) (spot : RegionRange) → c.regions ≡ regions_of pool held → AreKeyed held → IsSource held e r spot → is_ended_link e.link ≡ false → takes_bytes r.shape.kind ≡ true → 0 < r.shape.length → IsWhole c pool held r spot
 unfolding pages_of_request taken_bytes
 whole c pool held e r spot regions keyed s running takes some =
     let count : taken_length e.link r ≡ r.shape.length = rw takes (rw running refl) in
@@ -216,7 +216,7 @@ whole c pool held e r spot regions keyed s running takes some =
     }
 
 -- a spot of nothing touches no page, and a payload of nothing has no bytes
-none-touched : (spot : Spot) → spot.length ≡ 0 → pages_touched spot ≡ 0
+none-touched : (spot : RegionRange) → spot.length ≡ 0 → pages_touched spot ≡ 0
 none-touched spot e = rw e refl
 
 none-paid : (pool : Pool) (p : Payload) → p.length ≡ 0 → payload_bytes pool p ≡ []
@@ -224,7 +224,7 @@ unfolding payload_bytes cut
 none-paid pool p e = ap (λ n. take n (drop p.first (unwrap_or (bytes_of pool p.list) []))) e
 
 -- the pages that a request takes, where its end is not in Error
-pub pages-asked : (c : Context) (pool : Pool) (held : List Held) (e : Endpoint) (r : Request) (spot : Spot) → c.regions ≡ regions_of pool held → AreKeyed held → IsSource held e r spot → is_ended_link e.link ≡ false → pages_of_request c r ≡ pages_touched spot
+pub pages-asked : (c : Context) (pool : Pool) (held : List RegisteredRegion) (e : Endpoint) (r : Request) (spot : RegionRange) → c.regions ≡ regions_of pool held → AreKeyed held → IsSource held e r spot → is_ended_link e.link ≡ false → pages_of_request c r ≡ pages_touched spot
 unfolding pages_of_request
 pages-asked c pool held e r spot regions keyed s running = by (takes_bytes r.shape.kind) refl (r.shape.length) refl
   where
@@ -234,7 +234,7 @@ pages-asked c pool held e r spot regions keyed s running = by (takes_bytes r.sha
     by true t (suc k) l = (whole c pool held e r spot regions keyed s running t (omega arith)).pages
 
 -- its bytes
-pub bytes-asked : (c : Context) (a b : Pool) (held : List Held) (e : Endpoint) (r : Request) (spot : Spot) (p : Payload) → c.regions ≡ regions_of a held → AreKeyed held → IsSource held e r spot → IsTaken a b held spot p → is_ended_link e.link ≡ false → payload_bytes b p ≡ taken_bytes c r
+pub bytes-asked : (c : Context) (a b : Pool) (held : List RegisteredRegion) (e : Endpoint) (r : Request) (spot : RegionRange) (p : Payload) → c.regions ≡ regions_of a held → AreKeyed held → IsSource held e r spot → IsTaken a b held spot p → is_ended_link e.link ≡ false → payload_bytes b p ≡ taken_bytes c r
 unfolding taken_bytes
 bytes-asked c a b held e r spot p regions keyed s t running = by (takes_bytes r.shape.kind) refl (r.shape.length) refl
   where
@@ -244,7 +244,7 @@ bytes-asked c a b held e r spot p regions keyed s t running = by (takes_bytes r.
     by true u (suc k) l = t.bytes ∙ (whole c a held e r spot regions keyed s running u (omega arith)).bytes
 
 -- in Error nothing is taken
-pub none-asked : (held : List Held) (e : Endpoint) (r : Request) (spot : Spot) → IsSource held e r spot → is_ended_link e.link ≡ true → pages_touched spot ≡ 0
+pub none-asked : (held : List RegisteredRegion) (e : Endpoint) (r : Request) (spot : RegionRange) → IsSource held e r spot → is_ended_link e.link ≡ true → pages_touched spot ≡ 0
 none-asked held e r spot s ended = by (takes_bytes r.shape.kind) refl
   where
     by : (b : Bool) → takes_bytes r.shape.kind ≡ b → pages_touched spot ≡ 0

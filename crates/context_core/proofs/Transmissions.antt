@@ -5,7 +5,7 @@ use Rattle.std.specs.Map.{keys_of, values_of}
 use Rattle.rdma_types.specs.declared.names.Name.{Name}
 use Rattle.rdma_types.specs.declared.requests.Address.{Address}
 use Rattle.page_pool.specs.Pool.{Pool}
-use Rattle.memory_keys.specs.declared.Held.{Held}
+use Rattle.memory_keys.specs.declared.RegisteredRegion.{RegisteredRegion}
 use Rattle.protocol.specs.DeviceStep.{gives, transmits, with_context}
 use Rattle.protocol.specs.State.{Context, Device, end_at as end_named}
 use Rattle.endpoint_core.specs.declared.answers.EndSend.{EndSend}
@@ -63,7 +63,7 @@ module _ (pool : Pool) (h : Holding) (i : ℕ) (v : EndSlot) (x : Endpoint) (s :
   link : IsLinked pool h.regions v.endpoint l
   link = link-of pool h.regions v.endpoint l sound linked
 
-  pub sending-is : (way : Route) → IsRoute way l → untold_by x.link ≡ untold_by v.endpoint.link → ((pool : Pool) (held : List Held) → IsEnd pool held v.endpoint → IfSome v.endpoint.link (λ l. IsPacketOf pool l s)) → IsSending pool x way s l
+  pub sending-is : (way : Route) → IsRoute way l → untold_by x.link ≡ untold_by v.endpoint.link → ((pool : Pool) (held : List RegisteredRegion) → IsEnd pool held v.endpoint → IfSome v.endpoint.link (λ l. IsPacketOf pool l s)) → IsSending pool x way s l
   sending-is way is-way untold packet = record {
     held = h.regions;
     domain = v.endpoint.domain;
@@ -76,7 +76,7 @@ module _ (pool : Pool) (h : Holding) (i : ℕ) (v : EndSlot) (x : Endpoint) (s :
 
   pub sends-is : (n : Name) (d : Device) (name : Name) (own : Address) → d.address ≡ own → with_context d (context_in pool n h) ≡ d → position (bytes_eq name) (keys_of h.ends) ≡ Some i
       → Steps pool pool h i v h.regions h.queues x
-      → ((pool : Pool) (held : List Held) → IsEnd pool held v.endpoint → transmission_at (option_map (link_in pool) v.endpoint.link) ≡ row_in pool v.endpoint.link s)
+      → ((pool : Pool) (held : List RegisteredRegion) → IsEnd pool held v.endpoint → transmission_at (option_map (link_in pool) v.endpoint.link) ≡ row_in pool v.endpoint.link s)
       → ((t : EndWithMemory) → t.end ≡ v.endpoint → IsEnd t.pool t.held v.endpoint → (c : Context) (names : Names) → IsHome c names t → sent_at c (end_at names t) (end_at names t).link ≡ home c names (record t { end = x }))
       → transmits d (context_in pool n h) (end_named (context_in pool n h) name) ≡ gives (with_context d (context_in pool n (after h i (entry h.ends i v) h.regions h.queues x))) (row_answer (row_in pool (Some l) s)) (row_sent (link_in pool l) own (row_in pool (Some l) s))
   unfolding context_in

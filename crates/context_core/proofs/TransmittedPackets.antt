@@ -9,8 +9,8 @@ use Rattle.rdma_types.specs.Limits.{is_mtu}
 use Rattle.rdma_types.specs.Objects as objects
 use Rattle.page_pool.specs.Held.{payload_bytes}
 use Rattle.page_pool.specs.Pool.{Pool}
-use Rattle.work_queues.specs.declared.posted.QueuedRequest.{QueuedRequest}
-use Rattle.work_queues.specs.Untold.{posted_in}
+use Rattle.end_queues.specs.declared.work_queues.posted.QueuedRequest.{QueuedRequest}
+use Rattle.end_queues.specs.Untold.{posted_in}
 use Rattle.protocol.specs.Bytes.{bytes_at}
 use Rattle.protocol.specs.DeviceStep.{at_link, gives, sends_by, sends_piece, transmits, with_context}
 use Rattle.protocol.specs.EndWords.{linked, with_end, with_link}
@@ -21,8 +21,8 @@ use Rattle.protocol.specs.Requester.{Transmission, Sends, SendsResume, IsIdle, W
 use Rattle.protocol.specs.Segments.{packet_of_piece}
 use Rattle.protocol.specs.State.{Context, Device, End, Link}
 use Rattle.protocol.specs.Wire.{Fits, Packet, plain, wire_of}
-use Rattle.segmenter.specs.declared.head.PacketHead.{PacketHead}
-use Rattle.segmenter.specs.Heads.{packet_with}
+use Rattle.transport.specs.declared.segmenter.head.PacketHead.{PacketHead}
+use Rattle.transport.specs.Heads.{packet_with}
 use Rattle.requester.specs.declared.answers.Transmit.TheVariants.{Sent as IsSent}
 use Rattle.requester.specs.Sending.{sender_in}
 use Rattle.requester.specs.Taking.{request_at}

@@ -3,7 +3,7 @@ use Rattle.std.proofs.Common.{◌≡◌, [], false, refl}
 use Rattle.std.specs.Prelude.{Option, Some, None, ◌==◌}
 use Rattle.protocol.specs.State.{Link, End, Context}
 use Rattle.protocol.specs.Wire.{Packet, is_request}
-use Rattle.law_replies.proofs.Silent.{reply_silent}
+use Rattle.law_devices.proofs.Silent.{reply_silent}
 use Rattle.endpoint_core.specs.Answers.{taken_at}
 
 -- at an end that may be connected

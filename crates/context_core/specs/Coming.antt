@@ -7,13 +7,13 @@ use Rattle.rdma_types.specs.Kinds.{takes_bytes}
 use Rattle.rdma_types.specs.Limits.{most_bytes}
 use Rattle.rdma_types.specs.Shapes.{IsLawfulShape}
 use Rattle.page_pool.specs.Pool.{Pool, IsIn, bytes_of, free_pages, pages_for}
-use Rattle.memory_keys.specs.declared.Held.{Held}
+use Rattle.memory_keys.specs.declared.RegisteredRegion.{RegisteredRegion}
 use Rattle.memory_keys.specs.declared.RegionHead.{RegionHead}
 use Rattle.memory_keys.specs.Regions.{AreHeld}
-use Rattle.completion_queue.specs.Queue.{Queue as CompletionQueue, unreserved, used_places}
-use Rattle.work_queues.specs.Queue.{Queue}
-use Rattle.work_queues.specs.declared.posted.QueuedRequest.{QueuedRequest}
-use Rattle.work_queues.specs.Untold.{untold_in}
+use Rattle.end_queues.specs.Completions.{Queue as CompletionQueue, unreserved, used_places}
+use Rattle.end_queues.specs.Postings.{Queue}
+use Rattle.end_queues.specs.declared.work_queues.posted.QueuedRequest.{QueuedRequest}
+use Rattle.end_queues.specs.Untold.{untold_in}
 use Rattle.protocol.specs.declared.images.ContextImage.{ContextImage}
 use Rattle.protocol.specs.declared.images.CqImage.{CqImage}
 use Rattle.protocol.specs.declared.images.EndImage.{EndImage}
@@ -24,8 +24,8 @@ use Rattle.protocol.specs.declared.images.Progress.{Progress}
 use Rattle.protocol.specs.declared.images.Progress.TheVariants as image
 use Rattle.protocol.specs.Images.{context_of, moved, name_at, posted_of_image, progress_of_image}
 use Rattle.requester.specs.declared.answers.RequesterParts.{RequesterParts}
-use Rattle.move_core.specs.declared.MoveState.{MoveState}
-use Rattle.move_core.specs.declared.Phase.TheVariants as phase
+use Rattle.transport.specs.declared.move_core.MoveState.{MoveState}
+use Rattle.transport.specs.declared.move_core.Phase.TheVariants as phase
 use Rattle.endpoint_core.specs.Queues.{count_at, queues_of, reserved_in}
 use Rattle.endpoint_core.specs.declared.end.Endpoint.{Endpoint}
 use Rattle.endpoint_core.specs.declared.end.EndLink.{EndLink}
@@ -50,7 +50,7 @@ pub record AreTaken (old new : Pool) (ps : List QueuedRequest) : Type 0 where
   pub free : free_pages new + payload_pages new ps ≡ free_pages old
 
 -- regions in new lists; all lists that lived stay
-pub record AreMade (old new : Pool) (hs : List Held) : Type 0 where
+pub record AreMade (old new : Pool) (hs : List RegisteredRegion) : Type 0 where
   pub pages : new.pages ≡ old.pages
   pub others : (list : ℕ) → IsIn old list → bytes_of new list ≡ bytes_of old list
   pub fresh : All (λ h. bytes_of old h.list ≡ None) hs
@@ -61,14 +61,14 @@ pub record AreMade (old new : Pool) (hs : List Held) : Type 0 where
 
 -- the request of an image may come to an end of the domain: its length is in range, its shape is lawful, its payload is
 -- whole, and its place is granted
-pub record MayCome (held : List Held) (domain : Name) (p : PostedImage) : Type 0 where
+pub record MayCome (held : List RegisteredRegion) (domain : Name) (p : PostedImage) : Type 0 where
   pub few : p.request.shape.length ≤ most_bytes
   pub shape : IsLawfulShape p.request.shape
   pub whole : length p.payload ≡ (if takes_bytes p.request.shape.kind then p.request.shape.length else 0)
   pub placed : IsPlaced held domain p.request
 
 -- posted requests that come of images
-pub record Come (old new : Pool) (held : List Held) (domain : Name) (images : List PostedImage) (ps : List QueuedRequest) : Type 0 where
+pub record Come (old new : Pool) (held : List RegisteredRegion) (domain : Name) (images : List PostedImage) (ps : List QueuedRequest) : Type 0 where
   pub taken : AreTaken old new ps
   pub posted : All (IsPosted new held domain) ps
   pub paged : All (IsPaged new held) ps
@@ -113,7 +113,7 @@ end_after c e queue = record {
 }
 
 -- an end that comes of an image, with its requests' payloads in new lists
-pub record IsEndAfter (old new : Pool) (held : List Held) (c : ContextImage) (e : EndImage) (x : Endpoint) : Type 0 where
+pub record IsEndAfter (old new : Pool) (held : List RegisteredRegion) (c : ContextImage) (e : EndImage) (x : Endpoint) : Type 0 where
   pub queue : Queue QueuedRequest
   pub is : x ≡ end_after c e queue
   pub depth : queue.depth ≡ e.send_depth

@@ -7,10 +7,10 @@ use Rattle.rdma_types.specs.declared.requests.Keys.{Keys}
 use Rattle.rdma_types.specs.Limits.{most_queues}
 use Rattle.rdma_types.specs.Objects.{Region}
 use Rattle.page_pool.specs.Pool.{Pool, IsIn, bytes_of, pages_of, free_pages}
-use Rattle.completion_queue.specs.Queue.{Queue}
-use Rattle.memory_keys.specs.declared.Held.{Held}
+use Rattle.end_queues.specs.Completions.{Queue}
+use Rattle.memory_keys.specs.declared.RegisteredRegion.{RegisteredRegion}
 use Rattle.memory_keys.specs.Regions.{AreHeld, AreKeyed, regions_of}
-use Rattle.work_queues.specs.declared.posted.QueuedRequest.{QueuedRequest}
+use Rattle.end_queues.specs.declared.work_queues.posted.QueuedRequest.{QueuedRequest}
 use Rattle.protocol.specs.State.{Context, End, no_context}
 use Rattle.protocol.specs.Memory.{pages_of_context, pages_of_request}
 use Rattle.endpoint_core.specs.Ends.{Names, end_in, untold_by}
@@ -22,7 +22,7 @@ use Rattle.context_core.specs.declared.state.EndSlot.{EndSlot}
 -- domains, regions, completion queues and queue pairs, in order of making
 pub record Holding : Type 0 where
   pub domains : List Name
-  pub regions : List Held
+  pub regions : List RegisteredRegion
   pub queues : List (Name × Queue)
   pub ends : List (Name × EndSlot)
 
@@ -87,7 +87,7 @@ abbrev pub HasQueues : List (Name × Queue) → Name × EndSlot → Type 0
 HasQueues queues e = (e.1.send < length queues) × (e.1.recv < length queues)
 
 -- a payload has the pages that its request takes, counted from its region's base
-abbrev pub IsPaged : Pool → List Held → QueuedRequest → Type 0
+abbrev pub IsPaged : Pool → List RegisteredRegion → QueuedRequest → Type 0
 IsPaged pool held p = pages_of (bytes_of pool p.payload.list) ≡ pages_of_request (record no_context { regions = regions_of pool held }) p.request
 
 -- each queue pair is sound, no two have a payload's list, and each completion queue has as many places reserved as their

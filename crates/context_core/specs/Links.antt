@@ -4,7 +4,7 @@ use Rattle.rdma_types.specs.Limits.{most_moves}
 use Rattle.protocol.specs.EndWords.{is_paused, is_resuming}
 use Rattle.protocol.specs.Requester.{end_of_queue}
 use Rattle.protocol.specs.State.{Context, End, Link}
-use Rattle.move_core.specs.Table.{phase_of}
+use Rattle.transport.specs.Table.{phase_of}
 use Rattle.endpoint_core.specs.declared.end.EndLink.{EndLink}
 use Rattle.context_core.specs.declared.lives.LinkView.{LinkView}
 use Rattle.context_core.specs.declared.lives.LiveEnd.{LiveEnd}

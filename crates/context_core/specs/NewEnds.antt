@@ -6,8 +6,8 @@ use Rattle.rdma_types.specs.Causes.{Cause, cause}
 use Rattle.rdma_types.specs.declared.answers.Refusal.TheVariants.{NoSuch, NumberTaken, TooMany}
 use Rattle.rdma_types.specs.Limits.{most_ends}
 use Rattle.rdma_types.specs.Lists.{has_name, has_word}
-use Rattle.completion_queue.specs.Queue.{Queue}
-use Rattle.work_queues.specs.Queue.{empty_queue}
+use Rattle.end_queues.specs.Completions.{Queue}
+use Rattle.end_queues.specs.Postings.{empty_queue}
 use Rattle.protocol.specs.DeviceStep.{word_of}
 use Rattle.protocol.specs.Refusals.{lacks}
 use Rattle.endpoint_core.specs.declared.end.Endpoint.{Endpoint}

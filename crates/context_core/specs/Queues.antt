@@ -6,10 +6,10 @@ use Rattle.indexmap.specs.IndexMap.{set_value_at}
 use Rattle.rdma_types.specs.declared.names.Name.{Name}
 use Rattle.rdma_types.specs.declared.requests.Receive.{Receive}
 use Rattle.rdma_types.specs.declared.requests.Completion.{Completion}
-use Rattle.memory_keys.specs.declared.Held.{Held}
+use Rattle.memory_keys.specs.declared.RegisteredRegion.{RegisteredRegion}
 use Rattle.responder.specs.Sound.{IsPlace}
 use Rattle.context_core.specs.declared.state.EndSlot.{EndSlot}
-use Rattle.completion_queue.specs.Queue.{Queue, polled, used_places}
+use Rattle.end_queues.specs.Completions.{Queue, polled, used_places}
 
 -- entries and reserved places reach the capacity
 abbrev pub is_full_at : Queue → Bool
@@ -20,7 +20,7 @@ abbrev pub HasRoom : List (Name × Queue) → ℕ → Type 0
 HasRoom queues place = IfSome (slice_get (values_of queues) place) (λ q. used_places q < q.capacity)
 
 -- a queue pair takes a receive: its place is granted, and the receive queue and its completion queue have room
-pub record TakesReceive (regions : List Held) (queues : List (Name × Queue)) (e : EndSlot) (r : Receive) : Type 0 where
+pub record TakesReceive (regions : List RegisteredRegion) (queues : List (Name × Queue)) (e : EndSlot) (r : Receive) : Type 0 where
   pub place : IsPlace regions e.endpoint.domain r
   pub depth : length e.endpoint.recvs.items < e.endpoint.recv_depth
   pub room : HasRoom queues e.recv

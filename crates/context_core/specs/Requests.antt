@@ -13,9 +13,9 @@ use Rattle.rdma_types.specs.Spans.{span}
 use Rattle.page_pool.specs.Pool.{Pool, bytes_of, free_pages, pages_of}
 use Rattle.page_pool.specs.Held.{HoldsPayload, payload_bytes}
 use Rattle.page_pool.specs.declared.Payload.{Payload}
-use Rattle.completion_queue.specs.Queue.{Queue}
-use Rattle.memory_keys.specs.declared.Held.{Held}
-use Rattle.memory_keys.specs.declared.Spot.{Spot}
+use Rattle.end_queues.specs.Completions.{Queue}
+use Rattle.memory_keys.specs.declared.RegisteredRegion.{RegisteredRegion}
+use Rattle.memory_keys.specs.declared.RegionRange.{RegionRange}
 use Rattle.memory_keys.specs.Regions.{IsSpot, granted_spot, pages_touched, regions_of, spot_bytes}
 use Rattle.requester.specs.Sending.{sender_of}
 use Rattle.protocol.specs.Refusals.{is_full, is_init, is_past_limit}
@@ -41,7 +41,7 @@ abbrev pub is_full_place : List (Name × Queue) → ℕ → Bool
 is_full_place queues place = option_map_or is_full_at (slice_get (values_of queues) place) true
 
 -- why no request is posted at a queue pair, apart from too few free pages
-abbrev pub slot_causes : Pool → List Held → List (Name × Queue) → EndSlot → Request → List Cause
+abbrev pub slot_causes : Pool → List RegisteredRegion → List (Name × Queue) → EndSlot → Request → List Cause
 slot_causes pool held queues e r =
     cause TooMany (is_past e.endpoint.link r)
     ∷ cause BadState (is_none e.endpoint.link)
@@ -69,13 +69,13 @@ abbrev pub taken_length : Option EndLink → Request → ℕ
 taken_length link r = if takes_bytes r.shape.kind && not (is_ended_link link) then r.shape.length else 0
 
 -- where the bytes are that are taken
-pub record IsSource (held : List Held) (e : Endpoint) (r : Request) (spot : Spot) : Type 0 where
+pub record IsSource (held : List RegisteredRegion) (e : Endpoint) (r : Request) (spot : RegionRange) : Type 0 where
   pub inside : IsSpot held spot
   pub size : spot.length ≡ taken_length e.link r
   pub granted : (pool : Pool) → granted_spot local_key (regions_of pool held) e.domain r.lkey r.local (taken_length e.link r) (landing_right r.shape.kind) ≡ Some spot
 
 -- a queue pair takes a request, and the bytes at a spot for it
-pub record TakesRequest (held : List Held) (queues : List (Name × Queue)) (e : EndSlot) (r : Request) (spot : Spot) : Type 0 where
+pub record TakesRequest (held : List RegisteredRegion) (queues : List (Name × Queue)) (e : EndSlot) (r : Request) (spot : RegionRange) : Type 0 where
   pub linked : IsSome e.endpoint.link
   pub limit : IsBelowLimit e.endpoint.link r
   pub granted : (pool : Pool) → is_granted local_key (regions_of pool held) e.endpoint.domain r.lkey r.local r.shape.length (landing_right r.shape.kind) ≡ true
@@ -84,7 +84,7 @@ pub record TakesRequest (held : List Held) (queues : List (Name × Queue)) (e : 
   pub source : IsSource held e.endpoint r spot
 
 -- the bytes at a spot stand in a new list
-pub record IsTaken (a b : Pool) (held : List Held) (spot : Spot) (p : Payload) : Type 0 where
+pub record IsTaken (a b : Pool) (held : List RegisteredRegion) (spot : RegionRange) (p : Payload) : Type 0 where
   pub new : bytes_of a p.list ≡ None
   pub same_pages : b.pages ≡ a.pages
   pub others : (list : ℕ) → list ≢ p.list → bytes_of b list ≡ bytes_of a list

@@ -3,7 +3,7 @@ use Rattle.std.specs.Prelude.{◌≡◌, ◌<◌, ◌^◌, All, List}
 use Rattle.rdma_types.specs.declared.names.Name.{Name}
 use Rattle.rdma_types.specs.Limits.{AreTerms}
 use Rattle.page_pool.specs.Pool.{Pool}
-use Rattle.memory_keys.specs.declared.Held.{Held}
+use Rattle.memory_keys.specs.declared.RegisteredRegion.{RegisteredRegion}
 use Rattle.endpoint_core.specs.declared.answers.EndSend.{EndSend}
 use Rattle.endpoint_core.specs.declared.end.Endpoint.{Endpoint}
 use Rattle.endpoint_core.specs.declared.end.EndLink.{EndLink}
@@ -23,7 +23,7 @@ pub record IsRoute (way : Route) (l : EndLink) : Type 0 where
 
 -- an end with link l sent this, and has the requests that it had
 pub record IsSending (pool : Pool) (e : Endpoint) (way : Route) (send : EndSend) (l : EndLink) : Type 0 where
-  pub held : List Held
+  pub held : List RegisteredRegion
   pub domain : Name
   pub way_is : IsRoute way l
   pub items : untold_by e.link ≡ l.requester.items

@@ -8,7 +8,7 @@ ghost use Rattle.rdma_types.specs.Objects.{Region, no_region};
 ghost use Rattle.rdma_types.specs.Memory.{cut};
 ghost use Rattle.rdma_types.specs.Spans.{piece_length, pieces};
 ghost use Rattle.page_pool.specs.Pool.{Pool};
-ghost use Rattle.memory_keys.specs.declared.Held.{Held};
+ghost use Rattle.memory_keys.specs.declared.RegisteredRegion.{RegisteredRegion};
 ghost use Rattle.memory_keys.specs.Regions.{AreHeld, IsSpot, part_of, regions_of, spot_bytes};
 ghost use Rattle.protocol.specs.EndStep.{takes};
 ghost use Rattle.protocol.specs.Responder.{read_piece, read_response};
@@ -26,26 +26,26 @@ ghost use Rattle.context_core.specs.Links.{link_at};
 ghost use Rattle.context_core.specs.Sending.{addressed};
 
 use crate::datagrams::{answer, moving, written};
-use crate::kept::KeptMemory;
+use crate::kept::ReplyBuffers;
 use crate::sending::MOST_HEADERS;
 use crate::{Buffers, ContextState};
 use endpoint_core::{DueRead, EndLink, EndMemory, EndReply, Endpoint};
-use memory_keys::{Regions, Spot};
+use memory_keys::{RegionRange, Regions};
 use page_pool::PagePool;
 use protocol::{Aeth, ResumeBody, Syndrome};
-use rdma_types::{Items, Name, Sent, Took};
+use rdma_types::{ArrivalEffect, Items, Name, Sent};
 use roce_headers::Datagram;
 use roce_headers::opcodes::{
     ACKNOWLEDGE, ATOMIC_ACKNOWLEDGE, READ_FIRST, READ_LAST, READ_MIDDLE, READ_ONLY, RESUME,
     RESUME_ACK, is_request,
 };
-use segmenter::{piece_at, pieces_of};
 use std::alloc::{AllocError, Global};
+use transport::segmenter::{piece_at, pieces_of};
 
 /// What a datagram did, and what is sent for it.
 #[derive(Drop)]
 pub struct ArrivalOutcome {
-    pub took: Took,
+    pub took: ArrivalEffect,
     pub sent: Items<Sent>,
 }
 
@@ -90,7 +90,8 @@ fn read_datagram<'a>(
     requires inside { k < count }
     requires bounded { length payload.now ≤ 4096 }
     ensures loaded { (packet result).payload ≡ payload.now }
-    ensures says { (pool : Pool) → packet result ≡ addressed (read_response (telling (link_in pool link.now) msn) n k count payload.now) }
+    ensures says { (pool : Pool) → packet result
+        ≡ addressed (read_response (telling (link_in pool link.now) msn) n k count payload.now) }
     ensures fits { Fits (packet result) }
 {
     let opcode = response_opcode(k, count);
@@ -133,7 +134,7 @@ fn response(
 fn bytes_of<'a>(
     pool: &'a PagePool,
     regions: &Regions,
-    spot: Spot,
+    spot: RegionRange,
     from: u32,
     memory: &'a mut [u8],
 ) -> &'a [u8]
@@ -181,8 +182,11 @@ fn piece_sent(
     requires inside { k < count }
     requires page { length page.old ≡ 4096 }
     requires empty { memory.items ≡ [] }
-    requires room { piece_length due.now.spot.length k link.now.terms.mtu + 92 ≤ vec_capacity memory }
-    ensures { result ≡ read_piece (telling (link_in pool.now link.now) due.now.msn) (at (λ r. r.keys.local) no_region due.now.spot.region (regions_of pool.now regions.now)) due.now.spot.off due.now.spot.length due.now.first k }
+    requires room { piece_length due.now.spot.length k link.now.terms.mtu + 92
+        ≤ vec_capacity memory }
+    ensures { result ≡ read_piece (telling (link_in pool.now link.now) due.now.msn)
+        (at (λ r. r.keys.local) no_region due.now.spot.region (regions_of pool.now regions.now))
+        due.now.spot.off due.now.spot.length due.now.first k }
 {
     let spot = due.spot;
     let (from, length) = piece_at(spot.length, k, link.terms.mtu);
@@ -204,7 +208,9 @@ fn responses(
     requires spot { IsSpot regions.now due.now.spot }
     requires number { due.now.first < 2 ^ 62 }
     requires msn { due.now.msn < 2 ^ 24 }
-    ensures all { IfOk result (λ list. list ≡ responses pool.now (regions_of pool.now regions.now) link.now due.now (pieces due.now.spot.length link.now.terms.mtu)) }
+    ensures all { IfOk result (λ list. list ≡ responses pool.now
+        (regions_of pool.now regions.now) link.now due.now
+        (pieces due.now.spot.length link.now.terms.mtu)) }
     ensures bounded { IfOk result (λ list. length list ≤ 2 ^ 32) }
 {
     let (spot, mtu) = (due.spot, link.terms.mtu);
@@ -263,14 +269,15 @@ fn replies_for(
 /// is used. It takes no memory.
 fn sent_for(
     alloc: Global,
-    kept: &mut KeptMemory,
+    kept: &mut ReplyBuffers,
     read: Option<Items<Sent>>,
     endpoint: &Endpoint,
     reply: EndReply,
 ) -> Items<Sent>
     requires room { IfSome endpoint.now.link (λ _. HasRoom reply kept.old) }
     requires ready { AreReady reply read }
-    requires reply { (held : List Held) × IfSome endpoint.now.link (λ l. IsReply held l reply) }
+    requires reply { (held : List RegisteredRegion)
+        × IfSome endpoint.now.link (λ l. IsReply held l reply) }
     ensures { (pool : Pool) (regions : List Region)
         → IsSentFor reply read (option_map_or (λ l. sent_by regions (link_in pool l) reply) endpoint.now.link []) result }
 {
@@ -284,11 +291,17 @@ fn sent_for(
 }
 
 /// What is sent for a reply without bytes, to the recorded place of the partner.
-fn reply_sent(alloc: Global, kept: &mut KeptMemory, link: &EndLink, reply: EndReply) -> Items<Sent>
+fn reply_sent(
+    alloc: Global,
+    kept: &mut ReplyBuffers,
+    link: &EndLink,
+    reply: EndReply,
+) -> Items<Sent>
     requires room { HasRoom reply kept.old }
-    requires reply { (held : List Held) × IsReply held link.now reply }
+    requires reply { (held : List RegisteredRegion) × IsReply held link.now reply }
     requires bare { HasNoBytes reply }
-    ensures { (pool : Pool) (regions : List Region) → result ≡ sent_by regions (link_in pool link.now) reply }
+    ensures { (pool : Pool) (regions : List Region)
+        → result ≡ sent_by regions (link_in pool link.now) reply }
 {
     let (to, peer, start) = (link.moves.partner, link.peer, link.terms.peer_start);
     let msn = link.responder.parts().msn;
@@ -328,7 +341,8 @@ impl ContextState {
     ) -> Result<Option<ArrivalOutcome>, AllocError>
         requires is { IsContext pool.old self.old }
         requires fits { Fits (packet d.now) }
-        ensures none { (n : Name) → IfOk result (λ r. is_none r ≡ is_none (link_at (context_in pool.old n self.old) place)) }
+        ensures none { (n : Name) → IfOk result (λ r. is_none r
+            ≡ is_none (link_at (context_in pool.old n self.old) place)) }
         ensures took { (n : Name) (e : End) (l : Link) → slice_get (context_in pool.old n self.old).ends place ≡ Some e → e.link ≡ Some l
             → IfOk result (λ r. IfSome r (λ t. takes (context_in pool.old n self.old) e l (packet d.now) ≡ record { context = context_in pool.new n self.new; took = t.took; sent = t.sent })) }
         ensures nothing { IfOk result (λ r. IfNone r (self.new ≡ self.old)) }
@@ -336,8 +350,10 @@ impl ContextState {
         ensures bounded { IfOk result (λ r. IfSome r (λ t. length t.sent ≤ 2 ^ 32)) }
         ensures is { IsContext pool.new self.new }
         ensures moves { Moves pool.old pool.new self.old self.new }
-        ensures numbers { (n : Name) → map (λ e. e.number) (context_in pool.new n self.new).ends ≡ map (λ e. e.number) (context_in pool.old n self.old).ends }
-        ensures never_out_of_memory { (n : Name) → link_at (context_in pool.old n self.old) place ≡ None → IsOk result }
+        ensures numbers { (n : Name) → map (λ e. e.number) (context_in pool.new n self.new).ends
+            ≡ map (λ e. e.number) (context_in pool.old n self.old).ends }
+        ensures never_out_of_memory { (n : Name)
+            → link_at (context_in pool.old n self.old) place ≡ None → IsOk result }
         ensures unanswered { may_answer d.now.opcode ≡ false → IsOk result }
         ensures err { OnErr result (self.new ≡ self.old) }
         ensures err_pool { OnErr result (pool.new ≡ pool.old) }

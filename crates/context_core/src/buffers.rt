@@ -5,7 +5,7 @@ ghost use Rattle.context_core.specs.Buffers.{IsPut, nothing_kept};
 ghost use Rattle.context_core.specs.Sending.{IsPrepared};
 
 use crate::datagrams::{FEW_BYTES, FEWEST_BYTES};
-use crate::kept::KeptMemory;
+use crate::kept::ReplyBuffers;
 use page_pool::PAGE;
 use rdma_types::Sent;
 use std::alloc::{AllocError, Global};
@@ -21,7 +21,7 @@ pub struct Buffers {
     large: Vec<Vec<u8>>,
     small: Vec<Vec<u8>>,
     tiny: Vec<Vec<u8>>,
-    pub(crate) kept: KeptMemory,
+    pub(crate) kept: ReplyBuffers,
     pub(crate) payload: Box<[u8; PAGE]>,
 }
 
@@ -29,7 +29,8 @@ pub struct Buffers {
 /// new one is made. Errors: `AllocError` when out of memory.
 fn taken(spare: &mut Vec<Vec<u8>>, alloc: Global, most: usize) -> Result<Vec<u8>, AllocError>
     ensures room { IfOk result (λ v. (v.items ≡ []) × (most ≤ vec_capacity v)) }
-    ensures spare { IfSome (slice_get spare.old.items (vec_len spare.old - 1)) (λ v. most ≤ vec_capacity v → IsOk result) }
+    ensures spare { IfSome (slice_get spare.old.items (vec_len spare.old - 1))
+        (λ v. most ≤ vec_capacity v → IsOk result) }
 {
     if let Some(mut buffer) = spare.pop() {
         if buffer.capacity() >= most {
@@ -52,19 +53,22 @@ fn put(spare: &mut Vec<Vec<u8>>, buffer: Vec<u8>)
 impl Buffers {
     /// Room for buffers, of which there are none yet, and for a payload. Errors: `AllocError` when out of memory.
     pub fn make(alloc: Global) -> Result<Buffers, AllocError>
-        ensures { IfOk result (λ b. (b.large.items ≡ []) × (1024 ≤ vec_capacity b.large) × (b.small.items ≡ []) × (1024 ≤ vec_capacity b.small) × (b.tiny.items ≡ []) × (1024 ≤ vec_capacity b.tiny) × (b.kept ≡ nothing_kept)) }
+        ensures { IfOk result (λ b. (b.large.items ≡ []) × (1024 ≤ vec_capacity b.large)
+            × (b.small.items ≡ []) × (1024 ≤ vec_capacity b.small) × (b.tiny.items ≡ [])
+            × (1024 ≤ vec_capacity b.tiny) × (b.kept ≡ nothing_kept)) }
     {
         Ok(Buffers {
             large: Vec::with_capacity(alloc, MOST_SPARE)?,
             small: Vec::with_capacity(alloc, MOST_SPARE)?,
             tiny: Vec::with_capacity(alloc, MOST_SPARE)?,
-            kept: KeptMemory::none(),
+            kept: ReplyBuffers::none(),
             payload: Box::new(alloc, [0; PAGE])?,
         })
     }
 
     /// An empty buffer for at least so many bytes: the last one of its kind that was given back, if it is large enough,
     /// and else a new one. Errors: `AllocError` when out of memory.
+    #[inline(always)]
     pub(crate) fn take(&mut self, alloc: Global, most: usize) -> Result<Vec<u8>, AllocError>
         ensures { IfOk result (λ v. (v.items ≡ []) × (most ≤ vec_capacity v)) }
     {
@@ -78,6 +82,7 @@ impl Buffers {
     }
 
     /// Memory for one datagram of few bytes is kept from now on. Errors: `AllocError` when out of memory.
+    #[inline(always)]
     pub(crate) fn prepare(&mut self, alloc: Global) -> Result<(), AllocError>
         ensures { OnOk result (IsPrepared self.new.kept) }
     {
@@ -111,10 +116,17 @@ impl Buffers {
     /// Keeps a buffer, among the large ones where it has room for more than 256 bytes, among the small ones where it has
     /// room for 256, and among the tiny ones where it has room for 64. Any other is freed, and so is one where 1,024 of its
     /// kind are kept. It takes no memory.
+    #[inline(always)]
     pub fn give(&mut self, buffer: Vec<u8>)
-        ensures large { 256 < vec_capacity buffer → IsPut self.old.large self.new.large buffer × (self.new.small ≡ self.old.small) × (self.new.tiny ≡ self.old.tiny) }
-        ensures small { vec_capacity buffer ≡ 256 → IsPut self.old.small self.new.small buffer × (self.new.large ≡ self.old.large) × (self.new.tiny ≡ self.old.tiny) }
-        ensures tiny { vec_capacity buffer ≡ 64 → IsPut self.old.tiny self.new.tiny buffer × (self.new.large ≡ self.old.large) × (self.new.small ≡ self.old.small) }
+        ensures large { 256 < vec_capacity buffer
+            → IsPut self.old.large self.new.large buffer × (self.new.small ≡ self.old.small)
+            × (self.new.tiny ≡ self.old.tiny) }
+        ensures small { vec_capacity buffer ≡ 256
+            → IsPut self.old.small self.new.small buffer × (self.new.large ≡ self.old.large)
+            × (self.new.tiny ≡ self.old.tiny) }
+        ensures tiny { vec_capacity buffer ≡ 64
+            → IsPut self.old.tiny self.new.tiny buffer × (self.new.large ≡ self.old.large)
+            × (self.new.small ≡ self.old.small) }
         ensures other { vec_capacity buffer < 256 → vec_capacity buffer ≢ 64 → self.new ≡ self.old }
         ensures rest { (self.new.kept ≡ self.old.kept) × (self.new.payload ≡ self.old.payload) }
     {
@@ -133,7 +145,8 @@ impl Buffers {
         ensures list { self.new.kept.list ≡ (self.old.kept.list || nat_lt 0 (vec_capacity list)) }
         ensures tiny { self.new.kept.tiny ≡ self.old.kept.tiny }
         ensures small { self.new.kept.small ≡ self.old.kept.small }
-        ensures rest { (self.new.large ≡ self.old.large) × (self.new.small ≡ self.old.small) × (self.new.tiny ≡ self.old.tiny) × (self.new.payload ≡ self.old.payload) }
+        ensures rest { (self.new.large ≡ self.old.large) × (self.new.small ≡ self.old.small)
+            × (self.new.tiny ≡ self.old.tiny) × (self.new.payload ≡ self.old.payload) }
     {
         self.kept.keep_list(list);
     }

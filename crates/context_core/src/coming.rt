@@ -7,7 +7,7 @@ ghost use Rattle.rdma_types.specs.Limits.{most_depth};
 ghost use Rattle.rdma_types.specs.Lists.{some};
 ghost use Rattle.rdma_types.specs.declared.answers.Refusal.TheVariants as refusal;
 ghost use Rattle.page_pool.specs.Pool.{free_pages};
-ghost use Rattle.completion_queue.specs.Queue.{used_places};
+ghost use Rattle.end_queues.specs.Completions.{used_places};
 ghost use Rattle.memory_keys.specs.Regions.{regions_of};
 ghost use Rattle.protocol.specs.Images.{context_of, moved, region_of_image};
 ghost use Rattle.protocol.specs.Lawful.{IsLawful, IsLawfulRegion};
@@ -21,7 +21,7 @@ use crate::counting::less_image;
 use crate::ends::append;
 use crate::links::{endpoint_of, used};
 use crate::{ContextFault, ContextState, EndSlot};
-use completion_queue::Cq;
+use end_queues::completion_queue::Cq;
 use indexmap::{IndexMap, IndexSet};
 use memory_keys::{RegionHead, Regions};
 use page_pool::PagePool;
@@ -86,7 +86,8 @@ fn put_regions(
     requires lawful { All (IsLawfulRegion (length domains.now)) images.now }
     requires keys { AllPairs (λ a b. a.keys.local ≢ b.keys.local) images.now }
     ensures made { AreMade pool.old pool.new regions.new }
-    ensures regions { OnOk result (regions_of pool.new regions.new ≡ map (region_of_image domains.now) images.now) }
+    ensures regions { OnOk result (regions_of pool.new regions.new
+        ≡ map (region_of_image domains.now) images.now) }
 {
     for image in images {
         let head = head_of(domains, image);
@@ -111,8 +112,10 @@ fn reserve_places(queue: &mut Cq, count: u32)
 /// Reserves so many places of the queue at a place.
 fn reserve_at(queues: &mut IndexMap<Name, Cq>, place: u16, count: u32)
     requires there { place < length queues.old.entries }
-    requires room { IfSome (slice_get (values_of queues.old.entries) place) (λ q. used_places q + count ≤ q.capacity) }
-    ensures { IfSome (slice_get (values_of queues.old.entries) place) (λ q. queues.new.entries ≡ set_value_at queues.old.entries place (record q { reserved = q.reserved + count })) }
+    requires room { IfSome (slice_get (values_of queues.old.entries) place)
+        (λ q. used_places q + count ≤ q.capacity) }
+    ensures { IfSome (slice_get (values_of queues.old.entries) place) (λ q. queues.new.entries
+        ≡ set_value_at queues.old.entries place (record q { reserved = q.reserved + count })) }
 {
     let queue = queues.get_index_mut(place as usize).unwrap();
     reserve_places(queue, count);
@@ -245,8 +248,11 @@ impl ContextState {
     ) -> Result<ContextState, ContextFault>
         requires lawful { IsLawful image.now }
         requires moves { some has_moved_out (links_of (context_of image.now)) ≡ false }
-        ensures refused { refusal_of result ≡ (if nat_lt (free_pages pool.old) (pages_of_context (context_of image.now)) then Some refusal.NoPage else None) }
-        ensures moved { IfOk result (λ s. context_in pool.new image.now.name s ≡ moved (context_of image.now)) }
+        ensures refused { refusal_of result
+            ≡ (if nat_lt (free_pages pool.old) (pages_of_context (context_of image.now))
+            then Some refusal.NoPage else None) }
+        ensures moved { IfOk result (λ s. context_in pool.new image.now.name s
+            ≡ moved (context_of image.now)) }
         ensures is { IfOk result (λ s. IsContext pool.new s) }
         ensures moves { IfOk result (λ s. Moves pool.old pool.new no_holding s) }
         ensures err { OnErr result (Moves pool.old pool.new no_holding no_holding) }

@@ -3,7 +3,7 @@
 ghost use Rattle.std.specs.Prelude.{◌≡◌, [], IfOk, IsOk, OnOk};
 
 use crate::state::{ContextState, EndSlot};
-use completion_queue::Cq;
+use end_queues::completion_queue::Cq;
 use indexmap::{IndexMap, IndexSet};
 use rdma_types::Name;
 use std::alloc::{AllocError, Global};

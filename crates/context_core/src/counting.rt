@@ -15,7 +15,8 @@ use rdma_types::{Kind, Request};
 
 /// What is left of free pages once these regions have theirs; None where they are too few.
 fn less_regions(free: u32, regions: &[RegionImage]) -> Option<u32>
-    ensures { MatchOption result (free < sum_by (λ r. pages_of_length r.length) regions.now) (λ left. left + sum_by (λ r. pages_of_length r.length) regions.now ≡ free) }
+    ensures { MatchOption result (free < sum_by (λ r. pages_of_length r.length) regions.now)
+        (λ left. left + sum_by (λ r. pages_of_length r.length) regions.now ≡ free) }
 {
     let mut left = free;
     for region in regions {
@@ -26,7 +27,9 @@ fn less_regions(free: u32, regions: &[RegionImage]) -> Option<u32>
 
 /// The first address of the region with a local key, and 0 where there is none.
 fn base_of(regions: &[RegionImage], key: u32) -> u64
-    ensures { (domains : List Name) → result ≡ (at (λ r. r.keys.local) no_region key (map (region_of_image domains) regions.now)).base }
+    ensures { (domains : List Name)
+        → result
+        ≡ (at (λ r. r.keys.local) no_region key (map (region_of_image domains) regions.now)).base }
 {
     for region in regions {
         if region.keys.local == key {
@@ -45,7 +48,9 @@ fn takes_bytes(kind: Kind) -> bool
 
 /// The pages that the bytes of a request take.
 fn pages_of(regions: &[RegionImage], request: &Request) -> u32
-    ensures { (c : Context) (domains : List Name) → c.regions ≡ map (region_of_image domains) regions.now → result ≡ pages_of_request c request.now }
+    ensures { (c : Context) (domains : List Name)
+        → c.regions ≡ map (region_of_image domains) regions.now
+        → result ≡ pages_of_request c request.now }
 {
     let length = request.shape.length;
     if length == 0 || !takes_bytes(request.shape.kind) {
@@ -83,7 +88,8 @@ fn less_ends(free: u32, regions: &[RegionImage], ends: &[EndImage]) -> Option<u3
 /// What is left of free pages once an image has its own; None where they are too few.
 pub fn less_image(free: u32, image: &ContextImage) -> Option<u32>
     requires { IsLawful image.now }
-    ensures { MatchOption result (free < pages_of_context (context_of image.now)) (λ left. left + pages_of_context (context_of image.now) ≡ free) }
+    ensures { MatchOption result (free < pages_of_context (context_of image.now))
+        (λ left. left + pages_of_context (context_of image.now) ≡ free) }
 {
     let regions = image.regions.as_slice();
     let left = less_regions(free, regions)?;

@@ -6,14 +6,17 @@ ghost use Rattle.protocol.specs.Bytes.{bytes_at};
 ghost use Rattle.protocol.specs.Numbers.{wire_number};
 ghost use Rattle.protocol.specs.Wire.{Fits, fits_syndrome, plain, wire_of};
 ghost use Rattle.roce_headers.specs.Packets.{packet};
-ghost use Rattle.segmenter.specs.Heads.{has_atomic, has_reth, packet_with};
+ghost use Rattle.transport.specs.Heads.{has_atomic, has_reth, packet_with};
 
 use crate::sending::MOST_HEADERS;
 use protocol::{Aeth, AtomicEth, ResumeBody, Reth};
-use psn_math::{WIRE_NUMBERS, wire_of};
 use rdma_types::{Items, Shape};
+use roce_headers::opcodes::{
+    COMPARE_SWAP, FETCH_ADD, READ_REQUEST, WRITE_FIRST, WRITE_ONLY, WRITE_ONLY_IMM,
+};
 use roce_headers::{Datagram, encode_in};
-use segmenter::PacketHead;
+use transport::psn_math::{WIRE_NUMBERS, wire_of};
+use transport::segmenter::PacketHead;
 
 /// How many queue pair numbers there are: they have 24 bits.
 const QP_NUMBERS: u32 = 16_777_216;
@@ -25,6 +28,7 @@ pub const FEW_BYTES: usize = 256;
 pub const FEWEST_BYTES: usize = 64;
 
 /// The bytes of a datagram in this memory. It takes no other, and gives back what is not used where it is much.
+#[inline(always)]
 pub fn written(d: &Datagram<'_>, memory: Vec<u8>) -> Items<u8>
     requires fits { Fits (packet d.now) }
     requires empty { memory.items ≡ [] }
@@ -56,7 +60,9 @@ pub fn answer<'a>(
     old: Option<u64>,
     payload: &'a [u8],
 ) -> Datagram<'a>
-    ensures { packet result ≡ record (plain opcode (peer % 16777216) (wire_number start n)) { aeth = aeth; old = old; payload = payload.now } }
+    ensures { packet result
+        ≡ record (plain opcode (peer % 16777216) (wire_number start n))
+        { aeth = aeth; old = old; payload = payload.now } }
 {
     Datagram {
         opcode,
@@ -76,7 +82,8 @@ pub fn answer<'a>(
 /// RESUME or RESUME_ACK, with this body.
 pub fn moving(opcode: u8, peer: u32, body: ResumeBody) -> Datagram<'static>
     requires { (opcode ≡ 0x1E) ⊎ (opcode ≡ 0x1F) }
-    ensures says { packet result ≡ record (plain opcode (peer % 16777216) 0) { resume = Some body } }
+    ensures says { packet result
+        ≡ record (plain opcode (peer % 16777216) 0) { resume = Some body } }
     ensures fits { Fits (packet result) }
 {
     Datagram {
@@ -98,14 +105,17 @@ pub fn moving(opcode: u8, peer: u32, body: ResumeBody) -> Datagram<'static>
 fn with_reth(opcode: u8) -> bool
     ensures { result ≡ has_reth opcode }
 {
-    matches!(opcode, 0x06 | 0x0A | 0x0B | 0x0C)
+    matches!(
+        opcode,
+        WRITE_FIRST | WRITE_ONLY | WRITE_ONLY_IMM | READ_REQUEST
+    )
 }
 
 /// An AtomicETH is in a packet of this opcode.
 fn with_atomic(opcode: u8) -> bool
     ensures { result ≡ has_atomic opcode }
 {
-    matches!(opcode, 0x13 | 0x14)
+    matches!(opcode, COMPARE_SWAP | FETCH_ADD)
 }
 
 /// The packet of a head of a request, under a wire number and with these bytes.

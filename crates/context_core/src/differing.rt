@@ -7,8 +7,8 @@ ghost use Rattle.context_core.specs.Payloads.{HasPayloads};
 ghost use Rattle.context_core.specs.Context.{HasQueues, IsContext, context_in, end_of, queue_name as name_at};
 
 use crate::{ContextState, EndSlot};
-use completion_queue::Cq;
 use device_differences::{apart, name_sets, names, numbers, queues, regions, work};
+use end_queues::completion_queue::Cq;
 use indexmap::IndexMap;
 use page_pool::PagePool;
 use rdma_types::Name;
@@ -36,7 +36,9 @@ fn slots(
     requires other_placed { HasQueues other_queues.now.entries (y.0.now, y.1.now) }
     requires held { HasPayloads pool.now (x.0.now, x.1.now) }
     requires other_held { HasPayloads other_pool.now (y.0.now, y.1.now) }
-    ensures { result ≡ end_difference (end_of pool.now queues.now.entries (x.entry.0.now, x.entry.1.now)) (end_of other_pool.now other_queues.now.entries (y.entry.0.now, y.entry.1.now)) }
+    ensures { result
+        ≡ end_difference (end_of pool.now queues.now.entries (x.entry.0.now, x.entry.1.now))
+        (end_of other_pool.now other_queues.now.entries (y.entry.0.now, y.entry.1.now)) }
 {
     let (name, a) = x;
     let (other_name, b) = y;
@@ -85,7 +87,9 @@ fn ends(
     requires other_placed { All (HasQueues other_queues.now.entries) b.now.entries }
     requires held { All (HasPayloads pool.now) a.now.entries }
     requires other_held { All (HasPayloads other_pool.now) b.now.entries }
-    ensures { result ≡ across end_difference (map (end_of pool.now queues.now.entries) a.now.entries) (map (end_of other_pool.now other_queues.now.entries) b.now.entries) }
+    ensures { result
+        ≡ across end_difference (map (end_of pool.now queues.now.entries) a.now.entries)
+        (map (end_of other_pool.now other_queues.now.entries) b.now.entries) }
 {
     for i in 0..a.len().min(b.len()) {
         let x = a.get_index(i).unwrap();
@@ -112,7 +116,8 @@ impl ContextState {
     ) -> Option<(u64, u64)>
         requires is { IsContext pool.now self.now }
         requires other_is { IsContext other_pool.now other.now }
-        ensures { result ≡ context_difference (context_in pool.now name.now self.now) (context_in other_pool.now other_name.now other.now) }
+        ensures { result ≡ context_difference (context_in pool.now name.now self.now)
+            (context_in other_pool.now other_name.now other.now) }
     {
         let found = names(name, other_name);
         if found.is_some() {

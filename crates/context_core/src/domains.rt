@@ -15,7 +15,8 @@ const MOST_DOMAINS: usize = 64;
 
 /// Why no domain of this name is made.
 fn refusal(domains: &IndexSet<Name>, name: Name) -> Option<Refusal>
-    ensures { (c : Context) → c.domains ≡ domains.now.keys → result ≡ first_cause (domain_causes c name) }
+    ensures { (c : Context) → c.domains ≡ domains.now.keys
+        → result ≡ first_cause (domain_causes c name) }
 {
     if domains.contains(&name) {
         return Some(Refusal::NumberTaken);
@@ -27,7 +28,8 @@ fn refusal(domains: &IndexSet<Name>, name: Name) -> Option<Refusal>
 /// `NumberTaken` where a domain has the name, `TooMany` where there are 64 domains; or `OutOfMemory`. The domains are
 /// then as they were.
 pub fn make(domains: &mut IndexSet<Name>, name: Name) -> Result<(), ContextFault>
-    ensures refused { (c : Context) → c.domains ≡ domains.old.keys → refusal_of result ≡ first_cause (domain_causes c name) }
+    ensures refused { (c : Context) → c.domains ≡ domains.old.keys
+        → refusal_of result ≡ first_cause (domain_causes c name) }
     ensures made { OnOk result (domains.new.keys ≡ domains.old.keys ++ name ∷ []) }
     ensures err { OnErr result (domains.new.keys ≡ domains.old.keys) }
 {

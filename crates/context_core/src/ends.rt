@@ -7,7 +7,7 @@ ghost use Rattle.indexmap.specs.IndexMap.{spare};
 ghost use Rattle.rdma_types.specs.Causes.{first_cause};
 ghost use Rattle.rdma_types.specs.declared.names.Name.{Name};
 ghost use Rattle.page_pool.specs.Pool.{Pool};
-ghost use Rattle.completion_queue.specs.Queue.{Queue};
+ghost use Rattle.end_queues.specs.Completions.{Queue};
 ghost use Rattle.protocol.specs.Refusals.{connected_causes};
 ghost use Rattle.protocol.specs.State.{Context};
 ghost use Rattle.context_core.specs.Causes.{connect_causes};
@@ -22,9 +22,11 @@ use rdma_types::{Name, Refusal};
 pub fn connected(ends: &IndexMap<Name, EndSlot>, name: Name) -> Result<usize, Refusal>
     ensures refused { (pool : Pool) (queues : List (Name × Queue)) (c : Context) → c.ends ≡ map (end_of pool queues) ends.now.entries
         → result_err result ≡ first_cause (connected_causes c name) }
-    ensures place { IfOk result (λ i. position (bytes_eq name) (keys_of ends.now.entries) ≡ Some i) }
+    ensures place { IfOk result (λ i. position (bytes_eq name) (keys_of ends.now.entries)
+        ≡ Some i) }
     ensures there { IfOk result (λ i. i < length ends.now.entries) }
-    ensures linked { IfOk result (λ i. IfSome (slice_get ends.now.entries i) (λ e. IsSome e.1.endpoint.link)) }
+    ensures linked { IfOk result (λ i. IfSome (slice_get ends.now.entries i)
+        (λ e. IsSome e.1.endpoint.link)) }
 {
     let Some(place) = ends.get_index_of(&name) else {
         return Err(Refusal::NoSuch);
@@ -41,9 +43,11 @@ pub fn connected(ends: &IndexMap<Name, EndSlot>, name: Name) -> Result<usize, Re
 pub fn unconnected(ends: &IndexMap<Name, EndSlot>, name: Name) -> Result<usize, Refusal>
     ensures refused { (pool : Pool) (queues : List (Name × Queue)) (c : Context) → c.ends ≡ map (end_of pool queues) ends.now.entries
         → result_err result ≡ first_cause (connect_causes c name) }
-    ensures place { IfOk result (λ i. position (bytes_eq name) (keys_of ends.now.entries) ≡ Some i) }
+    ensures place { IfOk result (λ i. position (bytes_eq name) (keys_of ends.now.entries)
+        ≡ Some i) }
     ensures there { IfOk result (λ i. i < length ends.now.entries) }
-    ensures init { IfOk result (λ i. IfSome (slice_get ends.now.entries i) (λ e. e.1.endpoint.link ≡ None)) }
+    ensures init { IfOk result (λ i. IfSome (slice_get ends.now.entries i) (λ e. e.1.endpoint.link
+        ≡ None)) }
 {
     let Some(place) = ends.get_index_of(&name) else {
         return Err(Refusal::NoSuch);

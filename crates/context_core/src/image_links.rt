@@ -4,7 +4,7 @@ ghost use Rattle.std.specs.Prelude.{◌≡◌, ◌<◌, ◌^◌, IfOk, length};
 ghost use Rattle.std.specs.Option.{option_map};
 ghost use Rattle.page_pool.specs.Pool.{Pool};
 ghost use Rattle.memory_keys.specs.Regions.{regions_of};
-ghost use Rattle.move_core.specs.Table.{phase_of};
+ghost use Rattle.transport.specs.Table.{phase_of};
 ghost use Rattle.protocol.specs.EndWords.{is_paused as is_paused_phase, is_resuming as is_resuming_phase};
 ghost use Rattle.protocol.specs.Images.{link_image as image_of_link, progress_image};
 ghost use Rattle.responder.specs.Receiving.{progress_of};
@@ -13,11 +13,11 @@ ghost use Rattle.endpoint_core.specs.Ends.{link_in};
 use crate::image_regions::position_of_key;
 use endpoint_core::EndLink;
 use memory_keys::Regions;
-use move_core::Phase;
 use protocol::{KeptReply, LinkImage, Progress};
 use rdma_types::Items;
 use responder::{Flow, Responder};
 use std::alloc::{AllocError, Global};
+use transport::move_core::Phase;
 
 /// Whether it is Paused.
 pub fn is_paused(phase: Phase) -> bool
@@ -36,7 +36,8 @@ pub fn is_resuming(phase: Phase) -> bool
 /// The image of a message in progress.
 fn progress(regions: &Regions, flow: Flow) -> Progress
     requires { length regions.now < 2 ^ 16 }
-    ensures { (pool : Pool) → result ≡ progress_image (regions_of pool regions.now) (progress_of flow) }
+    ensures { (pool : Pool)
+        → result ≡ progress_image (regions_of pool regions.now) (progress_of flow) }
 {
     match flow {
         Flow::Idle => Progress::Idle,
@@ -66,7 +67,8 @@ fn replies(alloc: Global, responder: &Responder) -> Result<Items<KeptReply>, All
 /// The image of a connection.
 fn link_image(alloc: Global, regions: &Regions, link: &EndLink) -> Result<LinkImage, AllocError>
     requires { length regions.now < 2 ^ 16 }
-    ensures { IfOk result (λ image. (pool : Pool) → image ≡ image_of_link (regions_of pool regions.now) (link_in pool link.now)) }
+    ensures { IfOk result (λ image. (pool : Pool)
+        → image ≡ image_of_link (regions_of pool regions.now) (link_in pool link.now)) }
 {
     let numbers = link.requester.parts();
     let parts = link.responder.parts();
@@ -100,7 +102,9 @@ pub fn linked_image(
     link: &Option<EndLink>,
 ) -> Result<Option<LinkImage>, AllocError>
     requires { length regions.now < 2 ^ 16 }
-    ensures { IfOk result (λ image. (pool : Pool) → image ≡ option_map (image_of_link (regions_of pool regions.now)) (option_map (link_in pool) link.now)) }
+    ensures { IfOk result (λ image. (pool : Pool)
+        → image ≡ option_map (image_of_link (regions_of pool regions.now))
+        (option_map (link_in pool) link.now)) }
 {
     match link {
         None => Ok(None),

@@ -4,7 +4,7 @@ ghost use Rattle.std.specs.Prelude.{◌≡◌, IfOk, map};
 ghost use Rattle.protocol.specs.Images.{queue_image as image_of_queue};
 ghost use Rattle.endpoint_core.specs.Queues.{queues_of};
 
-use completion_queue::Cq;
+use end_queues::completion_queue::Cq;
 use indexmap::IndexMap;
 use protocol::CqImage;
 use rdma_types::{Completion, Items, Name};
@@ -23,7 +23,8 @@ fn entries(alloc: Global, queue: &Cq) -> Result<Items<Completion>, AllocError>
 
 /// The image of a completion queue.
 fn queue_image(alloc: Global, name: Name, queue: &Cq) -> Result<CqImage, AllocError>
-    ensures { IfOk result (λ image. image ≡ image_of_queue (record { name = name; capacity = queue.now.capacity; entries = queue.now.entries })) }
+    ensures { IfOk result (λ image. image ≡ image_of_queue
+        (record { name = name; capacity = queue.now.capacity; entries = queue.now.entries })) }
 {
     Ok(CqImage {
         name,

@@ -56,7 +56,8 @@ fn region_image(
     requires held { AreHeld pool.now regions.now }
     requires there { place < length regions.now }
     requires bounded { length domains.now.keys < 2 ^ 16 }
-    ensures { IfOk result (λ image. IfSome (slice_get regions.now place) (λ h. image ≡ image_of_region domains.now.keys (region_of pool.now h))) }
+    ensures { IfOk result (λ image. IfSome (slice_get regions.now place) (λ h. image
+        ≡ image_of_region domains.now.keys (region_of pool.now h))) }
 {
     let head = regions.at(place).unwrap();
     let bytes = regions.bytes_at(alloc, pool, place)?;
@@ -80,7 +81,8 @@ pub fn region_images(
 ) -> Result<Items<RegionImage>, AllocError>
     requires held { AreHeld pool.now regions.now }
     requires bounded { length domains.now.keys < 2 ^ 16 }
-    ensures { IfOk result (λ images. images ≡ map (image_of_region domains.now.keys) (regions_of pool.now regions.now)) }
+    ensures { IfOk result (λ images. images ≡ map (image_of_region domains.now.keys)
+        (regions_of pool.now regions.now)) }
 {
     let mut images = Vec::new(alloc);
     for place in 0..regions.len() {

@@ -4,16 +4,16 @@ ghost use Rattle.std.specs.Prelude.{◌≡◌, All, IfOk, map};
 ghost use Rattle.std.specs.Option.{option_map};
 ghost use Rattle.page_pool.specs.Held.{HoldsPayload};
 ghost use Rattle.protocol.specs.Images.{posted_image as image_of_posted, untold_images as images_of_untold};
-ghost use Rattle.work_queues.specs.Untold.{posted_in, untold_in};
+ghost use Rattle.end_queues.specs.Untold.{posted_in, untold_in};
 ghost use Rattle.endpoint_core.specs.Ends.{link_in, untold_by};
 
+use end_queues::work_queues::{QueuedRequest, RecvQueue};
 use endpoint_core::EndLink;
 use page_pool::PagePool;
 use protocol::PostedImage;
 use rdma_types::{Items, Receive};
 use requester::Requester;
 use std::alloc::{AllocError, Global};
-use work_queues::{QueuedRequest, RecvQueue};
 
 /// A copy of the receives of a queue, oldest first. Errors: `AllocError` when out of memory.
 pub fn receives(alloc: Global, queue: &RecvQueue) -> Result<Items<Receive>, AllocError>
@@ -55,7 +55,8 @@ fn posted_images(
     requester: &Requester,
 ) -> Result<Items<PostedImage>, AllocError>
     requires { All (λ p. HoldsPayload pool.now p.payload) requester.now.items }
-    ensures { IfOk result (λ images. images ≡ map image_of_posted (untold_in pool.now requester.now.items)) }
+    ensures { IfOk result (λ images. images ≡ map image_of_posted
+        (untold_in pool.now requester.now.items)) }
 {
     let mut images = Vec::new(alloc);
     for i in 0..requester.untold() {
@@ -74,7 +75,8 @@ pub fn untold_images(
     link: &Option<EndLink>,
 ) -> Result<Items<PostedImage>, AllocError>
     requires { All (λ p. HoldsPayload pool.now p.payload) (untold_by link.now) }
-    ensures { IfOk result (λ images. images ≡ images_of_untold (option_map (link_in pool.now) link.now)) }
+    ensures { IfOk result (λ images. images ≡ images_of_untold
+        (option_map (link_in pool.now) link.now)) }
 {
     match link {
         None => Ok(Items::new(Vec::new(alloc))),

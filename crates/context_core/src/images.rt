@@ -47,7 +47,9 @@ impl ContextState {
         requires is { IsContext pool.now self.now }
         requires narrow { IsNarrow self.now }
         requires there { place < length self.now.ends }
-        ensures { IfOk result (λ image. IfSome (slice_get self.now.ends place) (λ e. (n : Name) → image ≡ image_of_end (context_in pool.now n self.now) (end_of pool.now self.now.queues e))) }
+        ensures { IfOk result (λ image. IfSome (slice_get self.now.ends place) (λ e. (n : Name)
+            → image ≡ image_of_end (context_in pool.now n self.now)
+            (end_of pool.now self.now.queues e))) }
     {
         let (name, slot) = self.ends.get_index(place).unwrap();
         let end = &slot.endpoint;
@@ -69,7 +71,9 @@ impl ContextState {
     fn end_images(&self, alloc: Global, pool: &PagePool) -> Result<Items<EndImage>, AllocError>
         requires is { IsContext pool.now self.now }
         requires narrow { IsNarrow self.now }
-        ensures { IfOk result (λ images. (n : Name) → images ≡ map (image_of_end (context_in pool.now n self.now)) (context_in pool.now n self.now).ends) }
+        ensures { IfOk result (λ images. (n : Name)
+            → images ≡ map (image_of_end (context_in pool.now n self.now))
+            (context_in pool.now n self.now).ends) }
     {
         let mut images = Vec::new(alloc);
         for place in 0..self.ends.len() {

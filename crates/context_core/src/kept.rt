@@ -14,13 +14,13 @@ use std::marker::Model;
 /// Memory for one datagram of few bytes, each part kept until a datagram uses it: an empty list with room for one, and
 /// empty buffers for 64 and for 256 bytes. Contracts see which parts are there.
 #[derive(Drop)]
-pub struct KeptMemory {
+pub struct ReplyBuffers {
     list: Option<Vec<Sent>>,
     tiny: Option<Vec<u8>>,
     small: Option<Vec<u8>>,
 }
 
-impl Model for KeptMemory {
+impl Model for ReplyBuffers {
     ghost use Rattle.std.specs.Prelude.{◌≡◌, ◌<◌, ◌≤◌, [], IfSome, is_some, vec_capacity};
     ghost use Rattle.context_core.specs.Buffers.{Kept};
 
@@ -50,12 +50,12 @@ fn one(mut list: Vec<Sent>, to: Address, number: Option<u64>, bytes: Items<u8>) 
     Items::new(list)
 }
 
-impl KeptMemory {
+impl ReplyBuffers {
     /// No part.
-    pub fn none() -> KeptMemory
+    pub fn none() -> ReplyBuffers
         ensures { result ≡ nothing_kept }
     {
-        KeptMemory {
+        ReplyBuffers {
             list: None,
             tiny: None,
             small: None,
@@ -84,8 +84,12 @@ impl KeptMemory {
     }
 
     /// Keeps a list, without what is in it, where it has room for one and none is there. It takes no memory.
+    #[inline(always)]
     pub fn keep_list(&mut self, mut list: Vec<Sent>)
-        ensures { self.new ≡ record self.old { list = self.old.list || nat_lt 0 (vec_capacity list) } }
+        ensures { self.new ≡ record self.old {
+          list = self.old.list
+              || nat_lt 0 (vec_capacity list);
+        } }
     {
         if self.list.is_none() && list.capacity() > 0 {
             list.clear();
@@ -136,11 +140,13 @@ impl KeptMemory {
     }
 
     /// A datagram of few bytes in this memory, of which the list and one buffer are used then. It takes no other.
+    #[inline(always)]
     pub fn fill(&mut self, to: Address, number: Option<u64>, d: &Datagram<'_>) -> Items<Sent>
         requires prepared { IsPrepared self.old }
         requires fits { Fits (packet d.now) }
         requires short { length (wire_of (packet d.now)) ≤ 256 }
-        ensures { result ≡ record { to = to; number = number; bytes = wire_of (packet d.now) } ∷ [] }
+        ensures { result ≡ record { to = to; number = number; bytes = wire_of (packet d.now) }
+            ∷ [] }
     {
         let memory = self.take_buffer(encoded_len(d));
         let list = self.list.take().unwrap();
@@ -149,6 +155,7 @@ impl KeptMemory {
 
     /// A datagram of at most so many bytes in this memory, or in the large buffer where they are not few. It takes no
     /// other.
+    #[inline(always)]
     pub fn fill_large(
         &mut self,
         large: Vec<u8>,
@@ -162,7 +169,8 @@ impl KeptMemory {
         requires room { most ≤ vec_capacity large }
         requires fits { Fits (packet d.now) }
         requires short { length (wire_of (packet d.now)) ≤ most }
-        ensures { result.sent ≡ record { to = to; number = number; bytes = wire_of (packet d.now) } ∷ [] }
+        ensures { result.sent ≡ record { to = to; number = number; bytes = wire_of (packet d.now) }
+            ∷ [] }
     {
         if encoded_len(d) <= FEW_BYTES {
             let sent = self.fill(to, number, d);

@@ -13,8 +13,10 @@ pub fn a_context_looks_at_its_own_lists()
         → context_in new n h ≡ context_in old n h }
     ensures stays { (old new : Pool) (h : Holding) → ((list : ℕ) → Contains (lists_of h) list → bytes_of new list ≡ bytes_of old list)
         → IsContext old h → IsContext new h }
-    ensures lives { (pool : Pool) (h : Holding) (list : ℕ) → IsContext pool h → Contains (lists_of h) list → IsIn pool list }
+    ensures lives { (pool : Pool) (h : Holding) (list : ℕ) → IsContext pool h
+        → Contains (lists_of h) list → IsIn pool list }
     ensures name { (pool : Pool) (h : Holding) (n : Name) → (context_in pool n h).name ≡ n }
     ensures nothing { lists_of no_holding ≡ [] }
-    ensures pages { (pool : Pool) (h : Holding) (n other : Name) → pages_of_context (context_in pool n h) ≡ pages_of_context (context_in pool other h) }
+    ensures pages { (pool : Pool) (h : Holding) (n other : Name)
+        → pages_of_context (context_in pool n h) ≡ pages_of_context (context_in pool other h) }
 {}

@@ -1,6 +1,6 @@
 //! A context that goes, and gives its pages back.
 
-ghost use Rattle.end_memory.specs.Payloads.{AreApart, GivesBack};
+ghost use Rattle.end_completions.specs.Payloads.{AreApart, GivesBack};
 ghost use Rattle.endpoint_core.specs.Ends.{untold_by};
 ghost use Rattle.context_core.specs.Context.{IsContext, Moves, no_holding, posted_of};
 

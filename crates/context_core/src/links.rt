@@ -10,17 +10,17 @@ ghost use Rattle.responder.specs.Receiving.{progress_of};
 ghost use Rattle.context_core.specs.Coming.{IsAlike, IsEndAfter, MayCome, MayMove, link_after, moves_after, numbers_after, used_of_image};
 
 use crate::requests::send_queue;
-use atomic_replay::Kept;
+use end_queues::work_queues::{RecvQueue, SendQueue};
 use endpoint_core::{EndLink, Endpoint};
-use memory_keys::{Regions, Spot};
-use move_core::{MoveState, Phase};
+use memory_keys::{RegionRange, Regions};
 use page_pool::PagePool;
 use protocol::{ContextImage, EndImage, KeptReply, LinkImage, Progress, RegionImage};
 use rdma_types::Receive;
 use requester::{Requester, RequesterParts};
 use responder::{Flow, Responder, ResponderParts};
 use std::alloc::{AllocError, Global};
-use work_queues::{RecvQueue, SendQueue};
+use transport::atomic_replay::ReplyCache;
+use transport::move_core::{MoveState, Phase};
 
 /// The unused receives of an end.
 fn recv_queue(alloc: Global, depth: u32, images: &[Receive]) -> Result<RecvQueue, AllocError>
@@ -35,12 +35,12 @@ fn recv_queue(alloc: Global, depth: u32, images: &[Receive]) -> Result<RecvQueue
 }
 
 /// The kept replies of a responder.
-fn kept_of(images: &[KeptReply]) -> Kept
+fn kept_of(images: &[KeptReply]) -> ReplyCache
     requires bounded { length images.now ≤ most_kept }
     requires rise { AllPairs (λ a b. a.number < b.number) images.now }
     ensures { result ≡ images.now }
 {
-    let mut kept = Kept::make();
+    let mut kept = ReplyCache::make();
     for reply in images {
         kept.put(reply.number, reply.old);
     }
@@ -61,7 +61,7 @@ fn flow_of(image: &ContextImage, progress: &Progress) -> Flow
             length,
             done,
         } => {
-            let spot = Spot {
+            let spot = RegionRange {
                 region: local_key(image.regions.as_slice(), region),
                 off,
                 length,
@@ -131,7 +131,8 @@ fn moves_of(link: &LinkImage) -> MoveState
 /// The responder of an end.
 fn responder_of(image: &ContextImage, link: &LinkImage) -> Responder
     requires { (end : EndImage) × IsLawfulLink image.now end link.now }
-    ensures { result ≡ (link_after image.now.regions link.now (record { depth = 0; items = [] })).responder }
+    ensures { result
+        ≡ (link_after image.now.regions link.now (record { depth = 0; items = [] })).responder }
 {
     let kept = kept_of(link.kept.as_slice());
     let parts = ResponderParts {
@@ -171,7 +172,8 @@ pub fn endpoint_of(
 ) -> Result<Endpoint, AllocError>
     requires lawful { IsLawfulEnd image.now end.now }
     requires moves { MayMove end.now.linked }
-    requires may { All (MayCome regions.now (name_at image.now.domains end.now.domain)) end.now.untold }
+    requires may { All (MayCome regions.now (name_at image.now.domains end.now.domain))
+        end.now.untold }
     requires held { AreHeld pool.old regions.now }
     ensures ok { IfOk result (λ x. IsEndAfter pool.old pool.new regions.now image.now end.now x) }
     ensures err { OnErr result (IsAlike pool.old pool.new) }

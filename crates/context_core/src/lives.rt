@@ -7,7 +7,7 @@ ghost use Rattle.indexmap.specs.IndexMap.{values};
 ghost use Rattle.rdma_types.specs.Lists.{some};
 ghost use Rattle.rdma_types.specs.declared.names.Name.{Name};
 ghost use Rattle.page_pool.specs.Pool.{Pool};
-ghost use Rattle.completion_queue.specs.Queue.{Queue};
+ghost use Rattle.end_queues.specs.Completions.{Queue};
 ghost use Rattle.protocol.specs.EndWords.{is_paused_link};
 ghost use Rattle.protocol.specs.Refusals.{has_moved_out as link_has_moved_out, links_of};
 ghost use Rattle.protocol.specs.State.{Context, end_at};
@@ -19,9 +19,9 @@ use crate::image_links::{is_paused, is_resuming};
 use crate::{ContextState, EndSlot};
 use endpoint_core::EndLink;
 use indexmap::IndexMap;
-use move_core::MOST_MOVES;
 use rdma_types::{Name, ObjName};
 use std::alloc::AllocError;
+use transport::move_core::MOST_MOVES;
 
 /// What is told of a connected end.
 #[derive(Clone, Copy)]
@@ -80,7 +80,8 @@ fn link_view(link: &EndLink) -> LinkView
 /// What is told of the connection of a queue pair; None in Init.
 fn link_of(slot: &EndSlot) -> Option<LinkView>
     requires { SendsByTerms slot.now.endpoint.link }
-    ensures { (pool : Pool) → result ≡ option_map view_of_link (option_map (link_in pool) slot.now.endpoint.link) }
+    ensures { (pool : Pool)
+        → result ≡ option_map view_of_link (option_map (link_in pool) slot.now.endpoint.link) }
 {
     match &slot.endpoint.link {
         None => None,
@@ -91,7 +92,8 @@ fn link_of(slot: &EndSlot) -> Option<LinkView>
 /// What is told of a queue pair.
 fn live_end(context: Name, name: Name, slot: &EndSlot) -> LiveEnd
     requires { SendsByTerms slot.now.endpoint.link }
-    ensures { (pool : Pool) (queues : List (Name × Queue)) (c : Context) → c.name ≡ context → result ≡ view_of_end c (end_of pool queues (name, slot.now)) }
+    ensures { (pool : Pool) (queues : List (Name × Queue)) (c : Context) → c.name ≡ context
+        → result ≡ view_of_end c (end_of pool queues (name, slot.now)) }
 {
     LiveEnd {
         name: ObjName { context, name },
@@ -169,7 +171,8 @@ impl ContextState {
     /// The connection of the queue pair of a name; None where it is in Init or there is none.
     pub fn link_named(&self, end: Name) -> Option<LinkView>
         requires { SendByTerms self.now }
-        ensures { (pool : Pool) (n : Name) → result ≡ option_map view_of_link (end_at (context_in pool n self.now) end).link }
+        ensures { (pool : Pool) (n : Name) → result
+            ≡ option_map view_of_link (end_at (context_in pool n self.now) end).link }
     {
         match self.ends.get(&end) {
             None => None,
@@ -180,7 +183,8 @@ impl ContextState {
     /// The number of the next packet to execute, and one past the highest number sent, of the connected queue pair at a
     /// place; None where there is none.
     pub fn marks_at(&self, place: usize) -> Option<(u64, u64)>
-        ensures { (pool : Pool) (n : Name) → result ≡ option_map link_marks (link_at (context_in pool n self.now) place) }
+        ensures { (pool : Pool) (n : Name) → result
+            ≡ option_map link_marks (link_at (context_in pool n self.now) place) }
     {
         let Some((_, slot)) = self.ends.get_index(place) else {
             return None;
@@ -193,14 +197,16 @@ impl ContextState {
 
     /// Whether an end is connected, not in Error, and Paused.
     pub fn has_paused(&self) -> bool
-        ensures { (pool : Pool) (n : Name) → result ≡ some is_paused_link (links_of (context_in pool n self.now)) }
+        ensures { (pool : Pool) (n : Name) → result
+            ≡ some is_paused_link (links_of (context_in pool n self.now)) }
     {
         any_paused(&self.ends)
     }
 
     /// Whether an end is connected, not in Error, and moved 65,535 times.
     pub fn has_moved_out(&self) -> bool
-        ensures { (pool : Pool) (n : Name) → result ≡ some link_has_moved_out (links_of (context_in pool n self.now)) }
+        ensures { (pool : Pool) (n : Name) → result
+            ≡ some link_has_moved_out (links_of (context_in pool n self.now)) }
     {
         any_moved_out(&self.ends)
     }

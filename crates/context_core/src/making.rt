@@ -35,12 +35,19 @@ impl ContextState {
     /// choice): `NumberTaken` where a domain has the name, `TooMany` where there are 64 domains; or `OutOfMemory`.
     /// Nothing has changed then.
     pub fn make_domain(&mut self, name: Name) -> Result<(), ContextFault>
-        ensures refused { (pool : Pool) (n : Name) → refusal_of result ≡ first_cause (domain_causes (context_in pool n self.old) name) }
-        ensures made { (pool : Pool) (n : Name) (d : Device) → OnOk result (makes_domain d (context_in pool n self.old) name ≡ answers (with_context d (context_in pool n self.new)) answer.Done) }
+        ensures refused { (pool : Pool) (n : Name)
+            → refusal_of result ≡ first_cause (domain_causes (context_in pool n self.old) name) }
+        ensures made { (pool : Pool) (n : Name) (d : Device)
+            → OnOk result (makes_domain d (context_in pool n self.old) name
+            ≡ answers (with_context d (context_in pool n self.new)) answer.Done) }
         ensures is { (pool : Pool) → IsContext pool self.old → IsContext pool self.new }
         ensures lists { lists_of self.new ≡ lists_of self.old }
-        ensures pages { (pool : Pool) (n : Name) → IsContext pool self.old → pages_of_context (context_in pool n self.new) ≡ pages_of_context (context_in pool n self.old) }
-        ensures numbers { (pool : Pool) (n : Name) → map (λ e. e.number) (context_in pool n self.new).ends ≡ map (λ e. e.number) (context_in pool n self.old).ends }
+        ensures pages { (pool : Pool) (n : Name) → IsContext pool self.old
+            → pages_of_context (context_in pool n self.new)
+            ≡ pages_of_context (context_in pool n self.old) }
+        ensures numbers { (pool : Pool) (n : Name)
+            → map (λ e. e.number) (context_in pool n self.new).ends
+            ≡ map (λ e. e.number) (context_in pool n self.old).ends }
         ensures err { OnErr result (self.new ≡ self.old) }
     {
         domains::make(&mut self.domains, name)
@@ -50,13 +57,18 @@ impl ContextState {
     /// these causes that holds (this project's choice): `NumberTaken` where a completion queue has the name, `TooMany`
     /// where there are 64 of them; or `OutOfMemory`. Nothing has changed then.
     pub fn make_cq(&mut self, alloc: Global, name: Name, capacity: u32) -> Result<(), ContextFault>
-        ensures refused { (pool : Pool) (n : Name) → refusal_of result ≡ first_cause (queue_causes (context_in pool n self.old) name) }
+        ensures refused { (pool : Pool) (n : Name)
+            → refusal_of result ≡ first_cause (queue_causes (context_in pool n self.old) name) }
         ensures made { (pool : Pool) (n : Name) (d : Device) → IsContext pool self.old
             → OnOk result (makes_queue d (context_in pool n self.old) name capacity ≡ answers (with_context d (context_in pool n self.new)) answer.Done) }
         ensures is { (pool : Pool) → IsContext pool self.old → IsContext pool self.new }
         ensures lists { lists_of self.new ≡ lists_of self.old }
-        ensures pages { (pool : Pool) (n : Name) → IsContext pool self.old → pages_of_context (context_in pool n self.new) ≡ pages_of_context (context_in pool n self.old) }
-        ensures numbers { (pool : Pool) (n : Name) → map (λ e. e.number) (context_in pool n self.new).ends ≡ map (λ e. e.number) (context_in pool n self.old).ends }
+        ensures pages { (pool : Pool) (n : Name) → IsContext pool self.old
+            → pages_of_context (context_in pool n self.new)
+            ≡ pages_of_context (context_in pool n self.old) }
+        ensures numbers { (pool : Pool) (n : Name)
+            → map (λ e. e.number) (context_in pool n self.new).ends
+            ≡ map (λ e. e.number) (context_in pool n self.old).ends }
         ensures err { OnErr result (self.new ≡ self.old) }
     {
         queues::make(&mut self.queues, alloc, name, capacity)
@@ -79,7 +91,9 @@ impl ContextState {
             ≡ answers (with_context (counting_qp d) (context_in pool n self.new)) (answer.Qp (number_of d))) }
         ensures is { (pool : Pool) → IsContext pool self.old → IsContext pool self.new }
         ensures lists { lists_of self.new ≡ lists_of self.old }
-        ensures pages { (pool : Pool) (n : Name) → IsContext pool self.old → pages_of_context (context_in pool n self.new) ≡ pages_of_context (context_in pool n self.old) }
+        ensures pages { (pool : Pool) (n : Name) → IsContext pool self.old
+            → pages_of_context (context_in pool n self.new)
+            ≡ pages_of_context (context_in pool n self.old) }
         ensures err { OnErr result (self.new ≡ self.old) }
     {
         new_ends::make(
@@ -111,14 +125,19 @@ impl ContextState {
     ) -> Result<(), Refusal>
         requires terms { AreTerms terms.now }
         requires is { (pool : Pool) × IsContext pool self.old }
-        ensures refused { (pool : Pool) (n : Name) → result_err result ≡ first_cause (connect_causes (context_in pool n self.old) name) }
+        ensures refused { (pool : Pool) (n : Name)
+            → result_err result ≡ first_cause (connect_causes (context_in pool n self.old) name) }
         ensures connected { (pool : Pool) (n : Name) (d : Device) → IsContext pool self.old
             → OnOk result (connects d (context_in pool n self.old) (end_at (context_in pool n self.old) name) peer partner terms.now
             ≡ answers (with_context d (context_in pool n self.new)) answer.Done) }
         ensures is { (pool : Pool) → IsContext pool self.old → IsContext pool self.new }
         ensures lists { lists_of self.new ≡ lists_of self.old }
-        ensures pages { (pool : Pool) (n : Name) → IsContext pool self.old → pages_of_context (context_in pool n self.new) ≡ pages_of_context (context_in pool n self.old) }
-        ensures numbers { (pool : Pool) (n : Name) → map (λ e. e.number) (context_in pool n self.new).ends ≡ map (λ e. e.number) (context_in pool n self.old).ends }
+        ensures pages { (pool : Pool) (n : Name) → IsContext pool self.old
+            → pages_of_context (context_in pool n self.new)
+            ≡ pages_of_context (context_in pool n self.old) }
+        ensures numbers { (pool : Pool) (n : Name)
+            → map (λ e. e.number) (context_in pool n self.new).ends
+            ≡ map (λ e. e.number) (context_in pool n self.old).ends }
         ensures err { OnErr result (self.new ≡ self.old) }
     {
         let place = ends::unconnected(&self.ends, name)?;

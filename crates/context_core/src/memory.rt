@@ -16,7 +16,7 @@ ghost use Rattle.context_core.specs.Faults.{refusal_of};
 ghost use Rattle.context_core.specs.Ranges.{IsRange};
 
 use crate::{ContextFault, ContextState};
-use memory_keys::{RegionHead, Regions, Spot};
+use memory_keys::{RegionHead, RegionRange, Regions};
 use page_pool::PagePool;
 use rdma_types::{Items, Name, Refusal};
 use std::alloc::Global;
@@ -34,8 +34,9 @@ fn within(head: &RegionHead, at: u64, length: u64) -> bool
 }
 
 /// The spot of a range of a region.
-fn range(regions: &Regions, name: Name, at: u64, length: usize) -> Result<Spot, Refusal>
-    ensures refused { (pool : Pool) (c : Context) → c.regions ≡ regions_of pool regions.now → result_err result ≡ first_cause (range_causes c name at length) }
+fn range(regions: &Regions, name: Name, at: u64, length: usize) -> Result<RegionRange, Refusal>
+    ensures refused { (pool : Pool) (c : Context) → c.regions ≡ regions_of pool regions.now
+        → result_err result ≡ first_cause (range_causes c name at length) }
     ensures range { IfOk result (λ spot. IsRange regions.now name at length spot) }
 {
     let Some(head) = regions.named(name) else {
@@ -44,7 +45,7 @@ fn range(regions: &Regions, name: Name, at: u64, length: usize) -> Result<Spot, 
     if !within(&head, at, length as u64) {
         return Err(Refusal::BadKey);
     }
-    Ok(Spot {
+    Ok(RegionRange {
         region: head.keys.local,
         off: (at - head.base) as u32,
         length: length as u32,
@@ -62,13 +63,16 @@ impl ContextState {
         bytes: &[u8],
     ) -> Result<(), Refusal>
         requires is { IsContext pool.old self.old }
-        ensures refused { (n : Name) → result_err result ≡ first_cause (range_causes (context_in pool.old n self.old) name at (length bytes.now)) }
+        ensures refused { (n : Name) → result_err result
+            ≡ first_cause (range_causes (context_in pool.old n self.old) name at
+            (length bytes.now)) }
         ensures stored { (n : Name) (d : Device)
             → OnOk result (stores d (context_in pool.old n self.old) (region_at (context_in pool.old n self.old) name) at bytes.now
             ≡ answers (with_context d (context_in pool.new n self.new)) answer.Done) }
         ensures is { IsContext pool.new self.new }
         ensures moves { Moves pool.old pool.new self.old self.new }
-        ensures numbers { (n : Name) → map (λ e. e.number) (context_in pool.new n self.new).ends ≡ map (λ e. e.number) (context_in pool.old n self.old).ends }
+        ensures numbers { (n : Name) → map (λ e. e.number) (context_in pool.new n self.new).ends
+            ≡ map (λ e. e.number) (context_in pool.old n self.old).ends }
         ensures err { OnErr result (self.new ≡ self.old) }
         ensures err_pool { OnErr result (pool.new ≡ pool.old) }
     {
@@ -89,7 +93,8 @@ impl ContextState {
         length: u32,
     ) -> Result<Items<u8>, ContextFault>
         requires is { IsContext pool.now self.now }
-        ensures refused { (n : Name) → refusal_of result ≡ first_cause (range_causes (context_in pool.now n self.now) name at length) }
+        ensures refused { (n : Name) → refusal_of result
+            ≡ first_cause (range_causes (context_in pool.now n self.now) name at length) }
         ensures loaded { (n : Name) (d : Device)
             → IfOk result (λ bytes. loads d (region_at (context_in pool.now n self.now) name) at length ≡ answers d (answer.Bytes bytes)) }
     {

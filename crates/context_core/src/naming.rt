@@ -4,19 +4,19 @@ ghost use Rattle.std.specs.Prelude.{◌≡◌, ◌≤◌, ◌==◌, ◌&&◌, �
 ghost use Rattle.rdma_types.specs.Lists.{some};
 ghost use Rattle.rdma_types.specs.declared.names.Name.{Name};
 ghost use Rattle.page_pool.specs.Pool.{Pool};
-ghost use Rattle.completion_queue.specs.Queue.{Queue};
+ghost use Rattle.end_queues.specs.Completions.{Queue};
 ghost use Rattle.protocol.specs.Refusals.{names_key, progress_names};
 ghost use Rattle.endpoint_core.specs.Ends.{Names, end_in};
 ghost use Rattle.context_core.specs.Context.{end_of};
 ghost use Rattle.context_core.specs.Naming.{IsFit};
 
 use crate::EndSlot;
+use end_queues::work_queues::RecvQueue;
 use endpoint_core::Endpoint;
 use indexmap::IndexMap;
 use rdma_types::Name;
 use requester::Requester;
 use responder::{Flow, Responder};
-use work_queues::RecvQueue;
 
 /// Whether bytes are named under this key.
 fn has_key(lkey: u32, length: u32, key: u32) -> bool
@@ -28,7 +28,8 @@ fn has_key(lkey: u32, length: u32, key: u32) -> bool
 /// Whether an untold request with bytes names the region with a local key.
 fn is_requested(requester: &Requester, depth: u32, key: u32) -> bool
     requires { length requester.now.items ≤ depth }
-    ensures { result ≡ some (λ p. p.request.lkey == key && not (p.request.shape.length == 0)) requester.now.items }
+    ensures { result ≡ some (λ p. p.request.lkey == key
+        && not (p.request.shape.length == 0)) requester.now.items }
 {
     for place in 0..depth {
         let Some(p) = requester.posted(place as usize) else {
@@ -90,7 +91,8 @@ fn is_one(a: bool, b: bool, c: bool) -> bool
 /// Whether the work of a queue pair of the context names the region with a local key.
 pub fn is_named(ends: &IndexMap<Name, EndSlot>, key: u32) -> bool
     requires { All (λ e. IsFit e.1.endpoint) ends.now.entries }
-    ensures { (pool : Pool) (queues : List (Name × Queue)) → result ≡ some (names_key key) (map (end_of pool queues) ends.now.entries) }
+    ensures { (pool : Pool) (queues : List (Name × Queue))
+        → result ≡ some (names_key key) (map (end_of pool queues) ends.now.entries) }
 {
     for place in 0..ends.len() {
         let (_, slot) = ends.get_index(place).unwrap();

@@ -14,7 +14,7 @@ ghost use Rattle.context_core.specs.NewEnds.{AreParts, IsMade, IsPlaceOf, lacks_
 use crate::ends::append;
 use crate::queues::MOST_QUEUES;
 use crate::{ContextFault, EndSlot, NewEnd};
-use completion_queue::Cq;
+use end_queues::completion_queue::Cq;
 use endpoint_core::Endpoint;
 use indexmap::{IndexMap, IndexSet};
 use rdma_types::{Name, Refusal};
@@ -33,7 +33,9 @@ struct Parts {
 
 /// The place of the completion queue with a name, where it is there.
 fn place_of(queues: &IndexMap<Name, Cq>, name: Option<Name>) -> Option<u32>
-    ensures found { length queues.now.entries ≤ most_queues → is_none result ≡ lacks (λ n. has_name (λ q. q.name) n (queues_of queues.now.entries)) name }
+    ensures found { length queues.now.entries ≤ most_queues
+        → is_none result
+        ≡ lacks (λ n. has_name (λ q. q.name) n (queues_of queues.now.entries)) name }
     ensures place { IfSome result (IsPlaceOf queues.now.entries name) }
 {
     let place = queues.get_index_of(&name?)?;
@@ -45,7 +47,8 @@ fn place_of(queues: &IndexMap<Name, Cq>, name: Option<Name>) -> Option<u32>
 
 /// What a new queue pair names, where all of it is there.
 fn parts_of(domains: &IndexSet<Name>, queues: &IndexMap<Name, Cq>, new: &NewEnd) -> Option<Parts>
-    ensures found { length queues.now.entries ≤ most_queues → is_none result ≡ lacks_parts domains.now.keys queues.now.entries new.now }
+    ensures found { length queues.now.entries ≤ most_queues
+        → is_none result ≡ lacks_parts domains.now.keys queues.now.entries new.now }
     ensures parts { IfSome result (AreParts queues.now.entries new.now) }
 {
     let domain = new.domain?;
@@ -84,7 +87,10 @@ pub fn refusal(
     new: &NewEnd,
     number: Option<u32>,
 ) -> Option<Refusal>
-    ensures { length queues.now.entries ≤ most_queues → result ≡ first_cause (make_causes domains.now.keys queues.now.entries ends.now.entries new.now number) }
+    ensures { length queues.now.entries ≤ most_queues
+        → result
+        ≡ first_cause (make_causes domains.now.keys queues.now.entries ends.now.entries new.now
+        number) }
 {
     let Some(_parts) = parts_of(domains, queues, new) else {
         return Some(Refusal::NoSuch);
@@ -104,8 +110,12 @@ pub fn make(
     new: &NewEnd,
     number: Option<u32>,
 ) -> Result<(), ContextFault>
-    ensures refused { length queues.now.entries ≤ most_queues → refusal_of result ≡ first_cause (make_causes domains.now.keys queues.now.entries ends.old.entries new.now number) }
-    ensures made { OnOk result (IsMade queues.now.entries ends.old.entries ends.new.entries new.now number) }
+    ensures refused { length queues.now.entries ≤ most_queues
+        → refusal_of result
+        ≡ first_cause (make_causes domains.now.keys queues.now.entries ends.old.entries new.now
+        number) }
+    ensures made { OnOk result (IsMade queues.now.entries ends.old.entries ends.new.entries new.now
+        number) }
     ensures err { OnErr result (ends.new.entries ≡ ends.old.entries) }
 {
     let Some(parts) = parts_of(domains, queues, new) else {

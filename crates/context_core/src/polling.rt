@@ -25,14 +25,19 @@ impl ContextState {
         name: Name,
         most: u32,
     ) -> Result<Items<Completion>, ContextFault>
-        ensures refused { (pool : Pool) (n : Name) → refusal_of result ≡ first_cause (poll_causes (context_in pool n self.old) name) }
+        ensures refused { (pool : Pool) (n : Name)
+            → refusal_of result ≡ first_cause (poll_causes (context_in pool n self.old) name) }
         ensures polled { (pool : Pool) (n : Name) (d : Device)
             → IfOk result (λ entries. polls d (context_in pool n self.old) (queue_at (context_in pool n self.old) name) most
             ≡ answers (with_context d (context_in pool n self.new)) (answer.Polled entries)) }
         ensures is { (pool : Pool) → IsContext pool self.old → IsContext pool self.new }
         ensures lists { lists_of self.new ≡ lists_of self.old }
-        ensures pages { (pool : Pool) (n : Name) → IsContext pool self.old → pages_of_context (context_in pool n self.new) ≡ pages_of_context (context_in pool n self.old) }
-        ensures numbers { (pool : Pool) (n : Name) → map (λ e. e.number) (context_in pool n self.new).ends ≡ map (λ e. e.number) (context_in pool n self.old).ends }
+        ensures pages { (pool : Pool) (n : Name) → IsContext pool self.old
+            → pages_of_context (context_in pool n self.new)
+            ≡ pages_of_context (context_in pool n self.old) }
+        ensures numbers { (pool : Pool) (n : Name)
+            → map (λ e. e.number) (context_in pool n self.new).ends
+            ≡ map (λ e. e.number) (context_in pool n self.old).ends }
         ensures err { OnErr result (self.new ≡ self.old) }
     {
         queues::poll(&mut self.queues, alloc, name, most)

@@ -20,20 +20,18 @@ ghost use Rattle.context_core.specs.Context.{HasQueues, Holding, IsContext, Move
 ghost use Rattle.context_core.specs.Faults.{refusal_of};
 ghost use Rattle.context_core.specs.Requests.{IsTaken, TakesRequest, is_past, post_causes, slot_causes, taken_length};
 
-use crate::receives::{MOST_BYTES, is_full, reserve};
+use crate::receives::{is_full, reserve};
 use crate::{ContextFault, ContextState, EndSlot};
-use completion_queue::Cq;
+use end_queues::completion_queue::Cq;
+use end_queues::work_queues::QueuedRequest;
 use endpoint_core::{EndLink, EndMemory};
 use indexmap::IndexMap;
-use memory_keys::{MemFault, Payload, Regions, Spot};
+use memory_keys::{MemFault, Payload, RegionRange, Regions};
 use page_pool::PagePool;
+use rdma_types::limits::{MOST_BYTES, NUMBER_LIMIT};
 use rdma_types::{Kind, Name, Refusal, Request, Shape};
-use segmenter::span_of;
 use std::alloc::Global;
-use work_queues::QueuedRequest;
-
-/// Packet numbers stay below this (this project's choice).
-const NUMBER_LIMIT: u64 = 1 << 62;
+use transport::segmenter::span_of;
 
 /// The number past a request would not be below the limit.
 fn is_past_limit(link: &EndLink, shape: &Shape) -> bool
@@ -63,11 +61,12 @@ fn lands(kind: Kind) -> bool
 }
 
 /// The part of a request's local place that is taken: all of it for a Write or Send, but nothing in Error.
-fn source(link: &EndLink, kind: Kind, place: Spot) -> Spot
-    ensures { result ≡ (if kinds.takes_bytes kind && not link.now.ended then place else record { region = 0; off = 0; length = 0 }) }
+fn source(link: &EndLink, kind: Kind, place: RegionRange) -> RegionRange
+    ensures { result ≡ (if kinds.takes_bytes kind
+        && not link.now.ended then place else record { region = 0; off = 0; length = 0 }) }
 {
     if lands(kind) || link.ended {
-        return Spot {
+        return RegionRange {
             region: 0,
             off: 0,
             length: 0,
@@ -82,10 +81,11 @@ fn source_at(
     queues: &IndexMap<Name, Cq>,
     slot: &EndSlot,
     request: &Request,
-) -> Result<Spot, Refusal>
+) -> Result<RegionRange, Refusal>
     requires there { slot.now.send < length queues.now.entries }
     requires end { (pool : Pool) × IsEnd pool regions.now slot.now.endpoint }
-    ensures refused { (pool : Pool) → result_err result ≡ first_cause (slot_causes pool regions.now queues.now.entries slot.now request.now) }
+    ensures refused { (pool : Pool) → result_err result
+        ≡ first_cause (slot_causes pool regions.now queues.now.entries slot.now request.now) }
     ensures takes { IfOk result (TakesRequest regions.now queues.now.entries slot.now request.now) }
 {
     let endpoint = &slot.endpoint;
@@ -126,14 +126,17 @@ fn admitted(
     ends: &IndexMap<Name, EndSlot>,
     name: Name,
     request: &Request,
-) -> Result<(usize, Spot), Refusal>
+) -> Result<(usize, RegionRange), Refusal>
     requires placed { All (HasQueues queues.now.entries) ends.now.entries }
-    requires sound { (pool : Pool) × All (λ e. IsEnd pool regions.now e.1.endpoint) ends.now.entries }
+    requires sound { (pool : Pool)
+        × All (λ e. IsEnd pool regions.now e.1.endpoint) ends.now.entries }
     ensures refused { (pool : Pool) (n : Name) (h : Holding) → IsContext pool h → h.regions ≡ regions.now → h.queues ≡ queues.now.entries → h.ends ≡ ends.now.entries
         → result_err result ≡ first_cause (end_causes (context_in pool n h) name (post_causes (context_in pool n h) (end_at (context_in pool n h) name) request.now)) }
-    ensures place { IfOk result (λ x. position (bytes_eq name) (keys_of ends.now.entries) ≡ Some x.0) }
+    ensures place { IfOk result (λ x. position (bytes_eq name) (keys_of ends.now.entries)
+        ≡ Some x.0) }
     ensures there { IfOk result (λ x. x.0 < length ends.now.entries) }
-    ensures takes { IfOk result (λ x. IfSome (slice_get ends.now.entries x.0) (λ e. TakesRequest regions.now queues.now.entries e.1 request.now x.1)) }
+    ensures takes { IfOk result (λ x. IfSome (slice_get ends.now.entries x.0)
+        (λ e. TakesRequest regions.now queues.now.entries e.1 request.now x.1)) }
 {
     let Some(place) = ends.get_index_of(&name) else {
         return Err(Refusal::NoSuch);
@@ -150,11 +153,12 @@ fn taken(
     regions: &mut Regions,
     pool: &mut PagePool,
     alloc: Global,
-    source: Spot,
+    source: RegionRange,
 ) -> Result<Payload, ContextFault>
     requires held { AreHeld pool.old regions.old }
     requires inside { IsSpot regions.old source }
-    ensures refused { refusal_of result ≡ (if nat_lt (free_pages pool.old) (pages_touched source) then Some refusal.NoPage else None) }
+    ensures refused { refusal_of result ≡ (if nat_lt (free_pages pool.old) (pages_touched source)
+        then Some refusal.NoPage else None) }
     ensures same { regions.new ≡ regions.old }
     ensures taken { IfOk result (IsTaken pool.old pool.new regions.old source) }
     ensures err { OnErr result (pool.new ≡ pool.old) }
@@ -191,7 +195,8 @@ impl ContextState {
             ≡ answers (with_context d (context_in pool.new n self.new)) answer.Done) }
         ensures is { IsContext pool.new self.new }
         ensures moves { Moves pool.old pool.new self.old self.new }
-        ensures numbers { (n : Name) → map (λ e. e.number) (context_in pool.new n self.new).ends ≡ map (λ e. e.number) (context_in pool.old n self.old).ends }
+        ensures numbers { (n : Name) → map (λ e. e.number) (context_in pool.new n self.new).ends
+            ≡ map (λ e. e.number) (context_in pool.old n self.old).ends }
         ensures err { OnErr result (self.new ≡ self.old) }
         ensures err_pool { OnErr result (pool.new ≡ pool.old) }
     {

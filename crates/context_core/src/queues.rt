@@ -3,7 +3,7 @@
 ghost use Rattle.std.specs.Prelude.{◌≡◌, ◌<◌, length, ◌++◌, ◌∷◌, [], false, IfOk, OnErr, OnOk, take};
 ghost use Rattle.rdma_types.specs.Causes.{first_cause};
 ghost use Rattle.rdma_types.specs.Lists.{has_name};
-ghost use Rattle.completion_queue.specs.Queue.{polled, unreserved};
+ghost use Rattle.end_queues.specs.Completions.{polled, unreserved};
 ghost use Rattle.endpoint_core.specs.Queues.{queues_of};
 ghost use Rattle.protocol.specs.State.{Context};
 ghost use Rattle.context_core.specs.Causes.{poll_causes, queue_causes};
@@ -11,7 +11,7 @@ ghost use Rattle.context_core.specs.Faults.{refusal_of};
 ghost use Rattle.context_core.specs.Queues.{IsPolled};
 
 use crate::ContextFault;
-use completion_queue::Cq;
+use end_queues::completion_queue::Cq;
 use indexmap::IndexMap;
 use rdma_types::{Completion, Items, Name, Refusal, WcKind, WcStatus};
 use std::alloc::{AllocError, Global};
@@ -21,7 +21,8 @@ pub const MOST_QUEUES: usize = 64;
 
 /// Why no completion queue of this name is made.
 fn refusal(queues: &IndexMap<Name, Cq>, name: Name) -> Option<Refusal>
-    ensures { (c : Context) → c.queues ≡ queues_of queues.now.entries → result ≡ first_cause (queue_causes c name) }
+    ensures { (c : Context) → c.queues ≡ queues_of queues.now.entries
+        → result ≡ first_cause (queue_causes c name) }
 {
     if queues.contains_key(&name) {
         return Some(Refusal::NumberTaken);
@@ -38,10 +39,13 @@ pub fn make(
     name: Name,
     capacity: u32,
 ) -> Result<(), ContextFault>
-    ensures refused { (c : Context) → c.queues ≡ queues_of queues.old.entries → refusal_of result ≡ first_cause (queue_causes c name) }
-    ensures made { OnOk result (queues.new.entries ≡ queues.old.entries ++ (name, unreserved capacity []) ∷ []) }
+    ensures refused { (c : Context) → c.queues ≡ queues_of queues.old.entries
+        → refusal_of result ≡ first_cause (queue_causes c name) }
+    ensures made { OnOk result (queues.new.entries
+        ≡ queues.old.entries ++ (name, unreserved capacity []) ∷ []) }
     ensures bounded { OnOk result (length queues.old.entries < 64) }
-    ensures absent { OnOk result (has_name (λ q. q.name) name (queues_of queues.old.entries) ≡ false) }
+    ensures absent { OnOk result (has_name (λ q. q.name) name (queues_of queues.old.entries)
+        ≡ false) }
     ensures err { OnErr result (queues.new.entries ≡ queues.old.entries) }
 {
     if let Some(refusal) = refusal(queues, name) {
@@ -83,8 +87,10 @@ pub fn poll(
     name: Name,
     most: u32,
 ) -> Result<Items<Completion>, ContextFault>
-    ensures refused { (c : Context) → c.queues ≡ queues_of queues.old.entries → refusal_of result ≡ first_cause (poll_causes c name) }
-    ensures polled { IfOk result (λ entries. IsPolled queues.old.entries queues.new.entries name most entries) }
+    ensures refused { (c : Context) → c.queues ≡ queues_of queues.old.entries
+        → refusal_of result ≡ first_cause (poll_causes c name) }
+    ensures polled { IfOk result (λ entries. IsPolled queues.old.entries queues.new.entries name
+        most entries) }
     ensures err { OnErr result (queues.new.entries ≡ queues.old.entries) }
 {
     let Some(place) = queues.get_index_of(&name) else {

@@ -19,14 +19,16 @@ impl ContextState {
 
     /// The place of the queue pair with a name. It stays, since queue pairs are only added.
     pub fn place_of_end(&self, name: Name) -> Option<usize>
-        ensures { (pool : Pool) (n : Name) → result ≡ position (λ e. bytes_eq name e.name) (context_in pool n self.now).ends }
+        ensures { (pool : Pool) (n : Name) → result
+            ≡ position (λ e. bytes_eq name e.name) (context_in pool n self.now).ends }
     {
         self.ends.get_index_of(&name)
     }
 
     /// The keys of the region at a place; None where there are fewer.
     pub fn keys_at(&self, place: usize) -> Option<Keys>
-        ensures { (pool : Pool) (n : Name) → result ≡ option_map (λ r. r.keys) (slice_get (context_in pool n self.now).regions place) }
+        ensures { (pool : Pool) (n : Name) → result
+            ≡ option_map (λ r. r.keys) (slice_get (context_in pool n self.now).regions place) }
     {
         let head = self.regions.at(place)?;
         Some(head.keys)

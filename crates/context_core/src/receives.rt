@@ -8,7 +8,7 @@ ghost use Rattle.rdma_types.specs.Causes.{first_cause};
 ghost use Rattle.rdma_types.specs.declared.answers.Answer.TheVariants as answer;
 ghost use Rattle.rdma_types.specs.declared.names.Name.{Name};
 ghost use Rattle.page_pool.specs.Pool.{Pool};
-ghost use Rattle.completion_queue.specs.Queue.{reserving, used_places};
+ghost use Rattle.end_queues.specs.Completions.{reserving, used_places};
 ghost use Rattle.memory_keys.specs.Regions.{regions_of};
 ghost use Rattle.protocol.specs.DeviceStep.{answers, receives, with_context};
 ghost use Rattle.protocol.specs.Refusals.{end_causes, is_full, recv_causes};
@@ -17,15 +17,13 @@ ghost use Rattle.context_core.specs.Context.{HasQueues, Holding, IsContext, Move
 ghost use Rattle.context_core.specs.Queues.{TakesReceive, is_full_at};
 
 use crate::{ContextState, EndSlot};
-use completion_queue::Cq;
+use end_queues::completion_queue::Cq;
 use endpoint_core::EndMemory;
 use indexmap::IndexMap;
 use memory_keys::Regions;
 use page_pool::PagePool;
+use rdma_types::limits::MOST_BYTES;
 use rdma_types::{Name, Receive, Refusal};
-
-/// Bytes of a message (this project's choice).
-pub const MOST_BYTES: u32 = 1_048_576;
 
 /// Entries and reserved places reach the capacity of a queue.
 pub fn is_full(queue: &Cq) -> bool
@@ -37,9 +35,11 @@ pub fn is_full(queue: &Cq) -> bool
 
 /// Reserves a place of the queue at a place.
 pub fn reserve(queues: &mut IndexMap<Name, Cq>, place: u32)
-    requires room { IfSome (slice_get (values_of queues.old.entries) place) (λ q. used_places q < q.capacity) }
+    requires room { IfSome (slice_get (values_of queues.old.entries) place)
+        (λ q. used_places q < q.capacity) }
     requires there { place < length queues.old.entries }
-    ensures { IfSome (slice_get (values_of queues.old.entries) place) (λ q. queues.new.entries ≡ set_value_at queues.old.entries place (reserving q)) }
+    ensures { IfSome (slice_get (values_of queues.old.entries) place) (λ q. queues.new.entries
+        ≡ set_value_at queues.old.entries place (reserving q)) }
 {
     let queue = queues.get_index_mut(place as usize).unwrap();
     queue.reserve().unwrap();
@@ -57,7 +57,8 @@ fn refusal(
         → e.recv_depth ≡ slot.now.endpoint.recv_depth → e.unused ≡ slot.now.endpoint.recvs.items
         → IfSome (slice_get (values_of queues.now.entries) slot.now.recv) (λ q. is_full c e.recv_cq ≡ is_full_at q)
         → result ≡ first_cause (recv_causes c e receive.now) }
-    ensures takes { IfNone result (TakesReceive regions.now queues.now.entries slot.now receive.now) }
+    ensures takes { IfNone result (TakesReceive regions.now queues.now.entries slot.now
+        receive.now) }
 {
     if receive.length > MOST_BYTES {
         return Some(Refusal::TooLong);
@@ -90,9 +91,11 @@ fn admitted(
     requires { All (HasQueues queues.now.entries) ends.now.entries }
     ensures refused { (pool : Pool) (n : Name) (h : Holding) → IsContext pool h → h.regions ≡ regions.now → h.queues ≡ queues.now.entries → h.ends ≡ ends.now.entries
         → result_err result ≡ first_cause (end_causes (context_in pool n h) name (recv_causes (context_in pool n h) (end_at (context_in pool n h) name) receive.now)) }
-    ensures place { IfOk result (λ i. position (bytes_eq name) (keys_of ends.now.entries) ≡ Some i) }
+    ensures place { IfOk result (λ i. position (bytes_eq name) (keys_of ends.now.entries)
+        ≡ Some i) }
     ensures there { IfOk result (λ i. i < length ends.now.entries) }
-    ensures takes { IfOk result (λ i. IfSome (slice_get ends.now.entries i) (λ e. TakesReceive regions.now queues.now.entries e.1 receive.now)) }
+    ensures takes { IfOk result (λ i. IfSome (slice_get ends.now.entries i)
+        (λ e. TakesReceive regions.now queues.now.entries e.1 receive.now)) }
 {
     let Some(place) = ends.get_index_of(&name) else {
         return Err(Refusal::NoSuch);
@@ -125,7 +128,8 @@ impl ContextState {
             ≡ answers (with_context d (context_in pool.new n self.new)) answer.Done) }
         ensures is { IsContext pool.new self.new }
         ensures moves { Moves pool.old pool.new self.old self.new }
-        ensures numbers { (n : Name) → map (λ e. e.number) (context_in pool.new n self.new).ends ≡ map (λ e. e.number) (context_in pool.old n self.old).ends }
+        ensures numbers { (n : Name) → map (λ e. e.number) (context_in pool.new n self.new).ends
+            ≡ map (λ e. e.number) (context_in pool.old n self.old).ends }
         ensures err { OnErr result (self.new ≡ self.old) }
         ensures err_pool { OnErr result (pool.new ≡ pool.old) }
     {

@@ -71,7 +71,9 @@ fn head_of(
 
 /// Why a region is not made where no keys are left.
 fn without_keys(regions: &Regions, name: Name) -> Refusal
-    ensures { (pool : Pool) → result ≡ (if has_name (λ r. r.name) name (regions_of pool regions.now) then NumberTaken else TooMany) }
+    ensures { (pool : Pool)
+        → result ≡ (if has_name (λ r. r.name) name (regions_of pool regions.now) then NumberTaken
+        else TooMany) }
 {
     if regions.named(name).is_some() {
         Refusal::NumberTaken
@@ -95,7 +97,9 @@ impl ContextState {
     ) -> Result<(), ContextFault>
         requires is { IsContext pool.old self.old }
         requires pair { IfSome keys (λ k. k.remote ≡ k.local + 1) }
-        requires own { (n : Name) → IfSome keys (λ k. has local_key k.local (context_in pool.old n self.old).regions ≡ false) }
+        requires own { (n : Name)
+            → IfSome keys (λ k. has local_key k.local (context_in pool.old n self.old).regions
+            ≡ false) }
         ensures refused { (n : Name) (d : Device) → rule.free_pages d ≡ free_pages pool.old → nat_le most_keys d.key_count ≡ is_none keys
             → refusal_of result ≡ first_cause (region_causes d (context_in pool.old n self.old) new.now.name new.now.domain new.now.length) }
         ensures made { (n : Name) (d : Device) → keys ≡ Some (keys_of d)
@@ -103,7 +107,8 @@ impl ContextState {
             ≡ answers (with_context (counting_key d) (context_in pool.new n self.new)) (answer.Region (keys_of d))) }
         ensures is { IsContext pool.new self.new }
         ensures moves { Moves pool.old pool.new self.old self.new }
-        ensures numbers { (n : Name) → map (λ e. e.number) (context_in pool.new n self.new).ends ≡ map (λ e. e.number) (context_in pool.old n self.old).ends }
+        ensures numbers { (n : Name) → map (λ e. e.number) (context_in pool.new n self.new).ends
+            ≡ map (λ e. e.number) (context_in pool.old n self.old).ends }
         ensures err { OnErr result (self.new ≡ self.old) }
         ensures err_pool { OnErr result (pool.new ≡ pool.old) }
     {
@@ -117,11 +122,15 @@ impl ContextState {
     /// has changed then.
     pub fn drop_region(&mut self, pool: &mut PagePool, name: Name) -> Result<(), Refusal>
         requires is { IsContext pool.old self.old }
-        ensures refused { (n : Name) → result_err result ≡ first_cause (drop_causes (context_in pool.old n self.old) name) }
-        ensures dropped { (n : Name) (d : Device) → OnOk result (drops d (context_in pool.old n self.old) name ≡ answers (with_context d (context_in pool.new n self.new)) answer.Done) }
+        ensures refused { (n : Name) → result_err result
+            ≡ first_cause (drop_causes (context_in pool.old n self.old) name) }
+        ensures dropped { (n : Name) (d : Device)
+            → OnOk result (drops d (context_in pool.old n self.old) name
+            ≡ answers (with_context d (context_in pool.new n self.new)) answer.Done) }
         ensures is { IsContext pool.new self.new }
         ensures moves { Moves pool.old pool.new self.old self.new }
-        ensures numbers { (n : Name) → map (λ e. e.number) (context_in pool.new n self.new).ends ≡ map (λ e. e.number) (context_in pool.old n self.old).ends }
+        ensures numbers { (n : Name) → map (λ e. e.number) (context_in pool.new n self.new).ends
+            ≡ map (λ e. e.number) (context_in pool.old n self.old).ends }
         ensures err { OnErr result (self.new ≡ self.old) }
         ensures err_pool { OnErr result (pool.new ≡ pool.old) }
     {
@@ -136,7 +145,8 @@ impl ContextState {
 
     /// Whether a region has one of these keys.
     pub fn has_keys(&self, keys: Keys) -> bool
-        ensures { (pool : Pool) (n : Name) → result ≡ some (meets keys) (context_in pool n self.now).regions }
+        ensures { (pool : Pool) (n : Name) → result
+            ≡ some (meets keys) (context_in pool n self.now).regions }
     {
         self.regions.has_key(keys.local) || self.regions.has_key(keys.remote)
     }

@@ -7,22 +7,24 @@ ghost use Rattle.page_pool.specs.Held.{HoldsPayload, payload_bytes};
 ghost use Rattle.memory_keys.specs.Regions.{AreHeld, pages_touched, regions_of};
 ghost use Rattle.protocol.specs.Memory.{pages_of_request};
 ghost use Rattle.protocol.specs.State.{no_context};
-ghost use Rattle.end_memory.specs.Payloads.{AreApart, GivesBack};
+ghost use Rattle.end_completions.specs.Payloads.{AreApart, GivesBack};
 ghost use Rattle.context_core.specs.Coming.{AreTaken, Come, IsAlike, MayCome};
 
-use memory_keys::{Payload, Regions, Spot};
+use end_queues::work_queues::{QueuedRequest, SendQueue};
+use memory_keys::{Payload, RegionRange, Regions};
 use page_pool::{ByteRun, PagePool};
 use protocol::PostedImage;
 use rdma_types::Name;
 use std::alloc::{AllocError, Global};
-use work_queues::{QueuedRequest, SendQueue};
 
 /// Where the bytes of a request were taken from.
-fn source_of(regions: &Regions, domain: Name, image: &PostedImage) -> Spot
+fn source_of(regions: &Regions, domain: Name, image: &PostedImage) -> RegionRange
     requires { MayCome regions.now domain image.now }
     ensures length { result.length ≡ length image.now.payload }
     ensures bounded { result.length ≤ most_bytes }
-    ensures pages { (pool : Pool) → pages_touched result ≡ pages_of_request (record no_context { regions = regions_of pool regions.now }) image.now.request }
+    ensures pages { (pool : Pool) → pages_touched result
+        ≡ pages_of_request (record no_context { regions = regions_of pool regions.now })
+        image.now.request }
 {
     let request = &image.request;
     let count = image.payload.len() as u32;
@@ -32,7 +34,7 @@ fn source_of(regions: &Regions, domain: Name, image: &PostedImage) -> Spot
 }
 
 /// Where the bytes of a spot begin in their first page.
-fn first_of(spot: Spot) -> u32
+fn first_of(spot: RegionRange) -> u32
     ensures { result ≡ (if spot.length == 0 then 0 else spot.off % 4096) }
 {
     if spot.length == 0 {
@@ -42,7 +44,7 @@ fn first_of(spot: Spot) -> u32
 }
 
 /// How many pages a spot touches.
-fn touched(spot: Spot) -> u32
+fn touched(spot: RegionRange) -> u32
     requires { spot.length ≤ most_bytes }
     ensures { result ≡ pages_touched spot }
 {
@@ -56,7 +58,7 @@ fn touched(spot: Spot) -> u32
 fn payload_of(
     pool: &mut PagePool,
     alloc: Global,
-    spot: Spot,
+    spot: RegionRange,
     bytes: &ByteRun,
 ) -> Result<Payload, AllocError>
     requires whole { length bytes.now ≡ spot.length }
@@ -94,7 +96,8 @@ fn posted_of(
 ) -> Result<QueuedRequest, AllocError>
     requires may { MayCome regions.now domain image.now }
     requires held { AreHeld pool.old regions.now }
-    ensures come { IfOk result (λ p. Come pool.old pool.new regions.now domain (image.now ∷ []) (p ∷ [])) }
+    ensures come { IfOk result (λ p. Come pool.old pool.new regions.now domain (image.now ∷ [])
+        (p ∷ [])) }
     ensures err { OnErr result (pool.new ≡ pool.old) }
 {
     let spot = source_of(regions, domain, image);
@@ -120,7 +123,8 @@ fn put_requests(
     requires held { AreHeld pool.old regions.now }
     ensures depth { queue.new.depth ≡ queue.old.depth }
     ensures taken { AreTaken pool.old pool.new queue.new.items }
-    ensures come { OnOk result (Come pool.old pool.new regions.now domain images.now queue.new.items) }
+    ensures come { OnOk result (Come pool.old pool.new regions.now domain images.now
+        queue.new.items) }
 {
     for image in images {
         let posted = posted_of(pool, alloc, regions, domain, image)?;
@@ -154,7 +158,8 @@ pub fn send_queue(
     requires may { All (MayCome regions.now domain) images.now }
     requires held { AreHeld pool.old regions.now }
     ensures depth { IfOk result (λ queue. queue.depth ≡ depth) }
-    ensures come { IfOk result (λ queue. Come pool.old pool.new regions.now domain images.now queue.items) }
+    ensures come { IfOk result (λ queue. Come pool.old pool.new regions.now domain images.now
+        queue.items) }
     ensures err { OnErr result (IsAlike pool.old pool.new) }
 {
     let mut queue = SendQueue::make(alloc, depth)?;

@@ -22,19 +22,19 @@ ghost use Rattle.context_core.specs.Sending.{IsInRange, IsPrepared, row_answer, 
 ghost use Rattle.context_core.specs.Transmitting.{IsSending, IsRoute};
 
 use crate::datagrams::{moving, request};
-use crate::kept::{Filled, KeptMemory};
+use crate::kept::{Filled, ReplyBuffers};
 use crate::{Buffers, ContextFault, ContextState, EndSlot, ends};
+use end_queues::work_queues::QueuedRequest;
 use endpoint_core::{EndSend, Endpoint};
 use indexmap::IndexMap;
 use page_pool::{PagePool, Payload};
 use protocol::ResumeBody;
-use psn_math::wire_of;
 use rdma_types::{Address, Answer, Items, Name, Sent, Shape};
 use requester::Transmit;
 use roce_headers::opcodes::RESUME;
-use segmenter::PacketHead;
 use std::alloc::Global;
-use work_queues::QueuedRequest;
+use transport::psn_math::wire_of;
+use transport::segmenter::PacketHead;
 
 /// More bytes than a datagram has besides its payload.
 pub const MOST_HEADERS: usize = 92;
@@ -59,7 +59,8 @@ struct Route {
 fn way_at(ends: &IndexMap<Name, EndSlot>, place: usize) -> Route
     requires there { place < length ends.now.entries }
     requires linked { IfSome (slice_get ends.now.entries place) (λ e. IsSome e.1.endpoint.link) }
-    ensures { IfSome (slice_get ends.now.entries place) (λ e. IfSome e.1.endpoint.link (IsRoute result)) }
+    ensures { IfSome (slice_get ends.now.entries place)
+        (λ e. IfSome e.1.endpoint.link (IsRoute result)) }
 {
     let (_, slot) = ends.get_index(place).unwrap();
     let Some(link) = &slot.endpoint.link else {
@@ -119,7 +120,8 @@ fn span_in(payload: &Payload, head: &PacketHead) -> (u32, u32)
 /// The bytes of a packet where they lie, where that is in one page.
 fn piece_in<'a>(pool: &'a PagePool, payload: &Payload, head: &PacketHead) -> Option<&'a [u8]>
     requires held { HoldsPayload pool.now payload.now }
-    ensures { IfSome result (λ bytes. bytes.now ≡ bytes_at head.now.off head.now.length (payload_bytes pool.now payload.now)) }
+    ensures { IfSome result (λ bytes. bytes.now
+        ≡ bytes_at head.now.off head.now.length (payload_bytes pool.now payload.now)) }
 {
     let (off, count) = span_in(payload, head);
     if count == 0 {
@@ -140,8 +142,10 @@ fn read_in<'a>(
     memory: &'a mut [u8],
 ) -> &'a [u8]
     requires held { HoldsPayload pool.now payload.now }
-    requires room { length (bytes_at head.now.off head.now.length (payload_bytes pool.now payload.now)) ≤ length memory.old }
-    ensures { result.now ≡ bytes_at head.now.off head.now.length (payload_bytes pool.now payload.now) }
+    requires room { length (bytes_at head.now.off head.now.length
+        (payload_bytes pool.now payload.now)) ≤ length memory.old }
+    ensures { result.now ≡ bytes_at head.now.off head.now.length
+        (payload_bytes pool.now payload.now) }
 {
     let (off, count) = span_in(payload, head);
     let at = u64::from(payload.first) + u64::from(off);
@@ -159,8 +163,10 @@ fn bytes_for<'a>(
     memory: &'a mut [u8],
 ) -> &'a [u8]
     requires held { HoldsPayload pool.now payload.now }
-    requires room { length (bytes_at head.now.off head.now.length (payload_bytes pool.now payload.now)) ≤ length memory.old }
-    ensures { result.now ≡ bytes_at head.now.off head.now.length (payload_bytes pool.now payload.now) }
+    requires room { length (bytes_at head.now.off head.now.length
+        (payload_bytes pool.now payload.now)) ≤ length memory.old }
+    ensures { result.now ≡ bytes_at head.now.off head.now.length
+        (payload_bytes pool.now payload.now) }
 {
     match piece_in(pool, payload, head) {
         Some(bytes) => bytes,
@@ -174,13 +180,14 @@ fn request_sent(
     endpoint: &Endpoint,
     way: &Route,
     memory: &mut [u8],
-    kept: &mut KeptMemory,
+    kept: &mut ReplyBuffers,
     large: Vec<u8>,
     number: u64,
     index: usize,
     head: &PacketHead,
 ) -> Filled
-    requires sending { (l : EndLink) × IsSending pool.now endpoint.now way.now (send.Transmit (transmission.Sent number index head.now)) l }
+    requires sending { (l : EndLink) × IsSending pool.now endpoint.now way.now
+        (send.Transmit (transmission.Sent number index head.now)) l }
     requires payload { way.now.mtu ≤ length memory.old }
     requires prepared { IsPrepared kept.old }
     requires empty { large.items ≡ [] }
@@ -205,7 +212,7 @@ fn sent_for(
     way: &Route,
     own: Address,
     memory: &mut [u8],
-    kept: &mut KeptMemory,
+    kept: &mut ReplyBuffers,
     large: Vec<u8>,
     send: EndSend,
 ) -> Filled
@@ -257,14 +264,17 @@ impl ContextState {
         own: Address,
     ) -> Result<Answered, ContextFault>
         requires is { IsContext pool.now self.old }
-        ensures refused { (n : Name) → refusal_of result ≡ first_cause (connected_causes (context_in pool.now n self.old) name) }
+        ensures refused { (n : Name) → refusal_of result
+            ≡ first_cause (connected_causes (context_in pool.now n self.old) name) }
         ensures sent { (n : Name) (d : Device) → d.address ≡ own → with_context d (context_in pool.now n self.old) ≡ d
             → IfOk result (λ a. transmits d (context_in pool.now n self.old) (end_at (context_in pool.now n self.old) name)
             ≡ gives (with_context d (context_in pool.now n self.new)) a.answer a.sent) }
         ensures is { IsContext pool.now self.new }
         ensures lists { lists_of self.new ≡ lists_of self.old }
-        ensures pages { (n : Name) → pages_of_context (context_in pool.now n self.new) ≡ pages_of_context (context_in pool.now n self.old) }
-        ensures numbers { (n : Name) → map (λ e. e.number) (context_in pool.now n self.new).ends ≡ map (λ e. e.number) (context_in pool.now n self.old).ends }
+        ensures pages { (n : Name) → pages_of_context (context_in pool.now n self.new)
+            ≡ pages_of_context (context_in pool.now n self.old) }
+        ensures numbers { (n : Name) → map (λ e. e.number) (context_in pool.now n self.new).ends
+            ≡ map (λ e. e.number) (context_in pool.now n self.old).ends }
         ensures err { OnErr result (self.new ≡ self.old) }
     {
         let place = ends::connected(&self.ends, name)?;

@@ -5,7 +5,7 @@ ghost use Rattle.rdma_types.specs.declared.names.Name.{Name};
 ghost use Rattle.page_pool.specs.Pool.{Pool};
 ghost use Rattle.protocol.specs.DeviceStep.{new_context};
 
-use completion_queue::Cq;
+use end_queues::completion_queue::Cq;
 use endpoint_core::Endpoint;
 use indexmap::{IndexMap, IndexSet};
 use memory_keys::Regions;

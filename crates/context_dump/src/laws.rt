@@ -7,5 +7,6 @@ ghost use Rattle.law_dump_round_trip.specs.Fits.{FitsFields};
 
 /// What is read of a dump of an image whose numbers fit their fields is that image, and no other.
 pub fn an_image_through_its_bytes_is_the_same()
-    ensures { (c read : ContextImage) (bytes rest : List ℕ) (place : ℕ) → Dumps c bytes → FitsFields c → read_dump bytes ≡ Good read place rest → read ≡ c }
+    ensures { (c read : ContextImage) (bytes rest : List ℕ) (place : ℕ) → Dumps c bytes
+        → FitsFields c → read_dump bytes ≡ Good read place rest → read ≡ c }
 {}

@@ -13,8 +13,8 @@ use Rattle.protocol.specs.Memory.{pages_of_context}
 use Rattle.protocol.specs.Refusals.{has_context, has_husk}
 use Rattle.protocol.specs.State.{Context}
 use Rattle.context_core.specs.Context.{Holding, IsContext, Moves, context_in, lists_of, no_holding}
-use Rattle.law_device_sound.specs.Sound.{IsSoundDevice}
-use Rattle.law_device_sound.proofs.Tables.{has_name-push, name_tells}
+use Rattle.law_devices.specs.Sound.{IsSoundDevice}
+use Rattle.law_devices.proofs.Tables.{has_name-push, name_tells}
 use Rattle.device_core.specs.declared.husks.HuskEntry.{HuskEntry}
 use Rattle.device_core.specs.declared.index.EndLocation.{EndLocation}
 use Rattle.device_core.specs.Held.{AreApart, IsHeld}

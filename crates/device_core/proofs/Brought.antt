@@ -17,7 +17,7 @@ use Rattle.protocol.specs.DeviceStep.{highest}
 use Rattle.protocol.specs.Images.{context_of, end_of_image, link_of_image, region_of_image}
 use Rattle.protocol.specs.Refusals.{has_context, has_husk, has_moved_out, keys_are_taken, links_of, number_is_taken}
 use Rattle.protocol.specs.State.{Context, Device, End, Husk, HuskEntry, context_at, no_context, no_husk}
-use Rattle.law_device_sound.proofs.Restoring.{map-map}
+use Rattle.law_devices.proofs.Restoring.{map-map}
 use Rattle.device_core.specs.declared.index.EndLocation.{EndLocation}
 use Rattle.device_core.specs.Coming.{brings_taken, has_moved_image, higher, numbers_of_ends, pair_is_taken, pairs_of}
 use Rattle.device_core.specs.Index.{IsEndAt, IsEntryAt, IsIndex, husk_at, spot}

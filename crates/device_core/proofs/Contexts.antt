@@ -10,7 +10,7 @@ use Rattle.rdma_types.proofs.Tables.{same_name}
 use Rattle.page_pool.specs.Pool.{Pool, bytes_of}
 use Rattle.protocol.specs.State.{no_context}
 use Rattle.context_core.specs.Context.{Holding, IsContext, Moves, context_in, lists_of}
-use Rattle.law_device_sound.proofs.Tables.{name_tells}
+use Rattle.law_devices.proofs.Tables.{name_tells}
 use Rattle.device_core.specs.Held.{AreApart}
 use Rattle.device_core.specs.Parts.{contexts_in, held_in}
 use Rattle.device_core.proofs.Laws as laws

@@ -33,9 +33,9 @@ use Rattle.protocol.specs.State.{Context, Device, End, Husk, Link, context_at, n
 use Rattle.context_core.specs.Context.{Holding, IsContext, Moves, context_in, no_holding}
 use Rattle.context_core.specs.Fits.{FitsImage, HasNarrowDepths}
 use Rattle.context_core.specs.declared.ContextFault.{ContextFault}
-use Rattle.law_device_sound.specs.Sound.{AreCounted, IsCounted, IsSoundContext, IsSoundDevice, IsSoundEnd, IsSoundState, names_of_queues, plans}
-use Rattle.law_device_sound.proofs.Stopping.{image-lawful}
-use Rattle.law_device_sound.proofs.Tables.{All-named, has_name-push, name_tells}
+use Rattle.law_devices.specs.Sound.{AreCounted, IsCounted, IsSoundContext, IsSoundDevice, IsSoundEnd, IsSoundState, names_of_queues, plans}
+use Rattle.law_devices.proofs.Stopping.{image-lawful}
+use Rattle.law_devices.proofs.Tables.{All-named, has_name-push, name_tells}
 use Rattle.device_core.specs.declared.husks.HuskEntry.{HuskEntry}
 use Rattle.device_core.specs.declared.index.EndLocation.{EndLocation}
 use Rattle.device_core.specs.Done.{IsDone}

@@ -17,8 +17,8 @@ use Rattle.protocol.specs.State.{Context, Device, context_at}
 use Rattle.context_core.specs.Faults.{refusal_of}
 use Rattle.context_core.specs.declared.ContextFault.{ContextFault}
 use Rattle.context_core.specs.declared.ContextFault.TheVariants.{Refused, OutOfMemory}
-use Rattle.law_device_sound.specs.Sound.{GivesNames, IsSoundDevice}
-use Rattle.law_device_sound.proofs.Law.{stays-sound}
+use Rattle.law_devices.specs.Sound.{GivesNames, IsSoundDevice}
+use Rattle.law_devices.proofs.Law.{stays-sound}
 use Rattle.device_core.specs.Done.{IsDone, told_by, told_plainly}
 
 -- ---- refusals

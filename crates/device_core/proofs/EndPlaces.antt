@@ -14,7 +14,7 @@ use Rattle.protocol.specs.DeviceStep.{Found, found_in}
 use Rattle.protocol.specs.Readers.{marks_by, marks_of}
 use Rattle.protocol.specs.State.{Context, Device, context_at}
 use Rattle.context_core.specs.Context.{Holding, context_in}
-use Rattle.law_device_sound.proofs.Tables.{name_tells}
+use Rattle.law_devices.proofs.Tables.{name_tells}
 use Rattle.device_core.specs.declared.finding.FoundEnd.{FoundEnd}
 use Rattle.device_core.specs.declared.index.EndLocation.{EndLocation}
 use Rattle.device_core.specs.Finding.{IsEndOf, IsFound}

@@ -9,7 +9,7 @@ use Rattle.rdma_types.specs.Lists.{has_name, named}
 use Rattle.protocol.specs.DeviceStep.{ends_with, found_in, found_link, husk_entries}
 use Rattle.protocol.specs.Refusals.{has_context, has_husk}
 use Rattle.protocol.specs.State.{Context, Device, End, Husk, HuskEntry, context_at, no_context, no_husk}
-use Rattle.law_device_sound.proofs.Tables.{name_tells}
+use Rattle.law_devices.proofs.Tables.{name_tells}
 use Rattle.device_core.specs.declared.index.EndLocation.{EndLocation}
 use Rattle.device_core.specs.Index.{IsEndAt, IsEntryAt, IsIndex, husk_at}
 use Rattle.device_core.proofs.IndexAdds.{same_spot}

@@ -14,8 +14,8 @@ use Rattle.protocol.specs.Memory.{pages_of_context}
 use Rattle.protocol.specs.Refusals.{has_context}
 use Rattle.protocol.specs.State.{Context, Device, Husk, context_at, no_context}
 use Rattle.context_core.specs.Context.{Holding, IsContext, Moves, context_in, lists_of}
-use Rattle.law_device_sound.specs.Sound.{IsSoundDevice}
-use Rattle.law_device_sound.proofs.Tables.{map-store, name-named_there, name_tells, sum_by-store}
+use Rattle.law_devices.specs.Sound.{IsSoundDevice}
+use Rattle.law_devices.proofs.Tables.{map-store, name-named_there, name_tells, sum_by-store}
 use Rattle.rdma_types.proofs.Tables.{has_name-store}
 use Rattle.device_core.specs.Index.{IsIndex, numbers_of}
 use Rattle.device_core.specs.declared.husks.HuskEntry.{HuskEntry}

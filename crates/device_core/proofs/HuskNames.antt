@@ -10,8 +10,8 @@ use Rattle.protocol.specs.State as state
 use Rattle.protocol.specs.State.{no_husk}
 use Rattle.std.proofs.Common.{get_or, ◌^◌}
 use Rattle.std.proofs.lemmas.Option.{get_or_from_slice_get}
-use Rattle.law_device_sound.proofs.Regions.{All-at}
-use Rattle.law_device_sound.proofs.Tables.{name_tells}
+use Rattle.law_devices.proofs.Regions.{All-at}
+use Rattle.law_devices.proofs.Tables.{name_tells}
 use Rattle.device_core.specs.Held.{IsLeft}
 use Rattle.device_core.specs.declared.husks.HuskEntry.{HuskEntry}
 use Rattle.device_core.specs.Parts.{entry_of, husk_in}

@@ -8,7 +8,7 @@ use Rattle.rdma_types.specs.Lists.{has}
 use Rattle.protocol.specs.Refusals.{has_context}
 use Rattle.protocol.specs.State.{Device, End, context_at}
 use Rattle.context_core.specs.Context.{}
-use Rattle.law_device_sound.proofs.Tables.{name_tells}
+use Rattle.law_devices.proofs.Tables.{name_tells}
 use Rattle.device_core.specs.declared.index.EndLocation.{EndLocation}
 use Rattle.device_core.specs.Index.{IsEndAt, IsIndex, numbers_of, spot}
 use Rattle.device_core.proofs.Indexes.{same_entry}

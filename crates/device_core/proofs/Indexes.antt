@@ -7,7 +7,7 @@ use Rattle.rdma_types.proofs.Tables.{has_name-store, named-store_other, named-st
 use Rattle.protocol.specs.Refusals.{has_context}
 use Rattle.protocol.specs.State.{Context, Device, End, Husk, context_at, no_context, no_husk}
 use Rattle.context_core.specs.Context.{}
-use Rattle.law_device_sound.proofs.Tables.{name_tells}
+use Rattle.law_devices.proofs.Tables.{name_tells}
 use Rattle.device_core.specs.declared.index.EndLocation.{EndLocation}
 use Rattle.device_core.specs.Index.{IsEndAt, IsEntryAt, IsIndex, numbers_of}
 

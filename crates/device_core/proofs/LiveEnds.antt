@@ -19,7 +19,7 @@ use Rattle.context_core.specs.Context.{Holding, IsContext}
 use Rattle.context_core.specs.Links.{SendByTerms, link_view, live_end}
 use Rattle.context_core.proofs.ListPrefixes.{taken_on}
 use Rattle.context_core.proofs.SettlingReaders.{sends-all}
-use Rattle.law_device_sound.specs.Sound.{IsSoundContext, IsSoundDevice, IsSoundState, plans}
+use Rattle.law_devices.specs.Sound.{IsSoundContext, IsSoundDevice, IsSoundState, plans}
 use Rattle.device_core.specs.Readings.{link_named}
 use Rattle.device_core.proofs.Pairs.{All-found}
 use Rattle.device_core.proofs.Stepping.{found-ref}

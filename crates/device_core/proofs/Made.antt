@@ -25,8 +25,8 @@ use Rattle.protocol.specs.State.{Context, Device, no_context}
 use Rattle.context_core.specs.Faults.{refusal_of}
 use Rattle.context_core.specs.declared.ContextFault.{ContextFault}
 use Rattle.context_core.specs.Context.{Holding, context_in}
-use Rattle.law_device_sound.specs.Sound.{AreCounted, IsCounted}
-use Rattle.law_device_sound.proofs.Tables.{All-named}
+use Rattle.law_devices.specs.Sound.{AreCounted, IsCounted}
+use Rattle.law_devices.proofs.Tables.{All-named}
 use Rattle.device_core.specs.declared.husks.HuskEntry.{HuskEntry}
 use Rattle.device_core.specs.declared.index.EndLocation.{EndLocation}
 use Rattle.device_core.specs.Held.{IsHeld}

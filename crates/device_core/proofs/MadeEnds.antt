@@ -25,9 +25,9 @@ use Rattle.context_core.specs.Context.{Holding, IsContext, Moves, context_in}
 use Rattle.context_core.specs.Faults.{refusal_of}
 use Rattle.context_core.specs.declared.ContextFault.{ContextFault}
 use Rattle.context_core.specs.declared.making.NewEnd.{NewEnd}
-use Rattle.law_device_sound.specs.Sound.{AreCounted, GivesNames, IsSoundDevice}
-use Rattle.law_device_sound.proofs.Regions.{All-at}
-use Rattle.law_device_sound.proofs.Tables.{All-named, name_tells}
+use Rattle.law_devices.specs.Sound.{AreCounted, GivesNames, IsSoundDevice}
+use Rattle.law_devices.proofs.Regions.{All-at}
+use Rattle.law_devices.proofs.Tables.{All-named, name_tells}
 use Rattle.device_core.specs.declared.husks.HuskEntry.{HuskEntry}
 use Rattle.device_core.specs.declared.index.EndLocation.{EndLocation}
 use Rattle.device_core.specs.Done.{IsDone, number_answer, plain, qp_event, told_by}

@@ -18,9 +18,9 @@ use Rattle.protocol.specs.State.{Context, Device, context_at, no_context}
 use Rattle.context_core.specs.Context.{Holding, IsContext, Moves, context_in, no_holding}
 use Rattle.context_core.specs.declared.ContextFault.{ContextFault}
 use Rattle.context_core.specs.declared.ContextFault.TheVariants.{OutOfMemory}
-use Rattle.law_device_sound.specs.Sound.{AreCounted, GivesNames, IsSoundContext}
+use Rattle.law_devices.specs.Sound.{AreCounted, GivesNames, IsSoundContext}
 use Rattle.device_core.proofs.Withouts.{named-absent, named-push_other}
-use Rattle.law_device_sound.proofs.Tables.{has_name-push, named-push_has, named-push_lacks, name_tells}
+use Rattle.law_devices.proofs.Tables.{has_name-push, named-push_has, named-push_lacks, name_tells}
 use Rattle.device_core.specs.declared.husks.HuskEntry.{HuskEntry}
 use Rattle.device_core.specs.declared.index.EndLocation.{EndLocation}
 use Rattle.device_core.specs.Done.{IsDone, plain, told_by}

@@ -3,7 +3,7 @@ use Rattle.std.proofs.Common.{arith, ◌≡◌, zero, suc, List, [], ◌∷◌, 
 use Rattle.std.specs.Prelude.{All, AllPairs, Some, Result, Ok, Err, OnOk, is_err, if◌then◌else◌}
 use Rattle.std.specs.Map.{lookup, set_value, remove_entry}
 use Rattle.std.proofs.lemmas.List.Elements.{All-nil, All-cons, All-head, All-tail}
-use Rattle.law_device_sound.proofs.Tables.{All-if}
+use Rattle.law_devices.proofs.Tables.{All-if}
 
 pub pairs-head : {A : Type 0} (R : A → A → Type 0) (x : A) (xs : List A) → AllPairs R (x ∷ xs) → All (R x) xs
 pairs-head R x xs h k d l = h 0 (suc k) d (omega arith) (omega (arith, l))

@@ -21,7 +21,7 @@ use Rattle.protocol.specs.State.{Device, Husk, context_at, no_context, no_husk}
 use Rattle.context_core.specs.Context.{Holding}
 use Rattle.context_core.specs.declared.ContextFault.{ContextFault}
 use Rattle.context_core.specs.declared.ContextFault.TheVariants.{Refused}
-use Rattle.law_device_sound.proofs.Tables.{All-without, name_tells}
+use Rattle.law_devices.proofs.Tables.{All-without, name_tells}
 use Rattle.device_core.specs.declared.husks.HuskEntry.{HuskEntry}
 use Rattle.device_core.specs.declared.index.EndLocation.{EndLocation}
 use Rattle.device_core.specs.Done.{IsDone, plain}

@@ -28,7 +28,7 @@ use Rattle.context_core.specs.Context.{Holding, IsContext, Moves, context_in, no
 use Rattle.context_core.specs.Faults.{told_as}
 use Rattle.context_core.specs.declared.ContextFault.{ContextFault}
 use Rattle.context_core.specs.declared.ContextFault.TheVariants.{Refused, OutOfMemory}
-use Rattle.law_device_sound.proofs.Restoring.{moved-end-numbers, pairs-mapped}
+use Rattle.law_devices.proofs.Restoring.{moved-end-numbers, pairs-mapped}
 use Rattle.device_core.specs.declared.husks.HuskEntry.{HuskEntry}
 use Rattle.device_core.specs.declared.index.EndLocation.{EndLocation}
 use Rattle.device_core.specs.Coming.{brings_taken, has_moved_image, numbers_of_ends, pairs_of}

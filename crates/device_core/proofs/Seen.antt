@@ -18,9 +18,9 @@ use Rattle.protocol.specs.Refusals.{has_context, has_end}
 use Rattle.protocol.specs.State.{Context, Device, End, Link, Paused, Phase, Resuming, Running, context_at, end_at, no_context, no_end}
 use Rattle.context_core.specs.Links.{link_marks, link_view, live_end, live_end_at}
 use Rattle.context_core.specs.declared.lives.LiveEnd.{LiveEnd}
-use Rattle.law_device_sound.specs.Sound.{IsSoundContext, IsSoundDevice, IsSoundEnd}
-use Rattle.law_device_sound.proofs.Regions.{All-at}
-use Rattle.law_device_sound.proofs.Tables.{All-named}
+use Rattle.law_devices.specs.Sound.{IsSoundContext, IsSoundDevice, IsSoundEnd}
+use Rattle.law_devices.proofs.Regions.{All-at}
+use Rattle.law_devices.proofs.Tables.{All-named}
 use Rattle.device_core.specs.declared.index.EndLocation.{EndLocation}
 use Rattle.device_core.specs.Index.{IsEndAt, IsEntryAt, IsIndex}
 use Rattle.device_core.specs.Readings.{end_named, has_ended_end, has_resuming_end, link_ended, link_resumes, live_ended, live_resumes, live_view, mark_pair, marks_at, view_by}

@@ -18,7 +18,7 @@ use Rattle.protocol.specs.State.{Context, Device, context_at}
 use Rattle.context_core.specs.Context.{Holding, context_in}
 use Rattle.context_core.specs.Faults.{refusal_of}
 use Rattle.context_core.specs.declared.ContextFault.{ContextFault}
-use Rattle.law_device_sound.specs.Sound.{GivesNames, IsSoundDevice}
+use Rattle.law_devices.specs.Sound.{GivesNames, IsSoundDevice}
 use Rattle.device_core.specs.declared.husks.HuskEntry.{HuskEntry}
 use Rattle.device_core.specs.declared.index.EndLocation.{EndLocation}
 use Rattle.device_core.specs.Acting.{Acts, Lives, Turn}

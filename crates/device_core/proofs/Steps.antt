@@ -4,7 +4,7 @@ use Rattle.std.specs.Prelude.{IfSome, IsOk, Option, Some, None, Result, Ok, Err,
 use Rattle.std.specs.declared.alloc.AllocError.{AllocError}
 use Rattle.rdma_types.specs.Causes.{first_cause}
 use Rattle.rdma_types.specs.declared.answers.Answer.TheVariants as answer
-use Rattle.rdma_types.specs.declared.answers.NotWhy.{NotWhy}
+use Rattle.rdma_types.specs.declared.answers.ExpiryIgnored.{ExpiryIgnored}
 use Rattle.rdma_types.specs.declared.answers.Refusal.{Refusal}
 use Rattle.rdma_types.specs.declared.requests.Address.{Address}
 use Rattle.rdma_types.specs.declared.requests.Request.{Request}
@@ -65,7 +65,7 @@ if-keeps : (q i : Type 0) (d : Device) (b : Bool) (x y : Step) → Keeps d q i x
 if-keeps q i d true x y a b = a
 if-keeps q i d false x y a b = b
 
-expires-keeps : (q i : Type 0) (d : Device) (c : Context) (e : End) (l : Link) (w : Option NotWhy) → Keeps d q i (expires_by d c e l w)
+expires-keeps : (q i : Type 0) (d : Device) (c : Context) (e : End) (l : Link) (w : Option ExpiryIgnored) → Keeps d q i (expires_by d c e l w)
 unfolding counts with_context
 expires-keeps q i d c e l (Some w) = record { id = refl; address = refl; few = λ x. omega arith; image = λ x. refl }
 expires-keeps q i d c e l None = if-keeps q i d (l.sender.spent == l.terms.retry) _ _ (record { id = refl; address = refl; few = λ x. omega arith; image = λ x. refl }) (record { id = refl; address = refl; few = λ x. omega arith; image = λ x. refl })

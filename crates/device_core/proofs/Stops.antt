@@ -14,7 +14,7 @@ use Rattle.protocol.specs.Refusals.{has_context, has_husk}
 use Rattle.protocol.specs.State as state
 use Rattle.protocol.specs.State.{Device, End, Husk, Link, context_at, no_context, no_husk}
 use Rattle.context_core.specs.Context.{}
-use Rattle.law_device_sound.proofs.Tables.{has_name-push, named-push_has, named-push_lacks, name_tells}
+use Rattle.law_devices.proofs.Tables.{has_name-push, named-push_has, named-push_lacks, name_tells}
 use Rattle.device_core.specs.declared.husks.HuskEntry.{HuskEntry}
 use Rattle.device_core.specs.declared.index.EndLocation.{EndLocation}
 use Rattle.device_core.specs.Index.{IsEndAt, IsEntryAt, IsIndex, husk_at, numbers_in, numbers_of, spot, without_numbers}

@@ -6,7 +6,7 @@ use Rattle.std.proofs.lemmas.List.Elements.{All-cons, All-head, All-tail}
 use Rattle.std.proofs.lemmas.List.Sums.{sum_by-cons}
 use Rattle.rdma_types.specs.declared.names.Name.{Name}
 use Rattle.rdma_types.specs.Lists.{has_name, named, without}
-use Rattle.law_device_sound.proofs.Tables.{name_tells}
+use Rattle.law_devices.proofs.Tables.{name_tells}
 use Rattle.device_core.proofs.Pairs.{pairs-head, pairs-tail, pairs-cons}
 
 module _ {A : Type 0} (name : A → Name) where

@@ -5,9 +5,9 @@ use Rattle.rdma_types.specs.declared.answers.Answer.{Answer}
 use Rattle.rdma_types.specs.declared.answers.Answer.TheVariants as answer
 use Rattle.rdma_types.specs.declared.answers.Refusal.{Refusal}
 use Rattle.rdma_types.specs.declared.answers.Sent.{Sent}
-use Rattle.rdma_types.specs.declared.answers.SilentWhy.{SilentWhy}
-use Rattle.rdma_types.specs.declared.answers.SilentWhy.TheVariants as why
-use Rattle.rdma_types.specs.declared.answers.Took.TheVariants as took
+use Rattle.rdma_types.specs.declared.answers.DropReason.{DropReason}
+use Rattle.rdma_types.specs.declared.answers.DropReason.TheVariants as why
+use Rattle.rdma_types.specs.declared.answers.ArrivalEffect.TheVariants as took
 use Rattle.context_core.specs.declared.arriving.ArrivalOutcome.{ArrivalOutcome}
 use Rattle.rdma_types.specs.declared.requests.Keys.{Keys}
 use Rattle.rdma_types.specs.declared.names.Name.{Name}
@@ -59,11 +59,11 @@ number_answer None = answer.Done
 number_answer (Some number) = answer.Qp number
 
 -- a datagram without effect
-abbrev pub silent : SilentWhy → Outcome
+abbrev pub silent : DropReason → Outcome
 silent why = plain (answer.Took (took.Silent why) 0 0)
 
 -- .. as what a datagram did
-abbrev pub silent_arrival : SilentWhy → ArrivalOutcome
+abbrev pub silent_arrival : DropReason → ArrivalOutcome
 silent_arrival why = record { took = took.Silent why; sent = [] }
 
 -- what a datagram did, and what is sent for it

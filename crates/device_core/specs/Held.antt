@@ -7,7 +7,7 @@ use Rattle.protocol.specs.Memory.{pages_of_context}
 use Rattle.protocol.specs.Refusals.{has_context, has_husk}
 use Rattle.protocol.specs.State.{Device, HuskEntry}
 use Rattle.context_core.specs.Context.{Holding, IsContext, lists_of}
-use Rattle.law_device_sound.specs.Sound.{IsCounted, IsSoundDevice}
+use Rattle.law_devices.specs.Sound.{IsCounted, IsSoundDevice}
 use Rattle.device_core.specs.declared.index.EndLocation.{EndLocation}
 use Rattle.device_core.specs.Index.{IsIndex}
 

@@ -19,7 +19,7 @@ use crate::husks::HuskEntry;
 use crate::index::EndLocation;
 use context_core::ArrivalOutcome;
 use protocol::{Aeth, Event, Syndrome};
-use rdma_types::{Address, Items, Sent, SilentWhy, Took};
+use rdma_types::{Address, ArrivalEffect, DropReason, Items, Sent};
 use roce_headers::opcodes::ACKNOWLEDGE;
 use roce_headers::{Datagram, decode, encode, encoded_len};
 use std::alloc::{AllocError, Global};
@@ -28,11 +28,11 @@ use std::alloc::{AllocError, Global};
 const STOPPED: u8 = 5;
 
 /// A datagram without effect.
-fn silent(alloc: Global, why: SilentWhy) -> ArrivalOutcome
+fn silent(alloc: Global, why: DropReason) -> ArrivalOutcome
     ensures { result ≡ silent_arrival why }
 {
     ArrivalOutcome {
-        took: Took::Silent(why),
+        took: ArrivalEffect::Silent(why),
         sent: Items::new(Vec::new(alloc)),
     }
 }
@@ -49,7 +49,7 @@ fn told_taken(
 {
     match taken {
         Ok(Some(arrived)) => Ok(arrived),
-        Ok(None) => Ok(silent(alloc, SilentWhy::Unknown)),
+        Ok(None) => Ok(silent(alloc, DropReason::Unknown)),
         Err(fault) => Err(fault),
     }
 }
@@ -105,7 +105,8 @@ fn is_stopped(aeth: Option<Aeth>) -> bool
 /// One datagram without a true number, in memory of its own.
 fn sent_to(alloc: Global, to: Address, datagram: &Datagram<'_>) -> Result<Items<Sent>, AllocError>
     requires { Fits (packet datagram.now) }
-    ensures { IfOk result (λ l. l ≡ record { to = to; number = None; bytes = wire_of (packet datagram.now) } ∷ []) }
+    ensures { IfOk result (λ l. l
+        ≡ record { to = to; number = None; bytes = wire_of (packet datagram.now) } ∷ []) }
 {
     let mut bytes = vec![in alloc; 0u8; encoded_len(datagram)]?;
     encode(datagram, &mut bytes);
@@ -120,8 +121,10 @@ fn sent_to(alloc: Global, to: Address, datagram: &Datagram<'_>) -> Result<Items<
 impl Device {
     /// Where a queue pair number lives, or in which husk it is left.
     fn location_of(&self, number: u32) -> Option<EndLocation>
-        ensures nowhere { IfNone result ((found_in number self.now.contexts ≡ []) × (husk_entries number self.now.husks ≡ [])) }
-        ensures there { IfSome result (λ s. IsEndAt self.now s.context s.place number ⊎ IsEntryAt self.now s.context s.place number) }
+        ensures nowhere { IfNone result ((found_in number self.now.contexts ≡ [])
+            × (husk_entries number self.now.husks ≡ [])) }
+        ensures there { IfSome result (λ s. IsEndAt self.now s.context s.place number
+            ⊎ IsEntryAt self.now s.context s.place number) }
     {
         let spot = self.index.get(&number)?;
         Some(EndLocation {
@@ -133,7 +136,8 @@ impl Device {
     /// The entry of a husk.
     fn entry_at(&self, spot: &EndLocation) -> HuskEntry
         requires { (number : ℕ) × IsEntryAt self.now spot.now.context spot.now.place number }
-        ensures entry { slice_get (husk_at self.now spot.now.context).entries spot.now.place ≡ Some (entry_of result) }
+        ensures entry { slice_get (husk_at self.now spot.now.context).entries spot.now.place
+            ≡ Some (entry_of result) }
         ensures peer { result.peer < 2 ^ 24 }
     {
         let entries = self.husks.get(&spot.context).unwrap();
@@ -157,17 +161,20 @@ impl Device {
         requires entry { IsEntryAt self.now spot.now.context spot.now.place d.now.dest }
         requires psn { d.now.psn < 2 ^ 24 }
         ensures bounded { IfOk result (λ t. length t.sent ≤ 2 ^ 32) }
-        ensures done { IfOk result (λ t. (h : Entry) → slice_get (husk_at self.now spot.now.context).entries spot.now.place ≡ Some h → at_husk self.now from (packet d.now) (h ∷ []) ≡ record { device = self.now; outcome = taking t }) }
+        ensures done { IfOk result (λ t. (h : Entry)
+            → slice_get (husk_at self.now spot.now.context).entries spot.now.place ≡ Some h
+            → at_husk self.now from (packet d.now) (h ∷ [])
+            ≡ record { device = self.now; outcome = taking t }) }
         ensures never_out_of_memory { is_control_packet (packet d.now) ≡ true → IsOk result }
     {
         if is_control(d) {
-            return Ok(silent(alloc, SilentWhy::Unknown));
+            return Ok(silent(alloc, DropReason::Unknown));
         }
         let entry = self.entry_at(spot);
         let datagram = stopped_datagram(&entry, d.psn);
         let sent = sent_to(alloc, from, &datagram)?;
         Ok(ArrivalOutcome {
-            took: Took::Stopped,
+            took: ArrivalEffect::Stopped,
             sent,
         })
     }
@@ -181,15 +188,17 @@ impl Device {
     ) -> Result<ArrivalOutcome, AllocError>
         requires absent { found_in d.now.dest self.now.contexts ≡ [] }
         requires psn { d.now.psn < 2 ^ 24 }
-        ensures done { (bytes : List ℕ) → packet_of bytes ≡ Some (packet d.now) → IsDone self.now (Event.Arrive from bytes) self.now (told_memory (told_arrival result)) }
+        ensures done { (bytes : List ℕ) → packet_of bytes ≡ Some (packet d.now)
+            → IsDone self.now (Event.Arrive from bytes) self.now
+            (told_memory (told_arrival result)) }
         ensures bounded { IfOk result (λ t. length t.sent ≤ 2 ^ 32) }
         ensures never_out_of_memory { DoNothing self.now (Some (packet d.now)) → IsOk result }
     {
         let Some(spot) = self.location_of(d.dest) else {
-            return Ok(silent(alloc, SilentWhy::Unknown));
+            return Ok(silent(alloc, DropReason::Unknown));
         };
         if self.contexts.contains_key(&spot.context) {
-            return Ok(silent(alloc, SilentWhy::Unknown));
+            return Ok(silent(alloc, DropReason::Unknown));
         }
         self.answer_stopped(alloc, from, d, &spot)
     }
@@ -203,12 +212,13 @@ impl Device {
         found: Option<FoundEnd>,
     ) -> Result<ArrivalOutcome, AllocError>
         requires { IsFound self.old (number_at 5 3 bytes.now) found }
-        ensures done { IsDone self.old (Event.Arrive from bytes.now) self.new (told_memory (told_arrival result)) }
+        ensures done { IsDone self.old (Event.Arrive from bytes.now) self.new
+            (told_memory (told_arrival result)) }
         ensures bounded { IfOk result (λ t. length t.sent ≤ 2 ^ 32) }
         ensures never_out_of_memory { DoNothing self.old (packet_of bytes.now) → IsOk result }
     {
         let Ok(d) = decode(bytes) else {
-            return Ok(silent(alloc, SilentWhy::Malformed));
+            return Ok(silent(alloc, DropReason::Malformed));
         };
         let Some(end) = found else {
             return self.answer_absent(alloc, from, &d);

@@ -20,10 +20,10 @@ use crate::index::{EndLocation, put_location};
 use crate::named::put_named;
 use context_core::{ContextFault, ContextState};
 use indexmap::IndexMap;
-use move_core::MOST_MOVES;
 use protocol::{ContextImage, EndImage, Event, Outcome, RegionImage};
 use rdma_types::{Answer, Keys, Name, Refusal};
 use std::alloc::Global;
+use transport::move_core::MOST_MOVES;
 
 /// Whether an end in Rts was moved as often as may be.
 fn has_moved_out(end: &EndImage) -> bool
@@ -79,7 +79,8 @@ fn highest_pair(id: u8, regions: &[RegionImage], count: u32) -> u32
 /// Notes each end at its place in the context.
 fn put_ends(index: &mut IndexMap<u32, EndLocation>, name: Name, ends: &[EndImage])
     requires { length ends.now ≤ spare index.old }
-    ensures { (k : ℕ) → get nat_eq index.new k ≡ placed name 0 (numbers_of_ends ends.now) k (get nat_eq index.old k) }
+    ensures { (k : ℕ) → get nat_eq index.new k
+        ≡ placed name 0 (numbers_of_ends ends.now) k (get nat_eq index.old k) }
 {
     for place in 0..ends.len() {
         put_location(
@@ -105,7 +106,8 @@ fn put_context(contexts: &mut IndexMap<Name, ContextState>, name: Name, state: C
 /// Which cause of a restore counts.
 #[tactic(auto, unfolding(rdma_types::specs::Causes::first_cause))]
 fn restore_cause(taken: bool, full: bool, lacks_pages: bool) -> Option<Refusal>
-    ensures { result ≡ first_cause (cause Refusal.NumberTaken taken ∷ cause Refusal.TooMany full ∷ cause Refusal.NoPage lacks_pages ∷ []) }
+    ensures { result ≡ first_cause (cause Refusal.NumberTaken taken ∷ cause Refusal.TooMany full
+        ∷ cause Refusal.NoPage lacks_pages ∷ []) }
 {
     if taken {
         Some(Refusal::NumberTaken)
@@ -164,7 +166,8 @@ impl Device {
 
     /// Whether no context comes any more, or not this one.
     fn takes_none(&self, image: &ContextImage) -> bool
-        ensures { result ≡ (nat_le most_contexts (length self.now.contexts) || list_any (λ e. has_moved_image e.linked) image.now.ends) }
+        ensures { result ≡ (nat_le most_contexts (length self.now.contexts)
+            || list_any (λ e. has_moved_image e.linked) image.now.ends) }
     {
         self.is_full() || have_moved_out(image.ends.as_slice())
     }

@@ -95,7 +95,8 @@ impl Device {
     /// Why an event of a context that does not live here is refused.
     pub(crate) fn missing(&self, name: Name) -> Refusal
         requires { has_context_named self.now name ≡ false }
-        ensures { (causes : Context → List Cause) → first_cause (within self.now name causes) ≡ Some result }
+        ensures { (causes : Context → List Cause)
+            → first_cause (within self.now name causes) ≡ Some result }
     {
         if self.husks.contains_key(&name) {
             Refusal::Stopped

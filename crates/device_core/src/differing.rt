@@ -44,7 +44,8 @@ fn entries(a: &[HuskEntry], b: &[HuskEntry]) -> Option<(u64, u64)>
 /// Two husks, each with its name.
 #[tactic(auto, using(device_differences::proofs::Found::looked), unfolding(device_differences::specs::Differences::husk_difference))]
 fn husk(x: (&Name, &Items<HuskEntry>), y: (&Name, &Items<HuskEntry>)) -> Option<(u64, u64)>
-    ensures { result ≡ husk_difference (husk_in (x.entry.0.now, x.entry.1.now)) (husk_in (y.entry.0.now, y.entry.1.now)) }
+    ensures { result ≡ husk_difference (husk_in (x.entry.0.now, x.entry.1.now))
+        (husk_in (y.entry.0.now, y.entry.1.now)) }
 {
     let found = names(x.0, y.0);
     if found.is_some() {
@@ -58,7 +59,8 @@ fn husks(
     a: &IndexMap<Name, Items<HuskEntry>>,
     b: &IndexMap<Name, Items<HuskEntry>>,
 ) -> Option<(u64, u64)>
-    ensures { result ≡ across husk_difference (map husk_in a.now.entries) (map husk_in b.now.entries) }
+    ensures { result ≡ across husk_difference (map husk_in a.now.entries)
+        (map husk_in b.now.entries) }
 {
     for i in 0..a.len().min(b.len()) {
         let x = a.get_index(i).unwrap();
@@ -80,7 +82,8 @@ fn contexts(
 ) -> Option<(u64, u64)>
     requires are { All (λ e. IsContext pool.now e.1) a.now.entries }
     requires other_are { All (λ e. IsContext other_pool.now e.1) b.now.entries }
-    ensures { result ≡ across context_difference (contexts_in pool.now a.now.entries) (contexts_in other_pool.now b.now.entries) }
+    ensures { result ≡ across context_difference (contexts_in pool.now a.now.entries)
+        (contexts_in other_pool.now b.now.entries) }
 {
     for i in 0..a.len().min(b.len()) {
         let x = a.get_index(i).unwrap();

@@ -3,7 +3,7 @@
 ghost use Rattle.std.specs.Prelude.{◌≡◌, IfSome, IsSome, Some};
 ghost use Rattle.protocol.specs.Events.{IsLawfulEvent};
 ghost use Rattle.context_core.specs.Context.{IsContext};
-ghost use Rattle.law_device_sound.specs.Sound.{GivesNames};
+ghost use Rattle.law_devices.specs.Sound.{GivesNames};
 ghost use Rattle.device_core.specs.Acting.{Acts, context_named};
 ghost use Rattle.device_core.specs.Done.{AreFew, AreLawful, IsDone, IsNotOutOfMemory};
 ghost use Rattle.device_core.specs.Readings.{TakesNoMemory};
@@ -28,7 +28,8 @@ fn act_in(
     requires is { IsContext pool.old state.old }
     requires named { IsSome (context_named event.now) }
     requires lawful { IsLawfulEvent event.now }
-    ensures acts { IfSome (context_named event.now) (Acts event.now pool.old pool.new state.old state.new result) }
+    ensures acts { IfSome (context_named event.now)
+        (Acts event.now pool.old pool.new state.old state.new result) }
     ensures names { GivesNames event.now }
     ensures never_out_of_memory { TakesNoMemory event.now → IsNotOutOfMemory result }
 {
@@ -77,6 +78,7 @@ fn act_in(
 
 impl Device {
     /// An event of a context, where the context lives here. A connection takes no memory.
+    #[inline(always)]
     pub(crate) fn act(
         &mut self,
         alloc: Global,
@@ -107,7 +109,8 @@ impl Device {
         rights: Rights,
     ) -> Result<Outcome, ContextFault>
         requires { IsLawfulEvent (Event.MakeRegion o.now domain base length rights) }
-        ensures { IsDone self.old (Event.MakeRegion o.now domain base length rights) self.new result }
+        ensures { IsDone self.old (Event.MakeRegion o.now domain base length rights) self.new
+            result }
     {
         if !self.contexts.contains_key(&o.context) {
             return Err(ContextFault::Refused(self.missing(o.context)));

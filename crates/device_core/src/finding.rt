@@ -36,6 +36,7 @@ pub fn destination(bytes: &[u8]) -> u32
 
 impl Device {
     /// The connected queue pair with a number; None where none lives here.
+    #[inline(always)]
     pub fn find_end(&self, number: u32) -> Option<FoundEnd>
         ensures { IsFound self.now number result }
     {

@@ -34,7 +34,8 @@ const MOST_HUSKS: usize = 256;
 /// What the end at a place leaves: an entry, where it is in Rts.
 fn entry_left(state: &ContextState, name: Name, place: usize) -> Option<HuskEntry>
     requires { SendByTerms state.now }
-    ensures { (pool : Pool) (e : End) → slice_get (context_in pool name state.now).ends place ≡ Some e → map entry_of (in_list result) ≡ left_by e }
+    ensures { (pool : Pool) (e : End) → slice_get (context_in pool name state.now).ends place
+        ≡ Some e → map entry_of (in_list result) ≡ left_by e }
 {
     let Some(end) = state.end_at(name, place) else {
         return None;
@@ -66,7 +67,8 @@ fn entries_left(
     name: Name,
 ) -> Result<Items<HuskEntry>, AllocError>
     requires { SendByTerms state.now }
-    ensures { IfOk result (λ es. (pool : Pool) → map entry_of es ≡ (husk_of (context_in pool name state.now)).entries) }
+    ensures { IfOk result (λ es. (pool : Pool)
+        → map entry_of es ≡ (husk_of (context_in pool name state.now)).entries) }
 {
     let mut entries = Items::new(Vec::new(alloc));
     for place in 0..state.end_count() {
@@ -78,7 +80,8 @@ fn entries_left(
 /// Notes each entry at its place in the husk.
 fn move_entries(index: &mut IndexMap<u32, EndLocation>, name: Name, entries: &[HuskEntry])
     requires { All (λ e. IsSome (get nat_eq index.old e.number)) entries.now }
-    ensures { (k : ℕ) → get nat_eq index.new k ≡ placed name 0 (numbers_in entries.now) k (get nat_eq index.old k) }
+    ensures { (k : ℕ) → get nat_eq index.new k
+        ≡ placed name 0 (numbers_in entries.now) k (get nat_eq index.old k) }
 {
     for place in 0..entries.len() {
         move_location(
@@ -95,7 +98,9 @@ fn move_entries(index: &mut IndexMap<u32, EndLocation>, name: Name, entries: &[H
 /// Forgets the number of the end at a place, where it leaves nothing.
 fn drop_end(index: &mut IndexMap<u32, EndLocation>, state: &ContextState, name: Name, place: usize)
     requires { SendByTerms state.now }
-    ensures { (pool : Pool) (e : End) → slice_get (context_in pool name state.now).ends place ≡ Some e → (k : ℕ) → get nat_eq index.new k ≡ without_numbers (gone_in (e ∷ [])) k (get nat_eq index.old k) }
+    ensures { (pool : Pool) (e : End) → slice_get (context_in pool name state.now).ends place
+        ≡ Some e → (k : ℕ) → get nat_eq index.new k
+        ≡ without_numbers (gone_in (e ∷ [])) k (get nat_eq index.old k) }
 {
     let Some(end) = state.end_at(name, place) else {
         return;
@@ -108,7 +113,9 @@ fn drop_end(index: &mut IndexMap<u32, EndLocation>, state: &ContextState, name: 
 /// Forgets the numbers of the ends of a context of that name that leave nothing.
 fn drop_ends(index: &mut IndexMap<u32, EndLocation>, state: &ContextState, name: Name)
     requires { SendByTerms state.now }
-    ensures { (pool : Pool) (k : ℕ) → get nat_eq index.new k ≡ without_numbers (gone_in (context_in pool name state.now).ends) k (get nat_eq index.old k) }
+    ensures { (pool : Pool) (k : ℕ) → get nat_eq index.new k
+        ≡ without_numbers (gone_in (context_in pool name state.now).ends) k
+        (get nat_eq index.old k) }
 {
     for place in 0..state.end_count() {
         drop_end(index, state, name, place);
@@ -128,7 +135,8 @@ fn stopped(alloc: Global, image: ContextImage) -> Outcome
 
 /// Whether an end is Paused where that stops the stop.
 fn pauses(state: &ContextState, alone: bool) -> bool
-    ensures { (pool : Pool) (n : Name) → result ≡ (alone && some is_paused_link (links_of (context_in pool n state.now))) }
+    ensures { (pool : Pool) (n : Name) → result
+        ≡ (alone && some is_paused_link (links_of (context_in pool n state.now))) }
 {
     alone && state.has_paused()
 }
@@ -136,7 +144,8 @@ fn pauses(state: &ContextState, alone: bool) -> bool
 /// Which cause of a stop counts.
 #[tactic(auto, unfolding(rdma_types::specs::Causes::first_cause))]
 fn stop_cause(paused: bool, full: bool) -> Option<Refusal>
-    ensures { result ≡ first_cause (cause Refusal.PeerMoving paused ∷ cause Refusal.TooMany full ∷ []) }
+    ensures { result ≡ first_cause (cause Refusal.PeerMoving paused ∷ cause Refusal.TooMany full
+        ∷ []) }
 {
     if paused {
         Some(Refusal::PeerMoving)
@@ -159,7 +168,9 @@ fn put_husk(husks: &mut IndexMap<Name, Items<HuskEntry>>, name: Name, entries: I
 impl Device {
     /// Whether a context leaves no husk.
     fn leaves_none(&self, state: &ContextState) -> bool
-        ensures { (pool : Pool) (n : Name) → result ≡ (nat_le most_husks (length self.now.husks) || some has_moved_out (links_of (context_in pool n state.now))) }
+        ensures { (pool : Pool) (n : Name) → result
+            ≡ (nat_le most_husks (length self.now.husks)
+            || some has_moved_out (links_of (context_in pool n state.now))) }
     {
         self.husks.len() >= MOST_HUSKS || state.has_moved_out()
     }
@@ -182,7 +193,8 @@ impl Device {
     ) -> Result<(ContextImage, Items<HuskEntry>), AllocError>
         requires { has_context self.now name ≡ true }
         ensures image { IfOk result (λ p. p.0 ≡ image_of (context_at self.now name)) }
-        ensures entries { IfOk result (λ p. map entry_of p.1 ≡ (husk_of (context_at self.now name)).entries) }
+        ensures entries { IfOk result (λ p. map entry_of p.1
+            ≡ (husk_of (context_at self.now name)).entries) }
     {
         let state = self.contexts.get(&name).unwrap();
         let image = state.image(alloc, &self.pool, name)?;

@@ -11,8 +11,10 @@ use std::alloc::AllocError;
 impl Device {
     /// Appends what is told of the live ends, in order of contexts and queue pairs. Errors: `AllocError` when out
     /// of memory.
+    #[inline(always)]
     pub fn push_ends(&self, live: &mut Vec<LiveEnd>) -> Result<(), AllocError>
-        ensures { IfOk result (λ _. live.new.items ≡ live.old.items ++ readings.live_ends self.now) }
+        ensures { IfOk result (λ _. live.new.items
+            ≡ live.old.items ++ readings.live_ends self.now) }
     {
         for place in 0..self.contexts.len() {
             let (name, held) = self.contexts.get_index(place).unwrap();

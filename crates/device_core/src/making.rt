@@ -47,7 +47,8 @@ fn note_end(
     spot: EndLocation,
 )
     requires { 0 < spare index.old }
-    ensures { (k : ℕ) → get nat_eq index.new k ≡ noted (is_ok made.now) number spot k (get nat_eq index.old k) }
+    ensures { (k : ℕ) → get nat_eq index.new k
+        ≡ noted (is_ok made.now) number spot k (get nat_eq index.old k) }
 {
     if let (true, Some(number)) = (made.is_ok(), number) {
         put_location(index, number, spot);

@@ -21,7 +21,8 @@ use std::alloc::Global;
 
 /// Forgets the numbers of a husk's entries.
 fn drop_entries(index: &mut IndexMap<u32, EndLocation>, entries: &[HuskEntry])
-    ensures { (k : ℕ) → get nat_eq index.new k ≡ without_numbers (numbers_in entries.now) k (get nat_eq index.old k) }
+    ensures { (k : ℕ) → get nat_eq index.new k
+        ≡ without_numbers (numbers_in entries.now) k (get nat_eq index.old k) }
 {
     for entry in entries {
         drop_location(index, entry.number);

@@ -37,6 +37,7 @@ fn told_step(alloc: Global, done: Result<Outcome, ContextFault>) -> Result<Outco
 
 impl Device {
     /// What an event does, each by its own call.
+    #[inline(always)]
     fn run(&mut self, alloc: Global, event: &Event) -> Result<Outcome, ContextFault>
         requires { IsLawfulEvent event.now }
         ensures done { IsDone self.old event.now self.new result }
@@ -94,7 +95,9 @@ impl Device {
 
     /// What arrives here will change only what it may, and a transmission, an expiry or the end of a timer no memory.
     fn bounds_turns(&self)
-        ensures { (e : Event) → IsOfTurn e → ChangesOnly (is_touched_by_event self.now e) self.now (device_step self.now e).device }
+        ensures { (e : Event) → IsOfTurn e
+            → ChangesOnly (is_touched_by_event self.now e) self.now
+            (device_step self.now e).device }
     {
         turns_change_what_arrivals_may();
         let _ = &self.id;
@@ -106,14 +109,16 @@ impl Device {
     /// region, and Arrive only those that `arrive` may change.
     pub fn step(&mut self, alloc: Global, event: &Event) -> Result<Outcome, AllocError>
         requires { IsLawfulEvent event.now }
-        ensures ok { IfOk result (λ o. device_step self.old event.now ≡ record { device = self.new; outcome = o }) }
+        ensures ok { IfOk result (λ o. device_step self.old event.now
+            ≡ record { device = self.new; outcome = o }) }
         ensures bounded { IfOk result (λ o. length o.sent ≤ 2 ^ 32) }
         ensures image { IfOk result (λ o. IfSome o.image (λ i. IsLawful i)) }
         ensures id { self.new.id ≡ self.old.id }
         ensures address { self.new.address ≡ self.old.address }
         ensures never_out_of_memory { TakesNoMemoryAt self.old event.now → IsOk result }
         ensures refused_first { OnErr result (refusal_of self.old event.now ≡ None) }
-        ensures touched { IsOfTurn event.now → ChangesOnly (is_touched_by_event self.old event.now) self.old self.new }
+        ensures touched { IsOfTurn event.now
+            → ChangesOnly (is_touched_by_event self.old event.now) self.old self.new }
         ensures err { OnErr result (self.new ≡ self.old) }
     {
         self.bounds_turns();
@@ -125,11 +130,13 @@ impl Device {
     /// then no refusal is due; the device is as before.
     pub fn restore(&mut self, alloc: Global, image: &ContextImage) -> Result<Outcome, AllocError>
         requires { IsLawful image.now }
-        ensures ok { IfOk result (λ o. device_step self.old (Event.Restore image.now) ≡ record { device = self.new; outcome = o }) }
+        ensures ok { IfOk result (λ o. device_step self.old (Event.Restore image.now)
+            ≡ record { device = self.new; outcome = o }) }
         ensures bounded { IfOk result (λ o. length o.sent ≤ 2 ^ 32) }
         ensures id { self.new.id ≡ self.old.id }
         ensures address { self.new.address ≡ self.old.address }
-        ensures refused_first { OnErr result (refusal_of self.old (Event.Restore image.now) ≡ None) }
+        ensures refused_first { OnErr result (refusal_of self.old (Event.Restore image.now)
+            ≡ None) }
         ensures err { OnErr result (self.new ≡ self.old) }
     {
         let done = self.put_image(alloc, image);
@@ -146,7 +153,8 @@ impl Device {
         from: Address,
         bytes: &[u8],
     ) -> Result<Outcome, AllocError>
-        ensures ok { IfOk result (λ o. device_step self.old (Event.Arrive from bytes.now) ≡ record { device = self.new; outcome = o }) }
+        ensures ok { IfOk result (λ o. device_step self.old (Event.Arrive from bytes.now)
+            ≡ record { device = self.new; outcome = o }) }
         ensures bounded { IfOk result (λ o. length o.sent ≤ 2 ^ 32) }
         ensures id { self.new.id ≡ self.old.id }
         ensures address { self.new.address ≡ self.old.address }
@@ -165,6 +173,7 @@ impl Device {
 
     /// What `arrive` does, where the queue pair that the bytes are for was looked up before: by `find_end`, with the
     /// number in the bytes (`destination`), on the device as it is now.
+    #[inline(always)]
     pub fn arrive_at(
         &mut self,
         alloc: Global,
@@ -173,7 +182,12 @@ impl Device {
         found: Option<FoundEnd>,
     ) -> Result<Answered, AllocError>
         requires { IsFound self.old (number_at 5 3 bytes.now) found }
-        ensures ok { IfOk result (λ a. device_step self.old (Event.Arrive from bytes.now) ≡ record { device = self.new; outcome = record { answer = a.answer; sent = a.sent; image = None } }) }
+        ensures ok { IfOk result (λ a. device_step self.old (Event.Arrive from bytes.now)
+            ≡ record {
+              device = self.new;
+              outcome = record
+                  { answer = a.answer; sent = a.sent; image = None };
+            }) }
         ensures bounded { IfOk result (λ a. length a.sent ≤ 2 ^ 32) }
         ensures id { self.new.id ≡ self.old.id }
         ensures address { self.new.address ≡ self.old.address }
@@ -189,8 +203,14 @@ impl Device {
     /// The step on `Event::Transmit`: the next packet of an end, where it may send one. A refusal is an answer, and the
     /// device is then as before. Errors: `AllocError` when out of memory, and then no refusal is due; the device is as
     /// before.
+    #[inline(always)]
     pub fn transmit(&mut self, alloc: Global, end: &ObjName) -> Result<Answered, AllocError>
-        ensures ok { IfOk result (λ a. device_step self.old (Event.Transmit end.now) ≡ record { device = self.new; outcome = record { answer = a.answer; sent = a.sent; image = None } }) }
+        ensures ok { IfOk result (λ a. device_step self.old (Event.Transmit end.now)
+            ≡ record {
+              device = self.new;
+              outcome = record
+                  { answer = a.answer; sent = a.sent; image = None };
+            }) }
         ensures bounded { IfOk result (λ a. length a.sent ≤ 2 ^ 32) }
         ensures id { self.new.id ≡ self.old.id }
         ensures address { self.new.address ≡ self.old.address }

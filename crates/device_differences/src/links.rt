@@ -29,7 +29,8 @@ fn senders(
 ) -> Option<(u64, u64)>
     requires held { All (λ p. HoldsPayload pool.now p.payload) a.now.items }
     requires other_held { All (λ p. HoldsPayload other_pool.now p.payload) b.now.items }
-    ensures { result ≡ sender_difference (sender_in pool.now a.now) (sender_in other_pool.now b.now) }
+    ensures { result ≡ sender_difference (sender_in pool.now a.now)
+        (sender_in other_pool.now b.now) }
 {
     let found = requests(pool, a, other_pool, b);
     if found.is_some() {
@@ -92,7 +93,8 @@ fn links(
 ) -> Option<(u64, u64)>
     requires held { All (λ p. HoldsPayload pool.now p.payload) (untold_by a.now) }
     requires other_held { All (λ p. HoldsPayload other_pool.now p.payload) (untold_by b.now) }
-    ensures { result ≡ maybe link_difference (option_map (link_in pool.now) a.now) (option_map (link_in other_pool.now) b.now) }
+    ensures { result ≡ maybe link_difference (option_map (link_in pool.now) a.now)
+        (option_map (link_in other_pool.now) b.now) }
 {
     match (a, b) {
         (None, None) => None,
@@ -111,7 +113,8 @@ pub fn work(
 ) -> Option<(u64, u64)>
     requires held { All (λ p. HoldsPayload pool.now p.payload) (untold_by a.now.link) }
     requires other_held { All (λ p. HoldsPayload other_pool.now p.payload) (untold_by b.now.link) }
-    ensures { (names other_names : Names) → result ≡ work_difference (end_in pool.now names a.now) (end_in other_pool.now other_names b.now) }
+    ensures { (names other_names : Names) → result
+        ≡ work_difference (end_in pool.now names a.now) (end_in other_pool.now other_names b.now) }
 {
     let found = numbers(
         &[u64::from(a.send_depth), u64::from(a.recv_depth)],

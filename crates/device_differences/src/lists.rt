@@ -9,11 +9,11 @@ ghost use Rattle.device_differences.specs.Differences.{completion_difference, qu
 
 use crate::between::{apart, names, numbers};
 use crate::values::{completion_numbers, receive_numbers};
-use atomic_replay::Kept;
-use completion_queue::Cq;
+use end_queues::completion_queue::Cq;
+use end_queues::work_queues::RecvQueue;
 use indexmap::{IndexMap, IndexSet};
 use rdma_types::{Completion, Name, Receive};
-use work_queues::RecvQueue;
+use transport::atomic_replay::ReplyCache;
 
 /// Two receives.
 fn receive(x: &Receive, y: &Receive) -> Option<(u64, u64)>
@@ -38,7 +38,7 @@ pub fn receives(a: &RecvQueue, b: &RecvQueue) -> Option<(u64, u64)>
 }
 
 /// The kept replies of two responders.
-pub fn replies(a: &Kept, b: &Kept) -> Option<(u64, u64)>
+pub fn replies(a: &ReplyCache, b: &ReplyCache) -> Option<(u64, u64)>
     ensures { result ≡ across reply_difference a.now b.now }
 {
     for i in 0..a.len().min(b.len()) {
@@ -54,7 +54,8 @@ pub fn replies(a: &Kept, b: &Kept) -> Option<(u64, u64)>
 
 /// Two kept replies, by their numbers and their old values.
 fn reply(x: (u64, u64), y: (u64, u64)) -> Option<(u64, u64)>
-    ensures { result ≡ reply_difference (record { number = x.0; old = x.1 }) (record { number = y.0; old = y.1 }) }
+    ensures { result ≡ reply_difference (record { number = x.0; old = x.1 })
+        (record { number = y.0; old = y.1 }) }
 {
     numbers(&[x.0, x.1], &[y.0, y.1])
 }
@@ -98,7 +99,8 @@ fn entries(a: &Cq, b: &Cq) -> Option<(u64, u64)>
 
 /// Two completion queues, each with its name.
 fn queue(x: (&Name, &Cq), y: (&Name, &Cq)) -> Option<(u64, u64)>
-    ensures { result ≡ queue_difference (shown_queue (x.entry.0.now, x.entry.1.now)) (shown_queue (y.entry.0.now, y.entry.1.now)) }
+    ensures { result ≡ queue_difference (shown_queue (x.entry.0.now, x.entry.1.now))
+        (shown_queue (y.entry.0.now, y.entry.1.now)) }
 {
     let found = names(x.0, y.0);
     if found.is_some() {

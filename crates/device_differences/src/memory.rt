@@ -10,7 +10,7 @@ ghost use Rattle.device_differences.specs.Shown.{IsUnder, bytes_under, region_un
 
 use crate::between::{apart, bytes, names, numbers};
 use crate::values::region_numbers;
-use memory_keys::{RegionHead, Regions, Spot};
+use memory_keys::{RegionHead, RegionRange, Regions};
 use page_pool::{PAGE, PagePool, Payload};
 
 /// The bytes of two payloads.
@@ -22,7 +22,8 @@ pub fn payloads(
 ) -> Option<(u64, u64)>
     requires held { HoldsPayload pool.now payload.now }
     requires other_held { HoldsPayload other_pool.now other.now }
-    ensures { result ≡ between (payload_bytes pool.now payload.now) (payload_bytes other_pool.now other.now) }
+    ensures { result ≡ between (payload_bytes pool.now payload.now)
+        (payload_bytes other_pool.now other.now) }
 {
     let count = u64::from(payload.length.min(other.length));
     let mut done = 0;
@@ -43,10 +44,10 @@ pub fn payloads(
 fn spots(
     pool: &PagePool,
     regions: &Regions,
-    spot: Spot,
+    spot: RegionRange,
     other_pool: &PagePool,
     other: &Regions,
-    other_spot: Spot,
+    other_spot: RegionRange,
 ) -> Option<(u64, u64)>
     requires held { AreHeld pool.now regions.now }
     requires other_held { AreHeld other_pool.now other.now }
@@ -54,7 +55,8 @@ fn spots(
     requires other_there { IsSpot other.now other_spot }
     requires same { other_spot.length ≡ spot.length }
     requires bounded { spot.length ≤ 4096 }
-    ensures { result ≡ between (spot_bytes pool.now regions.now spot) (spot_bytes other_pool.now other.now other_spot) }
+    ensures { result ≡ between (spot_bytes pool.now regions.now spot)
+        (spot_bytes other_pool.now other.now other_spot) }
 {
     let mut mine = [0; PAGE];
     let mut others = [0; PAGE];
@@ -78,18 +80,19 @@ fn region_bytes(
     requires other_held { AreHeld other_pool.now other.now }
     requires there { IsUnder regions.now head.now }
     requires other_there { IsUnder other.now other_head.now }
-    ensures { result ≡ between (bytes_under pool.now regions.now head.now.keys.local) (bytes_under other_pool.now other.now other_head.now.keys.local) }
+    ensures { result ≡ between (bytes_under pool.now regions.now head.now.keys.local)
+        (bytes_under other_pool.now other.now other_head.now.keys.local) }
 {
     let count = head.length.min(other_head.length);
     let mut done = 0;
     while done < count {
         let size = (count - done).min(PAGE as u32);
-        let spot = Spot {
+        let spot = RegionRange {
             region: head.keys.local,
             off: done,
             length: size,
         };
-        let other_spot = Spot {
+        let other_spot = RegionRange {
             region: other_head.keys.local,
             off: done,
             length: size,
@@ -116,7 +119,8 @@ fn region(
     requires other_held { AreHeld other_pool.now other.now }
     requires there { IsUnder regions.now x.now }
     requires other_there { IsUnder other.now y.now }
-    ensures { result ≡ region_difference (region_under pool.now regions.now x.now) (region_under other_pool.now other.now y.now) }
+    ensures { result ≡ region_difference (region_under pool.now regions.now x.now)
+        (region_under other_pool.now other.now y.now) }
 {
     let found = names(&x.name, &y.name);
     if found.is_some() {
@@ -144,7 +148,8 @@ pub fn regions(
     requires other_held { AreHeld other_pool.now b.now }
     requires keyed { AreKeyed a.now }
     requires other_keyed { AreKeyed b.now }
-    ensures { result ≡ across region_difference (regions_of pool.now a.now) (regions_of other_pool.now b.now) }
+    ensures { result ≡ across region_difference (regions_of pool.now a.now)
+        (regions_of other_pool.now b.now) }
 {
     for i in 0..a.len().min(b.len()) {
         let x = a.at(i).unwrap();

@@ -2,16 +2,16 @@
 
 ghost use Rattle.std.specs.Prelude.{◌≡◌, []};
 ghost use Rattle.memory_keys.specs.Regions.{blank_region};
-ghost use Rattle.move_core.specs.Table.{moving_of, phase_of};
+ghost use Rattle.transport.specs.Table.{moving_of, phase_of};
 ghost use Rattle.requester.specs.Sending.{sender_with};
 ghost use Rattle.responder.specs.Receiving.{progress_of, receiver_of};
 ghost use Rattle.device_differences.specs.Numbers.{flag as flag_code, has_number as is_there, number_in as number_of, kind_code as code_of_kind, wc_kind_code as code_of_wc_kind, status_code as code_of_status, phase_code as code_of_phase, numbers_of_receive, numbers_of_request, numbers_of_completion, numbers_of_region, numbers_of_terms, numbers_of_moving, numbers_of_sender, numbers_of_progress, numbers_of_receiver};
 
 use memory_keys::RegionHead;
-use move_core::{MoveState, Phase};
 use rdma_types::{Completion, Kind, Receive, Request, Terms, WcKind, WcStatus};
 use requester::RequesterParts;
 use responder::{Flow, ResponderParts};
+use transport::move_core::{MoveState, Phase};
 
 /// A flag: 1 where it is set.
 pub fn flag(is: bool) -> u64

@@ -13,10 +13,10 @@ use Rattle.protocol.specs.declared.images.PostedImage.{PostedImage}
 use Rattle.protocol.specs.declared.images.RegionImage.{RegionImage}
 use Rattle.protocol.specs.Images.{posted_of_image, name_at}
 use Rattle.protocol.specs.Dumps.{Reading, Reader, ReadQueue, after, then_read, gives, raw, items, link_field, request_field, end_so_far, shape_of_length, untold_items, count_by, is_untold_count, is_ended, receive_field}
-use Rattle.dump_reader.specs.declared.heads.Before.{Before}
+use Rattle.dump_reader.specs.declared.heads.EarlierRequests.{EarlierRequests}
 use Rattle.dump_reader.specs.declared.heads.EndImageHead.{EndImageHead}
 use Rattle.dump_reader.specs.declared.heads.LinkImageHead.{LinkImageHead}
-use Rattle.dump_reader.specs.declared.heads.Opened.{Opened}
+use Rattle.dump_reader.specs.declared.heads.DumpHead.{DumpHead}
 use Rattle.std.proofs.lemmas.List.{length-map}
 use Rattle.dump_reader.specs.declared.heads.PlacedQueue.{PlacedQueue}
 use Rattle.dump_reader.specs.Groups.{placed, regions_of, end_head_field, link_head_field, link_of_head, end_of_head, request_head_field, request_places_field, payload_length}
@@ -45,7 +45,7 @@ some_more test [] x = or_false (test x)
 some_more test (y ∷ xs) x = ap (λ (b : Bool). test y || b) (some_more test xs x) ∙ or_assoc (test y) (some test xs) (test x)
 
 -- what stands before the next request
-abbrev before_of : LinkImage → ℕ → List PostedImage → Before
+abbrev before_of : LinkImage → ℕ → List PostedImage → EarlierRequests
 before_of l k xs = record { count = k; low = end_so_far l xs; landing = some (λ q. lands q.request.shape.kind) xs }
 
 -- the same after one more request
@@ -64,13 +64,13 @@ requests_are v rs domain l k (suc n) xs e p bs =
     ap (λ (r : Reading PostedImage). after r (λ x. items n (request_field v rs domain l k) (xs ++ x ∷ []))) (request_split_at v rs domain l k xs (k - suc n) place p bs)
     ∙ after_then _ _ _ _ λ h p bs. after_then _ _ _ _ λ r p bs. after_then _ _ _ _ λ payload p bs. after_good (record { request = r; payload = payload }) p bs (λ x. items n (request_field v rs domain l k) (xs ++ x ∷ []))
     ∙ (requests_are v rs domain l k n (xs ++ record { request = r; payload = payload } ∷ []) (omega (arith, length-append xs (record { request = r; payload = payload } ∷ []))) p bs
-    ∙ ap (λ (b : Before). more_requests v rs domain l n b (xs ++ record { request = r; payload = payload } ∷ []) p bs) (before_more l k xs (record { request = r; payload = payload })))
+    ∙ ap (λ (b : EarlierRequests). more_requests v rs domain l n b (xs ++ record { request = r; payload = payload } ∷ []) p bs) (before_more l k xs (record { request = r; payload = payload })))
 
 first_before : (l : LinkImage) (k : ℕ) → before_of l k [] ≡ first_of l k
 unfolding end_number some
 first_before l k = λ i. record { count = k; low = add-zero l.first i; landing = false }
 
-module _ (o : Opened) (ds : List Name) (rs : List RegionImage) (qs : List ReadQueue) (es : List EndImage) (n : ℕ) (h : EndImageHead) where
+module _ (o : DumpHead) (ds : List Name) (rs : List RegionImage) (qs : List ReadQueue) (es : List EndImage) (n : ℕ) (h : EndImageHead) where
   -- from the count of untold requests on
   after_link : (linked : Option LinkImage) (p : ℕ) (bs : List ℕ) → after (then_read (count_by 2 h.send_depth (is_untold_count linked)) (λ untold_count. then_read (untold_items o.version (regions_of ds rs) (name_at ds h.domain) linked untold_count) λ untold. then_read (count_by 2 h.recv_depth λ i. i == 0 || not (is_ended linked)) λ unused_count. then_read (items unused_count (λ xs. receive_field (regions_of ds rs) (name_at ds h.domain) 0) []) λ unused. gives (end_of_head h linked untold unused)) p bs) (λ e. more_ends o ds rs qs n (es ++ e ∷ [])) ≡ untold_list o ds rs qs es n h linked p bs
   unfolding untold_list unused_list more_receives
@@ -102,14 +102,14 @@ module _ (o : Opened) (ds : List Name) (rs : List RegionImage) (qs : List ReadQu
   counted_by (Some l) k p bs =
       ap (λ (r : Reading (List PostedImage)). after r (λ untold. unused_list o ds rs qs es n h (Some l) untold))
       (requests_are o.version (regions_of ds rs) (name_at ds h.domain) l k k [] (omega arith) p bs
-      ∙ ap (λ (b : Before). more_requests o.version (regions_of ds rs) (name_at ds h.domain) l k b [] p bs) (first_before l k))
+      ∙ ap (λ (b : EarlierRequests). more_requests o.version (regions_of ds rs) (name_at ds h.domain) l k b [] p bs) (first_before l k))
 
   -- the count of untold requests, and what follows
   pub untold_begins : (linked : Option LinkImage) (p : ℕ) (bs : List ℕ) → untold_list o ds rs qs es n h linked p bs ≡ then_read (count_by 2 h.send_depth (is_untold_count linked)) (λ k. after_count o ds rs qs es n h linked k) p bs
   unfolding untold_list
   untold_begins linked p bs = after_same _ _ _ λ k p bs. counted_by linked k p bs
 
-module _ (o : Opened) (ds : List Name) (rs : List RegionImage) (qs : List ReadQueue) (es : List EndImage) (n : ℕ) where
+module _ (o : DumpHead) (ds : List Name) (rs : List RegionImage) (qs : List ReadQueue) (es : List EndImage) (n : ℕ) where
   -- one more queue pair: its head, and what follows
   pub ends_begin : (p : ℕ) (bs : List ℕ) → more_ends o ds rs qs (suc n) es p bs ≡ then_read (end_head_field (length ds) (length qs) es) (λ h. after_head o ds rs qs es n h) p bs
   unfolding more_ends items
@@ -119,18 +119,18 @@ module _ (o : Opened) (ds : List Name) (rs : List RegionImage) (qs : List ReadQu
       ∙ after_then _ _ _ _ λ h p bs. head_then o ds rs qs es n h p bs)
 
 -- the same, of queues with their places
-pub placed_begin : (o : Opened) (ds : List Name) (rs : List RegionImage) (qs : List PlacedQueue) (es : List EndImage) (n : ℕ) (p : ℕ) (bs : List ℕ) → more_ends o ds rs (map placed qs) (suc n) es p bs ≡ then_read (end_head_field (length ds) (length qs) es) (λ h. after_head o ds rs (map placed qs) es n h) p bs
+pub placed_begin : (o : DumpHead) (ds : List Name) (rs : List RegionImage) (qs : List PlacedQueue) (es : List EndImage) (n : ℕ) (p : ℕ) (bs : List ℕ) → more_ends o ds rs (map placed qs) (suc n) es p bs ≡ then_read (end_head_field (length ds) (length qs) es) (λ h. after_head o ds rs (map placed qs) es n h) p bs
 placed_begin o ds rs qs es n p bs =
     ends_begin o ds rs (map placed qs) es n p bs
     ∙ ap (λ (k : ℕ). then_read (end_head_field (length ds) k es) (λ h. after_head o ds rs (map placed qs) es n h) p bs) (length-map qs placed)
 
 -- the count of untold requests, as far as the head of a link tells
-pub untold_opens : (o : Opened) (ds : List Name) (rs : List RegionImage) (qs : List ReadQueue) (es : List EndImage) (n : ℕ) (h : EndImageHead) (lo : Option LinkImageHead) (kept : List KeptReply) (p : ℕ) (bs : List ℕ) → untold_list o ds rs qs es n h (linked_of lo kept) p bs ≡ then_read (count_by 2 h.send_depth (may_be_untold lo)) (λ k. after_count o ds rs qs es n h (linked_of lo kept) k) p bs
+pub untold_opens : (o : DumpHead) (ds : List Name) (rs : List RegionImage) (qs : List ReadQueue) (es : List EndImage) (n : ℕ) (h : EndImageHead) (lo : Option LinkImageHead) (kept : List KeptReply) (p : ℕ) (bs : List ℕ) → untold_list o ds rs qs es n h (linked_of lo kept) p bs ≡ then_read (count_by 2 h.send_depth (may_be_untold lo)) (λ k. after_count o ds rs qs es n h (linked_of lo kept) k) p bs
 untold_opens o ds rs qs es n h None kept p bs = untold_begins o ds rs qs es n h None p bs
 untold_opens o ds rs qs es n h (Some l) kept p bs = untold_begins o ds rs qs es n h (Some (link_of_head l kept)) p bs
 
 -- the count of unused receives, as far as the head of a link tells
-pub unused_opens : (o : Opened) (ds : List Name) (rs : List RegionImage) (qs : List ReadQueue) (es : List EndImage) (n : ℕ) (h : EndImageHead) (untold : List PostedImage) (lo : Option LinkImageHead) (kept : List KeptReply) (p : ℕ) (bs : List ℕ) → unused_list o ds rs qs es n h (linked_of lo kept) untold p bs ≡ then_read (count_by 2 h.recv_depth (may_be_unused lo)) (λ k. more_receives o ds rs qs es n h (linked_of lo kept) untold k []) p bs
+pub unused_opens : (o : DumpHead) (ds : List Name) (rs : List RegionImage) (qs : List ReadQueue) (es : List EndImage) (n : ℕ) (h : EndImageHead) (untold : List PostedImage) (lo : Option LinkImageHead) (kept : List KeptReply) (p : ℕ) (bs : List ℕ) → unused_list o ds rs qs es n h (linked_of lo kept) untold p bs ≡ then_read (count_by 2 h.recv_depth (may_be_unused lo)) (λ k. more_receives o ds rs qs es n h (linked_of lo kept) untold k []) p bs
 unfolding unused_list
 unused_opens o ds rs qs es n h untold None kept p bs = refl
 unused_opens o ds rs qs es n h untold (Some l) kept p bs = refl
@@ -140,7 +140,7 @@ unfolding request_head_field
 same_head v l kept count i low landing = refl
 
 -- one more request: its head, its places, its payload, and what follows
-pub request_begins : (o : Opened) (ds : List Name) (rs : List RegionImage) (qs : List ReadQueue) (es : List EndImage) (n : ℕ) (h : EndImageHead) (l : LinkImageHead) (kept : List KeptReply) (s : Before) (k : ℕ) (untold : List PostedImage) (p : ℕ) (bs : List ℕ) → more_untold o ds rs qs es n h (link_of_head l kept) s (suc k) untold p bs ≡ then_read (request_head_field o.version (link_of_head l []) s.count (s.count - suc k) s.low s.landing) (λ head. then_read (request_places_field (regions_of ds rs) (name_at ds h.domain) head) λ r. then_read (raw (payload_length r)) λ payload. more_untold o ds rs qs es n h (link_of_head l kept) (passed (link_of_head l kept) s r) k (untold ++ record { request = r; payload = payload } ∷ [])) p bs
+pub request_begins : (o : DumpHead) (ds : List Name) (rs : List RegionImage) (qs : List ReadQueue) (es : List EndImage) (n : ℕ) (h : EndImageHead) (l : LinkImageHead) (kept : List KeptReply) (s : EarlierRequests) (k : ℕ) (untold : List PostedImage) (p : ℕ) (bs : List ℕ) → more_untold o ds rs qs es n h (link_of_head l kept) s (suc k) untold p bs ≡ then_read (request_head_field o.version (link_of_head l []) s.count (s.count - suc k) s.low s.landing) (λ head. then_read (request_places_field (regions_of ds rs) (name_at ds h.domain) head) λ r. then_read (raw (payload_length r)) λ payload. more_untold o ds rs qs es n h (link_of_head l kept) (passed (link_of_head l kept) s r) k (untold ++ record { request = r; payload = payload } ∷ [])) p bs
 unfolding more_untold more_requests
 request_begins o ds rs qs es n h l kept s k untold p bs =
     after_then _ _ _ _ (λ head p bs. after_then _ _ _ _ λ r p bs. after_then _ _ _ _ λ payload p bs. refl)

@@ -10,7 +10,7 @@ use Rattle.protocol.specs.declared.images.RegionImage.{RegionImage}
 use Rattle.protocol.specs.Dumps.{Reading, Reader, Good, ReadQueue, count_field}
 use Rattle.law_dump_round_trip.proofs.Steady.{IsSteady, Stays, Goes, GoesOn, then_steady, gives_steady, raw_steady, magic_steady, number_steady, name_steady, placed_steady, progress_steady, terms_steady}
 use Rattle.dump_reader.specs.declared.heads.RequestHead.{RequestHead}
-use Rattle.dump_reader.specs.declared.heads.Standing.{Standing}
+use Rattle.dump_reader.specs.declared.heads.RequestPosition.{RequestPosition}
 use Rattle.dump_reader.specs.Ahead.{opening_field}
 use Rattle.dump_reader.specs.Groups.{region_head_field, queue_head_field, end_head_field, peer_field, numbers_field, waiting_field, message_field, link_head_field, request_head_field, request_places_field, request_start_field}
 use Rattle.dump_reader.specs.Steps.{IsLeft}
@@ -122,5 +122,5 @@ goes_twice {p = p} {bs = bs} {p' = p'} {bs' = bs'} {p'' = p''} h g =
       left = g.left ∙ (ap (drop g.count) h.left ∙ drop-drop g.count h.count bs);
     }
 
-pub request_start_steady : (at : Standing) (l : LinkImage) (regions : List Region) (domain : Name) → IsSteady (request_start_field at l regions domain)
+pub request_start_steady : (at : RequestPosition) (l : LinkImage) (regions : List Region) (domain : Name) → IsSteady (request_start_field at l regions domain)
 request_start_steady at l regions domain = then_steady (request_head_steady _ _ _ _ _ _) λ h. request_places_steady _ _ _

@@ -9,7 +9,7 @@ use Rattle.dump_reader.specs.declared.cursor.Cursor.{Cursor}
 use Rattle.dump_reader.specs.declared.cursor.Offence.{Offence}
 use Rattle.dump_reader.specs.declared.fault.DumpFault.{DumpFault}
 use Rattle.dump_reader.specs.declared.fault.DumpFault.TheVariants.{BadDump, OutOfMemory}
-use Rattle.dump_reader.specs.declared.heads.Opened.{Opened}
+use Rattle.dump_reader.specs.declared.heads.DumpHead.{DumpHead}
 use Rattle.dump_reader.specs.declared.lists.Lists.{Lists}
 use Rattle.dump_reader.specs.declared.lists.ReadState.{ReadState}
 use Rattle.dump_reader.specs.declared.lists.ReadState.TheVariants as place
@@ -48,7 +48,7 @@ bad_on : {A B : Type 0} {at : ℕ} {why : DumpWhy} (a : Reading A) (k : A → Re
 unfolding after
 bad_on a k e = rw e refl
 
-module _ (o : Opened) (state : ReadState) (s : Lists) (c : Cursor) {A : Type 0} (r : Reader A) (k : A → Reader ContextImage) (opens : (q : ℕ) (b : List ℕ) → ahead o s state q b ≡ then_read r k q b) where
+module _ (o : DumpHead) (state : ReadState) (s : Lists) (c : Cursor) {A : Type 0} (r : Reader A) (k : A → Reader ContextImage) (opens : (q : ℕ) (b : List ℕ) → ahead o s state q b ≡ then_read r k q b) where
   module _ (c' : Cursor) {x : A} (s' : Lists) (steady : IsSteady r) (read : r c.place c.bytes.now ≡ Good x c'.place c'.bytes.now) where
     went : (after : Reader ContextImage) (w' : ℕ) → ((q : ℕ) (b : List ℕ) → k x q b ≡ after q b) → (c'.place + length c'.bytes.now ≡ c.place + length c.bytes.now → 2 * length c'.bytes.now + w' < 2 * length c.bytes.now + weight state) → WentOn (ahead o s state) after (weight state) w' c.place c.bytes.now c'.place c'.bytes.now
     went after w' enters less =

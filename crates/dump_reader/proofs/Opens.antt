@@ -7,10 +7,10 @@ use Rattle.rdma_types.specs.Limits.{most_regions, most_queues, most_ends}
 use Rattle.protocol.specs.declared.images.RegionImage.{RegionImage}
 use Rattle.protocol.specs.Images.{name_at}
 use Rattle.protocol.specs.Dumps.{Reading, ReadQueue, after, then_read, raw, items, count_field, count_by, name_field, entry_field, kept_field, receive_field}
-use Rattle.dump_reader.specs.declared.heads.Before.{Before}
+use Rattle.dump_reader.specs.declared.heads.EarlierRequests.{EarlierRequests}
 use Rattle.dump_reader.specs.declared.heads.EndImageHead.{EndImageHead}
 use Rattle.dump_reader.specs.declared.heads.LinkImageHead.{LinkImageHead}
-use Rattle.dump_reader.specs.declared.heads.Opened.{Opened}
+use Rattle.dump_reader.specs.declared.heads.DumpHead.{DumpHead}
 use Rattle.dump_reader.specs.declared.heads.QueueHead.{QueueHead}
 use Rattle.dump_reader.specs.declared.heads.RegionImageHead.{RegionImageHead}
 use Rattle.dump_reader.specs.declared.lists.Lists.{Lists}
@@ -20,7 +20,7 @@ use Rattle.dump_reader.specs.Ahead.{ahead, more_domains, more_regions, more_queu
 use Rattle.dump_reader.proofs.Split.{after_after, after_good, after_then, region_split, queue_split, entry_any}
 use Rattle.dump_reader.proofs.Ends.{placed_begin, linked_begins, untold_opens, unused_opens, request_begins}
 
-module _ (o : Opened) (s : Lists) where
+module _ (o : DumpHead) (s : Lists) where
   pub opens_domain : (m q : ℕ) (b : List ℕ) → ahead o s (place.Domain m) q b ≡ then_read (name_field s.domains.items) (λ x. more_domains o m (s.domains.items ++ x ∷ [])) q b
   unfolding ahead more_domains items
   opens_domain m q b = after_after _ _ _
@@ -78,12 +78,12 @@ module _ (o : Opened) (s : Lists) where
     unfolding ahead
     opens_untold l q b = untold_opens o s.domains.items s.regions.items (queues_of s) s.ends.items n h l s.kept.items q b
 
-    pub opens_request : (l : LinkImageHead) (before : Before) (m q : ℕ) (b : List ℕ) → ahead o s (place.Request h l before m n) q b ≡ then_read (request_start_field (record { version = o.version; count = before.count; index = before.count - suc m; low = before.low; landing = before.landing }) (link_of_head l []) (regions_of s.domains.items s.regions.items) (name_at s.domains.items h.domain)) (λ (r : Request). then_read (raw (payload_length r)) λ payload. more_untold o s.domains.items s.regions.items (queues_of s) s.ends.items n h (link_of_head l s.kept.items) (passed (link_of_head l []) before r) m (s.untold.items ++ record { request = r; payload = payload } ∷ [])) q b
+    pub opens_request : (l : LinkImageHead) (before : EarlierRequests) (m q : ℕ) (b : List ℕ) → ahead o s (place.Request h l before m n) q b ≡ then_read (request_start_field (record { version = o.version; count = before.count; index = before.count - suc m; low = before.low; landing = before.landing }) (link_of_head l []) (regions_of s.domains.items s.regions.items) (name_at s.domains.items h.domain)) (λ (r : Request). then_read (raw (payload_length r)) λ payload. more_untold o s.domains.items s.regions.items (queues_of s) s.ends.items n h (link_of_head l s.kept.items) (passed (link_of_head l []) before r) m (s.untold.items ++ record { request = r; payload = payload } ∷ [])) q b
     unfolding ahead
     opens_request l before m q b =
         request_begins o s.domains.items s.regions.items (queues_of s) s.ends.items n h l s.kept.items before m s.untold.items q b ∙ sym (after_after _ _ _)
 
-    pub opens_payload : (l : LinkImageHead) (before : Before) (k : ℕ) (r : Request) (missing q : ℕ) (b : List ℕ) → ahead o s (place.Payload h l before k n r missing) q b ≡ then_read (raw missing) (λ more. more_untold o s.domains.items s.regions.items (queues_of s) s.ends.items n h (link_of_head l s.kept.items) before k (s.untold.items ++ record { request = r; payload = s.run ++ more } ∷ [])) q b
+    pub opens_payload : (l : LinkImageHead) (before : EarlierRequests) (k : ℕ) (r : Request) (missing q : ℕ) (b : List ℕ) → ahead o s (place.Payload h l before k n r missing) q b ≡ then_read (raw missing) (λ more. more_untold o s.domains.items s.regions.items (queues_of s) s.ends.items n h (link_of_head l s.kept.items) before k (s.untold.items ++ record { request = r; payload = s.run ++ more } ∷ [])) q b
     unfolding ahead
     opens_payload l before k r missing q b = refl
 

@@ -6,7 +6,7 @@ use Rattle.protocol.specs.declared.images.ContextImage.{ContextImage}
 use Rattle.protocol.specs.Dumps.{Reading, Reader, Good, Bad, after, at_end, read_dump}
 use Rattle.law_dump_round_trip.proofs.Steady.{GoesOn}
 use Rattle.dump_reader.specs.declared.fault.DumpFault.{DumpFault}
-use Rattle.dump_reader.specs.declared.heads.Opened.{Opened}
+use Rattle.dump_reader.specs.declared.heads.DumpHead.{DumpHead}
 use Rattle.dump_reader.specs.declared.lists.Lists.{Lists}
 use Rattle.dump_reader.specs.declared.lists.ReadState.{ReadState}
 use Rattle.dump_reader.specs.declared.lists.ReadState.TheVariants as place
@@ -17,12 +17,12 @@ use Rattle.dump_reader.specs.ReadProgress.{Stands, IsWhole, image_at}
 use Rattle.dump_reader.proofs.Later.{opening_steady, read_alike, read_goes, left_behind}
 use Rattle.dump_reader.proofs.Whole.{dump_opens}
 
-opened_by : (a : Reading Opened) {o : Opened} {p : ℕ} {bs : List ℕ} → a ≡ Good o p bs → after a (λ x. more_domains x x.count []) ≡ more_domains o o.count [] p bs
+opened_by : (a : Reading DumpHead) {o : DumpHead} {p : ℕ} {bs : List ℕ} → a ≡ Good o p bs → after a (λ x. more_domains x x.count []) ≡ more_domains o o.count [] p bs
 unfolding after
 opened_by a e = rw e refl
 
 -- behind the first fields
-pub begins : (bs : List ℕ) (o : Opened) (s : Lists) (next : ReadState) (p : ℕ) (left : List ℕ) → opening_field 0 bs ≡ Good o p left → ahead o s next ≡ more_domains o o.count [] → Stands (record { opened = o; lists = s; place = next; at = p }) bs
+pub begins : (bs : List ℕ) (o : DumpHead) (s : Lists) (next : ReadState) (p : ℕ) (left : List ℕ) → opening_field 0 bs ≡ Good o p left → ahead o s next ≡ more_domains o o.count [] → Stands (record { opened = o; lists = s; place = next; at = p }) bs
 begins bs o s next p left e entered =
     let goes : GoesOn 0 bs p left = read_goes opening_steady e in
     let from_first : p - 0 ≡ p = omega arith in
@@ -69,7 +69,7 @@ reads way bs h =
 pub fault_of_step : (way : ReadProgress) (bs front : List ℕ) (e : DumpFault) → Stands way bs → front ≡ drop way.at bs → IsFault (ahead way.opened way.lists way.place way.at front) e → IsFault (read_dump bs) e
 fault_of_step way bs front e h front_is f = subst (λ (r : Reading ContextImage). IsFault r e) (ap (λ (x : List ℕ). ahead way.opened way.lists way.place way.at x) front_is ∙ sym (reads way bs h)) f
 
-ended_by : (o : Opened) (s : Lists) (at : ℕ) (bs : List ℕ) (left : List ℕ) (c : ContextImage) → left ≡ [] → at_end c at left ≡ Good c at []
+ended_by : (o : DumpHead) (s : Lists) (at : ℕ) (bs : List ℕ) (left : List ℕ) (c : ContextImage) → left ≡ [] → at_end c at left ≡ Good c at []
 ended_by o s at bs left c e = rw e refl
 
 trailing_by : (c : ContextImage) (at : ℕ) (left : List ℕ) → 0 < length left → at_end c at left ≡ Bad at dump_why.Trailing

@@ -15,7 +15,7 @@ use Rattle.protocol.specs.EndWords.{in_use, in_use_by}
 use Rattle.protocol.specs.Images.{context_of, end_of_image, link_of_image, progress_of_image, posted_of_image}
 use Rattle.protocol.specs.Memory.{untold_of}
 use Rattle.protocol.specs.Refusals.{reserved, reserved_by}
-use Rattle.dump_reader.specs.declared.heads.Opened.{Opened}
+use Rattle.dump_reader.specs.declared.heads.DumpHead.{DumpHead}
 use Rattle.dump_reader.specs.declared.heads.PlacedQueue.{PlacedQueue}
 use Rattle.dump_reader.specs.Ahead.{image_of}
 use Rattle.dump_reader.specs.Groups.{placed}
@@ -44,7 +44,7 @@ unfolding link_of_image
 receives_are rs ps None = refl
 receives_are rs ps (Some l) = message_is rs l.progress
 
-module _ (o : Opened) (ds : List Name) (rs : List RegionImage) (qs : List PlacedQueue) (all : List EndImage) (name : Name) where
+module _ (o : DumpHead) (ds : List Name) (rs : List RegionImage) (qs : List PlacedQueue) (all : List EndImage) (name : Name) where
   end_is : (e : EndImage) → reserved_at qs name e ≡ reserved_by name (end_of_image (image_of o ds rs (map placed qs) all) e)
   unfolding reserved_by end_of_image
   end_is e = rw (names_placed qs, sends_are rs e.untold e.linked, receives_are rs e.untold e.linked) refl
@@ -65,7 +65,7 @@ first_then (y ∷ ys) x h e =
     let all : suc (length ys) - 1 ≡ length ys = omega arith in
     rw (e, all, take-length ys) refl
 
-module _ (o : Opened) (ds : List Name) (rs : List RegionImage) (all : List PlacedQueue) (es : List EndImage) where
+module _ (o : DumpHead) (ds : List Name) (rs : List RegionImage) (all : List PlacedQueue) (es : List EndImage) where
   fits : (q : PlacedQueue) (more : List PlacedQueue) → nat_lt q.queue.capacity (length q.queue.entries + sum_by (reserved_at all q.queue.name) es) ≡ false → overfull (image_of o ds rs (map placed all) es) (map placed more) ≡ overfull (image_of o ds rs (map placed all) es) (map placed (q ∷ more))
   unfolding overfull
   fits q more h =

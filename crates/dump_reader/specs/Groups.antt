@@ -32,7 +32,7 @@ use Rattle.dump_reader.specs.declared.heads.RequestHead.{RequestHead}
 use Rattle.protocol.specs.Images.{region_of_image}
 use Rattle.dump_reader.specs.declared.heads.Numbers.{Numbers}
 use Rattle.dump_reader.specs.declared.heads.Waiting.{Waiting}
-use Rattle.dump_reader.specs.declared.heads.Standing.{Standing}
+use Rattle.dump_reader.specs.declared.heads.RequestPosition.{RequestPosition}
 
 -- what a reader came to: the value and where it stands now, or the offence
 abbrev pub came : {A : Type 0} → Result A Offence → ℕ → List ℕ → Reading A
@@ -235,7 +235,7 @@ request_places_field regions domain h =
     })
 
 -- a request up to its payload, where it stands
-abbrev pub request_start_field : Standing → LinkImage → List Region → Name → Reader Request
+abbrev pub request_start_field : RequestPosition → LinkImage → List Region → Name → Reader Request
 request_start_field at l regions domain = then_read (request_head_field at.version l at.count at.index at.low at.landing) (request_places_field regions domain)
 
 -- how many bytes a request took

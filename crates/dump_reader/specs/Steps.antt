@@ -4,7 +4,7 @@ use Rattle.protocol.specs.declared.dumps.DumpWhy.{DumpWhy}
 use Rattle.protocol.specs.declared.images.ContextImage.{ContextImage}
 use Rattle.protocol.specs.Dumps.{Reading, Reader, Bad}
 use Rattle.law_dump_round_trip.specs.Later.{is_short}
-use Rattle.dump_reader.specs.declared.heads.Opened.{Opened}
+use Rattle.dump_reader.specs.declared.heads.DumpHead.{DumpHead}
 use Rattle.dump_reader.specs.declared.lists.Lists.{Lists}
 use Rattle.dump_reader.specs.declared.lists.ReadState.{ReadState}
 use Rattle.dump_reader.specs.declared.cursor.Cursor.{Cursor}
@@ -34,7 +34,7 @@ Fails before old new (BadDump at why) = Refused before at why old new
 Fails before old new OutOfMemory = ⊤
 
 -- a step from one place to the next: reading went on, or the bytes are bad, or it was out of memory
-abbrev pub Steps : Opened → ReadState → Lists → Lists → Cursor → Cursor → Result ReadState DumpFault → Type 0
+abbrev pub Steps : DumpHead → ReadState → Lists → Lists → Cursor → Cursor → Result ReadState DumpFault → Type 0
 Steps o state old new c c' (Ok next) = WentOn (ahead o old state) (ahead o new next) (weight state) (weight next) c.place c.bytes.now c'.place c'.bytes.now
 Steps o state old new c c' (Err e) = Fails (ahead o old state c.place c.bytes.now) old new e
 

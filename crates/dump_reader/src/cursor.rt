@@ -30,8 +30,10 @@ impl<'a> Cursor<'a> {
     /// The next `count` bytes. Errors: `Short` where fewer are left.
     #[tactic(auto, unfolding(protocol::specs::Dumps::raw))]
     pub fn raw(&mut self, count: usize) -> Result<&'a [u8], Offence>
-        ensures ok { IfOk result (λ field. raw count self.old.place self.old.bytes.now ≡ Good field.now self.new.place self.new.bytes.now) }
-        ensures short { IfErr result (λ e. raw count self.old.place self.old.bytes.now ≡ Bad e.place e.why) }
+        ensures ok { IfOk result (λ field. raw count self.old.place self.old.bytes.now
+            ≡ Good field.now self.new.place self.new.bytes.now) }
+        ensures short { IfErr result (λ e. raw count self.old.place self.old.bytes.now
+            ≡ Bad e.place e.why) }
         ensures start { self.new.start ≡ self.old.place }
         ensures len { IfOk result (λ field. length field.now ≡ count) }
         ensures passed { IfOk result (λ field. self.new.place ≡ self.old.place + count) }
@@ -53,8 +55,10 @@ impl<'a> Cursor<'a> {
     #[tactic(auto, unfolding(protocol::specs::Bytes::big_number))]
     pub fn u8(&mut self) -> Result<u8, Offence>
         ensures passed { IfOk result (λ n. self.new.place ≡ self.old.place + 1) }
-        ensures ok { IfOk result (λ n. IsNext 1 n self.old.place self.old.bytes.now self.new.place self.new.bytes.now) }
-        ensures short { IfErr result (λ e. IsShort 1 self.old.place self.old.bytes.now e.place e.why) }
+        ensures ok { IfOk result (λ n. IsNext 1 n self.old.place self.old.bytes.now self.new.place
+            self.new.bytes.now) }
+        ensures short { IfErr result (λ e. IsShort 1 self.old.place self.old.bytes.now e.place
+            e.why) }
         ensures start { self.new.start ≡ self.old.place }
     {
         let field = self.raw(1)?;
@@ -66,8 +70,10 @@ impl<'a> Cursor<'a> {
     #[tactic(auto, unfolding(protocol::specs::Dumps::after))]
     pub fn text(&mut self) -> Result<&'a [u8], Offence>
         ensures passed { IfOk result (λ text. self.old.place < self.new.place) }
-        ensures ok { IfOk result (λ text. IsText text.now self.old.place self.old.bytes.now self.new.place self.new.bytes.now) }
-        ensures short { IfErr result (λ e. IsShortText self.old.place self.old.bytes.now e.place e.why) }
+        ensures ok { IfOk result (λ text. IsText text.now self.old.place self.old.bytes.now
+            self.new.place self.new.bytes.now) }
+        ensures short { IfErr result (λ e. IsShortText self.old.place self.old.bytes.now e.place
+            e.why) }
         ensures start { self.new.start ≡ self.old.place }
     {
         let start = self.place;
@@ -80,7 +86,9 @@ impl<'a> Cursor<'a> {
     /// The text that was read last, as a name; `twice` says whether it stands in its list already. Errors: `Name`, at
     /// the place of that field, exactly where the text is no name or stands there already.
     pub fn name(&self, text: &[u8], twice: bool) -> Result<Name, Offence>
-        ensures { result ≡ (if is_name text.now && not twice then Ok text.now else Err (record { place = self.now.start; why = DumpWhy.Name })) }
+        ensures { result ≡ (if is_name text.now
+            && not twice then Ok text.now else Err
+            (record { place = self.now.start; why = DumpWhy.Name })) }
     {
         match Name::read(text) {
             Some(name) if !twice => Ok(name),

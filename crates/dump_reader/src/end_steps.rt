@@ -13,7 +13,7 @@ use crate::cursor::{Cursor, Offence};
 use crate::fault::DumpFault;
 use crate::fields::Fields;
 use crate::groups;
-use crate::heads::{Before, EndImageHead, LinkImageHead, Opened, Standing};
+use crate::heads::{DumpHead, EarlierRequests, EndImageHead, LinkImageHead, RequestPosition};
 use crate::lists::{Lists, ReadState, push};
 use crate::overfull::find_overfull;
 use crate::places::{self, Scope};
@@ -26,8 +26,9 @@ use std::mem;
 /// So many queue pairs are next, or the image is whole. Errors: `BadDump` with `Field` at a completion queue that lacks
 /// room for its entries and for what the queue pairs will put there. It is never `Short`.
 #[tactic(auto, unfolding(protocol::specs::Dumps::after, protocol::specs::Dumps::items, crate::specs::Ahead::ahead, crate::specs::Ahead::more_ends, crate::specs::Ahead::finished))]
-pub fn enter_ends(opened: &Opened, lists: &Lists, count: u16) -> Result<ReadState, DumpFault>
-    ensures { Enters (more_ends opened.now lists.now.domains.items lists.now.regions.items (queues_of lists.now) count lists.now.ends.items) (ahead opened.now lists.now) result }
+pub fn enter_ends(opened: &DumpHead, lists: &Lists, count: u16) -> Result<ReadState, DumpFault>
+    ensures { Enters (more_ends opened.now lists.now.domains.items lists.now.regions.items
+        (queues_of lists.now) count lists.now.ends.items) (ahead opened.now lists.now) result }
 {
     if count > 0 {
         return Ok(ReadState::End(count - 1));
@@ -44,7 +45,7 @@ pub fn enter_ends(opened: &Opened, lists: &Lists, count: u16) -> Result<ReadStat
 /// The count of queue pairs. Errors: `BadDump` with the first fault of the bytes, or `OutOfMemory`. After `Short` the
 /// lists are as they were.
 pub fn end_count_step(
-    opened: &Opened,
+    opened: &DumpHead,
     lists: &mut Lists,
     c: &mut Cursor<'_>,
 ) -> Result<ReadState, DumpFault>
@@ -57,8 +58,10 @@ pub fn end_count_step(
 
 /// Behind the head of a queue pair.
 #[tactic(auto, unfolding(protocol::specs::Dumps::after, protocol::specs::Dumps::items, crate::specs::Ahead::ahead))]
-pub fn enter_end(opened: &Opened, lists: &Lists, head: &EndImageHead, after: u16) -> ReadState
-    ensures { ahead opened.now lists.now result ≡ after_head opened.now lists.now.domains.items lists.now.regions.items (queues_of lists.now) lists.now.ends.items after head.now }
+pub fn enter_end(opened: &DumpHead, lists: &Lists, head: &EndImageHead, after: u16) -> ReadState
+    ensures { ahead opened.now lists.now result
+        ≡ after_head opened.now lists.now.domains.items lists.now.regions.items
+        (queues_of lists.now) lists.now.ends.items after head.now }
 {
     match head.state {
         0 => ReadState::Untold(*head, None, after),
@@ -69,7 +72,7 @@ pub fn enter_end(opened: &Opened, lists: &Lists, head: &EndImageHead, after: u16
 /// A queue pair, up to its state. Errors: `BadDump` with the first fault of the bytes, or `OutOfMemory`. After `Short`
 /// the lists are as they were.
 pub fn end_step(
-    opened: &Opened,
+    opened: &DumpHead,
     lists: &mut Lists,
     c: &mut Cursor<'_>,
     more: u16,
@@ -101,14 +104,17 @@ fn scope_of<'a>(lists: &'a Lists, head: &EndImageHead) -> Scope<'a>
 /// So many kept replies are next.
 #[tactic(auto, unfolding(protocol::specs::Dumps::after, protocol::specs::Dumps::items, crate::specs::Ahead::ahead, crate::specs::Ahead::more_kept))]
 pub fn enter_kept(
-    opened: &Opened,
+    opened: &DumpHead,
     lists: &Lists,
     head: &EndImageHead,
     link: &LinkImageHead,
     count: u8,
     after: u16,
 ) -> ReadState
-    ensures { ahead opened.now lists.now result ≡ more_kept opened.now lists.now.domains.items lists.now.regions.items (queues_of lists.now) lists.now.ends.items after head.now link.now count lists.now.kept.items }
+    ensures { ahead opened.now lists.now result
+        ≡ more_kept opened.now lists.now.domains.items lists.now.regions.items
+        (queues_of lists.now) lists.now.ends.items after head.now link.now count
+        lists.now.kept.items }
 {
     match count {
         0 => ReadState::Untold(*head, Some(*link), after),
@@ -119,7 +125,7 @@ pub fn enter_kept(
 /// A kept reply. Errors: `BadDump` with the first fault of the bytes, or `OutOfMemory`. After `Short` the lists are as
 /// they were.
 pub fn kept_step(
-    opened: &Opened,
+    opened: &DumpHead,
     lists: &mut Lists,
     c: &mut Cursor<'_>,
     head: &EndImageHead,
@@ -127,7 +133,8 @@ pub fn kept_step(
     more: u8,
     after: u16,
 ) -> Result<ReadState, DumpFault>
-    ensures { Steps opened.now (ReadState.Kept head.now link.now more after) lists.old lists.new c.old c.new result }
+    ensures { Steps opened.now (ReadState.Kept head.now link.now more after) lists.old lists.new
+        c.old c.new result }
 {
     let reply = groups::read_kept(c, link.waiting.expected, &lists.kept)?;
     push(&mut lists.kept, reply)?;
@@ -137,15 +144,18 @@ pub fn kept_step(
 /// So many untold requests are next.
 #[tactic(auto, unfolding(protocol::specs::Dumps::after, protocol::specs::Dumps::items, crate::specs::Ahead::ahead, crate::specs::Ahead::more_untold, crate::specs::Ahead::more_requests))]
 pub fn enter_requests(
-    opened: &Opened,
+    opened: &DumpHead,
     lists: &Lists,
     head: &EndImageHead,
     link: &LinkImageHead,
-    before: &Before,
+    before: &EarlierRequests,
     count: u16,
     after: u16,
 ) -> ReadState
-    ensures ahead { ahead opened.now lists.now result ≡ more_untold opened.now lists.now.domains.items lists.now.regions.items (queues_of lists.now) lists.now.ends.items after head.now (link_of_head link.now lists.now.kept.items) before.now count lists.now.untold.items }
+    ensures ahead { ahead opened.now lists.now result
+        ≡ more_untold opened.now lists.now.domains.items lists.now.regions.items
+        (queues_of lists.now) lists.now.ends.items after head.now
+        (link_of_head link.now lists.now.kept.items) before.now count lists.now.untold.items }
     ensures weightless { weight result ≡ 0 }
 {
     match count {
@@ -204,13 +214,14 @@ fn read_unused_count(
 /// What a connected end has, up to its kept replies. Errors: `BadDump` with the first fault of the bytes, or
 /// `OutOfMemory`. After `Short` the lists are as they were.
 pub fn link_step(
-    opened: &Opened,
+    opened: &DumpHead,
     lists: &mut Lists,
     c: &mut Cursor<'_>,
     head: &EndImageHead,
     after: u16,
 ) -> Result<ReadState, DumpFault>
-    ensures { Steps opened.now (ReadState.Link head.now after) lists.old lists.new c.old c.new result }
+    ensures { Steps opened.now (ReadState.Link head.now after) lists.old lists.new c.old c.new
+        result }
 {
     let link = places::read_link(c, &scope_of(lists, head), head.state == 2)?;
     lists.kept = Vec::new(lists.alloc);
@@ -220,21 +231,22 @@ pub fn link_step(
 /// The count of untold requests. Errors: `BadDump` with the first fault of the bytes, or `OutOfMemory`. After `Short`
 /// the lists are as they were.
 pub fn untold_step(
-    opened: &Opened,
+    opened: &DumpHead,
     lists: &mut Lists,
     c: &mut Cursor<'_>,
     head: &EndImageHead,
     link: &Option<LinkImageHead>,
     after: u16,
 ) -> Result<ReadState, DumpFault>
-    ensures { Steps opened.now (ReadState.Untold head.now link.now after) lists.old lists.new c.old c.new result }
+    ensures { Steps opened.now (ReadState.Untold head.now link.now after) lists.old lists.new c.old
+        c.new result }
 {
     let count = read_untold_count(c, head.send_depth, link)?;
     lists.untold = Vec::new(lists.alloc);
     match link {
         None => Ok(ReadState::Unused(*head, None, after)),
         Some(link) => {
-            let before = Before {
+            let before = EarlierRequests {
                 count,
                 low: link.numbers.first,
                 landing: false,
@@ -245,12 +257,13 @@ pub fn untold_step(
 }
 
 /// What stands before the request after one.
-fn advanced(link: &LinkImageHead, before: &Before, request: &Request) -> Before
-    requires { before.now.low + shape_of_length request.now.shape.kind request.now.shape.length link.now.terms.mtu < 2 ^ 62 }
+fn advanced(link: &LinkImageHead, before: &EarlierRequests, request: &Request) -> EarlierRequests
+    requires { before.now.low + shape_of_length request.now.shape.kind request.now.shape.length
+        link.now.terms.mtu < 2 ^ 62 }
     ensures { result ≡ passed (link_of_head link.now []) before.now request.now }
 {
     let shape = &request.shape;
-    Before {
+    EarlierRequests {
         count: before.count,
         low: before.low + span_of(shape.kind, shape.length, link.terms.mtu),
         landing: before.landing || lands_bytes(shape.kind),
@@ -258,10 +271,18 @@ fn advanced(link: &LinkImageHead, before: &Before, request: &Request) -> Before
 }
 
 /// Where a request stands, with so many more behind it.
-fn standing_of(opened: &Opened, before: &Before, more: u16) -> Standing
-    ensures { result ≡ record { version = opened.now.version; count = before.now.count; index = before.now.count - suc more; low = before.now.low; landing = before.now.landing } }
+fn standing_of(opened: &DumpHead, before: &EarlierRequests, more: u16) -> RequestPosition
+    ensures { result
+        ≡ record {
+          version = opened.now.version;
+          count = before.now.count;
+          index = before.now.count
+              - suc more;
+          low = before.now.low;
+          landing = before.now.landing;
+        } }
 {
-    Standing {
+    RequestPosition {
         version: opened.version,
         count: before.count,
         index: (before.count as u32).saturating_sub(more as u32 + 1) as u16,
@@ -273,17 +294,21 @@ fn standing_of(opened: &Opened, before: &Before, more: u16) -> Standing
 /// A request is whole. Errors: `OutOfMemory`. It reads nothing, and so is never `Short`.
 #[tactic(auto, unfolding(protocol::specs::Dumps::after, protocol::specs::Dumps::items, crate::specs::Ahead::ahead))]
 pub fn take_request(
-    opened: &Opened,
+    opened: &DumpHead,
     lists: &mut Lists,
     head: &EndImageHead,
     link: &LinkImageHead,
-    before: &Before,
+    before: &EarlierRequests,
     count: u16,
     after: u16,
     request: Request,
 ) -> Result<ReadState, DumpFault>
     ensures weightless { IfOk result (λ next. weight next ≡ 0) }
-    ensures enters { Enters (more_untold opened.now lists.old.domains.items lists.old.regions.items (queues_of lists.old) lists.old.ends.items after head.now (link_of_head link.now lists.old.kept.items) before.now count (lists.old.untold.items ++ record { request = request; payload = lists.old.run } ∷ [])) (ahead opened.now lists.new) result }
+    ensures enters { Enters (more_untold opened.now lists.old.domains.items lists.old.regions.items
+        (queues_of lists.old) lists.old.ends.items after head.now
+        (link_of_head link.now lists.old.kept.items) before.now count
+        (lists.old.untold.items ++ record { request = request; payload = lists.old.run } ∷ []))
+        (ahead opened.now lists.new) result }
 {
     let payload = mem::replace(&mut lists.run, ByteRun::make(lists.alloc));
     push(&mut lists.untold, PostedImage { request, payload })?;
@@ -294,16 +319,21 @@ pub fn take_request(
 /// `Short`.
 #[tactic(auto, unfolding(protocol::specs::Dumps::after, protocol::specs::Dumps::items, crate::specs::Ahead::ahead))]
 pub fn enter_payload(
-    opened: &Opened,
+    opened: &DumpHead,
     lists: &mut Lists,
     head: &EndImageHead,
     link: &LinkImageHead,
-    before: &Before,
+    before: &EarlierRequests,
     count: u16,
     after: u16,
     request: Request,
 ) -> Result<ReadState, DumpFault>
-    ensures { Enters (then_read (raw (payload_length request)) (λ payload. more_untold opened.now lists.old.domains.items lists.old.regions.items (queues_of lists.old) lists.old.ends.items after head.now (link_of_head link.now lists.old.kept.items) before.now count (lists.old.untold.items ++ record { request = request; payload = payload } ∷ []))) (ahead opened.now lists.new) result }
+    ensures { Enters (then_read (raw (payload_length request))
+        (λ payload. more_untold opened.now lists.old.domains.items lists.old.regions.items
+        (queues_of lists.old) lists.old.ends.items after head.now
+        (link_of_head link.now lists.old.kept.items) before.now count
+        (lists.old.untold.items ++ record { request = request; payload = payload } ∷ [])))
+        (ahead opened.now lists.new) result }
 {
     lists.run = ByteRun::make(lists.alloc);
     let missing = payload_len(&request);
@@ -316,16 +346,17 @@ pub fn enter_payload(
 /// An untold request, up to its payload. Errors: `BadDump` with the first fault of the bytes, or `OutOfMemory`. After
 /// `Short` the lists are as they were.
 pub fn request_step(
-    opened: &Opened,
+    opened: &DumpHead,
     lists: &mut Lists,
     c: &mut Cursor<'_>,
     head: &EndImageHead,
     link: &LinkImageHead,
-    before: &Before,
+    before: &EarlierRequests,
     more: u16,
     after: u16,
 ) -> Result<ReadState, DumpFault>
-    ensures { Steps opened.now (ReadState.Request head.now link.now before.now more after) lists.old lists.new c.old c.new result }
+    ensures { Steps opened.now (ReadState.Request head.now link.now before.now more after) lists.old
+        lists.new c.old c.new result }
 {
     let standing = standing_of(opened, before, more);
     let request = requests::read_request(c, link, &standing, &scope_of(lists, head))?;
@@ -336,18 +367,19 @@ pub fn request_step(
 /// The payload of a request, all that is missing. Errors: `BadDump` with the first fault of the bytes, or
 /// `OutOfMemory`. After `Short` the lists are as they were.
 pub fn payload_step(
-    opened: &Opened,
+    opened: &DumpHead,
     lists: &mut Lists,
     c: &mut Cursor<'_>,
     head: &EndImageHead,
     link: &LinkImageHead,
-    before: &Before,
+    before: &EarlierRequests,
     count: u16,
     after: u16,
     request: Request,
     missing: u32,
 ) -> Result<ReadState, DumpFault>
-    ensures { Steps opened.now (ReadState.Payload head.now link.now before.now count after request missing) lists.old lists.new c.old c.new result }
+    ensures { Steps opened.now (ReadState.Payload head.now link.now before.now count after request
+        missing) lists.old lists.new c.old c.new result }
 {
     let bytes = c.raw(missing as usize)?;
     lists.run.append(lists.alloc, bytes)?;
@@ -393,7 +425,8 @@ fn linked_image(link: &Option<LinkImageHead>, kept: Vec<KeptReply>) -> Option<Li
 
 /// A queue pair of its groups; its lists move out of those that were read.
 fn end_image(lists: &mut Lists, head: &EndImageHead, link: &Option<LinkImageHead>) -> EndImage
-    ensures end { result ≡ end_of_head head.now (linked_of link.now lists.old.kept.items) lists.old.untold.items lists.old.unused.items }
+    ensures end { result ≡ end_of_head head.now
+        (linked_of link.now lists.old.kept.items) lists.old.untold.items lists.old.unused.items }
     ensures domains { lists.new.domains ≡ lists.old.domains }
     ensures regions { lists.new.regions ≡ lists.old.regions }
     ensures queues { lists.new.queues ≡ lists.old.queues }
@@ -420,14 +453,17 @@ fn end_image(lists: &mut Lists, head: &EndImageHead, link: &Option<LinkImageHead
 /// never `Short`.
 #[tactic(auto, unfolding(protocol::specs::Dumps::after, protocol::specs::Dumps::items, crate::specs::Ahead::ahead, crate::specs::Ahead::more_receives))]
 pub fn enter_receives(
-    opened: &Opened,
+    opened: &DumpHead,
     lists: &mut Lists,
     head: &EndImageHead,
     link: &Option<LinkImageHead>,
     count: u16,
     after: u16,
 ) -> Result<ReadState, DumpFault>
-    ensures { Enters (more_receives opened.now lists.old.domains.items lists.old.regions.items (queues_of lists.old) lists.old.ends.items after head.now (linked_of link.now lists.old.kept.items) lists.old.untold.items count lists.old.unused.items) (ahead opened.now lists.new) result }
+    ensures { Enters (more_receives opened.now lists.old.domains.items lists.old.regions.items
+        (queues_of lists.old) lists.old.ends.items after head.now
+        (linked_of link.now lists.old.kept.items) lists.old.untold.items count
+        lists.old.unused.items) (ahead opened.now lists.new) result }
 {
     if count > 0 {
         return Ok(ReadState::Receive(*head, *link, count - 1, after));
@@ -440,14 +476,15 @@ pub fn enter_receives(
 /// The count of unused receives. Errors: `BadDump` with the first fault of the bytes, or `OutOfMemory`. After `Short`
 /// the lists are as they were.
 pub fn unused_step(
-    opened: &Opened,
+    opened: &DumpHead,
     lists: &mut Lists,
     c: &mut Cursor<'_>,
     head: &EndImageHead,
     link: &Option<LinkImageHead>,
     after: u16,
 ) -> Result<ReadState, DumpFault>
-    ensures { Steps opened.now (ReadState.Unused head.now link.now after) lists.old lists.new c.old c.new result }
+    ensures { Steps opened.now (ReadState.Unused head.now link.now after) lists.old lists.new c.old
+        c.new result }
 {
     let count = read_unused_count(c, head.recv_depth, link)?;
     lists.unused = Vec::new(lists.alloc);
@@ -457,7 +494,7 @@ pub fn unused_step(
 /// An unused receive. Errors: `BadDump` with the first fault of the bytes, or `OutOfMemory`. After `Short` the lists
 /// are as they were.
 pub fn receive_step(
-    opened: &Opened,
+    opened: &DumpHead,
     lists: &mut Lists,
     c: &mut Cursor<'_>,
     head: &EndImageHead,
@@ -465,7 +502,8 @@ pub fn receive_step(
     more: u16,
     after: u16,
 ) -> Result<ReadState, DumpFault>
-    ensures { Steps opened.now (ReadState.Receive head.now link.now more after) lists.old lists.new c.old c.new result }
+    ensures { Steps opened.now (ReadState.Receive head.now link.now more after) lists.old lists.new
+        c.old c.new result }
 {
     let receive = places::read_waiting_receive(c, &scope_of(lists, head))?;
     push(&mut lists.unused, receive)?;

@@ -102,7 +102,7 @@ pub struct RequestHead {
 
 /// The first fields, up to the count of domains.
 #[derive(Clone, Copy)]
-pub struct Opened {
+pub struct DumpHead {
     pub version: u16,
     pub name: Name,
     pub count: u16,
@@ -110,7 +110,7 @@ pub struct Opened {
 
 /// Where a request stands among the untold ones of its end.
 #[derive(Clone, Copy)]
-pub struct Standing {
+pub struct RequestPosition {
     pub version: u16,
     /// How many there are, and how many stand before it.
     pub count: u16,
@@ -123,7 +123,7 @@ pub struct Standing {
 
 /// What stands before a request, and how many untold ones its end has.
 #[derive(Clone, Copy)]
-pub struct Before {
+pub struct EarlierRequests {
     pub count: u16,
     /// The number past those before it.
     pub low: u64,

@@ -2,7 +2,9 @@
 
 ghost use Rattle.std.specs.Prelude.{◌≡◌, ◌++◌, ◌∷◌, [], OnOk, OnErr};
 
-use crate::heads::{Before, EndImageHead, LinkImageHead, PlacedQueue, QueueHead, RegionImageHead};
+use crate::heads::{
+    EarlierRequests, EndImageHead, LinkImageHead, PlacedQueue, QueueHead, RegionImageHead,
+};
 use byte_run::ByteRun;
 use protocol::{EndImage, KeptReply, PostedImage, RegionImage};
 use rdma_types::{Completion, Name, Receive, Request};
@@ -41,8 +43,8 @@ pub enum ReadState {
     Link(EndImageHead, u16),
     Kept(EndImageHead, LinkImageHead, u8, u16),
     Untold(EndImageHead, Option<LinkImageHead>, u16),
-    Request(EndImageHead, LinkImageHead, Before, u16, u16),
-    Payload(EndImageHead, LinkImageHead, Before, u16, u16, Request, u32),
+    Request(EndImageHead, LinkImageHead, EarlierRequests, u16, u16),
+    Payload(EndImageHead, LinkImageHead, EarlierRequests, u16, u16, Request, u32),
     Unused(EndImageHead, Option<LinkImageHead>, u16),
     Receive(EndImageHead, Option<LinkImageHead>, u16, u16),
     Done,

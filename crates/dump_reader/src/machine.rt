@@ -10,14 +10,15 @@ ghost use Rattle.dump_reader.specs.Steps.{Steps};
 use crate::cursor::{Cursor, Offence};
 use crate::fault::DumpFault;
 use crate::fields::Fields;
-use crate::heads::Opened;
+use crate::heads::DumpHead;
 use crate::lists::{Lists, ReadState};
 use crate::{end_steps, groups, steps};
 use protocol::DumpWhy;
 
 #[tactic(auto, unfolding(protocol::specs::Dumps::is_magic, protocol::specs::Dumps::after))]
 fn read_magic(c: &mut Cursor<'_>) -> Result<(), Offence>
-    ensures ok { IfOk result (λ u. IsMagic c.old.place c.old.bytes.now c.new.place c.new.bytes.now) }
+    ensures ok { IfOk result (λ u. IsMagic c.old.place c.old.bytes.now c.new.place
+        c.new.bytes.now) }
     ensures bad { IfErr result (λ e. IsNoMagic c.old.place c.old.bytes.now e.place e.why) }
     ensures passed { IfOk result (λ x. c.old.place < c.new.place) }
 {
@@ -50,14 +51,14 @@ fn read_version(c: &mut Cursor<'_>) -> Result<u16, Offence>
 /// The first fields, up to the count of domains. Errors: the first fault of its fields, with its place: `Short`,
 /// `Magic`, `Version`, `Name` or `Count`.
 #[tactic(auto, unfolding(protocol::specs::Dumps::after, crate::specs::Ahead::opening_field))]
-pub fn read_opening(c: &mut Cursor<'_>) -> Result<Opened, Offence>
+pub fn read_opening(c: &mut Cursor<'_>) -> Result<DumpHead, Offence>
     ensures { Parsed opening_field c.old c.new result }
 {
     read_magic(c)?;
     let version = read_version(c)?;
     let name = groups::read_name(c, &[])?;
     let count = groups::read_count(c, 64)?;
-    Ok(Opened {
+    Ok(DumpHead {
         version,
         name,
         count,
@@ -67,7 +68,7 @@ pub fn read_opening(c: &mut Cursor<'_>) -> Result<Opened, Offence>
 /// One group of fields. Errors: `BadDump` with the first fault of the group, or `OutOfMemory`. After `Short` the lists
 /// are as they were.
 pub fn step(
-    opened: &Opened,
+    opened: &DumpHead,
     lists: &mut Lists,
     c: &mut Cursor<'_>,
     place: &ReadState,

@@ -8,7 +8,7 @@ ghost use Rattle.dump_reader.specs.Groups.{placed};
 ghost use Rattle.dump_reader.specs.Ahead.{image_of, queues_of};
 ghost use Rattle.dump_reader.specs.Overfull.{queue_at, uses_sends, uses_receives, reserved_at};
 
-use crate::heads::{Opened, PlacedQueue};
+use crate::heads::{DumpHead, PlacedQueue};
 use crate::lists::Lists;
 use protocol::{EndImage, LinkImage, Progress};
 use rdma_types::Name;
@@ -72,7 +72,9 @@ fn reserved(queues: &[PlacedQueue], name: &Name, ends: &[EndImage]) -> u64
 }
 
 fn is_overfull(lists: &Lists, placed: &PlacedQueue) -> bool
-    ensures { result ≡ nat_lt placed.now.queue.capacity (length placed.now.queue.entries + sum_by (reserved_at lists.now.queues.items placed.now.queue.name) lists.now.ends.items) }
+    ensures { result ≡ nat_lt placed.now.queue.capacity
+        (length placed.now.queue.entries + sum_by
+        (reserved_at lists.now.queues.items placed.now.queue.name) lists.now.ends.items) }
 {
     let queue = &placed.queue;
     let reserved = reserved(&lists.queues, &queue.name, &lists.ends);
@@ -81,8 +83,10 @@ fn is_overfull(lists: &Lists, placed: &PlacedQueue) -> bool
 
 /// The place of the first capacity that entries and reservations pass.
 #[tactic(auto, unfolding(protocol::specs::Dumps::overfull), using(crate::proofs::Reserved::reserved_is))]
-pub fn find_overfull(opened: &Opened, lists: &Lists, queues: &[PlacedQueue]) -> Option<usize>
-    ensures { result ≡ overfull (image_of opened.now lists.now.domains.items lists.now.regions.items (queues_of lists.now) lists.now.ends.items) (map placed queues.now) }
+pub fn find_overfull(opened: &DumpHead, lists: &Lists, queues: &[PlacedQueue]) -> Option<usize>
+    ensures { result
+        ≡ overfull (image_of opened.now lists.now.domains.items lists.now.regions.items
+        (queues_of lists.now) lists.now.ends.items) (map placed queues.now) }
 {
     match queues {
         [] => None,

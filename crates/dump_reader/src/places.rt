@@ -28,7 +28,7 @@ pub struct Scope<'a> {
 
 /// A place that is asked for.
 #[derive(Clone, Copy)]
-pub struct Asked {
+pub struct RangeQuery {
     pub lkey: u32,
     pub at: u64,
     pub count: u32,
@@ -47,7 +47,8 @@ fn holds_place(region: &RegionImage, at: u64, count: u32) -> bool
 }
 
 fn is_of_domain(scope: &Scope<'_>, region: &RegionImage) -> bool
-    ensures { result ≡ bytes_eq (name_at scope.now.domains.now region.now.domain) scope.now.domain.now }
+    ensures { result
+        ≡ bytes_eq (name_at scope.now.domains.now region.now.domain) scope.now.domain.now }
 {
     match scope.domains.get(region.domain as usize) {
         Some(name) => name.as_bytes() == scope.domain,
@@ -63,8 +64,11 @@ fn allows_landing(region: &RegionImage, lands: bool) -> bool
 }
 
 #[tactic(auto, unfolding(rdma_types::specs::Memory::grants))]
-fn grants_place(scope: &Scope<'_>, asked: &Asked, region: &RegionImage) -> bool
-    ensures { result ≡ grants local_key scope.now.domain.now asked.now.lkey asked.now.at asked.now.count (if asked.now.lands then LocalWrite else NoRight) (region_of_image scope.now.domains.now region.now) }
+fn grants_place(scope: &Scope<'_>, asked: &RangeQuery, region: &RegionImage) -> bool
+    ensures { result
+        ≡ grants local_key scope.now.domain.now asked.now.lkey asked.now.at asked.now.count
+        (if asked.now.lands then LocalWrite else NoRight)
+        (region_of_image scope.now.domains.now region.now) }
 {
     is_of_domain(scope, region)
         && region.keys.local == asked.lkey
@@ -72,8 +76,11 @@ fn grants_place(scope: &Scope<'_>, asked: &Asked, region: &RegionImage) -> bool
         && holds_place(region, asked.at, asked.count)
 }
 
-fn some_region_grants(scope: &Scope<'_>, asked: &Asked) -> bool
-    ensures { result ≡ is_some (granted local_key (regions_of scope.now.domains.now scope.now.regions.now) scope.now.domain.now asked.now.lkey asked.now.at asked.now.count (if asked.now.lands then LocalWrite else NoRight)) }
+fn some_region_grants(scope: &Scope<'_>, asked: &RangeQuery) -> bool
+    ensures { result
+        ≡ is_some (granted local_key (regions_of scope.now.domains.now scope.now.regions.now)
+        scope.now.domain.now asked.now.lkey asked.now.at asked.now.count (if asked.now.lands
+        then LocalWrite else NoRight)) }
 {
     scope
         .regions
@@ -83,16 +90,21 @@ fn some_region_grants(scope: &Scope<'_>, asked: &Asked) -> bool
 
 /// Some region grants a place, or it is empty.
 #[tactic(auto, unfolding(rdma_types::specs::Memory::is_granted))]
-pub fn is_place_granted(scope: &Scope<'_>, asked: &Asked) -> bool
-    ensures { result ≡ is_granted local_key (regions_of scope.now.domains.now scope.now.regions.now) scope.now.domain.now asked.now.lkey asked.now.at asked.now.count (if asked.now.lands then LocalWrite else NoRight) }
+pub fn is_place_granted(scope: &Scope<'_>, asked: &RangeQuery) -> bool
+    ensures { result
+        ≡ is_granted local_key (regions_of scope.now.domains.now scope.now.regions.now)
+        scope.now.domain.now asked.now.lkey asked.now.at asked.now.count (if asked.now.lands
+        then LocalWrite else NoRight) }
 {
     asked.count == 0 || some_region_grants(scope, asked)
 }
 
 fn receives(scope: &Scope<'_>, done: u32, r: &Receive) -> bool
-    ensures { result ≡ (within done 1048576 r.now.length && is_granted local_key (regions_of scope.now.domains.now scope.now.regions.now) scope.now.domain.now r.now.lkey r.now.local r.now.length LocalWrite) }
+    ensures { result ≡ (within done 1048576 r.now.length
+        && is_granted local_key (regions_of scope.now.domains.now scope.now.regions.now)
+        scope.now.domain.now r.now.lkey r.now.local r.now.length LocalWrite) }
 {
-    let asked = Asked {
+    let asked = RangeQuery {
         lkey: r.lkey,
         at: r.local,
         count: r.length,
@@ -103,7 +115,8 @@ fn receives(scope: &Scope<'_>, done: u32, r: &Receive) -> bool
 
 /// A receive with `done` of its bytes used. Faults: `Short` or `Field`.
 fn read_receive(fields: &mut Fields<'_>, scope: &Scope<'_>, done: u32) -> Receive
-    ensures { Reads (receive_field (regions_of scope.now.domains.now scope.now.regions.now) scope.now.domain.now done) fields.old fields.new result }
+    ensures { Reads (receive_field (regions_of scope.now.domains.now scope.now.regions.now)
+        scope.now.domain.now done) fields.old fields.new result }
 {
     let id = fields.u64();
     let lkey = fields.u32();
@@ -121,7 +134,8 @@ fn read_receive(fields: &mut Fields<'_>, scope: &Scope<'_>, done: u32) -> Receiv
 
 /// A receive that waits. Errors: the first fault of its fields, with its place: `Short` or `Field`.
 pub fn read_waiting_receive(c: &mut Cursor<'_>, scope: &Scope<'_>) -> Result<Receive, Offence>
-    ensures { Parsed (receive_field (regions_of scope.now.domains.now scope.now.regions.now) scope.now.domain.now 0) c.old c.new result }
+    ensures { Parsed (receive_field (regions_of scope.now.domains.now scope.now.regions.now)
+        scope.now.domain.now 0) c.old c.new result }
 {
     let mut fields = Fields::of(c);
     let receive = read_receive(&mut fields, scope, 0);
@@ -130,13 +144,17 @@ pub fn read_waiting_receive(c: &mut Cursor<'_>, scope: &Scope<'_>) -> Result<Rec
 
 #[tactic(auto, unfolding(rdma_types::specs::Memory::allows))]
 fn may_be_written(scope: &Scope<'_>, region: &RegionImage) -> bool
-    ensures { result ≡ (bytes_eq (name_at scope.now.domains.now region.now.domain) scope.now.domain.now && allows region.now.rights RemoteWrite) }
+    ensures { result
+        ≡ (bytes_eq (name_at scope.now.domains.now region.now.domain) scope.now.domain.now
+        && allows region.now.rights RemoteWrite) }
 {
     is_of_domain(scope, region) && region.rights.0 / 2 % 2 == 1
 }
 
 fn may_write(scope: &Scope<'_>, i: u16) -> bool
-    ensures { result ≡ may_write_at (regions_of scope.now.domains.now scope.now.regions.now) scope.now.domain.now i }
+    ensures { result
+        ≡ may_write_at (regions_of scope.now.domains.now scope.now.regions.now) scope.now.domain.now
+        i }
 {
     match scope.regions.get(i as usize) {
         Some(region) => may_be_written(scope, region),
@@ -160,7 +178,10 @@ fn is_pieces(mtu: u32, n: u32) -> bool
 }
 
 fn fits_region(scope: &Scope<'_>, region: u16, off: u32, length: u32) -> bool
-    ensures { result ≡ (nat_le length 1048576 && (length == 0 || nat_le (off + length) (length_at (regions_of scope.now.domains.now scope.now.regions.now) region))) }
+    ensures { result
+        ≡ (nat_le length 1048576 && (length == 0
+        || nat_le (off + length) (length_at (regions_of scope.now.domains.now scope.now.regions.now)
+        region))) }
 {
     length <= 1_048_576
         && (length == 0 || off as u64 + length as u64 <= length_of(scope, region) as u64)
@@ -168,7 +189,8 @@ fn fits_region(scope: &Scope<'_>, region: u16, off: u32, length: u32) -> bool
 
 /// A SEND in progress.
 fn read_send(fields: &mut Fields<'_>, scope: &Scope<'_>, mtu: u32) -> Progress
-    ensures { Reads (send_field (regions_of scope.now.domains.now scope.now.regions.now) scope.now.domain.now mtu) fields.old fields.new result }
+    ensures { Reads (send_field (regions_of scope.now.domains.now scope.now.regions.now)
+        scope.now.domain.now mtu) fields.old fields.new result }
 {
     let done = fields.u32();
     fields.keep(is_pieces(mtu, done));
@@ -184,7 +206,8 @@ fn is_part(mtu: u32, length: u32, n: u32) -> bool
 
 /// A WRITE in progress.
 fn read_write(fields: &mut Fields<'_>, scope: &Scope<'_>, mtu: u32) -> Progress
-    ensures { Reads (write_field (regions_of scope.now.domains.now scope.now.regions.now) scope.now.domain.now mtu) fields.old fields.new result }
+    ensures { Reads (write_field (regions_of scope.now.domains.now scope.now.regions.now)
+        scope.now.domain.now mtu) fields.old fields.new result }
 {
     let region = fields.u16();
     fields.keep(may_write(scope, region));
@@ -203,7 +226,8 @@ fn read_write(fields: &mut Fields<'_>, scope: &Scope<'_>, mtu: u32) -> Progress
 
 /// The message in progress that a code names.
 fn read_progress(fields: &mut Fields<'_>, scope: &Scope<'_>, mtu: u32, code: u8) -> Progress
-    ensures { Onward (progress_by (regions_of scope.now.domains.now scope.now.regions.now) scope.now.domain.now mtu code) fields.old fields.new result }
+    ensures { Onward (progress_by (regions_of scope.now.domains.now scope.now.regions.now)
+        scope.now.domain.now mtu code) fields.old fields.new result }
 {
     match code {
         1 => read_send(fields, scope, mtu),
@@ -214,7 +238,8 @@ fn read_progress(fields: &mut Fields<'_>, scope: &Scope<'_>, mtu: u32, code: u8)
 
 /// The message in progress. Faults: `Short` or `Field`.
 fn read_message(fields: &mut Fields<'_>, scope: &Scope<'_>, mtu: u32, ended: bool) -> Progress
-    ensures { Reads (message_field (regions_of scope.now.domains.now scope.now.regions.now) scope.now.domain.now mtu ended) fields.old fields.new result }
+    ensures { Reads (message_field (regions_of scope.now.domains.now scope.now.regions.now)
+        scope.now.domain.now mtu ended) fields.old fields.new result }
 {
     let code = fields.u8_up_to(most_unless(ended, 2));
     read_progress(fields, scope, mtu, code)
@@ -227,7 +252,8 @@ pub fn read_link(
     scope: &Scope<'_>,
     ended: bool,
 ) -> Result<LinkImageHead, Offence>
-    ensures { Parsed (link_head_field (regions_of scope.now.domains.now scope.now.regions.now) scope.now.domain.now ended) c.old c.new result }
+    ensures { Parsed (link_head_field (regions_of scope.now.domains.now scope.now.regions.now)
+        scope.now.domain.now ended) c.old c.new result }
 {
     let mut fields = Fields::of(c);
     let peer = read_peer(&mut fields, ended);

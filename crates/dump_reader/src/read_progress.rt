@@ -9,7 +9,7 @@ ghost use Rattle.dump_reader.specs.ReadProgress.{Stands, IsWhole, image_at};
 
 use crate::cursor::{Cursor, Offence};
 use crate::fault::DumpFault;
-use crate::heads::{Opened, PlacedQueue};
+use crate::heads::{DumpHead, PlacedQueue};
 use crate::lists::{Lists, ReadState, push};
 use crate::machine::{is_done, read_opening, step};
 use crate::steps::enter_domains;
@@ -30,8 +30,15 @@ fn bare_queues(alloc: Global, queues: Vec<PlacedQueue>) -> Result<Vec<CqImage>, 
 }
 
 /// The image of what was read, with its completion queues by themselves.
-fn image_with(opened: &Opened, lists: Lists, queues: Vec<CqImage>) -> ContextImage
-    ensures { result ≡ record { name = opened.now.name; domains = lists.domains.items; regions = lists.regions.items; queues = queues.items; ends = lists.ends.items } }
+fn image_with(opened: &DumpHead, lists: Lists, queues: Vec<CqImage>) -> ContextImage
+    ensures { result
+        ≡ record {
+          name = opened.now.name;
+          domains = lists.domains.items;
+          regions = lists.regions.items;
+          queues = queues.items;
+          ends = lists.ends.items;
+        } }
 {
     ContextImage {
         name: opened.name,
@@ -43,8 +50,10 @@ fn image_with(opened: &Opened, lists: Lists, queues: Vec<CqImage>) -> ContextIma
 }
 
 /// The image of what was read.
-fn whole_image(opened: &Opened, mut lists: Lists) -> Result<ContextImage, AllocError>
-    ensures { IfOk result (λ image. image ≡ image_of opened.now lists.domains.items lists.regions.items (queues_of lists) lists.ends.items) }
+fn whole_image(opened: &DumpHead, mut lists: Lists) -> Result<ContextImage, AllocError>
+    ensures { IfOk result (λ image. image
+        ≡ image_of opened.now lists.domains.items lists.regions.items
+        (queues_of lists) lists.ends.items) }
 {
     let placed = mem::replace(&mut lists.queues, Vec::new(lists.alloc));
     let queues = bare_queues(lists.alloc, placed)?;
@@ -54,7 +63,7 @@ fn whole_image(opened: &Opened, mut lists: Lists) -> Result<ContextImage, AllocE
 /// What was read of a prefix of a dump: all groups of fields that have come whole.
 #[derive(Drop)]
 pub struct ReadProgress {
-    pub opened: Opened,
+    pub opened: DumpHead,
     pub lists: Lists,
     pub place: ReadState,
     /// How many bytes were read.
@@ -90,7 +99,9 @@ impl ReadProgress {
         requires stands { Stands self.old bytes.now }
         requires open { IsOpen self.old.place }
         ensures stands { IfOk result (λ u. Stands self.new bytes.now) }
-        ensures less { IfOk result (λ u. 2 * (length bytes.now - self.new.at) + weight self.new.place < 2 * (length bytes.now - self.old.at) + weight self.old.place) }
+        ensures less { IfOk result (λ u. 2 * (length bytes.now - self.new.at)
+            + weight self.new.place < 2 * (length bytes.now - self.old.at)
+            + weight self.old.place) }
         ensures same { IfErr result (λ e. is_wanting e ≡ true → Stands self.new bytes.now) }
         ensures fault { IfErr result (IsFault (read_dump bytes.now)) }
     {

@@ -10,8 +10,8 @@ ghost use Rattle.dump_reader.specs.Groups.{regions_of, link_of_head, may_be_flag
 
 use crate::cursor::{Cursor, Offence};
 use crate::fields::Fields;
-use crate::heads::{LinkImageHead, RequestHead, Standing};
-use crate::places::{Asked, Scope, is_place_granted};
+use crate::heads::{LinkImageHead, RequestHead, RequestPosition};
+use crate::places::{RangeQuery, Scope, is_place_granted};
 use rdma_types::{Kind, Request, Shape};
 
 fn takes(kind: Kind) -> bool
@@ -57,8 +57,9 @@ fn kind_of_byte(n: u8) -> Kind
     }
 }
 
-fn flags_fit(standing: &Standing, top: u64, kind: Kind, flags: u8) -> bool
-    ensures { result ≡ may_be_flags standing.now.version top standing.now.low standing.now.landing kind flags }
+fn flags_fit(standing: &RequestPosition, top: u64, kind: Kind, flags: u8) -> bool
+    ensures { result
+        ≡ may_be_flags standing.now.version top standing.now.low standing.now.landing kind flags }
 {
     let imm = flags / 2 % 2 == 1;
     let fence = flags / 4 % 2 == 1;
@@ -81,8 +82,10 @@ pub fn span_of(kind: Kind, length: u32, mtu: u32) -> u64
     1.max(pieces.unwrap_or(0))
 }
 
-fn keeps_order(link: &LinkImageHead, standing: &Standing, kind: Kind, high: u64) -> bool
-    ensures test { result ≡ keeps_numbers (link_of_head link.now []) standing.now.count standing.now.index kind standing.now.low high }
+fn keeps_order(link: &LinkImageHead, standing: &RequestPosition, kind: Kind, high: u64) -> bool
+    ensures test { result
+        ≡ keeps_numbers (link_of_head link.now []) standing.now.count standing.now.index kind
+        standing.now.low high }
     ensures limit { result ≡ true → high < 2 ^ 62 }
 {
     let numbers = &link.numbers;
@@ -103,9 +106,12 @@ fn size_fits(kind: Kind, length: u32) -> bool
     }
 }
 
-fn length_fits(link: &LinkImageHead, standing: &Standing, kind: Kind, length: u32) -> bool
-    ensures test { result ≡ may_be_length (link_of_head link.now []) standing.now.count standing.now.index standing.now.low kind length }
-    ensures limit { result ≡ true → standing.now.low + shape_of_length kind length link.now.terms.mtu < 2 ^ 62 }
+fn length_fits(link: &LinkImageHead, standing: &RequestPosition, kind: Kind, length: u32) -> bool
+    ensures test { result
+        ≡ may_be_length (link_of_head link.now []) standing.now.count standing.now.index
+        standing.now.low kind length }
+    ensures limit { result ≡ true → standing.now.low
+        + shape_of_length kind length link.now.terms.mtu < 2 ^ 62 }
 {
     let span = span_of(kind, length, link.terms.mtu);
     match standing.low.checked_add(span) {
@@ -118,10 +124,13 @@ fn length_fits(link: &LinkImageHead, standing: &Standing, kind: Kind, length: u3
 fn read_request_head(
     fields: &mut Fields<'_>,
     link: &LinkImageHead,
-    standing: &Standing,
+    standing: &RequestPosition,
 ) -> RequestHead
-    ensures head { Reads (request_head_field standing.now.version (link_of_head link.now []) standing.now.count standing.now.index standing.now.low standing.now.landing) fields.old fields.new result }
-    ensures limit { IfNone fields.new.fault (standing.now.low + shape_of_length result.kind result.length link.now.terms.mtu < 2 ^ 62) }
+    ensures head { Reads (request_head_field standing.now.version
+        (link_of_head link.now []) standing.now.count standing.now.index standing.now.low
+        standing.now.landing) fields.old fields.new result }
+    ensures limit { IfNone fields.new.fault (standing.now.low
+        + shape_of_length result.kind result.length link.now.terms.mtu < 2 ^ 62) }
 {
     let id = fields.u64();
     let code = fields.u8_up_to(4);
@@ -152,9 +161,11 @@ fn imm_of(head: &RequestHead) -> Option<u32>
 }
 
 fn may_stand(scope: &Scope<'_>, head: &RequestHead, lkey: u32, at: u64) -> bool
-    ensures { result ≡ is_granted local_key (regions_of scope.now.domains.now scope.now.regions.now) scope.now.domain.now lkey at head.now.length (landing_right head.now.kind) }
+    ensures { result
+        ≡ is_granted local_key (regions_of scope.now.domains.now scope.now.regions.now)
+        scope.now.domain.now lkey at head.now.length (landing_right head.now.kind) }
 {
-    let asked = Asked {
+    let asked = RangeQuery {
         lkey,
         at,
         count: head.length,
@@ -167,7 +178,9 @@ fn may_stand(scope: &Scope<'_>, head: &RequestHead, lkey: u32, at: u64) -> bool
 fn read_request_places(fields: &mut Fields<'_>, scope: &Scope<'_>, head: &RequestHead) -> Request
     ensures kind { result.shape.kind ≡ head.now.kind }
     ensures length { result.shape.length ≡ head.now.length }
-    ensures request { Reads (request_places_field (regions_of scope.now.domains.now scope.now.regions.now) scope.now.domain.now head.now) fields.old fields.new result }
+    ensures request { Reads (request_places_field
+        (regions_of scope.now.domains.now scope.now.regions.now) scope.now.domain.now head.now)
+        fields.old fields.new result }
 {
     let kind = head.kind;
     let lkey = fields.u32();
@@ -201,11 +214,14 @@ fn read_request_places(fields: &mut Fields<'_>, scope: &Scope<'_>, head: &Reques
 pub fn read_request(
     c: &mut Cursor<'_>,
     link: &LinkImageHead,
-    standing: &Standing,
+    standing: &RequestPosition,
     scope: &Scope<'_>,
 ) -> Result<Request, Offence>
-    ensures request { Parsed (request_start_field standing.now (link_of_head link.now []) (regions_of scope.now.domains.now scope.now.regions.now) scope.now.domain.now) c.old c.new result }
-    ensures limit { IfOk result (λ r. standing.now.low + shape_of_length r.shape.kind r.shape.length link.now.terms.mtu < 2 ^ 62) }
+    ensures request { Parsed (request_start_field standing.now (link_of_head link.now [])
+        (regions_of scope.now.domains.now scope.now.regions.now) scope.now.domain.now) c.old c.new
+        result }
+    ensures limit { IfOk result (λ r. standing.now.low
+        + shape_of_length r.shape.kind r.shape.length link.now.terms.mtu < 2 ^ 62) }
 {
     let mut fields = Fields::of(c);
     let head = read_request_head(&mut fields, link, standing);

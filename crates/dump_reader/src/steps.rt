@@ -9,7 +9,7 @@ ghost use Rattle.dump_reader.specs.Steps.{Enters, Steps};
 use crate::cursor::Cursor;
 use crate::fault::DumpFault;
 use crate::groups;
-use crate::heads::{Opened, PlacedQueue, QueueHead, RegionImageHead};
+use crate::heads::{DumpHead, PlacedQueue, QueueHead, RegionImageHead};
 use crate::lists::{Lists, ReadState, push};
 use byte_run::ByteRun;
 use protocol::{CqImage, RegionImage};
@@ -18,8 +18,9 @@ use std::mem;
 
 /// So many domains are next.
 #[tactic(auto, unfolding(protocol::specs::Dumps::after, protocol::specs::Dumps::items, crate::specs::Ahead::ahead, crate::specs::Ahead::more_domains))]
-pub fn enter_domains(opened: &Opened, lists: &Lists, count: u16) -> ReadState
-    ensures { ahead opened.now lists.now result ≡ more_domains opened.now count lists.now.domains.items }
+pub fn enter_domains(opened: &DumpHead, lists: &Lists, count: u16) -> ReadState
+    ensures { ahead opened.now lists.now result
+        ≡ more_domains opened.now count lists.now.domains.items }
 {
     match count {
         0 => ReadState::RegionCount,
@@ -30,7 +31,7 @@ pub fn enter_domains(opened: &Opened, lists: &Lists, count: u16) -> ReadState
 /// A domain. Errors: `BadDump` with the first fault of the bytes, or `OutOfMemory`. After `Short` the lists are as
 /// they were.
 pub fn domain_step(
-    opened: &Opened,
+    opened: &DumpHead,
     lists: &mut Lists,
     c: &mut Cursor<'_>,
     more: u16,
@@ -44,8 +45,9 @@ pub fn domain_step(
 
 /// So many regions are next.
 #[tactic(auto, unfolding(protocol::specs::Dumps::after, protocol::specs::Dumps::items, crate::specs::Ahead::ahead, crate::specs::Ahead::more_regions))]
-pub fn enter_regions(opened: &Opened, lists: &Lists, count: u16) -> ReadState
-    ensures ahead { ahead opened.now lists.now result ≡ more_regions opened.now lists.now.domains.items count lists.now.regions.items }
+pub fn enter_regions(opened: &DumpHead, lists: &Lists, count: u16) -> ReadState
+    ensures ahead { ahead opened.now lists.now result
+        ≡ more_regions opened.now lists.now.domains.items count lists.now.regions.items }
     ensures weightless { weight result ≡ 0 }
 {
     match count {
@@ -57,7 +59,7 @@ pub fn enter_regions(opened: &Opened, lists: &Lists, count: u16) -> ReadState
 /// The count of regions. Errors: `BadDump` with the first fault of the bytes, or `OutOfMemory`. After `Short` the
 /// lists are as they were.
 pub fn region_count_step(
-    opened: &Opened,
+    opened: &DumpHead,
     lists: &mut Lists,
     c: &mut Cursor<'_>,
 ) -> Result<ReadState, DumpFault>
@@ -85,14 +87,15 @@ fn region_image(head: &RegionImageHead, bytes: ByteRun) -> RegionImage
 /// The bytes of a region, all that are missing. Errors: `BadDump` with the first fault of the bytes, or `OutOfMemory`.
 /// After `Short` the lists are as they were.
 pub fn bytes_step(
-    opened: &Opened,
+    opened: &DumpHead,
     lists: &mut Lists,
     c: &mut Cursor<'_>,
     head: &RegionImageHead,
     missing: u32,
     after: u16,
 ) -> Result<ReadState, DumpFault>
-    ensures { Steps opened.now (ReadState.Bytes head.now missing after) lists.old lists.new c.old c.new result }
+    ensures { Steps opened.now (ReadState.Bytes head.now missing after) lists.old lists.new c.old
+        c.new result }
 {
     let bytes = c.raw(missing as usize)?;
     lists.run.append(lists.alloc, bytes)?;
@@ -104,7 +107,7 @@ pub fn bytes_step(
 /// A region, up to its bytes. Errors: `BadDump` with the first fault of the bytes, or `OutOfMemory`. After `Short` the
 /// lists are as they were.
 pub fn region_step(
-    opened: &Opened,
+    opened: &DumpHead,
     lists: &mut Lists,
     c: &mut Cursor<'_>,
     more: u16,
@@ -119,8 +122,10 @@ pub fn region_step(
 
 /// So many completion queues are next.
 #[tactic(auto, unfolding(protocol::specs::Dumps::after, protocol::specs::Dumps::items, crate::specs::Ahead::ahead, crate::specs::Ahead::more_queues))]
-pub fn enter_queues(opened: &Opened, lists: &Lists, count: u16) -> ReadState
-    ensures { ahead opened.now lists.now result ≡ more_queues opened.now lists.now.domains.items lists.now.regions.items count (queues_of lists.now) }
+pub fn enter_queues(opened: &DumpHead, lists: &Lists, count: u16) -> ReadState
+    ensures { ahead opened.now lists.now result
+        ≡ more_queues opened.now lists.now.domains.items lists.now.regions.items count
+        (queues_of lists.now) }
 {
     match count {
         0 => ReadState::EndCount,
@@ -131,7 +136,7 @@ pub fn enter_queues(opened: &Opened, lists: &Lists, count: u16) -> ReadState
 /// The count of completion queues. Errors: `BadDump` with the first fault of the bytes, or `OutOfMemory`. After
 /// `Short` the lists are as they were.
 pub fn queue_count_step(
-    opened: &Opened,
+    opened: &DumpHead,
     lists: &mut Lists,
     c: &mut Cursor<'_>,
 ) -> Result<ReadState, DumpFault>
@@ -145,13 +150,15 @@ pub fn queue_count_step(
 /// So many entries are next, or the queue is whole. Errors: `OutOfMemory`. It reads nothing, and so is never `Short`.
 #[tactic(auto, unfolding(protocol::specs::Dumps::after, protocol::specs::Dumps::items, crate::specs::Ahead::ahead, crate::specs::Ahead::more_entries), using(crate::proofs::Split::placed_more))]
 pub fn enter_entries(
-    opened: &Opened,
+    opened: &DumpHead,
     lists: &mut Lists,
     head: &QueueHead,
     count: u32,
     after: u16,
 ) -> Result<ReadState, DumpFault>
-    ensures { Enters (more_entries opened.now lists.old.domains.items lists.old.regions.items (queues_of lists.old) after head.now count lists.old.entries.items) (ahead opened.now lists.new) result }
+    ensures { Enters (more_entries opened.now lists.old.domains.items lists.old.regions.items
+        (queues_of lists.old) after head.now count lists.old.entries.items)
+        (ahead opened.now lists.new) result }
 {
     if count > 0 {
         return Ok(ReadState::Entry(*head, count - 1, after));
@@ -170,7 +177,7 @@ pub fn enter_entries(
 /// A completion queue, up to its entries. Errors: `BadDump` with the first fault of the bytes, or `OutOfMemory`. After
 /// `Short` the lists are as they were.
 pub fn queue_step(
-    opened: &Opened,
+    opened: &DumpHead,
     lists: &mut Lists,
     c: &mut Cursor<'_>,
     more: u16,
@@ -185,14 +192,15 @@ pub fn queue_step(
 /// An entry. Errors: `BadDump` with the first fault of the bytes, or `OutOfMemory`. After `Short` the lists are as
 /// they were.
 pub fn entry_step(
-    opened: &Opened,
+    opened: &DumpHead,
     lists: &mut Lists,
     c: &mut Cursor<'_>,
     head: &QueueHead,
     more: u32,
     after: u16,
 ) -> Result<ReadState, DumpFault>
-    ensures { Steps opened.now (ReadState.Entry head.now more after) lists.old lists.new c.old c.new result }
+    ensures { Steps opened.now (ReadState.Entry head.now more after) lists.old lists.new c.old c.new
+        result }
 {
     let entry = groups::read_entry(c)?;
     push(&mut lists.entries, entry)?;

@@ -19,7 +19,8 @@ struct Skipped<'a> {
 /// are left.
 #[tactic(auto, unfolding(crate::specs::Left::left))]
 fn skip<'a>(image: &'a ContextImage, stage: Stage<'a>) -> Skipped<'a>
-    ensures bytes { length (left image.now stage.entry) ≡ result.count + length (left image.now result.next) }
+    ensures bytes { length (left image.now stage.entry)
+        ≡ result.count + length (left image.now result.next) }
     ensures some { result.count ≡ 0 → length (left image.now stage.entry) ≡ 0 }
 {
     match stage {

@@ -59,7 +59,8 @@ fn domain_step<'a>(image: &'a ContextImage, names: &'a [Name]) -> Step<'a>
 
 #[tactic(auto, unfolding(crate::specs::Left::left, crate::specs::Fitting::fits_left))]
 fn region_step<'a>(image: &'a ContextImage, regions: &'a [RegionImage]) -> Step<'a>
-    ensures bytes { result.chunk ++ left image.now result.next ≡ regions_left image.now regions.now }
+    ensures bytes { result.chunk ++ left image.now result.next
+        ≡ regions_left image.now regions.now }
     ensures some { 1 ≤ length result.chunk }
     ensures fits { fits_left image.now result.next → RegionsFit image.now regions.now }
 {
@@ -99,7 +100,8 @@ fn entry_step<'a>(
     entries: &'a [Completion],
     queues: &'a [CqImage],
 ) -> Step<'a>
-    ensures bytes { result.chunk ++ left image.now result.next ≡ entries_left image.now entries.now queues.now }
+    ensures bytes { result.chunk ++ left image.now result.next
+        ≡ entries_left image.now entries.now queues.now }
     ensures some { 1 ≤ length result.chunk }
     ensures fits { fits_left image.now result.next → EntriesFit image.now entries.now queues.now }
 {
@@ -137,7 +139,8 @@ fn receive_step<'a>(
     receives: &'a [Receive],
     ends: &'a [EndImage],
 ) -> Step<'a>
-    ensures bytes { result.chunk ++ left image.now result.next ≡ receives_left receives.now ends.now }
+    ensures bytes { result.chunk ++ left image.now result.next
+        ≡ receives_left receives.now ends.now }
     ensures some { length result.chunk ≡ 0 → receives_left receives.now ends.now ≡ [] }
     ensures fits { fits_left image.now result.next → ReceivesFit receives.now ends.now }
     ensures last { length result.chunk ≡ 0 → ReceivesFit receives.now ends.now }
@@ -158,7 +161,8 @@ fn request_step<'a>(
     end: &'a EndImage,
     ends: &'a [EndImage],
 ) -> Step<'a>
-    ensures bytes { result.chunk ++ left image.now result.next ≡ requests_left end.now requests.now ends.now }
+    ensures bytes { result.chunk ++ left image.now result.next
+        ≡ requests_left end.now requests.now ends.now }
     ensures some { 1 ≤ length result.chunk }
     ensures fits { fits_left image.now result.next → RequestsFit end.now requests.now ends.now }
 {
@@ -181,7 +185,8 @@ fn kept_step<'a>(
     end: &'a EndImage,
     ends: &'a [EndImage],
 ) -> Step<'a>
-    ensures bytes { result.chunk ++ left image.now result.next ≡ kept_left end.now kept.now ends.now }
+    ensures bytes { result.chunk ++ left image.now result.next
+        ≡ kept_left end.now kept.now ends.now }
     ensures some { 1 ≤ length result.chunk }
     ensures fits { fits_left image.now result.next → KeptFit end.now kept.now ends.now }
 {
@@ -199,7 +204,8 @@ fn kept_step<'a>(
 
 #[tactic(auto, unfolding(crate::specs::Left::left, crate::specs::Fitting::fits_left))]
 fn link_step<'a>(image: &'a ContextImage, end: &'a EndImage, ends: &'a [EndImage]) -> Step<'a>
-    ensures bytes { result.chunk ++ left image.now result.next ≡ link_left end.now.linked end.now ends.now }
+    ensures bytes { result.chunk ++ left image.now result.next
+        ≡ link_left end.now.linked end.now ends.now }
     ensures some { 1 ≤ length result.chunk }
     ensures fits { fits_left image.now result.next → LinkFits end.now.linked end.now ends.now }
 {

@@ -73,8 +73,10 @@ struct Copied<'a> {
 #[tactic(auto, unfolding(crate::specs::Left::left, crate::specs::Fitting::fits_left))]
 fn give_run<'a>(stage: Stage<'a>, out: &mut [u8]) -> Option<Copied<'a>>
     requires { 0 < length out.old }
-    ensures given { IfSome result (λ r. (c : ContextImage) → Gives (left c stage.entry) (left c r.next) out.old out.new r.count) }
-    ensures fits { IfSome result (λ r. (c : ContextImage) → fits_left c r.next → fits_left c stage.entry) }
+    ensures given { IfSome result (λ r. (c : ContextImage)
+        → Gives (left c stage.entry) (left c r.next) out.old out.new r.count) }
+    ensures fits { IfSome result (λ r. (c : ContextImage) → fits_left c r.next
+        → fits_left c stage.entry) }
     ensures some { IfSome result (λ r. 0 < r.count) }
     ensures none { IfNone result (IsPast stage.entry) }
     ensures same { IfNone result (out.new ≡ out.old) }

@@ -15,7 +15,7 @@ use Rattle.rdma_types.specs.Objects as objects
 use Rattle.rdma_types.specs.Spans.{first_number, request_of, span_of}
 use Rattle.rdma_types.specs.declared.requests.Request.{Request}
 use Rattle.rdma_types.specs.declared.requests.WcStatus.TheVariants as status
-use Rattle.rdma_types.specs.declared.answers.Took.TheVariants as took
+use Rattle.rdma_types.specs.declared.answers.ArrivalEffect.TheVariants as took
 use Rattle.rdma_types.specs.Limits.{AreTerms}
 use Rattle.rdma_types.specs.Memory.{word_bytes}
 use Rattle.protocol.specs.Memory.{landed}
@@ -23,10 +23,10 @@ use Rattle.responder.specs.Sound.{IsSound as IsServing}
 use Rattle.requester.proofs.Bares.{length-bares}
 use Rattle.rdma_types.proofs.Tables.{same_name}
 use Rattle.page_pool.specs.Pool.{Pool, bytes_of}
-use Rattle.completion_queue.specs.Queue.{Queue}
+use Rattle.end_queues.specs.Completions.{Queue}
 use Rattle.memory_keys.specs.Regions.{regions_of}
-use Rattle.work_queues.specs.declared.posted.QueuedRequest.{QueuedRequest}
-use Rattle.work_queues.specs.Untold.{posted_in, untold_in}
+use Rattle.end_queues.specs.declared.work_queues.posted.QueuedRequest.{QueuedRequest}
+use Rattle.end_queues.specs.Untold.{posted_in, untold_in}
 use Rattle.protocol.specs.EndWords.{completing, done_request, failed_receive, in_use_by, linked, with_end, with_link, with_sender, with_unused}
 use Rattle.protocol.specs.Requester as rows
 use Rattle.protocol.specs.Requester.{after_telling, cut_by, ended_link, ended_with, failing, takes_response, telling, told_completions}
@@ -38,8 +38,8 @@ use Rattle.requester.specs.Sending.{KeepsQueue, Sending, bare, bares, numbers_of
 use Rattle.requester.specs.Taking.{Taking, step_by, step_of, taken_response}
 use Rattle.requester.proofs.Payloads.{place_same, response_in}
 use Rattle.requester.proofs.Rows.{response_is}
-use Rattle.end_memory.specs.Payloads.{payload_lists, payload_pages}
-use Rattle.end_memory.proofs.Given.{AreKept, pages-kept}
+use Rattle.end_completions.specs.Payloads.{payload_lists, payload_pages}
+use Rattle.end_completions.proofs.Given.{AreKept, pages-kept}
 use Rattle.endpoint_core.specs.declared.end.EndLink.{EndLink}
 use Rattle.endpoint_core.specs.Ends.{Names, link_in, untold_by}
 use Rattle.endpoint_core.specs.Queues.{StandsAt, count_at, nothing, promised, queues_of, settle_at}

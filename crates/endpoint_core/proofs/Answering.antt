@@ -18,9 +18,8 @@ use Rattle.protocol.specs.State.{Sender}
 use Rattle.protocol.specs.Wire.{Packet, is_read_response}
 use Rattle.requester.specs.declared.answers.ResponseEffect.TheVariants.{Acked, Ended, Landed, OldLanded, Rewound, Useless, Waits}
 use Rattle.requester.specs.Taking.{Taking, acknowledge_taking, acknowledging, answers, is_of_piece, landing_of, landing_taking, moved_or_useless, nak_taking, not_ready_taking, number_taking, piece_taking, refusing, rnr_taking, syndrome_taking, taken_response, wait_taking}
-use Rattle.requester.proofs.Flight.{piece_below_span}
-use Rattle.requester.proofs.Places.{landing_lands, request_of_piece, span_within}
-use Rattle.segmenter.proofs.Pieces.{piece_begins_within}
+use Rattle.rdma_types.proofs.Places.{landing_lands, piece_below_span, request_of_piece, span_within}
+use Rattle.transport.proofs.Pieces.{piece_begins_within}
 use Rattle.endpoint_core.specs.Responded.{Lands}
 
 -- what lands lies in its request's place, and where nothing happens the sender is as it was

@@ -7,11 +7,11 @@ use Rattle.rdma_types.specs.declared.requests.Address.{Address}
 use Rattle.rdma_types.specs.declared.requests.Terms.{Terms}
 use Rattle.rdma_types.specs.Limits.{AreTerms}
 use Rattle.page_pool.specs.Pool.{Pool}
-use Rattle.memory_keys.specs.declared.Held.{Held}
-use Rattle.work_queues.specs.Queue.{Queue, empty_queue}
-use Rattle.work_queues.specs.declared.posted.QueuedRequest.{QueuedRequest}
-use Rattle.move_core.specs.declared.MoveState.{MoveState}
-use Rattle.move_core.specs.declared.Phase.TheVariants as phase
+use Rattle.memory_keys.specs.declared.RegisteredRegion.{RegisteredRegion}
+use Rattle.end_queues.specs.Postings.{Queue, empty_queue}
+use Rattle.end_queues.specs.declared.work_queues.posted.QueuedRequest.{QueuedRequest}
+use Rattle.transport.specs.declared.move_core.MoveState.{MoveState}
+use Rattle.transport.specs.declared.move_core.Phase.TheVariants as phase
 use Rattle.requester.specs.Sending.{Sending, no_numbers}
 use Rattle.responder.specs.Receiving.{Receiving}
 use Rattle.responder.specs.Sound.{IsPlace, IsSound as IsServing}
@@ -47,7 +47,7 @@ fresh-link pool peer partner t r v m depth requester responder moves =
     ∙ (ap (λ x. link_in pool (record { peer = peer; terms = t; ended = false; requester = record { terms = t; depth = depth; items = []; numbers = no_numbers }; responder = x; moves = m })) responder
     ∙ ap (λ x. link_in pool (record { peer = peer; terms = t; ended = false; requester = record { terms = t; depth = depth; items = []; numbers = no_numbers }; responder = record { terms = t; receiver = fresh_receiver }; moves = x })) moves))
 
-pub connected : (pool : Pool) (held : List Held) (e : Endpoint) (q : Queue QueuedRequest) (gone' : Option (Queue QueuedRequest)) (peer : ℕ) (t : Terms) (r : Sending) (v : Receiving) (m : MoveState)
+pub connected : (pool : Pool) (held : List RegisteredRegion) (e : Endpoint) (q : Queue QueuedRequest) (gone' : Option (Queue QueuedRequest)) (peer : ℕ) (t : Terms) (r : Sending) (v : Receiving) (m : MoveState)
     → IsEnd pool held e → Fresh e q → gone' ≡ None → AreTerms t
     → r ≡ record { terms = t; depth = q.depth; items = []; numbers = no_numbers } → v ≡ record { terms = t; receiver = fresh_receiver }
     → (All (IsPlace held e.domain) e.recvs.items → IsServing held e.domain (record { terms = t; receiver = fresh_receiver }) e.recvs.items)

@@ -9,7 +9,7 @@ use Rattle.rdma_types.specs.Lists.{first_that}
 use Rattle.rdma_types.specs.Memory.{RemoteRead, granted, remote_key}
 use Rattle.rdma_types.specs.Objects.{Region}
 use Rattle.rdma_types.specs.Spans.{pieces}
-use Rattle.memory_keys.specs.declared.Spot.{Spot}
+use Rattle.memory_keys.specs.declared.RegionRange.{RegionRange}
 use Rattle.memory_keys.specs.Regions.{granted_spot}
 use Rattle.protocol.specs.declared.wire.Reth.{Reth}
 use Rattle.protocol.specs.declared.wire.AtomicEth.{AtomicEth}
@@ -70,19 +70,19 @@ in-turn-before expected n count length' l all = rw (lt-of n expected l) all
 in-turn-now : (expected n count length' : ℕ) → n ≡ expected → nat_le length' most_bytes ≡ true → is_in_turn expected n count length' ≡ true
 in-turn-now expected n count length' now short = rw (lt-same n expected now) (rw (eq-same n expected now) short)
 
-answered : (b : Bool) (spot : Spot) (first count : ℕ) → (if b then served.Ack else served.Acted) ≡ served.ReadBytes spot first count → ⊥
+answered : (b : Bool) (spot : RegionRange) (first count : ℕ) → (if b then served.Ack else served.Acted) ≡ served.ReadBytes spot first count → ⊥
 answered true spot first count e = cc
 answered false spot first count e = cc
 
 -- ---- what was due
 
 -- what is due at a number, for a READ that is in turn and whose place is granted
-abbrev IsHit : Around → Packet → (spot : Spot) (first count : ℕ) → (ℕ → Type 0) → Type 0
+abbrev IsHit : Around → Packet → (spot : RegionRange) (first count : ℕ) → (ℕ → Type 0) → Type 0
 IsHit a d spot first count P =
     (n : ℕ) → unwrap_near a.terms.peer_start d.psn a.receiver.expected ≡ Some n → (h : Reth) (r : Region) (msn : ℕ) → is_read_request d.opcode ≡ true → d.reth ≡ Some h → is_in_turn a.receiver.expected n (pieces h.length a.terms.mtu) h.length ≡ true
     → reached a h ≡ Some r → told_msn a.receiver n ≡ msn → served.ReadBytes (spot_of r h) n (pieces h.length a.terms.mtu) ≡ served.ReadBytes spot first count → P msn
 
-module _ (a : Around) (d : Packet) (names : Names d) (spot : Spot) (first count : ℕ) (P : ℕ → Type 0) (due : IsHit a d spot first count P) where
+module _ (a : Around) (d : Packet) (names : Names d) (spot : RegionRange) (first count : ℕ) (P : ℕ → Type 0) (due : IsHit a d spot first count P) where
   -- a row that answers with these bytes was due them
   abbrev Of : Taking → Type 0
   Of t = t.reply ≡ served.ReadBytes spot first count → P t.receiver.msn
@@ -195,7 +195,7 @@ module _ (a : Around) (d : Packet) (names : Names d) (spot : Spot) (first count 
   unfolding taking
   hit = number-due (unwrap_near a.terms.peer_start d.psn a.receiver.expected) refl
 
-is-due : (a : Around) (d : Packet) (spot : Spot) (first count : ℕ) → IsHit a d spot first count (λ msn. due_read a.terms a.receiver a.regions a.domain d ≡ Some (record { spot = spot; first = first; msn = msn }))
+is-due : (a : Around) (d : Packet) (spot : RegionRange) (first count : ℕ) → IsHit a d spot first count (λ msn. due_read a.terms a.receiver a.regions a.domain d ≡ Some (record { spot = spot; first = first; msn = msn }))
 unfolding due_read
 is-due a d spot first count n near h r msn read is turn place told e =
     let same : spot_of r h ≡ spot = cc in
@@ -209,7 +209,7 @@ is-due a d spot first count n near h r msn read is turn place told e =
     ∙ (ap (λ s. Some (record { spot = s; first = n; msn = msn })) same
     ∙ ap (λ k. Some (record { spot = spot; first = k; msn = msn })) number))))))
 
-pub taken-due : (a : Around) (d : Packet) (names : Names d) (spot : Spot) (first count : ℕ) → (taking a d).reply ≡ served.ReadBytes spot first count → due_read a.terms a.receiver a.regions a.domain d ≡ Some (record { spot = spot; first = first; msn = (taking a d).receiver.msn })
+pub taken-due : (a : Around) (d : Packet) (names : Names d) (spot : RegionRange) (first count : ℕ) → (taking a d).reply ≡ served.ReadBytes spot first count → due_read a.terms a.receiver a.regions a.domain d ≡ Some (record { spot = spot; first = first; msn = (taking a d).receiver.msn })
 taken-due a d names spot first count = hit a d names spot first count (λ msn. due_read a.terms a.receiver a.regions a.domain d ≡ Some (record { spot = spot; first = first; msn = msn })) (is-due a d spot first count)
 
 -- ---- responses look at the partner, the terms and the count of messages alone

@@ -13,20 +13,20 @@ use Rattle.rdma_types.specs.declared.requests.WcStatus.TheVariants as status
 use Rattle.rdma_types.specs.Kinds.{request_done}
 use Rattle.rdma_types.specs.Limits.{AreTerms}
 use Rattle.page_pool.specs.Pool.{Pool, bytes_of}
-use Rattle.completion_queue.specs.Queue.{Queue}
+use Rattle.end_queues.specs.Completions.{Queue}
 use Rattle.memory_keys.specs.Regions.{regions_of}
-use Rattle.work_queues.specs.Queue.{Queue as WorkQueue}
-use Rattle.work_queues.specs.declared.posted.QueuedRequest.{QueuedRequest}
-use Rattle.work_queues.specs.Untold.{untold_in}
-use Rattle.move_core.specs.declared.Phase.TheVariants as phase
+use Rattle.end_queues.specs.Postings.{Queue as WorkQueue}
+use Rattle.end_queues.specs.declared.work_queues.posted.QueuedRequest.{QueuedRequest}
+use Rattle.end_queues.specs.Untold.{untold_in}
+use Rattle.transport.specs.declared.move_core.Phase.TheVariants as phase
 use Rattle.requester.specs.Sending.{Sending, bare, bares, numbers_of, sender_in, sender_of, sender_with}
 use Rattle.responder.specs.Receiving.{Receiving, idled}
 use Rattle.responder.specs.Sound.{IsSound as IsServing}
 use Rattle.protocol.specs.EndWords.{completing, failed_receive, failed_request, in_use_by, linked, with_end, with_link, with_unused}
 use Rattle.protocol.specs.Requester.{emptied_at, end_of_queue, ended_link, ended_with, failing}
 use Rattle.protocol.specs.State.{Context, End, NoMessage, InSend, InWrite, Progress}
-use Rattle.end_memory.specs.Completing.{listed}
-use Rattle.end_memory.specs.Payloads.{GivesBack, payload_lists}
+use Rattle.end_completions.specs.Completing.{listed}
+use Rattle.end_completions.specs.Payloads.{GivesBack, payload_lists}
 use Rattle.endpoint_core.specs.declared.end.Endpoint.{Endpoint}
 use Rattle.endpoint_core.specs.declared.end.EndLink.{EndLink}
 use Rattle.endpoint_core.specs.Ends.{Names, link_in, untold_by}

@@ -2,8 +2,8 @@
 use Rattle.std.proofs.Common.{◌≡◌, ℕ, ◌+◌, Bool, true, false, refl, ap, sym, ◌∙◌}
 use Rattle.std.specs.Prelude.{◌==◌, ◌||◌, Option, Some, None, if◌then◌else◌}
 use Rattle.rdma_types.specs.declared.answers.Answer.TheVariants as answer
-use Rattle.rdma_types.specs.declared.answers.NotWhy.{NotWhy}
-use Rattle.rdma_types.specs.declared.answers.NotWhy.TheVariants as why
+use Rattle.rdma_types.specs.declared.answers.ExpiryIgnored.{ExpiryIgnored}
+use Rattle.rdma_types.specs.declared.answers.ExpiryIgnored.TheVariants as why
 use Rattle.rdma_types.specs.declared.requests.WcStatus.TheVariants as status
 use Rattle.page_pool.specs.Pool.{Pool}
 use Rattle.protocol.specs.EndWords.{is_paused, is_resuming, linked, with_sender}
@@ -17,20 +17,20 @@ use Rattle.endpoint_core.specs.Answers.{IsExpiry, expired_answer, expired_by, is
 use Rattle.endpoint_core.specs.Ends.{link_in}
 use Rattle.endpoint_core.proofs.Rows.{sender-in}
 
-pub expired-spent : (c : Context) (e : End) (l : Link) (w : Option NotWhy) → is_spent l w ≡ true → expired_by c e l w ≡ ended_with c e l status.RetryExceeded
+pub expired-spent : (c : Context) (e : End) (l : Link) (w : Option ExpiryIgnored) → is_spent l w ≡ true → expired_by c e l w ≡ ended_with c e l status.RetryExceeded
 expired-spent c e l (Some w) spent = absurd (cc)
 expired-spent c e l None spent = rw spent refl
 
-pub answer-spent : (l : Link) (w : Option NotWhy) → is_spent l w ≡ true → answer.Spent ≡ expired_answer l w
+pub answer-spent : (l : Link) (w : Option ExpiryIgnored) → is_spent l w ≡ true → answer.Spent ≡ expired_answer l w
 answer-spent l (Some w) spent = absurd (cc)
 answer-spent l None spent = rw spent refl
 
-pub expired-few : (c : Context) (e : End) (l : Link) (w : Option NotWhy) → is_spent l w ≡ false → linked c e l ≡ c → expired_by c e l w ≡ linked c e (link_after_expiry l w)
+pub expired-few : (c : Context) (e : End) (l : Link) (w : Option ExpiryIgnored) → is_spent l w ≡ false → linked c e l ≡ c → expired_by c e l w ≡ linked c e (link_after_expiry l w)
 expired-few c e l (Some w) few same = sym same
 expired-few c e l None few same = rw few refl
 
 -- a reason not to count it
-pub expiry-why : (l : Link) (w : NotWhy) → not_counted l ≡ Some w → IsExpiry l (answer.NotCounted w) l
+pub expiry-why : (l : Link) (w : ExpiryIgnored) → not_counted l ≡ Some w → IsExpiry l (answer.NotCounted w) l
 expiry-why l w is = record {
   few = ap (is_spent l) is;
   answer = sym (ap (expired_answer l) is);
@@ -38,7 +38,7 @@ expiry-why l w is = record {
 }
 
 -- the reasons in their order
-reason : (ended paused resuming waits none : Bool) → Option NotWhy
+reason : (ended paused resuming waits none : Bool) → Option ExpiryIgnored
 reason ended paused resuming waits none =
     if ended then Some why.Ended else if paused then Some why.Paused else if resuming then Some why.Resuming else if waits then Some why.Rnr else if none then Some why.Nothing else None
 

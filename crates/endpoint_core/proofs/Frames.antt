@@ -9,15 +9,15 @@ use Rattle.rdma_types.specs.Limits.{AreTerms}
 use Rattle.rdma_types.specs.Memory.{cut}
 use Rattle.page_pool.specs.Pool.{Pool, bytes_of, free_pages}
 use Rattle.page_pool.specs.Held.{payload_bytes}
-use Rattle.completion_queue.specs.Queue.{Queue}
-use Rattle.memory_keys.specs.declared.Held.{Held}
+use Rattle.end_queues.specs.Completions.{Queue}
+use Rattle.memory_keys.specs.declared.RegisteredRegion.{RegisteredRegion}
 use Rattle.memory_keys.specs.Regions.{regions_of}
-use Rattle.work_queues.specs.declared.posted.QueuedRequest.{QueuedRequest}
-use Rattle.work_queues.specs.Untold.{posted_in, untold_in}
+use Rattle.end_queues.specs.declared.work_queues.posted.QueuedRequest.{QueuedRequest}
+use Rattle.end_queues.specs.Untold.{posted_in, untold_in}
 use Rattle.responder.specs.Sound.{IsSound as IsServing}
 use Rattle.protocol.specs.State.{Context, Link}
 use Rattle.protocol.specs.EndWords.{linked, with_end, with_link}
-use Rattle.end_memory.proofs.Given.{AreKept}
+use Rattle.end_completions.proofs.Given.{AreKept}
 use Rattle.endpoint_core.specs.declared.memory.EndMemory.{EndMemory}
 use Rattle.endpoint_core.specs.declared.end.Endpoint.{Endpoint}
 use Rattle.endpoint_core.specs.declared.end.EndLink.{EndLink}
@@ -51,7 +51,7 @@ untold-kept a b (p ∷ ps) kept =
     let rest : untold_in b ps ≡ untold_in a ps = untold-kept a b ps (All-tail (λ p. bytes_of b p.payload.list ≡ bytes_of a p.payload.list) p ps kept) in
     ap (λ x. x ∷ untold_in b ps) here ∙ ap (λ l. posted_in a p ∷ l) rest
 
-pub posted-kept : (a b : Pool) (held : List Held) (domain : Name) (p : QueuedRequest) → bytes_of b p.payload.list ≡ bytes_of a p.payload.list → IsPosted a held domain p → IsPosted b held domain p
+pub posted-kept : (a b : Pool) (held : List RegisteredRegion) (domain : Name) (p : QueuedRequest) → bytes_of b p.payload.list ≡ bytes_of a p.payload.list → IsPosted a held domain p → IsPosted b held domain p
 posted-kept a b held domain p same h = record {
   shape = h.shape;
   payload = record {
@@ -65,18 +65,18 @@ posted-kept a b held domain p same h = record {
   placed = h.placed;
 }
 
-pub all-posted-kept : (a b : Pool) (held : List Held) (domain : Name) (ps : List QueuedRequest) → AreKept a b ps → All (IsPosted a held domain) ps → All (IsPosted b held domain) ps
+pub all-posted-kept : (a b : Pool) (held : List RegisteredRegion) (domain : Name) (ps : List QueuedRequest) → AreKept a b ps → All (IsPosted a held domain) ps → All (IsPosted b held domain) ps
 all-posted-kept a b held domain ps kept all = λ k d within. posted-kept a b held domain _ (kept k d within) (all k d within)
 
 -- ---- ends with another connection
 
-pub link-of : (pool : Pool) (held : List Held) (e : Endpoint) (l : EndLink) → IsEnd pool held e → e.link ≡ Some l → IsLinked pool held e l
+pub link-of : (pool : Pool) (held : List RegisteredRegion) (e : Endpoint) (l : EndLink) → IsEnd pool held e → e.link ≡ Some l → IsLinked pool held e l
 link-of pool held e l h is = subst (λ o. IsInState pool held e o) is h.state
 
-pub none-of : (pool : Pool) (held : List Held) (e : Endpoint) (l : EndLink) → IsEnd pool held e → e.link ≡ Some l → e.unlinked ≡ None
+pub none-of : (pool : Pool) (held : List RegisteredRegion) (e : Endpoint) (l : EndLink) → IsEnd pool held e → e.link ≡ Some l → e.unlinked ≡ None
 none-of pool held e l h is = subst (λ o. HoldsQueue e.send_depth e.unlinked o) is h.queue
 
-pub linked-kept : (pool : Pool) (held : List Held) (e : Endpoint) (o : Option EndLink) (l l' : EndLink) → KeepsLink l l' → IsLinked pool held e l → IsLinked pool held (record e { link = o }) l'
+pub linked-kept : (pool : Pool) (held : List RegisteredRegion) (e : Endpoint) (o : Option EndLink) (l l' : EndLink) → KeepsLink l l' → IsLinked pool held e l → IsLinked pool held (record e { link = o }) l'
 linked-kept pool held e o l l' k h =
     let terms : l'.terms ≡ l.terms = ap (λ (x : EndLink). x.terms) k.same in
     let ended : l'.ended ≡ l.ended = ap (λ (x : EndLink). x.ended) k.same in
@@ -96,7 +96,7 @@ linked-kept pool held e o l l' k h =
       running = λ is. ap (λ m. m.phase) (k.moves (sym ended ∙ is)) ∙ h.running (sym ended ∙ is);
     }
 
-pub end-linked : (pool : Pool) (held : List Held) (e : Endpoint) (l l' : EndLink) → IsEnd pool held e → e.link ≡ Some l → KeepsLink l l' → IsEnd pool held (record e { link = Some l' })
+pub end-linked : (pool : Pool) (held : List RegisteredRegion) (e : Endpoint) (l l' : EndLink) → IsEnd pool held e → e.link ≡ Some l → KeepsLink l l' → IsEnd pool held (record e { link = Some l' })
 end-linked pool held e l l' h is k = record {
   queue = none-of pool held e l h is;
   depth = h.depth;
@@ -136,7 +136,7 @@ end-kept a b names e kept = ap (λ o. record { name = names.name; number = e.num
     by_link None k = refl
     by_link (Some l) k = ap (λ us. Some (record (link_in a l) { sender = record (link_in a l).sender { untold = us } })) (untold-kept a b l.requester.items k)
 
-pub sound-kept : (a b : Pool) (held : List Held) (e : Endpoint) → AreKept a b (untold_by e.link) → IsEnd a held e → IsEnd b held e
+pub sound-kept : (a b : Pool) (held : List RegisteredRegion) (e : Endpoint) → AreKept a b (untold_by e.link) → IsEnd a held e → IsEnd b held e
 sound-kept a b held e kept h = record { queue = h.queue; depth = h.depth; state = by_link e.link kept h.state }
   where
     by_link : (o : Option EndLink) → AreKept a b (untold_by o) → IsInState a held e o → IsInState b held e o
@@ -158,7 +158,7 @@ sound-kept a b held e kept h = record { queue = h.queue; depth = h.depth; state 
 
 -- ---- an end with what it was lent, after a call that lent the memory on
 
-abbrev pub site_after : {Hasher : Type 0} → EndMemory → Pool × (List Held × (IndexMap Name Queue Hasher × Unit {0})) → Endpoint → EndWithMemory
+abbrev pub site_after : {Hasher : Type 0} → EndMemory → Pool × (List RegisteredRegion × (IndexMap Name Queue Hasher × Unit {0})) → Endpoint → EndWithMemory
 site_after m (pool, (regions, (queues, rest))) e = record { pool = pool; held = regions; queues = queues.entries; send = m.send; recv = m.recv; end = e }
 
 -- ---- a connection with other numbers, at a site

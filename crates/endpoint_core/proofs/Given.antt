@@ -7,12 +7,12 @@ use Rattle.std.proofs.lemmas.List.Elements.{All-head, All-tail, All-nil, All-con
 use Rattle.std.proofs.lemmas.Bool.Decides.{nat_tests}
 use Rattle.rdma_types.specs.declared.names.Name.{Name}
 use Rattle.page_pool.specs.Pool.{Pool, bytes_of, free_pages, pages_of}
-use Rattle.memory_keys.specs.declared.Held.{Held}
+use Rattle.memory_keys.specs.declared.RegisteredRegion.{RegisteredRegion}
 use Rattle.memory_keys.specs.Regions.{AreHeld, Lies, region_of, regions_of}
 use Rattle.memory_keys.proofs.Stores.{lies-same, region-same}
-use Rattle.work_queues.specs.declared.posted.QueuedRequest.{QueuedRequest}
-use Rattle.end_memory.specs.Payloads.{AreApart, GivesBack, payload_lists, payload_pages}
-use Rattle.end_memory.proofs.Given.{AreKept, pages-cons, pages-kept, pages-none}
+use Rattle.end_queues.specs.declared.work_queues.posted.QueuedRequest.{QueuedRequest}
+use Rattle.end_completions.specs.Payloads.{AreApart, GivesBack, payload_lists, payload_pages}
+use Rattle.end_completions.proofs.Given.{AreKept, pages-cons, pages-kept, pages-none}
 use Rattle.endpoint_core.specs.Sound.{IsPosted, KeepsLists}
 
 pub append-none : {A : Type 0} (xs : List A) → xs ++ [] ≡ xs
@@ -22,25 +22,25 @@ append-none (x ∷ xs) = ap (λ l. x ∷ l) (append-none xs)
 -- ---- lists apart
 
 -- the lists of these requests are of no region
-abbrev pub AreOutside : List Held → List QueuedRequest → Type 0
+abbrev pub AreOutside : List RegisteredRegion → List QueuedRequest → Type 0
 AreOutside held ps = All (λ p. All (λ h. h.list ≢ p.payload.list) held) ps
 
-pub outside : (pool : Pool) (held : List Held) (domain : Name) (ps : List QueuedRequest) → All (IsPosted pool held domain) ps → AreOutside held ps
+pub outside : (pool : Pool) (held : List RegisteredRegion) (domain : Name) (ps : List QueuedRequest) → All (IsPosted pool held domain) ps → AreOutside held ps
 outside pool held domain ps all = λ k d within. (all k d within).payload.apart
 
-pub apart-of : (pool : Pool) (held : List Held) (domain : Name) (ps : List QueuedRequest) → All (IsPosted pool held domain) ps → IsDistinct nat_eq (payload_lists ps) → AreApart pool ps
+pub apart-of : (pool : Pool) (held : List RegisteredRegion) (domain : Name) (ps : List QueuedRequest) → All (IsPosted pool held domain) ps → IsDistinct nat_eq (payload_lists ps) → AreApart pool ps
 apart-of pool held domain ps all apart = record { live = λ k d within. (all k d within).payload.holds.lives; apart = apart }
 
-region-kept : (a b : Pool) (ps : List QueuedRequest) (h : Held) → GivesBack a b ps → All (λ p. h.list ≢ p.payload.list) ps → bytes_of b h.list ≡ bytes_of a h.list
+region-kept : (a b : Pool) (ps : List QueuedRequest) (h : RegisteredRegion) → GivesBack a b ps → All (λ p. h.list ≢ p.payload.list) ps → bytes_of b h.list ≡ bytes_of a h.list
 region-kept a b ps h gives apart = gives.others h.list (All-map (λ x. x ≢ h.list) (λ p. p.payload.list) ps (λ k d within same. apart k d within (sym same)))
 
-heads : (h : Held) (hs : List Held) (ps : List QueuedRequest) → AreOutside (h ∷ hs) ps → All (λ p. h.list ≢ p.payload.list) ps
+heads : (h : RegisteredRegion) (hs : List RegisteredRegion) (ps : List QueuedRequest) → AreOutside (h ∷ hs) ps → All (λ p. h.list ≢ p.payload.list) ps
 heads h hs ps apart = All-weaker (λ p. All (λ x. x.list ≢ p.payload.list) (h ∷ hs)) (λ p. h.list ≢ p.payload.list) (λ p all. All-head (λ x. x.list ≢ p.payload.list) h hs all) ps apart
 
-tails : (h : Held) (hs : List Held) (ps : List QueuedRequest) → AreOutside (h ∷ hs) ps → AreOutside hs ps
+tails : (h : RegisteredRegion) (hs : List RegisteredRegion) (ps : List QueuedRequest) → AreOutside (h ∷ hs) ps → AreOutside hs ps
 tails h hs ps apart = All-weaker (λ p. All (λ x. x.list ≢ p.payload.list) (h ∷ hs)) (λ p. All (λ x. x.list ≢ p.payload.list) hs) (λ p all. All-tail (λ x. x.list ≢ p.payload.list) h hs all) ps apart
 
-pub given-regions : (a b : Pool) (held : List Held) (ps : List QueuedRequest) → GivesBack a b ps → AreOutside held ps → regions_of b held ≡ regions_of a held
+pub given-regions : (a b : Pool) (held : List RegisteredRegion) (ps : List QueuedRequest) → GivesBack a b ps → AreOutside held ps → regions_of b held ≡ regions_of a held
 given-regions a b [] ps gives apart = refl
 given-regions a b (h ∷ hs) ps gives apart =
     let same = region-kept a b ps h gives (heads h hs ps apart) in
@@ -48,13 +48,13 @@ given-regions a b (h ∷ hs) ps gives apart =
     let rest : regions_of b hs ≡ regions_of a hs = given-regions a b hs ps gives (tails h hs ps apart) in
     ap (λ r. r ∷ regions_of b hs) here ∙ ap (λ l. region_of a h ∷ l) rest
 
-given-lie : (a b : Pool) (held : List Held) (ps : List QueuedRequest) → GivesBack a b ps → AreOutside held ps → All (Lies a) held → All (Lies b) held
+given-lie : (a b : Pool) (held : List RegisteredRegion) (ps : List QueuedRequest) → GivesBack a b ps → AreOutside held ps → All (Lies a) held → All (Lies b) held
 given-lie a b [] ps gives apart all = All-nil (Lies b)
 given-lie a b (h ∷ hs) ps gives apart all =
     let same = region-kept a b ps h gives (heads h hs ps apart) in
     All-cons (Lies b) h hs (lies-same a b h same (All-head (Lies a) h hs all)) (given-lie a b hs ps gives (tails h hs ps apart) (All-tail (Lies a) h hs all))
 
-pub given-held : (a b : Pool) (held : List Held) (ps : List QueuedRequest) → GivesBack a b ps → AreOutside held ps → AreHeld a held → AreHeld b held
+pub given-held : (a b : Pool) (held : List RegisteredRegion) (ps : List QueuedRequest) → GivesBack a b ps → AreOutside held ps → AreHeld a held → AreHeld b held
 given-held a b held ps gives apart h = record { lie = given-lie a b held ps gives apart h.lie; apart = h.apart }
 
 -- ---- the requests that stay
@@ -96,7 +96,7 @@ all-front P [] left all = All-nil P
 all-front P (p ∷ ps) left all = All-cons P p.payload.list (payload_lists ps) (All-head P p.payload.list (payload_lists (ps ++ left)) all) (all-front P ps left (All-tail P p.payload.list (payload_lists (ps ++ left)) all))
 
 -- of these requests some are done, and the others stay with their bytes
-pub frame-lists : (a b : Pool) (held : List Held) (whole done left : List QueuedRequest) → whole ≡ done ++ left → GivesBack a b done → KeepsLists a b held (payload_lists whole)
+pub frame-lists : (a b : Pool) (held : List RegisteredRegion) (whole done left : List QueuedRequest) → whole ≡ done ++ left → GivesBack a b done → KeepsLists a b held (payload_lists whole)
 frame-lists a b held whole done left is gives = record {
   pages = gives.pages;
   others = λ list lives regions own. gives.others list (all-front (λ x. x ≢ list) done left (subst (λ ps. All (λ x. x ≢ list) (payload_lists ps)) is own));

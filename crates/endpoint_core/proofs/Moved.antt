@@ -3,11 +3,11 @@ use Rattle.std.proofs.Common.{◌≡◌, ℕ, List, [], refl, ap, sym, ◌∙◌
 use Rattle.rdma_types.specs.declared.requests.Address.{Address}
 use Rattle.rdma_types.specs.Objects.{Region}
 use Rattle.page_pool.specs.Pool.{Pool}
-use Rattle.move_core.specs.declared.Control.{Control}
-use Rattle.move_core.specs.declared.Control.TheVariants.{Stopped, Resume, ResumeAck}
-use Rattle.move_core.specs.declared.MoveTook.{MoveTook}
-use Rattle.move_core.specs.declared.MoveTook.TheVariants as row
-use Rattle.move_core.specs.Table as table
+use Rattle.transport.specs.declared.move_core.Control.{Control}
+use Rattle.transport.specs.declared.move_core.Control.TheVariants.{Stopped, Resume, ResumeAck}
+use Rattle.transport.specs.declared.move_core.MoveEffect.{MoveEffect}
+use Rattle.transport.specs.declared.move_core.MoveEffect.TheVariants as row
+use Rattle.transport.specs.Table as table
 use Rattle.protocol.specs.EndWords.{EndStep, linked, with_moving}
 use Rattle.protocol.specs.Moves as moves
 use Rattle.protocol.specs.State.{Context, End, Link}
@@ -17,21 +17,21 @@ use Rattle.endpoint_core.specs.Answers.{move_reply, move_took, sender_after, sen
 use Rattle.endpoint_core.specs.Ends.{link_in}
 
 -- the step that a row and a reply say
-abbrev pub moved_step : Context → End → List Region → Link → MoveTook → Control → EndStep
+abbrev pub moved_step : Context → End → List Region → Link → MoveEffect → Control → EndStep
 moved_step c e regions new r control = record { context = linked c e new; took = move_took r; sent = sent_by regions new (move_reply r control) }
 
 -- the link after a row
-abbrev pub moved_link : Link → MoveTook → Control → Link
+abbrev pub moved_link : Link → MoveEffect → Control → Link
 moved_link l r control = record l { moving = table.moving_by l.moving (table.control_of control) (table.row_of r); sender = sender_after r l.sender }
 
 -- which messages a row takes
-pub record Takes (recorded own : ℕ) (r : MoveTook) (control : Control) : Type 0 where
+pub record Takes (recorded own : ℕ) (r : MoveEffect) (control : Control) : Type 0 where
   pub paused : r ≡ row.Paused → control ≡ Stopped recorded
   pub resumed : r ≡ row.Resumed → (n : ℕ) × (at : Address) × (control ≡ Resume n at)
   pub again : r ≡ row.Again → (at : Address) × (control ≡ Resume recorded at)
   pub running : r ≡ row.Running → control ≡ ResumeAck own
 
-by_row : (c : Context) (e : End) (regions : List Region) (l : Link) (recorded own : ℕ) (r : MoveTook) (control : Control) → Takes recorded own r control → linked c e l ≡ c
+by_row : (c : Context) (e : End) (regions : List Region) (l : Link) (recorded own : ℕ) (r : MoveEffect) (control : Control) → Takes recorded own r control → linked c e l ≡ c
     → moves.moves_by c e l (table.control_of control) (table.row_of r) ≡ moved_step c e regions (moved_link l r control) r control
 unfolding moves.moves_by with_moving
 by_row c e regions l recorded own row.Paused (Stopped n) takes same = refl
@@ -50,7 +50,7 @@ by_row c e regions l recorded own row.Stale (Stopped n) takes same = ap (λ x. r
 by_row c e regions l recorded own row.Stale (Resume n at) takes same = ap (λ x. record { context = x; took = move_took row.Stale; sent = [] }) (sym same)
 by_row c e regions l recorded own row.Stale (ResumeAck n) takes same = ap (λ x. record { context = x; took = move_took row.Stale; sent = [] }) (sym same)
 
-pub control-step : (c : Context) (e : End) (pool : Pool) (regions : List Region) (l l' : EndLink) (r : MoveTook) (control : Control) → Takes l.moves.recorded l.moves.own r control
+pub control-step : (c : Context) (e : End) (pool : Pool) (regions : List Region) (l l' : EndLink) (r : MoveEffect) (control : Control) → Takes l.moves.recorded l.moves.own r control
     → table.row_of r ≡ moves.move_row (table.moving_of l.moves) (table.control_of control)
     → table.moving_of l'.moves ≡ table.moving_by (table.moving_of l.moves) (table.control_of control) (table.row_of r)
     → sender_in pool l'.requester ≡ sender_after r (sender_in pool l.requester)

@@ -12,20 +12,20 @@ use Rattle.rdma_types.specs.Kinds.{request_done}
 use Rattle.rdma_types.specs.Lists.{first_that}
 use Rattle.rdma_types.specs.Memory.{Right, granted, grants, holds, is_granted, local_key}
 use Rattle.page_pool.specs.Pool.{Pool, bytes_of, free_pages}
-use Rattle.completion_queue.specs.Queue.{Queue}
-use Rattle.memory_keys.specs.declared.Held.{Held}
+use Rattle.end_queues.specs.Completions.{Queue}
+use Rattle.memory_keys.specs.declared.RegisteredRegion.{RegisteredRegion}
 use Rattle.memory_keys.specs.Regions.{region_of, regions_of}
-use Rattle.work_queues.specs.Queue.{Queue as WorkQueue, posting as queueing}
-use Rattle.work_queues.specs.declared.posted.QueuedRequest.{QueuedRequest}
-use Rattle.work_queues.specs.Untold.{posted_in, untold_in}
+use Rattle.end_queues.specs.Postings.{Queue as WorkQueue, posting as queueing}
+use Rattle.end_queues.specs.declared.work_queues.posted.QueuedRequest.{QueuedRequest}
+use Rattle.end_queues.specs.Untold.{posted_in, untold_in}
 use Rattle.requester.specs.Sending.{bare, posting, sender_in}
 use Rattle.responder.specs.Receiving.{Receiving}
 use Rattle.responder.specs.Sound.{IsPlace, IsSound as IsServing}
 use Rattle.protocol.specs.DeviceStep.{posted_at}
 use Rattle.protocol.specs.EndWords.{completing, failed_receive, failed_request, in_use_by, is_in_error, with_end, with_link, with_sender, with_unused}
 use Rattle.protocol.specs.State.{Context}
-use Rattle.end_memory.specs.Payloads.{GivesBack, payload_lists, payload_pages}
-use Rattle.end_memory.proofs.Given.{AreKept}
+use Rattle.end_completions.specs.Payloads.{GivesBack, payload_lists, payload_pages}
+use Rattle.end_completions.proofs.Given.{AreKept}
 use Rattle.endpoint_core.specs.declared.end.EndLink.{EndLink}
 use Rattle.endpoint_core.specs.Answers.{posted_by, received_at}
 use Rattle.endpoint_core.specs.Ends.{Names, end_in, is_ended_link, link_in, untold_by, used_by}
@@ -40,18 +40,18 @@ use Rattle.endpoint_core.proofs.Settled.{Settles, completing-settles, keeps-sett
 -- ---- places
 
 -- a place is granted whatever bytes lie there
-granted-any : (a b : Pool) (held : List Held) (domain : Name) (key at count : ℕ) (right : Right)
+granted-any : (a b : Pool) (held : List RegisteredRegion) (domain : Name) (key at count : ℕ) (right : Right)
     → is_granted local_key (regions_of a held) domain key at count right ≡ is_granted local_key (regions_of b held) domain key at count right
 unfolding is_granted granted grants first_that holds
 granted-any a b held domain key at count right = ap (λ v. (count == 0) || v) (found held)
   where
-    found : (hs : List Held) → is_some (first_that (grants local_key domain key at count right) (regions_of a hs)) ≡ is_some (first_that (grants local_key domain key at count right) (regions_of b hs))
+    found : (hs : List RegisteredRegion) → is_some (first_that (grants local_key domain key at count right) (regions_of a hs)) ≡ is_some (first_that (grants local_key domain key at count right) (regions_of b hs))
     found [] = refl
     found (h ∷ hs) = elim (grants local_key domain key at count right (region_of a h)) as
         (λ v. is_some (if v then Some (region_of a h) else first_that (grants local_key domain key at count right) (regions_of a hs)) ≡ is_some (if v then Some (region_of b h) else first_that (grants local_key domain key at count right) (regions_of b hs)))
         [ true ↦ refl | false ↦ found hs ]
 
-pub placed-any : (pool : Pool) (held : List Held) (domain : Name) (key at count : ℕ) (right : Right) → is_granted local_key (regions_of pool held) domain key at count right ≡ true
+pub placed-any : (pool : Pool) (held : List RegisteredRegion) (domain : Name) (key at count : ℕ) (right : Right) → is_granted local_key (regions_of pool held) domain key at count right ≡ true
     → (other : Pool) → is_granted local_key (regions_of other held) domain key at count right ≡ true
 placed-any pool held domain key at count right given other = granted-any other pool held domain key at count right ∙ given
 

@@ -9,9 +9,9 @@ use Rattle.std.proofs.lemmas.List.Quantifiers.{position-Some}
 use Rattle.rdma_types.specs.declared.names.Name.{Name}
 use Rattle.rdma_types.proofs.Tables.{name_is, same_name}
 use Rattle.page_pool.specs.Pool.{Pool}
-use Rattle.completion_queue.specs.Queue.{Queue}
-use Rattle.work_queues.specs.declared.posted.QueuedRequest.{QueuedRequest}
-use Rattle.work_queues.specs.Untold.{untold_in}
+use Rattle.end_queues.specs.Completions.{Queue}
+use Rattle.end_queues.specs.declared.work_queues.posted.QueuedRequest.{QueuedRequest}
+use Rattle.end_queues.specs.Untold.{untold_in}
 use Rattle.protocol.specs.EndWords.{in_use}
 use Rattle.protocol.specs.Memory.{untold_of}
 use Rattle.protocol.specs.Refusals.{count_if, reserved_by}

@@ -10,16 +10,16 @@ use Rattle.rdma_types.specs.Objects.{no_posted}
 use Rattle.rdma_types.specs.Spans.{Piece, end_number, first_number, next_landing, piece_at, request_of, span_of}
 use Rattle.page_pool.specs.Pool.{Pool, bytes_in}
 use Rattle.page_pool.specs.Held.{HoldsPayload, payload_bytes}
-use Rattle.memory_keys.specs.declared.Held.{Held}
-use Rattle.work_queues.specs.declared.posted.QueuedRequest.{QueuedRequest}
-use Rattle.work_queues.specs.Untold.{posted_in, untold_in}
+use Rattle.memory_keys.specs.declared.RegisteredRegion.{RegisteredRegion}
+use Rattle.end_queues.specs.declared.work_queues.posted.QueuedRequest.{QueuedRequest}
+use Rattle.end_queues.specs.Untold.{posted_in, untold_in}
 use Rattle.protocol.specs.Requester as rows
 use Rattle.protocol.specs.Requester.{Transmission, Sends, SendsResume, IsIdle, WindowIsFull, ReadsAreFull, IsFenced, barrier, end_of_queue, going_to, next_transmission, overlap, packets_in_flight, packets_of, past, reads_in_flight}
 use Rattle.protocol.specs.Segments.{packet_of_piece}
 use Rattle.protocol.specs.State.{Sender}
-use Rattle.segmenter.specs.declared.head.PacketHead.{PacketHead}
-use Rattle.segmenter.specs.Heads.{Asks, packet_with}
-use Rattle.byte_run.proofs.Cuts.{length-cut}
+use Rattle.transport.specs.declared.segmenter.head.PacketHead.{PacketHead}
+use Rattle.transport.specs.Heads.{Asks, packet_with}
+use Rattle.rdma_types.proofs.Cuts.{length-cut}
 use Rattle.endpoint_core.specs.Sound.{IsPosted}
 use Rattle.endpoint_core.proofs.Frames.{all-at}
 use Rattle.requester.specs.declared.answers.Transmit.{Transmit}
@@ -29,7 +29,7 @@ use Rattle.requester.specs.Taking.{request_at}
 use Rattle.requester.specs.Transmitting.{IsHeadOf, after_row, next_row, piece_said, row_said}
 use Rattle.requester.proofs.Bares.{bare_at, length-bares}
 use Rattle.requester.proofs.Payloads.{bare_piece, landing_same, piece_same, place_same}
-use Rattle.requester.proofs.Places.{found_within, request_of_piece}
+use Rattle.rdma_types.proofs.Places.{found_within, request_of_piece}
 
 -- ---- the words on lists of requests
 
@@ -247,7 +247,7 @@ asks pool p holds whole = record {
   whole = λ takes. length-cut p.payload.first p.payload.length (bytes_in pool p.payload.list) holds.inside ∙ (whole ∙ ap (λ b. if b then p.request.shape.length else 0) takes);
 }
 
-pub is-packet : (pool : Pool) (held : List Held) (domain : Name) (t : Terms) (v : Sending) (number index : ℕ) (head : PacketHead)
+pub is-packet : (pool : Pool) (held : List RegisteredRegion) (domain : Name) (t : Terms) (v : Sending) (number index : ℕ) (head : PacketHead)
     → Sends (piece_said t (sender_of v) number index) ≡ next_row t (sender_of v) → IsHeadOf t (sender_of v) (Sent number index head) → All (IsPosted pool held domain) v.items
     → (dest psn : ℕ)
     → packet_with head (request_at (sender_in pool v) index) dest psn

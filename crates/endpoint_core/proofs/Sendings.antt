@@ -3,9 +3,9 @@ use Rattle.std.proofs.Common.{◌≡◌, true, false, List, refl, ap, sym, ◌�
 use Rattle.std.specs.Prelude.{All}
 use Rattle.rdma_types.specs.declared.names.Name.{Name}
 use Rattle.page_pool.specs.Pool.{Pool}
-use Rattle.memory_keys.specs.declared.Held.{Held}
-use Rattle.move_core.specs.declared.Phase.TheVariants as phase
-use Rattle.move_core.specs.Table.{phase_of}
+use Rattle.memory_keys.specs.declared.RegisteredRegion.{RegisteredRegion}
+use Rattle.transport.specs.declared.move_core.Phase.TheVariants as phase
+use Rattle.transport.specs.Table.{phase_of}
 use Rattle.protocol.specs.EndWords.{with_sender}
 use Rattle.protocol.specs.Requester as rows
 use Rattle.protocol.specs.Requester.{Transmission, Sends, SendsResume, transmission, transmitted}
@@ -52,7 +52,7 @@ row-running pool l r ended is same row head =
     (subst (λ t. row_said t (sender_of l.requester) r ≡ next_row t (sender_of l.requester)) same row)
     (subst (λ t. IsHeadOf t (sender_of l.requester) r) same head)
 
-pub packet-is : (pool : Pool) (held : List Held) (domain : Name) (l : EndLink) (r : Transmit) → l.requester.terms ≡ l.terms → All (IsPosted pool held domain) l.requester.items
+pub packet-is : (pool : Pool) (held : List RegisteredRegion) (domain : Name) (l : EndLink) (r : Transmit) → l.requester.terms ≡ l.terms → All (IsPosted pool held domain) l.requester.items
     → row_said l.requester.terms (sender_of l.requester) r ≡ next_row l.requester.terms (sender_of l.requester) → IsHeadOf l.requester.terms (sender_of l.requester) r
     → IsPacketOf pool l (send.Transmit r)
 packet-is pool held domain l (Sent number index head) same all row is =

@@ -6,9 +6,9 @@ use Rattle.std.specs.Option.{option_map_or}
 use Rattle.std.proofs.Math.ListN.{get_or}
 use Rattle.std.proofs.lemmas.Bool.Decides.{nat_tests}
 use Rattle.rdma_types.specs.declared.answers.Sent.{Sent}
-use Rattle.rdma_types.specs.declared.answers.Took.TheVariants as took
-use Rattle.rdma_types.specs.declared.answers.Why.{Why}
-use Rattle.rdma_types.specs.declared.answers.Why.TheVariants as refused
+use Rattle.rdma_types.specs.declared.answers.ArrivalEffect.TheVariants as took
+use Rattle.rdma_types.specs.declared.answers.RefusalReason.{RefusalReason}
+use Rattle.rdma_types.specs.declared.answers.RefusalReason.TheVariants as refused
 use Rattle.rdma_types.specs.declared.names.Name.{Name}
 use Rattle.rdma_types.specs.declared.requests.Address.{Address}
 use Rattle.rdma_types.specs.declared.requests.Completion.{Completion}
@@ -19,10 +19,10 @@ use Rattle.rdma_types.specs.Lists.{at}
 use Rattle.rdma_types.specs.Memory.{local_key}
 use Rattle.rdma_types.specs.Objects.{no_region}
 use Rattle.page_pool.specs.Pool.{Pool}
-use Rattle.completion_queue.specs.Queue.{Queue}
+use Rattle.end_queues.specs.Completions.{Queue}
 use Rattle.memory_keys.specs.Regions.{regions_of}
 use Rattle.memory_keys.proofs.Protocol.{distinct-keys}
-use Rattle.work_queues.specs.Queue.{Queue as WorkQueue}
+use Rattle.end_queues.specs.Postings.{Queue as WorkQueue}
 use Rattle.protocol.specs.declared.wire.Syndrome.{Syndrome}
 use Rattle.protocol.specs.declared.wire.Syndrome.TheVariants.{Ack, Rnr, Nak}
 use Rattle.protocol.specs.EndWords.{completing, is_paused, failed_receive, in_use_by, linked, with_end, with_link, with_receiver, with_unused}
@@ -43,17 +43,17 @@ use Rattle.responder.proofs.Counts.{counted}
 use Rattle.responder.proofs.Leaving.{leaving}
 use Rattle.responder.proofs.Rows.{request-row}
 use Rattle.requester.specs.Sending.{sender_in}
-use Rattle.end_memory.specs.Payloads.{payload_lists, payload_pages}
-use Rattle.end_memory.proofs.Given.{AreKept, pages-kept}
-use Rattle.end_memory.proofs.Told.{settled-none}
+use Rattle.end_completions.specs.Payloads.{payload_lists, payload_pages}
+use Rattle.end_completions.proofs.Given.{AreKept, pages-kept}
+use Rattle.end_completions.proofs.Told.{settled-none}
 use Rattle.endpoint_core.specs.declared.answers.EndReply.TheVariants as reply
 use Rattle.endpoint_core.specs.declared.end.EndLink.{EndLink}
 use Rattle.endpoint_core.specs.Answers.{IsReply, sent_by, sent_of}
 use Rattle.endpoint_core.specs.declared.answers.EndReply.{EndReply}
 use Rattle.rdma_types.specs.Spans.{pieces}
-use Rattle.memory_keys.specs.declared.Held.{Held}
-use Rattle.memory_keys.specs.declared.Spot.{Spot}
-use Rattle.move_core.specs.Table.{phase_of}
+use Rattle.memory_keys.specs.declared.RegisteredRegion.{RegisteredRegion}
+use Rattle.memory_keys.specs.declared.RegionRange.{RegionRange}
+use Rattle.transport.specs.Table.{phase_of}
 use Rattle.endpoint_core.specs.Due.{IsDue, WasDue, due_read, telling}
 use Rattle.endpoint_core.proofs.DueReads.{responses-same, taken-due}
 use Rattle.endpoint_core.specs.Ends.{KeepsPartner, Names, link_in, untold_by}
@@ -231,7 +231,7 @@ module _ (s : EndWithMemory) (l l' : EndLink) (d : Packet) (pool' : Pool) (rs' :
       (sym (ap (λ (x : EndLink). x.moves.partner) did.same)) (sym (ap (λ (x : EndLink). x.peer) did.same)) (sym (ap (λ (x : EndLink). x.terms.peer_start) did.same))
       (sym (ap (λ (x : EndLink). x.responder.receiver.msn) did.same ∙ msn))
 
-  sent-after : (s2 : EndWithMemory) (w : Why) → T.receiver.msn ≡ l.responder.receiver.msn → KeepsPartner l' s2.end.link
+  sent-after : (s2 : EndWithMemory) (w : RefusalReason) → T.receiver.msn ≡ l.responder.receiver.msn → KeepsPartner l' s2.end.link
       → acknowledge (link_in s.pool l) l.responder.receiver.expected (Nak (nak_code w)) ∷ [] ≡ sent_of s2 (reply.Acknowledge l.responder.receiver.expected (Nak (nak_code w)))
   sent-after s2 w msn keeps =
       ap (λ a. a ∷ []) (acknowledge-after l.responder.receiver.expected (Nak (nak_code w)) msn
@@ -239,7 +239,7 @@ module _ (s : EndWithMemory) (l l' : EndLink) (d : Packet) (pool' : Pool) (rs' :
       ∙ sym (ap (λ o. option_map_or (λ x. sent_by (regions_of s2.pool s2.held) (link_in s2.pool x) (reply.Acknowledge l.responder.receiver.expected (Nak (nak_code w)))) o []) keeps.there)
 
   -- an answer that is no refusal, row by row
-  row-step : (c : Context) (names : Names) (r : Reply) → IsHome c names s → T.reply ≡ r → Leaves l.responder.receiver (regions_of s.pool s.held) s.end.recvs.items T r → ((w : Why) → r ≡ served.Refused w → ⊥)
+  row-step : (c : Context) (names : Names) (r : Reply) → IsHome c names s → T.reply ≡ r → Leaves l.responder.receiver (regions_of s.pool s.held) s.end.recvs.items T r → ((w : RefusalReason) → r ≡ served.Refused w → ⊥)
       → step_by c (end_at names s) (link_in s.pool l) T r
       ≡ record {
         context = home c names after;
@@ -269,7 +269,7 @@ module _ (s : EndWithMemory) (l l' : EndLink) (d : Packet) (pool' : Pool) (rs' :
       ∙ ap (λ a. record { context = home c names after; took = took.DupAck; sent = a ∷ [] }) (acknowledge-after (l.responder.receiver.expected - 1) Ack (ap (λ r. r.msn) leaves'.receiver))
   row-step c names (served.Silent w) at is' leaves' alive = ap (λ x. record { context = x; took = took.Silent w; sent = [] }) (sym (as-was c names at leaves'))
 
-  pub served-step : (c : Context) (names : Names) → IsHome c names s → ((w : Why) → T.reply ≡ served.Refused w → ⊥)
+  pub served-step : (c : Context) (names : Names) → IsHome c names s → ((w : RefusalReason) → T.reply ≡ served.Refused w → ⊥)
       → takes_request c (end_at names s) (link_in s.pool l) d
       ≡ record {
         context = home c names after;
@@ -279,7 +279,7 @@ module _ (s : EndWithMemory) (l l' : EndLink) (d : Packet) (pool' : Pool) (rs' :
   served-step c names at alive = protocol-step c names at ∙ row-step c names T.reply at refl leaves alive
 
   -- a refusal: what it completes, and then all work is flushed
-  pub refused-step : (c : Context) (names : Names) (w : Why) (s2 : EndWithMemory) → IsHome c names s → T.reply ≡ served.Refused w → KeepsPartner l' s2.end.link
+  pub refused-step : (c : Context) (names : Names) (w : RefusalReason) (s2 : EndWithMemory) → IsHome c names s → T.reply ≡ served.Refused w → KeepsPartner l' s2.end.link
       → takes_request c (end_at names s) (link_in s.pool l) d
       ≡ record {
         context = ended_with (home c names after) (end_at names after) (link_in pool' l') status.Flush;
@@ -312,7 +312,7 @@ module _ (s : EndWithMemory) (l l' : EndLink) (d : Packet) (pool' : Pool) (rs' :
 
   -- ---- what was due
 
-  pub due-after : is_paused (phase_of l.moves.phase) ≡ false → (spot : Spot) (first count : ℕ) → T.reply ≡ served.ReadBytes spot first count → count ≡ pieces spot.length l.responder.terms.mtu → IsDue s after l d spot first count
+  pub due-after : is_paused (phase_of l.moves.phase) ≡ false → (spot : RegionRange) (first count : ℕ) → T.reply ≡ served.ReadBytes spot first count → count ≡ pieces spot.length l.responder.terms.mtu → IsDue s after l d spot first count
   unfolding around
   due-after paused spot first count is' all =
       let bytes : regions_of pool' s.held ≡ regions_of s.pool s.held = did.bytes ∙ writes-none (ap writes_none is') in
@@ -331,7 +331,7 @@ module _ (s : EndWithMemory) (l l' : EndLink) (d : Packet) (pool' : Pool) (rs' :
             (ap (λ (x : EndLink). x.moves.partner) did.same) (ap (λ (x : EndLink). x.peer) did.same) (ap (λ (x : EndLink). x.terms) did.same) (ap (λ (x : EndLink). x.responder.receiver.msn) did.same);
       }
 
-  pub served-due : is_paused (phase_of l.moves.phase) ≡ false → (old new : ℕ) (held : List Held) (r : Reply) → IsRead held l.responder.terms.mtu r → T.reply ≡ r → WasDue s after l d (request_answer r old new).reply
+  pub served-due : is_paused (phase_of l.moves.phase) ≡ false → (old new : ℕ) (held : List RegisteredRegion) (r : Reply) → IsRead held l.responder.terms.mtu r → T.reply ≡ r → WasDue s after l d (request_answer r old new).reply
   served-due paused old new held served.Acted read is' = tt
   served-due paused old new held served.Ack read is' = tt
   served-due paused old new held (served.ReadBytes spot first count) read is' = due-after paused spot first count is' read.1
@@ -419,12 +419,12 @@ module _ (s : EndWithMemory) (l l' : EndLink) (d : Packet) (pool' : Pool) (rs' :
 
 -- ---- what a reply hands out
 
-pub nak-fits : (w : Why) → IsTrue (fits_syndrome 0x11 (Nak (nak_code w)))
+pub nak-fits : (w : RefusalReason) → IsTrue (fits_syndrome 0x11 (Nak (nak_code w)))
 nak-fits refused.Invalid = refl
 nak-fits refused.Access = refl
 nak-fits refused.Length = refl
 
-pub read-reply : (held : List Held) (l : EndLink) (r : Reply) (mtu old new : ℕ) → l.terms.mtu ≡ mtu → IsRead held mtu r → IsReply held l (request_answer r old new).reply
+pub read-reply : (held : List RegisteredRegion) (l : EndLink) (r : Reply) (mtu old new : ℕ) → l.terms.mtu ≡ mtu → IsRead held mtu r → IsReply held l (request_answer r old new).reply
 read-reply held l served.Acted mtu old new same read = tt
 read-reply held l served.Ack mtu old new same read = refl
 read-reply held l (served.ReadBytes spot first count) mtu old new same read = (read.0, read.1 ∙ ap (λ n. pieces spot.length n) (sym same))
@@ -435,6 +435,6 @@ read-reply held l (served.Refused w) mtu old new same read = nak-fits w
 read-reply held l served.DupAck mtu old new same read = refl
 read-reply held l (served.Silent w) mtu old new same read = tt
 
-pub refused-reply : (held : List Held) (o : Option EndLink) (a : EndReply) (number : ℕ) (w : Why) → a ≡ reply.Acknowledge number (Nak (nak_code w)) → IfSome o (λ l. IsReply held l a)
+pub refused-reply : (held : List RegisteredRegion) (o : Option EndLink) (a : EndReply) (number : ℕ) (w : RefusalReason) → a ≡ reply.Acknowledge number (Nak (nak_code w)) → IfSome o (λ l. IsReply held l a)
 refused-reply held None a number w is = tt
 refused-reply held (Some l) a number w is = subst (λ x. IsReply held l x) (sym is) (nak-fits w)

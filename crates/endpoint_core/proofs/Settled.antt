@@ -11,10 +11,10 @@ use Rattle.rdma_types.specs.declared.requests.Completion.{Completion}
 use Rattle.rdma_types.specs.Lists.{named, store_named}
 use Rattle.rdma_types.specs.Objects.{CompletionQueue, no_queue}
 use Rattle.rdma_types.proofs.Tables.{name_is, same_name}
-use Rattle.completion_queue.specs.Queue.{Queue}
+use Rattle.end_queues.specs.Completions.{Queue}
 use Rattle.protocol.specs.EndWords.{completing, with_entries, with_queue}
 use Rattle.protocol.specs.State.{Context}
-use Rattle.end_memory.specs.Completing.{settled}
+use Rattle.end_completions.specs.Completing.{settled}
 use Rattle.endpoint_core.specs.declared.end.Endpoint.{Endpoint}
 use Rattle.endpoint_core.specs.Queues.{AreReserved, KeepsReserved, StandsAt, count_at, nothing, promised, queues_of, reserved_in, settle_at}
 

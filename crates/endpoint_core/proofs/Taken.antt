@@ -1,10 +1,10 @@
 -- Which table takes a packet.
 use Rattle.std.proofs.Common.{◌≡◌, true, false, List, [], refl, ap, sym, ◌∙◌}
 use Rattle.std.specs.Prelude.{Option, Some, None, option_map, if◌then◌else◌}
-use Rattle.rdma_types.specs.declared.answers.SilentWhy.TheVariants as why
-use Rattle.memory_keys.specs.declared.Held.{Held}
-use Rattle.move_core.specs.declared.Control.{Control}
-use Rattle.move_core.specs.Table as table
+use Rattle.rdma_types.specs.declared.answers.DropReason.TheVariants as why
+use Rattle.memory_keys.specs.declared.RegisteredRegion.{RegisteredRegion}
+use Rattle.transport.specs.declared.move_core.Control.{Control}
+use Rattle.transport.specs.Table as table
 use Rattle.protocol.specs.EndStep.{takes, takes_kind, takes_other}
 use Rattle.protocol.specs.EndWords.{is_paused, silent}
 use Rattle.protocol.specs.Moves as moves
@@ -59,7 +59,7 @@ taken-request c e l d control ended is none request paused =
     ∙ (ap (λ b. if b then (if is_paused l.moving.phase then silent c why.Paused else takes_request c e l d) else takes_response c e l d) request
     ∙ ap (λ b. if b then silent c why.Paused else takes_request c e l d) paused)
 
-pub ack-reply : (held : List Held) (l : EndLink) (r : EndReply) → IsAck r → IsReply held l r
+pub ack-reply : (held : List RegisteredRegion) (l : EndLink) (r : EndReply) → IsAck r → IsReply held l r
 ack-reply held l reply.Nothing ack = tt
 ack-reply held l (reply.ResumeAck count address) ack = tt
 ack-reply held l (reply.Acknowledge number syndrome) ack = absurd ack

@@ -6,9 +6,9 @@ use Rattle.std.proofs.lemmas.List.Elements.{All-tail}
 use Rattle.rdma_types.specs.declared.names.Name.{Name}
 use Rattle.rdma_types.specs.declared.requests.WcStatus.{WcStatus}
 use Rattle.page_pool.specs.Pool.{Pool, bytes_of, free_pages}
-use Rattle.completion_queue.specs.Queue.{Queue}
-use Rattle.memory_keys.specs.declared.Held.{Held}
-use Rattle.work_queues.specs.declared.posted.QueuedRequest.{QueuedRequest}
+use Rattle.end_queues.specs.Completions.{Queue}
+use Rattle.memory_keys.specs.declared.RegisteredRegion.{RegisteredRegion}
+use Rattle.end_queues.specs.declared.work_queues.posted.QueuedRequest.{QueuedRequest}
 use Rattle.protocol.specs.Requester.{takes_response}
 use Rattle.protocol.specs.State.{Context}
 use Rattle.protocol.specs.Wire.{Fits, Packet, has_old, layout_of}
@@ -17,7 +17,7 @@ use Rattle.requester.specs.declared.answers.ResponseEffect.{ResponseEffect}
 use Rattle.requester.specs.declared.answers.ResponseEffect.TheVariants.{Ended}
 use Rattle.requester.specs.Sending.{sender_of}
 use Rattle.requester.specs.Taking.{taken_response}
-use Rattle.end_memory.specs.Payloads.{payload_lists, payload_pages}
+use Rattle.end_completions.specs.Payloads.{payload_lists, payload_pages}
 use Rattle.endpoint_core.specs.declared.end.EndLink.{EndLink}
 use Rattle.endpoint_core.specs.Ends.{Names, link_in, untold_by}
 use Rattle.endpoint_core.specs.Queues.{nothing, promised, reserved_in}
@@ -120,7 +120,7 @@ pub record IsStep (s s' : EndWithMemory) (l : EndLink) (d : Packet) (T : Respons
   pub sound : IsSound s' nothing
   pub keeps : Keeps s s' [] nothing
 
-module _ (s : EndWithMemory) (l l' : EndLink) (d : Packet) (T : ResponseEffect) (pool' : Pool) (held' : List Held) (qs' : List (Name × Queue))
+module _ (s : EndWithMemory) (l l' : EndLink) (d : Packet) (T : ResponseEffect) (pool' : Pool) (held' : List RegisteredRegion) (qs' : List (Name × Queue))
     (sound : IsSound s nothing) (is : s.end.link ≡ Some l) (running : l.ended ≡ false) (old : d.opcode ≡ 0x12 → IsSome d.old)
     (taken : T ≡ (taken_response l.requester.terms (sender_of l.requester) d).taken) (regions : held' ≡ s.held)
     (link : is_useless T ≡ true → l' ≡ l) (pool : is_useless T ≡ true → pool' ≡ s.pool) (queues : is_useless T ≡ true → qs' ≡ s.queues)

@@ -3,23 +3,23 @@ use Rattle.std.specs.Prelude.{ℕ, ◌≡◌, ◌+◌, ◌<◌, ◌==◌, List, 
 use Rattle.std.specs.Option.{option_map_or}
 use Rattle.rdma_types.specs.declared.answers.Answer.{Answer}
 use Rattle.rdma_types.specs.declared.answers.Answer.TheVariants as answer
-use Rattle.rdma_types.specs.declared.answers.NotWhy.{NotWhy}
+use Rattle.rdma_types.specs.declared.answers.ExpiryIgnored.{ExpiryIgnored}
 use Rattle.rdma_types.specs.declared.answers.Sent.{Sent}
 use Rattle.rdma_types.specs.declared.requests.Receive.{Receive}
-use Rattle.move_core.specs.declared.Control.{Control}
-use Rattle.move_core.specs.declared.Control.TheVariants.{Stopped, Resume, ResumeAck}
-use Rattle.move_core.specs.declared.MoveTook.{MoveTook}
-use Rattle.move_core.specs.declared.MoveTook.TheVariants as row
-use Rattle.rdma_types.specs.declared.answers.Took.{Took}
-use Rattle.rdma_types.specs.declared.answers.Took.TheVariants as took
-use Rattle.rdma_types.specs.declared.answers.SilentWhy.TheVariants as why
+use Rattle.transport.specs.declared.move_core.Control.{Control}
+use Rattle.transport.specs.declared.move_core.Control.TheVariants.{Stopped, Resume, ResumeAck}
+use Rattle.transport.specs.declared.move_core.MoveEffect.{MoveEffect}
+use Rattle.transport.specs.declared.move_core.MoveEffect.TheVariants as row
+use Rattle.rdma_types.specs.declared.answers.ArrivalEffect.{ArrivalEffect}
+use Rattle.rdma_types.specs.declared.answers.ArrivalEffect.TheVariants as took
+use Rattle.rdma_types.specs.declared.answers.DropReason.TheVariants as why
 use Rattle.rdma_types.specs.declared.requests.WcStatus.{WcStatus}
 use Rattle.rdma_types.specs.declared.requests.WcStatus.TheVariants as status
 use Rattle.rdma_types.specs.Lists.{at}
 use Rattle.rdma_types.specs.Objects as objects
 use Rattle.rdma_types.specs.Objects.{Region, no_region}
 use Rattle.rdma_types.specs.Spans.{pieces}
-use Rattle.memory_keys.specs.declared.Held.{Held}
+use Rattle.memory_keys.specs.declared.RegisteredRegion.{RegisteredRegion}
 use Rattle.memory_keys.specs.Regions.{IsSpot, regions_of}
 use Rattle.page_pool.specs.Pool.{Pool}
 use Rattle.protocol.specs.Moves.{fresh_start, resume_packet}
@@ -36,8 +36,8 @@ use Rattle.requester.specs.declared.answers.Transmit.TheVariants.{Sent as IsSent
 use Rattle.requester.specs.Sending.{sender_in}
 use Rattle.requester.specs.Taking.{request_at}
 use Rattle.requester.specs.Transmitting.{piece_said, row_said}
-use Rattle.segmenter.specs.Heads.{packet_with}
-use Rattle.segmenter.specs.declared.head.PacketHead.{PacketHead}
+use Rattle.transport.specs.Heads.{packet_with}
+use Rattle.transport.specs.declared.segmenter.head.PacketHead.{PacketHead}
 use Rattle.endpoint_core.specs.declared.answers.EndReply.{EndReply}
 use Rattle.endpoint_core.specs.declared.answers.EndReply.TheVariants as reply
 use Rattle.endpoint_core.specs.declared.answers.EndSend.{EndSend}
@@ -61,7 +61,7 @@ abbrev pub sent_of : EndWithMemory → EndReply → List Sent
 sent_of s r = option_map_or (λ l. sent_by (regions_of s.pool s.held) (link_in s.pool l) r) s.end.link []
 
 -- the bytes of a read are there, and it has as many responses as they have pieces; an acknowledge or a NAK can be written
-abbrev pub IsReply : List Held → EndLink → EndReply → Type 0
+abbrev pub IsReply : List RegisteredRegion → EndLink → EndReply → Type 0
 IsReply held l (reply.ReadBytes spot first count) = IsSpot held spot × (count ≡ pieces spot.length l.terms.mtu)
 IsReply held l reply.Nothing = ⊤
 IsReply held l (reply.Acknowledge number syndrome) = IsTrue (fits_syndrome 0x11 syndrome)
@@ -146,23 +146,23 @@ sent_at c e (Some l) = linked c e (link_after_row l (transmission l))
 -- ---- expiries
 
 -- the context after an expiry, for the reason that it is not counted, if there is one
-abbrev pub expired_by : Context → End → Link → Option NotWhy → Context
+abbrev pub expired_by : Context → End → Link → Option ExpiryIgnored → Context
 expired_by c e l (Some w) = c
 expired_by c e l None =
     if l.sender.spent == l.terms.retry then ended_with c e l status.RetryExceeded else linked c e (with_sender l (counted l.sender))
 
 -- one more counted expiry is one too many
-abbrev pub is_spent : Link → Option NotWhy → Bool
+abbrev pub is_spent : Link → Option ExpiryIgnored → Bool
 is_spent l (Some w) = false
 is_spent l None = l.sender.spent == l.terms.retry
 
 -- the link after an expiry that is not one too many
-abbrev pub link_after_expiry : Link → Option NotWhy → Link
+abbrev pub link_after_expiry : Link → Option ExpiryIgnored → Link
 link_after_expiry l (Some w) = l
 link_after_expiry l None = with_sender l (counted l.sender)
 
 -- what is answered
-abbrev pub expired_answer : Link → Option NotWhy → Answer
+abbrev pub expired_answer : Link → Option ExpiryIgnored → Answer
 expired_answer l (Some w) = answer.NotCounted w
 expired_answer l None = if l.sender.spent == l.terms.retry then answer.Spent else answer.Expired (l.sender.spent + 1)
 
@@ -185,7 +185,7 @@ pub record IsExpiry (l : Link) (a : Answer) (new : Link) : Type 0 where
 -- ---- moving
 
 -- what a row is answered
-abbrev pub move_took : MoveTook → Took
+abbrev pub move_took : MoveEffect → ArrivalEffect
 move_took row.Paused = took.Paused
 move_took row.Resumed = took.Resumed
 move_took row.Again = took.ResumeAck
@@ -199,7 +199,7 @@ ack_of (Stopped count) = reply.Nothing
 ack_of (ResumeAck count) = reply.Nothing
 
 -- the reply of a row
-abbrev pub move_reply : MoveTook → Control → EndReply
+abbrev pub move_reply : MoveEffect → Control → EndReply
 move_reply row.Paused control = reply.Nothing
 move_reply row.Resumed control = ack_of control
 move_reply row.Again control = ack_of control
@@ -215,7 +215,7 @@ IsAck (reply.ReadBytes spot first count) = ⊥
 IsAck (reply.Old number old) = ⊥
 
 -- the requester after a row
-abbrev pub sender_after : MoveTook → Sender → Sender
+abbrev pub sender_after : MoveEffect → Sender → Sender
 sender_after row.Paused s = s
 sender_after row.Resumed s = fresh_start s
 sender_after row.Again s = s

@@ -9,9 +9,9 @@ use Rattle.rdma_types.specs.Memory.{RemoteRead, remote_key}
 use Rattle.rdma_types.specs.Objects.{Region, no_region}
 use Rattle.rdma_types.specs.Spans.{pieces}
 use Rattle.page_pool.specs.Pool.{Pool}
-use Rattle.memory_keys.specs.declared.Spot.{Spot}
+use Rattle.memory_keys.specs.declared.RegionRange.{RegionRange}
 use Rattle.memory_keys.specs.Regions.{granted_spot, regions_of}
-use Rattle.move_core.specs.Table.{phase_of}
+use Rattle.transport.specs.Table.{phase_of}
 use Rattle.protocol.specs.declared.wire.Reth.{Reth}
 use Rattle.protocol.specs.EndWords.{is_paused}
 use Rattle.protocol.specs.Numbers.{unwrap_near}
@@ -36,7 +36,7 @@ abbrev pub told_msn : Receiver → ℕ → ℕ
 told_msn r n = if n == r.expected then (r.msn + 1) % 16777216 else r.msn
 
 -- the responses of a READ from number n on with the bytes of a spot
-abbrev pub due_of : Receiver → ℕ → Spot → DueRead
+abbrev pub due_of : Receiver → ℕ → RegionRange → DueRead
 due_of r n spot = record { spot = spot; first = n; msn = told_msn r n }
 
 -- .. where the READ is in turn and its place is granted
@@ -69,7 +69,7 @@ abbrev pub responses : Pool → List Region → EndLink → DueRead → ℕ → 
 responses pool regions l due count = read_pieces (telling (link_in pool l) due.msn) (at (λ r. r.keys.local) no_region due.spot.region regions) due.spot.off due.spot.length due.first count
 
 -- what is answered with bytes was due before, in as many responses as it has pieces
-pub record IsDue (old new : EndWithMemory) (l : EndLink) (d : Packet) (spot : Spot) (first count : ℕ) : Type 0 where
+pub record IsDue (old new : EndWithMemory) (l : EndLink) (d : Packet) (spot : RegionRange) (first count : ℕ) : Type 0 where
   pub msn : ℕ
   pub all : count ≡ pieces spot.length l.terms.mtu
   pub due : due_in l (regions_of old.pool old.held) old.end.domain d ≡ Some (record { spot = spot; first = first; msn = msn })

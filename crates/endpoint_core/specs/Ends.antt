@@ -3,9 +3,9 @@ use Rattle.std.specs.Prelude.{◌≡◌, Bool, true, false, List, [], Option, So
 use Rattle.rdma_types.specs.declared.names.Name.{Name}
 use Rattle.rdma_types.specs.declared.requests.Receive.{Receive}
 use Rattle.page_pool.specs.Pool.{Pool}
-use Rattle.work_queues.specs.declared.posted.QueuedRequest.{QueuedRequest}
+use Rattle.end_queues.specs.declared.work_queues.posted.QueuedRequest.{QueuedRequest}
 use Rattle.requester.specs.Sending.{sender_in}
-use Rattle.move_core.specs.Table.{moving_of}
+use Rattle.transport.specs.Table.{moving_of}
 use Rattle.protocol.specs.EndWords.{in_use_by}
 use Rattle.protocol.specs.State.{Link, End}
 use Rattle.endpoint_core.specs.declared.end.Endpoint.{Endpoint}

@@ -5,14 +5,14 @@ use Rattle.rdma_types.specs.declared.requests.Receive.{Receive}
 use Rattle.rdma_types.specs.declared.requests.WcStatus.{WcStatus}
 use Rattle.rdma_types.specs.declared.requests.WcStatus.TheVariants as status
 use Rattle.page_pool.specs.Pool.{Pool}
-use Rattle.completion_queue.specs.Queue.{Queue}
-use Rattle.work_queues.specs.Queue.{Queue as WorkQueue}
-use Rattle.move_core.specs.declared.Phase.TheVariants as phase
+use Rattle.end_queues.specs.Completions.{Queue}
+use Rattle.end_queues.specs.Postings.{Queue as WorkQueue}
+use Rattle.transport.specs.declared.move_core.Phase.TheVariants as phase
 use Rattle.protocol.specs.EndWords.{failed_receive, in_use_by}
 use Rattle.protocol.specs.Requester.{emptied_at, end_of_queue, failing}
 use Rattle.requester.specs.Sending.{bares, sender_of}
 use Rattle.responder.specs.Receiving.{idled}
-use Rattle.end_memory.specs.Payloads.{GivesBack}
+use Rattle.end_completions.specs.Payloads.{GivesBack}
 use Rattle.endpoint_core.specs.declared.end.EndLink.{EndLink}
 use Rattle.endpoint_core.specs.Queues.{settle_at}
 

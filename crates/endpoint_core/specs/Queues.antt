@@ -5,8 +5,8 @@ use Rattle.std.specs.Map.{keys_of}
 use Rattle.rdma_types.specs.declared.names.Name.{Name}
 use Rattle.rdma_types.specs.Objects.{CompletionQueue}
 use Rattle.rdma_types.specs.declared.requests.Completion.{Completion}
-use Rattle.completion_queue.specs.Queue.{Queue}
-use Rattle.end_memory.specs.Completing.{settled}
+use Rattle.end_queues.specs.Completions.{Queue}
+use Rattle.end_completions.specs.Completing.{settled}
 use Rattle.endpoint_core.specs.declared.end.Endpoint.{Endpoint}
 use Rattle.endpoint_core.specs.Ends.{untold_by, used_by}
 

@@ -1,16 +1,16 @@
 -- What a response does at a connected end: what lands, what is told, and the answer.
 use Rattle.std.specs.Prelude.{ℕ, ◌≡◌, ◌+◌, ◌≤◌, Bool, true, false, List, length, drop, take, Some, ⊤, slice_get, unwrap_or}
-use Rattle.rdma_types.specs.declared.answers.SilentWhy.TheVariants as why
-use Rattle.rdma_types.specs.declared.answers.Took.{Took}
-use Rattle.rdma_types.specs.declared.answers.Took.TheVariants as took
+use Rattle.rdma_types.specs.declared.answers.DropReason.TheVariants as why
+use Rattle.rdma_types.specs.declared.answers.ArrivalEffect.{ArrivalEffect}
+use Rattle.rdma_types.specs.declared.answers.ArrivalEffect.TheVariants as took
 use Rattle.rdma_types.specs.declared.names.Name.{Name}
 use Rattle.rdma_types.specs.Kinds.{is_atomic, lands}
 use Rattle.rdma_types.specs.Memory.{word_bytes}
 use Rattle.rdma_types.specs.Objects as objects
 use Rattle.page_pool.specs.Pool.{Pool, free_pages}
-use Rattle.memory_keys.specs.declared.Held.{Held}
+use Rattle.memory_keys.specs.declared.RegisteredRegion.{RegisteredRegion}
 use Rattle.memory_keys.specs.Regions.{AreHeld, KeepsOthers, regions_of}
-use Rattle.completion_queue.specs.Queue.{Queue}
+use Rattle.end_queues.specs.Completions.{Queue}
 use Rattle.protocol.specs.Memory.{landed}
 use Rattle.protocol.specs.Requester as rows
 use Rattle.protocol.specs.Requester.{after_telling, told_completions}
@@ -19,12 +19,12 @@ use Rattle.protocol.specs.Wire.{Packet}
 use Rattle.requester.specs.declared.answers.ResponseEffect.{ResponseEffect}
 use Rattle.requester.specs.declared.answers.ResponseEffect.TheVariants.{Acked, Ended, Landed, OldLanded, Rewound, Useless, Waits}
 use Rattle.requester.specs.Sending.{bares, sender_of}
-use Rattle.end_memory.specs.Payloads.{GivesBack}
+use Rattle.end_completions.specs.Payloads.{GivesBack}
 use Rattle.endpoint_core.specs.declared.end.EndLink.{EndLink}
 use Rattle.endpoint_core.specs.Queues.{settle_at}
 
 -- what is answered
-abbrev pub response_took : ResponseEffect → Took
+abbrev pub response_took : ResponseEffect → ArrivalEffect
 response_took Acked = took.Acked
 response_took (Landed index off) = took.Landed
 response_took (OldLanded index old) = took.Landed
@@ -68,14 +68,14 @@ Lands us d (Ended why) = ⊤
 Lands us d Useless = ⊤
 
 -- regions with what landed, in a pool where all else is as it was
-pub record HasLanded (us : List objects.Posted) (d : Packet) (t : ResponseEffect) (pool pool' : Pool) (held : List Held) : Type 0 where
+pub record HasLanded (us : List objects.Posted) (d : Packet) (t : ResponseEffect) (pool pool' : Pool) (held : List RegisteredRegion) : Type 0 where
   pub landing : (c : Context) → c.regions ≡ regions_of pool held → landed_by c us d t ≡ record c { regions = regions_of pool' held }
   pub regions : AreHeld pool' held
   pub others : KeepsOthers pool pool' held
   pub free : free_pages pool' ≡ free_pages pool
 
 -- what landed, and then what was told, from the requester after the response
-pub record HasAnswered (number place : ℕ) (s : Sender) (d : Packet) (t : ResponseEffect) (l l' : EndLink) (pool pool' : Pool) (held : List Held) (qs qs' : List (Name × Queue)) : Type 0 where
+pub record HasAnswered (number place : ℕ) (s : Sender) (d : Packet) (t : ResponseEffect) (l l' : EndLink) (pool pool' : Pool) (held : List RegisteredRegion) (qs qs' : List (Name × Queue)) : Type 0 where
   pub untold : s.untold ≡ bares l.requester.items
   pub same : l' ≡ record l { requester = l'.requester }
   pub terms : l'.requester.terms ≡ l.requester.terms

@@ -4,10 +4,10 @@ use Rattle.std.specs.Borrow.{MutBor}
 use Rattle.indexmap.specs.IndexMap.{IndexMap}
 use Rattle.rdma_types.specs.declared.names.Name.{Name}
 use Rattle.page_pool.specs.Pool.{Pool, bytes_of, free_pages}
-use Rattle.completion_queue.specs.Queue.{Queue}
-use Rattle.memory_keys.specs.declared.Held.{Held}
+use Rattle.end_queues.specs.Completions.{Queue}
+use Rattle.memory_keys.specs.declared.RegisteredRegion.{RegisteredRegion}
 use Rattle.memory_keys.specs.Regions.{AreHeld, regions_of}
-use Rattle.work_queues.specs.declared.posted.QueuedRequest.{QueuedRequest}
+use Rattle.end_queues.specs.declared.work_queues.posted.QueuedRequest.{QueuedRequest}
 use Rattle.protocol.specs.State.{Context, End}
 use Rattle.protocol.specs.EndWords.{with_end}
 use Rattle.endpoint_core.specs.declared.memory.EndMemory.{EndMemory}
@@ -19,7 +19,7 @@ use Rattle.endpoint_core.specs.Sound.{IsEnd, KeepsLists, payload_lists, payload_
 -- an end, and the memory that it is lent: the pool, the regions, the queues, and the places of its two queues
 pub record EndWithMemory : Type 0 where
   pub pool : Pool
-  pub held : List Held
+  pub held : List RegisteredRegion
   pub queues : List (Name × Queue)
   pub send : ℕ
   pub recv : ℕ
@@ -31,13 +31,13 @@ site_of m e = record { pool = m.pool.now; held = m.regions.now; queues = m.queue
 
 -- the memory that an end was lent, as it is after the call: a clause sees it as `memory.exit`, its fields in nested pairs
 abbrev pub LeftMemory : Type 0 → Type 0
-LeftMemory Hasher = MutBor Pool × (MutBor (List Held) × (MutBor (IndexMap Name Queue Hasher) × (ℕ × (ℕ × Unit {0}))))
+LeftMemory Hasher = MutBor Pool × (MutBor (List RegisteredRegion) × (MutBor (IndexMap Name Queue Hasher) × (ℕ × (ℕ × Unit {0}))))
 
 module _ {Hasher : Type 0} where
   abbrev pub pool_left : LeftMemory Hasher → Pool
   pool_left (pool, rest) = pool.now
 
-  abbrev pub regions_left : LeftMemory Hasher → List Held
+  abbrev pub regions_left : LeftMemory Hasher → List RegisteredRegion
   regions_left (pool, (regions, rest)) = regions.now
 
   abbrev pub queues_left : LeftMemory Hasher → IndexMap Name Queue Hasher

@@ -1,7 +1,7 @@
 //! What the calls of an end answer.
 
-use memory_keys::Spot;
-use rdma_types::{Address, Took};
+use memory_keys::RegionRange;
+use rdma_types::{Address, ArrivalEffect};
 use requester::Transmit;
 use roce_headers::Syndrome;
 
@@ -23,19 +23,32 @@ pub enum EndSend {
 pub enum EndReply {
     Nothing,
     /// An acknowledge or a NAK.
-    Acknowledge { number: u64, syndrome: Syndrome },
+    Acknowledge {
+        number: u64,
+        syndrome: Syndrome,
+    },
     /// The bytes at `spot` in so many READ responses, the first with number `first`.
-    ReadBytes { spot: Spot, first: u64, pieces: u64 },
+    ReadBytes {
+        spot: RegionRange,
+        first: u64,
+        pieces: u64,
+    },
     /// The old value of an atomic.
-    Old { number: u64, old: u64 },
+    Old {
+        number: u64,
+        old: u64,
+    },
     /// RESUME_ACK with this body.
-    ResumeAck { count: u32, address: Address },
+    ResumeAck {
+        count: u32,
+        address: Address,
+    },
 }
 
 /// What a datagram did at an end, and what it is answered with.
 #[derive(Clone, Copy)]
-pub struct EndTook {
-    pub took: Took,
+pub struct EndEffect {
+    pub took: ArrivalEffect,
     pub reply: EndReply,
 }
 
@@ -43,7 +56,7 @@ pub struct EndTook {
 /// that they tell.
 #[derive(Clone, Copy)]
 pub struct DueRead {
-    pub spot: Spot,
+    pub spot: RegionRange,
     pub first: u64,
     pub msn: u32,
 }

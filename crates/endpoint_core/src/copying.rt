@@ -3,8 +3,8 @@
 ghost use Rattle.std.specs.Prelude.{◌≡◌, IfOk, None, OnOk};
 
 use crate::end::{EndLink, Endpoint};
+use end_queues::work_queues::{SendQueue, copy_recvs, copy_sends};
 use std::alloc::{AllocError, Global};
-use work_queues::{SendQueue, copy_recvs, copy_sends};
 
 /// Puts an equal send queue in its place, at an end that is not connected yet.
 fn copy_unlinked(

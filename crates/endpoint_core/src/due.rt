@@ -12,14 +12,12 @@ ghost use Rattle.endpoint_core.specs.Due.{due_in, due_read, is_in_turn};
 use crate::answers::DueRead;
 use crate::end::EndLink;
 use memory_keys::Regions;
-use psn_math::{WIRE_NUMBERS, unwrap_near};
+use rdma_types::limits::MOST_BYTES;
 use rdma_types::{Name, Rights};
 use roce_headers::Datagram;
 use roce_headers::opcodes::READ_REQUEST;
-use segmenter::pieces_of;
-
-/// How many bytes a message may have.
-const MOST_BYTES: u32 = 1_048_576;
+use transport::psn_math::{WIRE_NUMBERS, unwrap_near};
+use transport::segmenter::pieces_of;
 
 /// Whether a READ of so many numbers and bytes from number `n` on is answered by its number.
 fn is_in_turn(expected: u64, n: u64, count: u64, length: u32) -> bool
@@ -41,7 +39,8 @@ impl EndLink {
     pub fn due(&self, regions: &Regions, domain: Name, d: &Datagram<'_>) -> Option<DueRead>
         requires psn { d.now.psn < 2 ^ 24 }
         requires terms { AreTerms self.now.terms }
-        ensures due { (pool : Pool) → result ≡ due_in self.now (regions_of pool regions.now) domain (packet d.now) }
+        ensures due { (pool : Pool)
+            → result ≡ due_in self.now (regions_of pool regions.now) domain (packet d.now) }
         ensures inside { IfSome result (λ r. IsSpot regions.now r.spot) }
         ensures number { IfSome result (λ r. r.first < 2 ^ 62) }
         ensures msn { IfSome result (λ r. r.msn < 2 ^ 24) }
@@ -56,7 +55,9 @@ impl EndLink {
     fn due_read(&self, regions: &Regions, domain: Name, d: &Datagram<'_>) -> Option<DueRead>
         requires psn { d.now.psn < 2 ^ 24 }
         requires terms { AreTerms self.now.terms }
-        ensures due { (pool : Pool) → result ≡ due_read self.now.terms self.now.responder.receiver (regions_of pool regions.now) domain (packet d.now) }
+        ensures due { (pool : Pool)
+            → result ≡ due_read self.now.terms self.now.responder.receiver
+            (regions_of pool regions.now) domain (packet d.now) }
         ensures inside { IfSome result (λ r. IsSpot regions.now r.spot) }
         ensures number { IfSome result (λ r. r.first < 2 ^ 62) }
         ensures msn { IfSome result (λ r. r.msn < 2 ^ 24) }

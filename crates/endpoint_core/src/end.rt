@@ -1,10 +1,10 @@
 //! An end and its connection.
 
-use move_core::MoveState;
+use end_queues::work_queues::{RecvQueue, SendQueue};
 use rdma_types::{Name, Terms};
 use requester::Requester;
 use responder::Responder;
-use work_queues::{RecvQueue, SendQueue};
+use transport::move_core::MoveState;
 
 /// A queue pair. `unlinked` is there exactly until it is connected, and `link` from then on.
 #[derive(Drop)]

@@ -5,8 +5,8 @@ ghost use Rattle.std.specs.List.{IsDistinct};
 ghost use Rattle.std.specs.Map.{keys_of};
 ghost use Rattle.rdma_types.specs.declared.names.Name.{Name};
 ghost use Rattle.page_pool.specs.Pool.{Pool, bytes_of};
-ghost use Rattle.completion_queue.specs.Queue.{Queue};
-ghost use Rattle.memory_keys.specs.declared.Held.{Held};
+ghost use Rattle.end_queues.specs.Completions.{Queue};
+ghost use Rattle.memory_keys.specs.declared.RegisteredRegion.{RegisteredRegion};
 ghost use Rattle.protocol.specs.Refusals.{reserved_by};
 ghost use Rattle.endpoint_core.specs.declared.end.Endpoint.{Endpoint};
 ghost use Rattle.endpoint_core.specs.Ends.{Names, end_in, untold_by};
@@ -24,7 +24,7 @@ pub fn reservations_are_the_protocols()
 
 /// An end whose requests' payloads are as they were in another pool is the same end there, in the protocol's words too.
 pub fn an_end_stays()
-    ensures sound { (old new : Pool) (held : List Held) (e : Endpoint) → All (λ p. bytes_of new p.payload.list ≡ bytes_of old p.payload.list) (untold_by e.link)
+    ensures sound { (old new : Pool) (held : List RegisteredRegion) (e : Endpoint) → All (λ p. bytes_of new p.payload.list ≡ bytes_of old p.payload.list) (untold_by e.link)
         → IsEnd old held e → IsEnd new held e }
     ensures same { (old new : Pool) (names : Names) (e : Endpoint) → All (λ p. bytes_of new p.payload.list ≡ bytes_of old p.payload.list) (untold_by e.link)
         → end_in new names e ≡ end_in old names e }

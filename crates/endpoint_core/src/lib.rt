@@ -17,7 +17,7 @@ mod sending;
 mod serving;
 mod taking;
 
-pub use answers::{BadState, DueRead, EndReply, EndSend, EndTook};
+pub use answers::{BadState, DueRead, EndEffect, EndReply, EndSend};
 pub use end::{EndLink, Endpoint};
 pub use laws::{an_end_stays, reservations_are_the_protocols};
 pub use memory::EndMemory;

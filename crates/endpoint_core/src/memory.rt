@@ -1,6 +1,6 @@
 //! What an end is lent.
 
-use completion_queue::Cq;
+use end_queues::completion_queue::Cq;
 use indexmap::IndexMap;
 use memory_keys::Regions;
 use page_pool::PagePool;

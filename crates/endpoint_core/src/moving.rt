@@ -4,7 +4,7 @@ ghost use Rattle.std.specs.Prelude.{◌≡◌, ℕ, List, false};
 ghost use Rattle.std.specs.Option.{option_map};
 ghost use Rattle.rdma_types.specs.Objects.{Region};
 ghost use Rattle.page_pool.specs.Pool.{Pool};
-ghost use Rattle.move_core.specs.Table as table;
+ghost use Rattle.transport.specs.Table as table;
 ghost use Rattle.protocol.specs.EndWords as words;
 ghost use Rattle.protocol.specs.EndWords.{linked};
 ghost use Rattle.protocol.specs.Moves as moves;
@@ -14,12 +14,12 @@ ghost use Rattle.requester.specs.Sending.{sender_in};
 ghost use Rattle.endpoint_core.specs.Answers.{IsAck, move_reply, move_took, sender_after, sent_by};
 ghost use Rattle.endpoint_core.specs.Ends.{KeepsLink, link_in};
 
-use crate::answers::{EndReply, EndTook};
+use crate::answers::{EndEffect, EndReply};
 use crate::end::EndLink;
-use move_core::{Control, MoveTook, Phase};
-use rdma_types::{SilentWhy, Took};
+use rdma_types::{ArrivalEffect, DropReason};
 use roce_headers::opcodes::RESUME;
 use roce_headers::{Datagram, Syndrome};
+use transport::move_core::{Control, MoveEffect, Phase};
 
 /// A message of moving; None for every other datagram.
 #[tactic(auto, unfolding(protocol::specs::Moves::control_of, protocol::specs::Wire::is_nak_stopped))]
@@ -42,25 +42,25 @@ pub fn control_of(d: &Datagram<'_>) -> Option<Control>
 }
 
 /// What a row is answered.
-fn took_of(row: MoveTook) -> Took
+fn took_of(row: MoveEffect) -> ArrivalEffect
     ensures { result ≡ move_took row }
 {
     match row {
-        MoveTook::Paused => Took::Paused,
-        MoveTook::Resumed => Took::Resumed,
-        MoveTook::Again => Took::ResumeAck,
-        MoveTook::Running => Took::Running,
-        MoveTook::Stale => Took::Silent(SilentWhy::Stale),
+        MoveEffect::Paused => ArrivalEffect::Paused,
+        MoveEffect::Resumed => ArrivalEffect::Resumed,
+        MoveEffect::Again => ArrivalEffect::ResumeAck,
+        MoveEffect::Running => ArrivalEffect::Running,
+        MoveEffect::Stale => ArrivalEffect::Silent(DropReason::Stale),
     }
 }
 
 /// RESUME_ACK with the body of a RESUME that a row takes.
-fn reply_of(row: MoveTook, control: Control) -> EndReply
+fn reply_of(row: MoveEffect, control: Control) -> EndReply
     ensures { result ≡ move_reply row control }
 {
     match row {
-        MoveTook::Paused | MoveTook::Running | MoveTook::Stale => EndReply::Nothing,
-        MoveTook::Resumed | MoveTook::Again => match control {
+        MoveEffect::Paused | MoveEffect::Running | MoveEffect::Stale => EndReply::Nothing,
+        MoveEffect::Resumed | MoveEffect::Again => match control {
             Control::Resume { count, address } => EndReply::ResumeAck { count, address },
             Control::Stopped { .. } | Control::ResumeAck { .. } => EndReply::Nothing,
         },
@@ -69,7 +69,7 @@ fn reply_of(row: MoveTook, control: Control) -> EndReply
 
 impl EndLink {
     /// Takes a message of moving at an end that is not in Error.
-    pub fn take_control(&mut self, control: Control) -> EndTook
+    pub fn take_control(&mut self, control: Control) -> EndEffect
         requires { self.old.ended ≡ false }
         ensures step { (c : Context) (e : End) (pool : Pool) (regions : List Region) → linked c e (link_in pool self.old) ≡ c
             → moves.takes_control c e (link_in pool self.old) (table.control_of control)
@@ -79,29 +79,31 @@ impl EndLink {
     {
         let row = self.moves.take(control);
         self.go_on(row);
-        EndTook {
+        EndEffect {
             took: took_of(row),
             reply: reply_of(row, control),
         }
     }
 
     /// After a RESUME all requests are sent again, and the end does not wait for the RNR timer.
-    fn go_on(&mut self, row: MoveTook)
-        ensures next { (pool : Pool) → sender_in pool self.new.requester ≡ sender_after row (sender_in pool self.old.requester) }
+    fn go_on(&mut self, row: MoveEffect)
+        ensures next { (pool : Pool) → sender_in pool self.new.requester
+            ≡ sender_after row (sender_in pool self.old.requester) }
         ensures same { self.new ≡ record self.old { requester = self.new.requester } }
         ensures terms { self.new.requester.terms ≡ self.old.requester.terms }
         ensures depth { self.new.requester.depth ≡ self.old.requester.depth }
         ensures items { self.new.requester.items ≡ self.old.requester.items }
     {
         match row {
-            MoveTook::Resumed => self.start_again(),
-            MoveTook::Paused | MoveTook::Again | MoveTook::Running | MoveTook::Stale => {}
+            MoveEffect::Resumed => self.start_again(),
+            MoveEffect::Paused | MoveEffect::Again | MoveEffect::Running | MoveEffect::Stale => {}
         }
     }
 
     /// All requests are sent again, and the end does not wait for the RNR timer.
     fn start_again(&mut self)
-        ensures next { (pool : Pool) → sender_in pool self.new.requester ≡ moves.fresh_start (sender_in pool self.old.requester) }
+        ensures next { (pool : Pool) → sender_in pool self.new.requester
+            ≡ moves.fresh_start (sender_in pool self.old.requester) }
         ensures same { self.new ≡ record self.old { requester = self.new.requester } }
         ensures terms { self.new.requester.terms ≡ self.old.requester.terms }
         ensures depth { self.new.requester.depth ≡ self.old.requester.depth }

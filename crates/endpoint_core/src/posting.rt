@@ -6,7 +6,7 @@ ghost use Rattle.protocol.specs.Requester.{end_of_queue};
 ghost use Rattle.rdma_types.specs.Spans.{span};
 ghost use Rattle.requester.specs.Sending.{posting, sender_of};
 ghost use Rattle.responder.specs.Sound.{IsPlace};
-ghost use Rattle.work_queues.specs.Untold.{posted_in};
+ghost use Rattle.end_queues.specs.Untold.{posted_in};
 ghost use Rattle.endpoint_core.specs.Answers.{posted_by, received_at};
 ghost use Rattle.endpoint_core.specs.Ends.{Names, is_ended_link, untold_by};
 ghost use Rattle.endpoint_core.specs.Queues.{count_at, nothing};
@@ -16,10 +16,10 @@ ghost use Rattle.endpoint_core.specs.Sound.{IsNew};
 use crate::end::{EndLink, Endpoint};
 use crate::memory::EndMemory;
 use crate::queues::{fail_at, push_at};
-use end_memory::received;
+use end_completions::received;
+use end_queues::work_queues::QueuedRequest;
 use rdma_types::{Receive, WcStatus};
 use responder::soundness_stays;
-use work_queues::QueuedRequest;
 
 impl Endpoint {
     /// Posts a request, and reserves one more place for its completion. In Error it completes at once, flushed, and its
@@ -37,7 +37,8 @@ impl Endpoint {
             → posted_by c (end_at names (site_of memory.entry self.old)) (end_at names (site_of memory.entry self.old)).link (posted_in memory.entry.pool.now p)
             ≡ home c names (site_left memory.exit self.new)) }
         ensures sound { OnOk result (IsSound (site_left memory.exit self.new) nothing) }
-        ensures keeps { OnOk result (Keeps (site_of memory.entry self.old) (site_left memory.exit self.new) (p ∷ []) (count_at memory.entry.send 1)) }
+        ensures keeps { OnOk result (Keeps (site_of memory.entry self.old)
+            (site_left memory.exit self.new) (p ∷ []) (count_at memory.entry.send 1)) }
         ensures still { OnOk result (is_ended_link self.old.link ≡ true → self.new ≡ self.old) }
         ensures full { IsErr result ↔ (self.old.send_depth ≤ length (untold_by self.old.link)) }
         ensures back { IfErr result (λ x. x ≡ p) }
@@ -76,7 +77,8 @@ impl Endpoint {
             → received_at c (end_at names (site_of memory.entry self.old)) r
             ≡ home c names (site_left memory.exit self.new)) }
         ensures sound { OnOk result (IsSound (site_left memory.exit self.new) nothing) }
-        ensures keeps { OnOk result (Keeps (site_of memory.entry self.old) (site_left memory.exit self.new) [] (count_at memory.entry.recv 1)) }
+        ensures keeps { OnOk result (Keeps (site_of memory.entry self.old)
+            (site_left memory.exit self.new) [] (count_at memory.entry.recv 1)) }
         ensures full { IsErr result ↔ (self.old.recv_depth ≤ length self.old.recvs.items) }
         ensures back { IfErr result (λ x. x ≡ r) }
         ensures err { OnErr result (self.new ≡ self.old) }
@@ -108,8 +110,10 @@ impl Endpoint {
 impl EndLink {
     /// Posts a request at an end that is not in Error.
     fn post(&mut self, p: QueuedRequest) -> Result<(), QueuedRequest>
-        requires { end_of_queue self.old.requester.terms (sender_of self.old.requester) + span p.request.shape self.old.requester.terms.mtu < 2 ^ 62 }
-        ensures ok { OnOk result (self.new ≡ record self.old { requester = posting self.old.requester p }) }
+        requires { end_of_queue self.old.requester.terms (sender_of self.old.requester)
+            + span p.request.shape self.old.requester.terms.mtu < 2 ^ 62 }
+        ensures ok { OnOk result (self.new
+            ≡ record self.old { requester = posting self.old.requester p }) }
         ensures full { IsErr result ↔ (length self.old.requester.items ≡ self.old.requester.depth) }
         ensures back { IfErr result (λ x. x ≡ p) }
         ensures err { OnErr result (self.new ≡ self.old) }

@@ -5,33 +5,33 @@ ghost use Rattle.memory_keys.specs.Regions.{AreHeld};
 ghost use Rattle.roce_headers.specs.Packets.{packet};
 ghost use Rattle.requester.specs.Sending.{bares, sender_of};
 ghost use Rattle.requester.specs.Taking.{taken_response};
-ghost use Rattle.end_memory.specs.Payloads.{AreApart};
+ghost use Rattle.end_completions.specs.Payloads.{AreApart};
 ghost use Rattle.endpoint_core.specs.Queues.{reserved_in};
 ghost use Rattle.endpoint_core.specs.Responded.{HasAnswered, HasLanded, Lands, is_useless as is_useless_answer, response_took};
 ghost use Rattle.endpoint_core.specs.Sound.{IsPosted};
 
 use crate::end::EndLink;
 use crate::queues::tell_at;
-use completion_queue::Cq;
-use end_memory::land;
+use end_completions::land;
+use end_queues::completion_queue::Cq;
 use indexmap::IndexMap;
 use memory_keys::Regions;
 use page_pool::PagePool;
-use rdma_types::{Name, SilentWhy, Took};
+use rdma_types::{ArrivalEffect, DropReason, Name};
 use requester::{Requester, ResponseEffect};
 use roce_headers::Datagram;
 
 /// What a response did, in the words of an end.
-pub fn took_of(taken: ResponseEffect) -> Took
+pub fn took_of(taken: ResponseEffect) -> ArrivalEffect
     ensures { result ≡ response_took taken }
 {
     match taken {
-        ResponseEffect::Acked => Took::Acked,
-        ResponseEffect::Landed { .. } | ResponseEffect::OldLanded { .. } => Took::Landed,
-        ResponseEffect::Rewound => Took::Rewound,
-        ResponseEffect::Waits => Took::Waits,
-        ResponseEffect::Ended(status) => Took::Ended(status),
-        ResponseEffect::Useless => Took::Silent(SilentWhy::Useless),
+        ResponseEffect::Acked => ArrivalEffect::Acked,
+        ResponseEffect::Landed { .. } | ResponseEffect::OldLanded { .. } => ArrivalEffect::Landed,
+        ResponseEffect::Rewound => ArrivalEffect::Rewound,
+        ResponseEffect::Waits => ArrivalEffect::Waits,
+        ResponseEffect::Ended(status) => ArrivalEffect::Ended(status),
+        ResponseEffect::Useless => ArrivalEffect::Silent(DropReason::Useless),
     }
 }
 
@@ -54,7 +54,8 @@ fn land_taken(
     requires held { AreHeld pool.old regions.old }
     requires posted { All (IsPosted pool.old regions.old domain) requester.now.items }
     requires lands { Lands (bares requester.now.items) (packet d.now) taken }
-    ensures landed { HasLanded (bares requester.now.items) (packet d.now) taken pool.old pool.new regions.old }
+    ensures landed { HasLanded (bares requester.now.items)
+        (packet d.now) taken pool.old pool.new regions.old }
     ensures same { regions.new ≡ regions.old }
 {
     match taken {
@@ -94,11 +95,14 @@ impl EndLink {
         requires apart { AreApart pool.old self.old.requester.items }
         requires there { send < length queues.old.entries }
         requires reserved { length self.old.requester.items ≤ reserved_in queues.old.entries send }
-        ensures taken { result ≡ (taken_response self.old.requester.terms (sender_of self.old.requester) (packet d.now)).taken }
+        ensures taken { result
+            ≡ (taken_response self.old.requester.terms (sender_of self.old.requester)
+            (packet d.now)).taken }
         ensures regions { regions.new ≡ regions.old }
         ensures useless_link { is_useless_answer result ≡ true → self.new ≡ self.old }
         ensures useless_pool { is_useless_answer result ≡ true → pool.new ≡ pool.old }
-        ensures useless_queues { is_useless_answer result ≡ true → queues.new.entries ≡ queues.old.entries }
+        ensures useless_queues { is_useless_answer result ≡ true
+            → queues.new.entries ≡ queues.old.entries }
         ensures answered { is_useless_answer result ≡ false
             → HasAnswered number send (taken_response self.old.requester.terms (sender_of self.old.requester) (packet d.now)).sender (packet d.now) result self.old self.new pool.old pool.new regions.old queues.old.entries queues.new.entries }
     {

@@ -12,49 +12,49 @@ ghost use Rattle.responder.specs.Taking.{taken_request};
 ghost use Rattle.endpoint_core.specs.Queues.{reserved_in};
 ghost use Rattle.endpoint_core.specs.Served.{HasServed, request_answer};
 
-use crate::answers::{EndReply, EndTook};
+use crate::answers::{EndEffect, EndReply};
 use crate::end::EndLink;
-use completion_queue::Cq;
+use end_queues::completion_queue::Cq;
+use end_queues::work_queues::RecvQueue;
 use indexmap::IndexMap;
 use memory_keys::Regions;
 use page_pool::PagePool;
-use rdma_types::{Name, Took};
-use responder::{Reply, Why};
+use rdma_types::{ArrivalEffect, Name};
+use responder::{RefusalReason, Reply};
 use roce_headers::{Datagram, Syndrome};
-use work_queues::RecvQueue;
 
 /// The NAK code of a refusal.
-fn nak_code(why: Why) -> u8
+fn nak_code(why: RefusalReason) -> u8
     ensures { result ≡ nak_number why }
 {
     match why {
-        Why::Invalid | Why::Length => 1,
-        Why::Access => 2,
+        RefusalReason::Invalid | RefusalReason::Length => 1,
+        RefusalReason::Access => 2,
     }
 }
 
 /// A row of the responder's, and the acknowledge or NAK that is due.
-fn acknowledged(took: Took, number: u64, syndrome: Syndrome) -> EndTook
+fn acknowledged(took: ArrivalEffect, number: u64, syndrome: Syndrome) -> EndEffect
     ensures { result ≡ record { took = took; reply = EndReply.Acknowledge number syndrome } }
 {
     let reply = EndReply::Acknowledge { number, syndrome };
-    EndTook { took, reply }
+    EndEffect { took, reply }
 }
 
 /// A row of the responder's, and another reply.
-fn replied(took: Took, reply: EndReply) -> EndTook
+fn replied(took: ArrivalEffect, reply: EndReply) -> EndEffect
     ensures { result ≡ record { took = took; reply = reply } }
 {
-    EndTook { took, reply }
+    EndEffect { took, reply }
 }
 
 /// What a request is answered, from the responder's answer and from the expected numbers before and after it.
-pub fn answer_of(reply: Reply, before: u64, after: u64) -> EndTook
+pub fn answer_of(reply: Reply, before: u64, after: u64) -> EndEffect
     ensures { result ≡ request_answer reply before after }
 {
     match reply {
-        Reply::Acted => replied(Took::Acted, EndReply::Nothing),
-        Reply::Ack => acknowledged(Took::Ack, after.saturating_sub(1), Syndrome::Ack),
+        Reply::Acted => replied(ArrivalEffect::Acted, EndReply::Nothing),
+        Reply::Ack => acknowledged(ArrivalEffect::Ack, after.saturating_sub(1), Syndrome::Ack),
         Reply::ReadBytes {
             spot,
             first,
@@ -65,16 +65,27 @@ pub fn answer_of(reply: Reply, before: u64, after: u64) -> EndTook
                 first,
                 pieces,
             };
-            replied(Took::Bytes, bytes)
+            replied(ArrivalEffect::Bytes, bytes)
         }
-        Reply::AtomicOld { number, old } => replied(Took::Old, EndReply::Old { number, old }),
-        Reply::SequenceNak => acknowledged(Took::SeqNak, before, Syndrome::Nak(0)),
-        Reply::NotReady => acknowledged(Took::NotReady, before, Syndrome::Rnr),
+        Reply::AtomicOld { number, old } => replied(
+            ArrivalEffect::Old,
+            EndReply::Old { number, old },
+        ),
+        Reply::SequenceNak => acknowledged(ArrivalEffect::SeqNak, before, Syndrome::Nak(0)),
+        Reply::NotReady => acknowledged(ArrivalEffect::NotReady, before, Syndrome::Rnr),
         Reply::Refused(why) => {
-            acknowledged(Took::Refused(why), before, Syndrome::Nak(nak_code(why)))
+            acknowledged(
+                ArrivalEffect::Refused(why),
+                before,
+                Syndrome::Nak(nak_code(why)),
+            )
         }
-        Reply::DupAck => acknowledged(Took::DupAck, before.saturating_sub(1), Syndrome::Ack),
-        Reply::Silent(why) => replied(Took::Silent(why), EndReply::Nothing),
+        Reply::DupAck => acknowledged(
+            ArrivalEffect::DupAck,
+            before.saturating_sub(1),
+            Syndrome::Ack,
+        ),
+        Reply::Silent(why) => replied(ArrivalEffect::Silent(why), EndReply::Nothing),
     }
 }
 
@@ -103,11 +114,18 @@ impl EndLink {
         requires held { AreHeld pool.old regions.old }
         requires serving { IsServing regions.old domain self.old.responder recvs.old.items }
         requires there { recv < length queues.old.entries }
-        requires reserved { waiting self.old.responder.receiver recvs.old.items ≤ reserved_in queues.old.entries recv }
-        ensures reply { result ≡ (taken_request self.old.responder.terms domain number self.old.responder.receiver (regions_of pool.old regions.old) recvs.old.items (packet d.now)).reply }
+        requires reserved { waiting self.old.responder.receiver recvs.old.items
+            ≤ reserved_in queues.old.entries recv }
+        ensures reply { result
+            ≡ (taken_request self.old.responder.terms domain number self.old.responder.receiver
+            (regions_of pool.old regions.old) recvs.old.items (packet d.now)).reply }
         ensures regions { regions.new ≡ regions.old }
         ensures read { IsRead regions.new self.old.responder.terms.mtu result }
-        ensures served { HasServed recv domain (taken_request self.old.responder.terms domain number self.old.responder.receiver (regions_of pool.old regions.old) recvs.old.items (packet d.now)) self.old self.new recvs.old recvs.new pool.old pool.new regions.old queues.old.entries queues.new.entries }
+        ensures served { HasServed recv domain
+            (taken_request self.old.responder.terms domain number self.old.responder.receiver
+            (regions_of pool.old regions.old) recvs.old.items (packet d.now)) self.old self.new
+            recvs.old recvs.new pool.old pool.new regions.old queues.old.entries
+            queues.new.entries }
     {
         let cq = queues.get_index_mut(recv as usize).unwrap();
         self.responder

@@ -1,7 +1,7 @@
 //! What an end does with a datagram.
 
 ghost use Rattle.std.specs.Prelude.{◌≡◌, [], false, IsSome, IfSome, IsTrue, Some};
-ghost use Rattle.move_core.specs.Table.{phase_of};
+ghost use Rattle.transport.specs.Table.{phase_of};
 ghost use Rattle.protocol.specs.EndWords.{is_paused};
 ghost use Rattle.protocol.specs.Requester.{takes_response};
 ghost use Rattle.protocol.specs.Responder.{takes_request};
@@ -15,13 +15,13 @@ ghost use Rattle.endpoint_core.specs.Ends.{Names, is_ended_link, link_in};
 ghost use Rattle.endpoint_core.specs.Queues.{nothing};
 ghost use Rattle.endpoint_core.specs.Sites.{IsHome, IsSound, Keeps, end_at, home, regions_left, site_left, site_of};
 
-use crate::answers::{EndReply, EndTook};
+use crate::answers::{EndEffect, EndReply};
 use crate::end::Endpoint;
 use crate::memory::EndMemory;
 use crate::moving::control_of;
 use crate::responding::took_of;
 use crate::serving::answer_of;
-use rdma_types::{SilentWhy, Took, WcStatus};
+use rdma_types::{ArrivalEffect, DropReason, WcStatus};
 use requester::ResponseEffect;
 use responder::Reply;
 use roce_headers::Datagram;
@@ -29,7 +29,7 @@ use roce_headers::opcodes::is_request;
 
 impl Endpoint {
     /// Takes a datagram of the grammar: a message of moving, a request or a response.
-    pub fn take(&mut self, memory: EndMemory<'_>, d: &Datagram<'_>) -> EndTook
+    pub fn take(&mut self, memory: EndMemory<'_>, d: &Datagram<'_>) -> EndEffect
         requires connected { IsSome self.old.link }
         requires fits { Fits (packet d.now) }
         requires sound { IsSound (site_of memory self.old) nothing }
@@ -41,17 +41,19 @@ impl Endpoint {
         ensures sent { (c : Context) (names : Names) → IsHome c names (site_of memory.entry self.old)
             → (taken_at c (end_at names (site_of memory.entry self.old)) (end_at names (site_of memory.entry self.old)).link (packet d.now)).sent
             ≡ sent_of (site_left memory.exit self.new) result.reply }
-        ensures reply { IfSome self.new.link (λ l. IsReply (regions_left memory.exit) l result.reply) }
+        ensures reply { IfSome self.new.link (λ l. IsReply
+            (regions_left memory.exit) l result.reply) }
         ensures due { (l : EndLink) → self.old.link ≡ Some l
             → WasDue (site_of memory.entry self.old) (site_left memory.exit self.new) l (packet d.now) result.reply }
         ensures sound { IsSound (site_left memory.exit self.new) nothing }
-        ensures keeps { Keeps (site_of memory.entry self.old) (site_left memory.exit self.new) [] nothing }
+        ensures keeps { Keeps (site_of memory.entry self.old)
+            (site_left memory.exit self.new) [] nothing }
     {
         let Some(link) = &mut self.link else {
             unreachable!()
         };
         if link.ended {
-            return silent(SilentWhy::Ended);
+            return silent(DropReason::Ended);
         }
         if let Some(control) = control_of(d) {
             return link.take_control(control);
@@ -59,16 +61,16 @@ impl Endpoint {
         if !is_request(d.opcode) {
             let took = self.take_response(memory, d);
             let reply = EndReply::Nothing;
-            return EndTook { took, reply };
+            return EndEffect { took, reply };
         }
         if link.is_paused() {
-            return silent(SilentWhy::Paused);
+            return silent(DropReason::Paused);
         }
         self.take_request(memory, d)
     }
 
     /// Takes a response at an end that is not in Error.
-    fn take_response(&mut self, memory: EndMemory<'_>, d: &Datagram<'_>) -> Took
+    fn take_response(&mut self, memory: EndMemory<'_>, d: &Datagram<'_>) -> ArrivalEffect
         requires connected { IsSome self.old.link }
         requires running { is_ended_link self.old.link ≡ false }
         requires fits { Fits (packet d.now) }
@@ -81,7 +83,8 @@ impl Endpoint {
               sent = [];
             } }
         ensures sound { IsSound (site_left memory.exit self.new) nothing }
-        ensures keeps { Keeps (site_of memory.entry self.old) (site_left memory.exit self.new) [] nothing }
+        ensures keeps { Keeps (site_of memory.entry self.old)
+            (site_left memory.exit self.new) [] nothing }
     {
         let EndMemory {
             pool,
@@ -112,13 +115,13 @@ impl Endpoint {
                 recv,
             };
             self.fail(status, memory);
-            return Took::Ended(status);
+            return ArrivalEffect::Ended(status);
         }
         took_of(taken)
     }
 
     /// Takes a request at an end that is neither Paused nor in Error.
-    fn take_request(&mut self, memory: EndMemory<'_>, d: &Datagram<'_>) -> EndTook
+    fn take_request(&mut self, memory: EndMemory<'_>, d: &Datagram<'_>) -> EndEffect
         requires connected { IsSome self.old.link }
         requires running { is_ended_link self.old.link ≡ false }
         requires fits { Fits (packet d.now) }
@@ -131,11 +134,13 @@ impl Endpoint {
               took = result.took;
               sent = sent_of (site_left memory.exit self.new) result.reply;
             } }
-        ensures reply { IfSome self.new.link (λ l. IsReply (regions_left memory.exit) l result.reply) }
+        ensures reply { IfSome self.new.link (λ l. IsReply
+            (regions_left memory.exit) l result.reply) }
         ensures due { (l : EndLink) → self.old.link ≡ Some l → is_paused (phase_of l.moves.phase) ≡ false
             → WasDue (site_of memory.entry self.old) (site_left memory.exit self.new) l (packet d.now) result.reply }
         ensures sound { IsSound (site_left memory.exit self.new) nothing }
-        ensures keeps { Keeps (site_of memory.entry self.old) (site_left memory.exit self.new) [] nothing }
+        ensures keeps { Keeps (site_of memory.entry self.old)
+            (site_left memory.exit self.new) [] nothing }
     {
         let EndMemory {
             pool,
@@ -176,11 +181,11 @@ impl Endpoint {
 }
 
 /// Nothing happened, and nothing is answered.
-fn silent(why: SilentWhy) -> EndTook
-    ensures { result ≡ record { took = Took.Silent why; reply = EndReply.Nothing } }
+fn silent(why: DropReason) -> EndEffect
+    ensures { result ≡ record { took = ArrivalEffect.Silent why; reply = EndReply.Nothing } }
 {
-    EndTook {
-        took: Took::Silent(why),
+    EndEffect {
+        took: ArrivalEffect::Silent(why),
         reply: EndReply::Nothing,
     }
 }

@@ -12,7 +12,7 @@ use Rattle.law_headline.specs.Script.{world_left}
 use Rattle.world_core.specs.Settled as settled
 use Rattle.world_core.specs.Settled.{IsLeft}
 use Rattle.evac_rules.specs.Evacuation.{Evacuation, doing}
-use Rattle.law_evacuation.proofs.Leading.{Leads, left_on}
+use Rattle.law_moves.proofs.Leading.{Leads, left_on}
 use Rattle.evac_plan.specs.Steps.{AreUnderWay, IsCut, Shows}
 use Rattle.evac_plan.proofs.Shown.{alike_kept, kept_alike}
 

@@ -5,10 +5,10 @@ use Rattle.protocol.specs.declared.events.WorldEvent.TheVariants as world_event
 use Rattle.protocol.specs.Script.{Settles}
 use Rattle.protocol.specs.State.{World}
 use Rattle.protocol.specs.WorldStep.{world_step}
-use Rattle.evac_rules.specs.declared.moves.StayWhy.{StayWhy}
-use Rattle.evac_rules.specs.declared.moves.StayWhy.TheVariants as why
+use Rattle.evac_rules.specs.declared.moves.StayReason.{StayReason}
+use Rattle.evac_rules.specs.declared.moves.StayReason.TheVariants as why
 use Rattle.evac_rules.specs.Evacuation.{Evacuation, Tried, doing, moves, placed, placed_by, release, restore, returned, stay_of, stop, stopped_by, takes, tries}
-use Rattle.law_evacuation.proofs.Leading.{Leads, leads_as, leads_on, step_leads}
+use Rattle.law_moves.proofs.Leading.{Leads, leads_as, leads_on, step_leads}
 use Rattle.evac_plan.specs.declared.moving.Place.{Place}
 use Rattle.evac_plan.specs.declared.moving.Place.TheVariants as place
 use Rattle.evac_plan.specs.Steps.{Becomes, Shows}
@@ -72,13 +72,13 @@ module _ (s : Evacuation) (from : ℕ) (targets : List ℕ) (n : Name) where
   abbrev s1 : Evacuation
   s1 = doing s (stop n)
 
-  abbrev told : Option StayWhy
+  abbrev told : Option StayReason
   told = stay_of (world_step s.world (world_event.Stop n)).answer
 
-  abbrev Shifts : Place → World → Option StayWhy → Type 0
+  abbrev Shifts : Place → World → Option StayReason → Type 0
   Shifts p w o = Shows w (stopped_by s1 from targets n o) × Becomes p n s (stopped_by s1 from targets n o)
 
-  pub shift_some : (y : StayWhy) (w : World) → told ≡ Some y → Shows w s1 → Shows w (moves s from targets n) × Becomes (place.Stays y) n s (moves s from targets n)
+  pub shift_some : (y : StayReason) (w : World) → told ≡ Some y → Shows w s1 → Shows w (moves s from targets n) × Becomes (place.Stays y) n s (moves s from targets n)
   unfolding moves
   shift_some y w is shows = subst (Shifts (place.Stays y) w) (sym is) (record { world = shows.world }, (refl, refl))
 

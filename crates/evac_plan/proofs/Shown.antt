@@ -1,7 +1,7 @@
 -- A world that keeps the last datagrams of an evacuation's goes the same steps.
 use Rattle.std.proofs.Common.{◌≡◌, List, [], ◌∷◌, refl, sym, ◌∙◌, subst}
 use Rattle.rdma_types.specs.declared.answers.Answer.{Answer}
-use Rattle.fabric.proofs.Histories.{forgetting-forgetting}
+use Rattle.protocol.proofs.Histories.{forgetting-forgetting}
 use Rattle.protocol.specs.declared.events.WorldEvent.{WorldEvent}
 use Rattle.protocol.specs.Script.{Happening, Event, Settles, happens, settles}
 use Rattle.protocol.specs.State.{World}

@@ -3,7 +3,7 @@ use Rattle.std.proofs.Common.{arith, ◌≡◌, ◌≤◌, ℕ, ◌+◌, suc, ze
 use Rattle.rdma_types.specs.declared.names.Name.{Name}
 use Rattle.protocol.specs.State.{World}
 use Rattle.evac_rules.specs.Evacuation.{Evacuation, Tried, doing, restore, takes, tries}
-use Rattle.law_evacuation.proofs.Leading.{Leads, leads_itself, leads_on, step_leads, tries_lead}
+use Rattle.law_moves.proofs.Leading.{Leads, leads_itself, leads_on, step_leads, tries_lead}
 use Rattle.evac_plan.specs.Steps.{IsCut, Shows}
 use Rattle.evac_plan.proofs.Cuts.{cut_after, cut_here}
 use Rattle.evac_plan.proofs.Shown.{shows_same}

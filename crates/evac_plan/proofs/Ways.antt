@@ -3,9 +3,9 @@ use Rattle.std.proofs.Common.{◌≡◌, ◌≤◌, ℕ, ◌+◌, suc, List, [],
 use Rattle.rdma_types.specs.declared.names.Name.{Name}
 use Rattle.protocol.specs.State.{World}
 use Rattle.evac_rules.specs.declared.moves.Shifted.{Shifted}
-use Rattle.evac_rules.specs.declared.moves.StayWhy.{StayWhy}
+use Rattle.evac_rules.specs.declared.moves.StayReason.{StayReason}
 use Rattle.evac_rules.specs.Evacuation.{Evacuation, Fault, Stays, moves, moving}
-use Rattle.law_evacuation.proofs.Leading.{Leads, leads_itself, leads_on, moves_leads, moving_leads}
+use Rattle.law_moves.proofs.Leading.{Leads, leads_itself, leads_on, moves_leads, moving_leads}
 use Rattle.evac_plan.specs.declared.moving.Place.{Place}
 use Rattle.evac_plan.specs.declared.moving.Place.TheVariants as place
 use Rattle.evac_plan.specs.Steps.{Becomes, Ends, IsCut, IsFresh, Shows}
@@ -72,7 +72,7 @@ module _ (s : Evacuation) (from : ℕ) (targets : List ℕ) (ns : List Name) (i 
           fault = none;
         }
 
-    pub way_stays : (y : StayWhy) → Moves w new from targets n (place.Stays y) → Ends (moving s from targets ns) told (Some (Stays n y)) new
+    pub way_stays : (y : StayReason) → Moves w new from targets n (place.Stays y) → Ends (moving s from targets ns) told (Some (Stays n y)) new
     way_stays y moves_it =
         let h = moves_it x.now x.shows in
         let is : moving s from targets ns ≡ later = next ∙ moving_stays x.now from targets n (drop (suc i) ns) (Stays n y) h.1.1 in

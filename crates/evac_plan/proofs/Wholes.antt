@@ -8,8 +8,8 @@ use Rattle.protocol.specs.declared.events.WorldEvent.{WorldEvent}
 use Rattle.protocol.specs.Script.{Happening, Event, Dump, Settles, happens}
 use Rattle.protocol.specs.State.{World}
 use Rattle.protocol.specs.WorldStep.{world_after}
-use Rattle.ideal_model.specs.Legal.{after}
-use Rattle.ideal_model.specs.Machine.{Machine}
+use Rattle.packetless_machine.specs.Legal.{after}
+use Rattle.packetless_machine.specs.Machine.{Machine}
 use Rattle.law_simulation.specs.Stands.{Stands, names_of}
 use Rattle.law_simulation.specs.Views.{contexts_of}
 use Rattle.law_kept_datagrams.specs.Alike.{with_kept_datagrams}
@@ -17,11 +17,11 @@ use Rattle.law_settling.specs.Settling.{IsSettling, SettlingFollows, SettlingHas
 use Rattle.law_headline.specs.Follows.{FollowsAll, line_steps}
 use Rattle.law_headline.specs.Script.{world_left}
 use Rattle.evac_rules.specs.declared.moves.Shifted.{Shifted}
-use Rattle.evac_rules.specs.declared.moves.StayWhy.{StayWhy}
-use Rattle.evac_rules.specs.declared.moves.StayWhy.TheVariants as why
+use Rattle.evac_rules.specs.declared.moves.StayReason.{StayReason}
+use Rattle.evac_rules.specs.declared.moves.StayReason.TheVariants as why
 use Rattle.evac_rules.specs.Evacuation.{AreTargets, Evacuation, Fault, NoSuch, Stays, are_devices, begun, doing, emptying, evacuation, failed, moving, names_on}
-use Rattle.law_evacuation.specs.Evacuated.{DevicesAreEmptied, DevicesKeepTheRest, EvacuationsAreFollowed, IsEvacuated, IsLeftWith, IsSomewhere, NothingIsLost, StaysBy}
-use Rattle.law_evacuation.proofs.Leading.{Leads, evacuation_leads, moving_leads, step_leads}
+use Rattle.law_moves.specs.Evacuated.{DevicesAreEmptied, DevicesKeepTheRest, EvacuationsAreFollowed, IsEvacuated, IsLeftWith, IsSomewhere, NothingIsLost, StaysBy}
+use Rattle.law_moves.proofs.Leading.{Leads, evacuation_leads, moving_leads, step_leads}
 use Rattle.evac_plan.specs.declared.fault.EvacFault.{EvacFault}
 use Rattle.evac_plan.specs.declared.fault.EvacFault.TheVariants as fault
 use Rattle.evac_plan.specs.Answers.{IsFault, IsFaultOf, IsFollowed, IsKept}
@@ -161,12 +161,12 @@ module _ (w : World) (m : Machine) (from : ℕ) (targets : List ℕ) (stands : S
         let kept : IsEvacuated w from targets ev.steps (with_kept_datagrams ev.world) ev.moved = record { emptied = h.emptied; named = h.named; targeted = h.targeted; lives = h.lives; shifted = h.shifted } in
         subst (λ z. IsEvacuated w from targets ev.steps z moved) (sym e.world) (subst (IsEvacuated w from targets ev.steps (with_kept_datagrams ev.world)) (sym e.moved) kept)
 
-    still_stays : (n : Name) (y : StayWhy) (v : World) → StaysBy y v from n → StaysBy y (with_kept_datagrams v) from n
+    still_stays : (n : Name) (y : StayReason) (v : World) → StaysBy y v from n → StaysBy y (with_kept_datagrams v) from n
     still_stays n why.PeerMoving v h = h
     still_stays n why.TooMany v h = h
     still_stays n why.NoTarget v h = h
 
-    stays_with : DevicesKeepTheRest → (moved : List Shifted) (n : Name) (y : StayWhy) → Ends ev moved (Some (Stays n y)) new → IsLeftWith w from targets n y ev.steps new moved
+    stays_with : DevicesKeepTheRest → (moved : List Shifted) (n : Name) (y : StayReason) → Ends ev moved (Some (Stays n y)) new → IsLeftWith w from targets n y ev.steps new moved
     stays_with law moved n y e =
         let h : IsLeftWith w from targets n y ev.steps ev.world ev.moved = law w m from targets n y stands are e.fault in
         let kept : IsLeftWith w from targets n y ev.steps (with_kept_datagrams ev.world) ev.moved = record { later = h.later; named = h.named; stays = still_stays n y ev.world h.stays; remain = h.remain; targeted = h.targeted; lives = h.lives; shifted = h.shifted } in

@@ -4,13 +4,13 @@ use Rattle.protocol.specs.declared.events.WorldEvent.{WorldEvent}
 use Rattle.protocol.specs.Script.{Happening}
 use Rattle.protocol.specs.State.{World}
 use Rattle.protocol.specs.WorldStep.{world_after}
-use Rattle.ideal_model.specs.Machine.{Machine}
+use Rattle.packetless_machine.specs.Machine.{Machine}
 use Rattle.law_simulation.specs.Law.{FollowsRun}
 use Rattle.law_simulation.specs.Stands.{Stands}
 use Rattle.law_kept_datagrams.specs.Alike.{with_kept_datagrams}
 use Rattle.law_headline.specs.Follows.{FollowsAll}
 use Rattle.law_headline.specs.Script.{world_left}
-use Rattle.law_evacuation.specs.Evacuated.{IsLeftWith}
+use Rattle.law_moves.specs.Evacuated.{IsLeftWith}
 use Rattle.evac_rules.specs.Evacuation.{Evacuation, NoSuch, Stays, begun, evacuation}
 use Rattle.evac_plan.specs.declared.fault.EvacFault.{EvacFault}
 use Rattle.evac_plan.specs.declared.fault.EvacFault.TheVariants as fault

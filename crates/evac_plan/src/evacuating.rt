@@ -4,10 +4,10 @@ ghost use Rattle.std.specs.Prelude.{◌≡◌, [], true, None, IfErr, IfOk};
 ghost use Rattle.rdma_types.specs.Lists.{has_word};
 ghost use Rattle.rdma_types.specs.declared.names.Name as name_of;
 ghost use Rattle.protocol.specs.State as state;
-ghost use Rattle.ideal_model.specs.Machine.{Machine};
+ghost use Rattle.packetless_machine.specs.Machine.{Machine};
 ghost use Rattle.law_kept_datagrams.specs.Alike.{with_kept_datagrams};
 ghost use Rattle.law_simulation.specs.Stands.{Stands, names_of};
-ghost use Rattle.law_evacuation.specs.Evacuated.{IsEvacuated, IsSomewhere};
+ghost use Rattle.law_moves.specs.Evacuated.{IsEvacuated, IsSomewhere};
 ghost use Rattle.evac_rules.specs.Evacuation as rules;
 ghost use Rattle.evac_rules.specs.Evacuation.{AreTargets, Evacuation};
 ghost use Rattle.evac_plan.specs.Answers.{IfNoSuch, IsFault, IsFaultOf, IsFollowed, IsKept};
@@ -18,7 +18,7 @@ use crate::asking::{are_devices, names_on};
 use crate::moving::{Place, shift};
 use crate::steps::settle;
 use evac_rules::Shifted;
-use law_evacuation::{
+use law_moves::evacuation::{
     devices_are_emptied, devices_keep_the_rest, evacuations_are_followed, nothing_is_lost,
 };
 use law_settling::steps::{settling_follows, settling_is_named};
@@ -35,8 +35,10 @@ fn move_each<T: Settler>(
     targets: &[u8],
     names: &[Name],
 ) -> Result<Vec<Shifted>, EvacFault>
-    ensures ok { IfOk result (λ moved. (s : Evacuation) → Shows world.old s → IsFresh s → Ends (rules.moving s from targets.now names.now) moved.items None world.new) }
-    ensures err { IfErr result (λ fault. (s : Evacuation) → Shows world.old s → IsFresh s → IsFaultOf fault s (rules.moving s from targets.now names.now) world.new) }
+    ensures ok { IfOk result (λ moved. (s : Evacuation) → Shows world.old s → IsFresh s
+        → Ends (rules.moving s from targets.now names.now) moved.items None world.new) }
+    ensures err { IfErr result (λ fault. (s : Evacuation) → Shows world.old s → IsFresh s
+        → IsFaultOf fault s (rules.moving s from targets.now names.now) world.new) }
     ensures told { IfErr result (IfNoSuch ⊥) }
 {
     let mut moved = Vec::new(alloc);
@@ -65,8 +67,10 @@ fn empty<T: Settler>(
     from: u8,
     targets: &[u8],
 ) -> Result<Vec<Shifted>, EvacFault>
-    ensures ok { IfOk result (λ moved. (w : state.World) → world.old ≡ with_kept_datagrams w → Ends (rules.evacuation w from targets.now) moved.items None world.new) }
-    ensures err { IfErr result (λ fault. (w : state.World) → world.old ≡ with_kept_datagrams w → IsFault fault w from targets.now world.new) }
+    ensures ok { IfOk result (λ moved. (w : state.World) → world.old ≡ with_kept_datagrams w
+        → Ends (rules.evacuation w from targets.now) moved.items None world.new) }
+    ensures err { IfErr result (λ fault. (w : state.World) → world.old ≡ with_kept_datagrams w
+        → IsFault fault w from targets.now world.new) }
     ensures unchanged { IfErr result (IfNoSuch (world.new ≡ world.old)) }
 {
     if !are_devices(alloc, world, from, targets)? {
@@ -94,13 +98,23 @@ pub fn evacuate<T: Settler>(
     targets: &[u8],
 ) -> Result<Vec<Shifted>, EvacFault>
     ensures kept { with_kept_datagrams world.old ≡ world.old }
-    ensures ok { IfOk result (λ moved. (w : state.World) → world.old ≡ with_kept_datagrams w → Ends (rules.evacuation w from targets.now) moved.items None world.new) }
-    ensures err { IfErr result (λ fault. (w : state.World) → world.old ≡ with_kept_datagrams w → IsFault fault w from targets.now world.new) }
+    ensures ok { IfOk result (λ moved. (w : state.World) → world.old ≡ with_kept_datagrams w
+        → Ends (rules.evacuation w from targets.now) moved.items None world.new) }
+    ensures err { IfErr result (λ fault. (w : state.World) → world.old ≡ with_kept_datagrams w
+        → IsFault fault w from targets.now world.new) }
     ensures unchanged { IfErr result (IfNoSuch (world.new ≡ world.old)) }
-    ensures followed { (w : state.World) (m : Machine) → world.old ≡ with_kept_datagrams w → Stands w m → IsFollowed w m from targets.now world.new }
-    ensures emptied { IfOk result (λ moved. (w : state.World) (m : Machine) → world.old ≡ with_kept_datagrams w → Stands w m → AreTargets from targets.now → IsEvacuated w from targets.now (rules.evacuation w from targets.now).steps world.new moved.items) }
-    ensures stays { IfErr result (λ fault. (w : state.World) (m : Machine) → world.old ≡ with_kept_datagrams w → Stands w m → AreTargets from targets.now → IsKept fault w from targets.now world.new) }
-    ensures not_lost { (w : state.World) (m : Machine) (n : name_of.Name) → world.old ≡ with_kept_datagrams w → Stands w m → has_word n (names_of w) ≡ true → IsSomewhere world.new n }
+    ensures followed { (w : state.World) (m : Machine) → world.old ≡ with_kept_datagrams w
+        → Stands w m → IsFollowed w m from targets.now world.new }
+    ensures emptied { IfOk result (λ moved. (w : state.World) (m : Machine)
+        → world.old ≡ with_kept_datagrams w → Stands w m → AreTargets from targets.now
+        → IsEvacuated w from targets.now (rules.evacuation w from targets.now).steps world.new
+        moved.items) }
+    ensures stays { IfErr result (λ fault. (w : state.World) (m : Machine)
+        → world.old ≡ with_kept_datagrams w → Stands w m → AreTargets from targets.now
+        → IsKept fault w from targets.now world.new) }
+    ensures not_lost { (w : state.World) (m : Machine) (n : name_of.Name)
+        → world.old ≡ with_kept_datagrams w → Stands w m → has_word n (names_of w) ≡ true
+        → IsSomewhere world.new n }
 {
     evacuations_are_followed();
     devices_are_emptied();

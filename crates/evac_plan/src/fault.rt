@@ -3,7 +3,7 @@
 ghost use Rattle.std.specs.Prelude.{◌≡◌};
 ghost use Rattle.evac_plan.specs.declared.fault.EvacFault.TheVariants as fault;
 
-use evac_rules::{Shifted, StayWhy};
+use evac_rules::{Shifted, StayReason};
 use rdma_types::Name;
 use std::alloc::AllocError;
 
@@ -16,7 +16,7 @@ pub enum EvacFault {
     Stays {
         moved: Vec<Shifted>,
         context: Name,
-        why: StayWhy,
+        why: StayReason,
     },
     /// Some steps were made; a context may be carried.
     OutOfMemory,

@@ -7,6 +7,6 @@ mod fault;
 mod moving;
 mod steps;
 
-pub use evac_rules::{Shifted, StayWhy};
+pub use evac_rules::{Shifted, StayReason};
 pub use evacuating::evacuate;
 pub use fault::EvacFault;

@@ -6,7 +6,7 @@ ghost use Rattle.evac_rules.specs.Evacuation.{Evacuation};
 ghost use Rattle.evac_plan.specs.Steps.{Becomes, IsCut, Shows};
 
 use crate::steps::{release, restore, settle, stop};
-use evac_rules::StayWhy;
+use evac_rules::StayReason;
 use rdma_types::Name;
 use std::alloc::{AllocError, Global};
 use world_core::{Settler, World};
@@ -16,7 +16,7 @@ use world_core::{Settler, World};
 pub(crate) enum Place {
     /// It lives on this target.
     On(u8),
-    Stays(StayWhy),
+    Stays(StayReason),
 }
 
 /// A carried context is restored on the first target that takes it.
@@ -26,8 +26,11 @@ fn try_each(
     context: Name,
     targets: &[u8],
 ) -> Result<Option<u8>, AllocError>
-    ensures ok { IfOk result (λ target. (s : Evacuation) → Shows world.old s → (target ≡ (rules.tries s context targets.now).target) × Shows world.new (rules.tries s context targets.now).state) }
-    ensures cut { OnErr result ((s : Evacuation) → Shows world.old s → IsCut s (rules.tries s context targets.now).state world.new) }
+    ensures ok { IfOk result (λ target. (s : Evacuation) → Shows world.old s
+        → (target ≡ (rules.tries s context targets.now).target)
+        × Shows world.new (rules.tries s context targets.now).state) }
+    ensures cut { OnErr result ((s : Evacuation) → Shows world.old s
+        → IsCut s (rules.tries s context targets.now).state world.new) }
 {
     for target in targets {
         if restore(alloc, world, context, *target)? {
@@ -45,8 +48,10 @@ fn take_back<T: Settler>(
     from: u8,
     context: Name,
 ) -> Result<(), AllocError>
-    ensures ok { OnOk result ((s : Evacuation) → Shows world.old s → Shows world.new (rules.returned s from context)) }
-    ensures cut { OnErr result ((s : Evacuation) → Shows world.old s → IsCut s (rules.returned s from context) world.new) }
+    ensures ok { OnOk result ((s : Evacuation) → Shows world.old s
+        → Shows world.new (rules.returned s from context)) }
+    ensures cut { OnErr result ((s : Evacuation) → Shows world.old s
+        → IsCut s (rules.returned s from context) world.new) }
 {
     release(alloc, world, context, from)?;
     let _taken = restore(alloc, world, context, from)?;
@@ -62,8 +67,11 @@ fn put<T: Settler>(
     targets: &[u8],
     context: Name,
 ) -> Result<Place, AllocError>
-    ensures ok { IfOk result (λ place. (s : Evacuation) → Shows world.old s → Shows world.new (rules.placed s from targets.now context) × Becomes place context s (rules.placed s from targets.now context)) }
-    ensures cut { OnErr result ((s : Evacuation) → Shows world.old s → IsCut s (rules.placed s from targets.now context) world.new) }
+    ensures ok { IfOk result (λ place. (s : Evacuation) → Shows world.old s
+        → Shows world.new (rules.placed s from targets.now context)
+        × Becomes place context s (rules.placed s from targets.now context)) }
+    ensures cut { OnErr result ((s : Evacuation) → Shows world.old s
+        → IsCut s (rules.placed s from targets.now context) world.new) }
 {
     match try_each(alloc, world, context, targets)? {
         Some(target) => {
@@ -72,7 +80,7 @@ fn put<T: Settler>(
         }
         None => {
             take_back(alloc, world, settler, from, context)?;
-            Ok(Place::Stays(StayWhy::NoTarget))
+            Ok(Place::Stays(StayReason::NoTarget))
         }
     }
 }
@@ -86,8 +94,11 @@ pub(crate) fn shift<T: Settler>(
     targets: &[u8],
     context: Name,
 ) -> Result<Place, AllocError>
-    ensures ok { IfOk result (λ place. (s : Evacuation) → Shows world.old s → Shows world.new (rules.moves s from targets.now context) × Becomes place context s (rules.moves s from targets.now context)) }
-    ensures cut { OnErr result ((s : Evacuation) → Shows world.old s → IsCut s (rules.moves s from targets.now context) world.new) }
+    ensures ok { IfOk result (λ place. (s : Evacuation) → Shows world.old s
+        → Shows world.new (rules.moves s from targets.now context)
+        × Becomes place context s (rules.moves s from targets.now context)) }
+    ensures cut { OnErr result ((s : Evacuation) → Shows world.old s
+        → IsCut s (rules.moves s from targets.now context) world.new) }
 {
     match stop(alloc, world, context)? {
         Some(why) => Ok(Place::Stays(why)),

@@ -8,18 +8,18 @@ ghost use Rattle.evac_rules.specs.Evacuation as rules;
 ghost use Rattle.evac_rules.specs.Evacuation.{Evacuation};
 ghost use Rattle.evac_plan.specs.Steps.{IsCut, Shows};
 
-use evac_rules::StayWhy;
+use evac_rules::StayReason;
 use rdma_types::{Answer, Name, Refusal};
 use std::alloc::{AllocError, Global};
 use world_core::{Settler, World, WorldEvent};
 
 /// Why a context stays, by the answer to its stop.
-fn stay_why(answer: &Answer) -> Option<StayWhy>
+fn stay_why(answer: &Answer) -> Option<StayReason>
     ensures { result ≡ rules.stay_of answer.now }
 {
     match answer {
-        Answer::Refused(Refusal::PeerMoving) => Some(StayWhy::PeerMoving),
-        Answer::Refused(Refusal::TooMany) => Some(StayWhy::TooMany),
+        Answer::Refused(Refusal::PeerMoving) => Some(StayReason::PeerMoving),
+        Answer::Refused(Refusal::TooMany) => Some(StayReason::TooMany),
         _ => None,
     }
 }
@@ -29,8 +29,10 @@ pub(crate) fn stop(
     alloc: Global,
     world: &mut World,
     context: Name,
-) -> Result<Option<StayWhy>, AllocError>
-    ensures ok { IfOk result (λ why. (s : Evacuation) → Shows world.old s → (why ≡ rules.stay_of (world_step s.world (event.Stop context)).answer) × Shows world.new (rules.doing s (rules.stop context))) }
+) -> Result<Option<StayReason>, AllocError>
+    ensures ok { IfOk result (λ why. (s : Evacuation) → Shows world.old s
+        → (why ≡ rules.stay_of (world_step s.world (event.Stop context)).answer)
+        × Shows world.new (rules.doing s (rules.stop context))) }
     ensures err { OnErr result (world.new ≡ world.old) }
 {
     let answer = world.step(alloc, &WorldEvent::Stop { context })?;
@@ -44,7 +46,8 @@ pub(crate) fn release(
     context: Name,
     device: u8,
 ) -> Result<(), AllocError>
-    ensures ok { OnOk result ((s : Evacuation) → Shows world.old s → Shows world.new (rules.doing s (rules.release context device))) }
+    ensures ok { OnOk result ((s : Evacuation) → Shows world.old s
+        → Shows world.new (rules.doing s (rules.release context device))) }
     ensures err { OnErr result (world.new ≡ world.old) }
 {
     world.step(alloc, &WorldEvent::Release { context, device })?;
@@ -57,8 +60,10 @@ pub(crate) fn settle<T: Settler>(
     world: &mut World,
     settler: &T,
 ) -> Result<(), AllocError>
-    ensures ok { OnOk result ((s : Evacuation) → Shows world.old s → Shows world.new (rules.doing s script.Settles)) }
-    ensures cut { OnErr result ((s : Evacuation) → Shows world.old s → IsCut s (rules.doing s script.Settles) world.new) }
+    ensures ok { OnOk result ((s : Evacuation) → Shows world.old s
+        → Shows world.new (rules.doing s script.Settles)) }
+    ensures cut { OnErr result ((s : Evacuation) → Shows world.old s
+        → IsCut s (rules.doing s script.Settles) world.new) }
 {
     settler.settle(alloc, world)?;
     Ok(())
@@ -78,7 +83,9 @@ pub(crate) fn restore(
     context: Name,
     device: u8,
 ) -> Result<bool, AllocError>
-    ensures ok { IfOk result (λ taken. (s : Evacuation) → Shows world.old s → (taken ≡ rules.takes s.world context device) × Shows world.new (rules.doing s (rules.restore context device))) }
+    ensures ok { IfOk result (λ taken. (s : Evacuation) → Shows world.old s
+        → (taken ≡ rules.takes s.world context device)
+        × Shows world.new (rules.doing s (rules.restore context device))) }
     ensures err { OnErr result (world.new ≡ world.old) }
 {
     let answer = world.step(alloc, &WorldEvent::Restore { context, device })?;

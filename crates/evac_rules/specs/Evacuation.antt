@@ -10,8 +10,8 @@ use Rattle.protocol.specs.Script.{Happening, Event, Settles, happens}
 use Rattle.protocol.specs.State.{World, device_at}
 use Rattle.protocol.specs.WorldStep.{has_device, is_done, world_step}
 use Rattle.evac_rules.specs.declared.moves.Shifted.{Shifted}
-use Rattle.evac_rules.specs.declared.moves.StayWhy.{StayWhy}
-use Rattle.evac_rules.specs.declared.moves.StayWhy.TheVariants as why
+use Rattle.evac_rules.specs.declared.moves.StayReason.{StayReason}
+use Rattle.evac_rules.specs.declared.moves.StayReason.TheVariants as why
 
 -- 1 to 15 targets, all different and none the device itself
 pub record AreTargets (from : ℕ) (targets : List ℕ) : Type 0 where
@@ -22,7 +22,7 @@ pub record AreTargets (from : ℕ) (targets : List ℕ) : Type 0 where
 -- why a device is not emptied
 pub data Fault : Type 0 where
   NoSuch : Fault  -- it or a target is no device
-  Stays : (context : Name) → (why : StayWhy) → Fault
+  Stays : (context : Name) → (why : StayReason) → Fault
 
 -- how far it has come
 pub record Evacuation : Type 0 where
@@ -92,13 +92,13 @@ abbrev pub placed : Evacuation → ℕ → List ℕ → Name → Evacuation
 placed s from targets n = let x = tries s n targets in placed_by x.state from n x.target
 
 -- why a context stays, by the answer to its stop
-abbrev pub stay_of : Answer → Option StayWhy
+abbrev pub stay_of : Answer → Option StayReason
 stay_of (answer.Refused refusal.PeerMoving) = Some why.PeerMoving
 stay_of (answer.Refused refusal.TooMany) = Some why.TooMany
 stay_of a = None
 
 -- a stop was refused, or the context is put on a target
-abbrev pub stopped_by : Evacuation → ℕ → List ℕ → Name → Option StayWhy → Evacuation
+abbrev pub stopped_by : Evacuation → ℕ → List ℕ → Name → Option StayReason → Evacuation
 stopped_by s from targets n (Some y) = failed s (Stays n y)
 stopped_by s from targets n None = placed s from targets n
 

@@ -4,4 +4,4 @@
 
 mod moves;
 
-pub use moves::{Shifted, StayWhy};
+pub use moves::{Shifted, StayReason};

@@ -11,7 +11,7 @@ pub struct Shifted {
 
 /// Why a context stays on the device that is to be emptied.
 #[derive(Clone, Copy)]
-pub enum StayWhy {
+pub enum StayReason {
     /// The partner of one of its ends moves: it is carried, or was not heard since its own move.
     PeerMoving,
     /// One of its ends moved as often as may be, or the device has as many husks as may be.

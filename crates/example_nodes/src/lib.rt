@@ -1,13 +1,5 @@
-//! Tests of nodes over links, clocks, depots and outputs in memory.
-//!
-//! The crate `node_engine` is tested here, so that its proofs are not made twice.
+//! Worked examples of nodes: scripts evaluated by the prover, and runs over links in memory.
 #![tactic(auto)]
 
-#[cfg(test)]
-mod endings;
-#[cfg(test)]
-mod failing;
-#[cfg(test)]
-mod hostile;
-#[cfg(test)]
-mod scripts;
+pub mod plans;
+pub mod runs;

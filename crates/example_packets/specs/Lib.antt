@@ -1,3 +1,17 @@
+pub mod SaidArrivals
+pub mod Opened
+pub mod ArrivalDatagrams
+pub mod SaidDatagrams
+pub mod Datagrams
+pub mod Bits
+pub mod Forged
+pub mod Cases
+pub mod Things
+pub mod Requests
+pub mod Steps
+pub mod Nodes
+pub mod Bad
+pub mod Answers
 pub mod Posted
 pub mod Replies
 pub mod Moves

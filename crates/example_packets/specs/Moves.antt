@@ -3,7 +3,7 @@ use Rattle.std.specs.Prelude.{ℕ, ◌≡◌, List, [], ◌∷◌, map}
 use Rattle.rdma_types.specs.declared.requests.Address.{Address}
 use Rattle.protocol.specs.State.{Phase, Running, Paused, Resuming, Moving}
 use Rattle.protocol.specs.Moves.{Control, Stopped, Resume, ResumeAck, MoveTook, GoesPaused, Resumed, Again, GoesRunning, Stale, move_row}
-use Rattle.move_core.specs.Table.{moving_by}
+use Rattle.transport.specs.Table.{moving_by}
 
 -- two places
 abbrev pub home : Address

@@ -53,12 +53,14 @@ pub fn lost_atomic_reply()
 
 /// The reply to an addition is lost, its owner moves, and the addition acts once.
 pub fn lost_atomic_reply_and_a_move()
-    ensures { written_for in_lost_atomic_reply_and_a_move.script ≡ in_lost_atomic_reply_and_a_move.written }
+    ensures { written_for in_lost_atomic_reply_and_a_move.script
+        ≡ in_lost_atomic_reply_and_a_move.written }
 {}
 
 /// A send finds no receive, waits, and settles.
 pub fn receiver_not_ready_waits_and_settles()
-    ensures { written_for in_receiver_not_ready_waits_and_settles.script ≡ in_receiver_not_ready_waits_and_settles.written }
+    ensures { written_for in_receiver_not_ready_waits_and_settles.script
+        ≡ in_receiver_not_ready_waits_and_settles.written }
 {}
 
 /// A send finds no receive, and its end may not wait.
@@ -68,7 +70,8 @@ pub fn receiver_not_ready_ends()
 
 /// A write of no bytes, and a region that is not dropped while it is used.
 pub fn zero_length_and_drop_in_use()
-    ensures { written_for in_zero_length_and_drop_in_use.script ≡ in_zero_length_and_drop_in_use.written }
+    ensures { written_for in_zero_length_and_drop_in_use.script
+        ≡ in_zero_length_and_drop_in_use.written }
 {}
 
 /// A write with immediate, and a read.
@@ -113,7 +116,8 @@ pub fn posted_bytes_stay()
 
 /// A husk answers for a context that moved, and the partner pauses.
 pub fn husk_answers_and_peer_pauses()
-    ensures { written_for in_husk_answers_and_peer_pauses.script ≡ in_husk_answers_and_peer_pauses.written }
+    ensures { written_for in_husk_answers_and_peer_pauses.script
+        ≡ in_husk_answers_and_peer_pauses.written }
 {}
 
 /// The first piece of a message comes late.
@@ -123,7 +127,8 @@ pub fn lost_first_piece()
 
 /// A fenced write waits for the read before it.
 pub fn fenced_write_after_a_read()
-    ensures { written_for in_fenced_write_after_a_read.script ≡ in_fenced_write_after_a_read.written }
+    ensures { written_for in_fenced_write_after_a_read.script
+        ≡ in_fenced_write_after_a_read.written }
 {}
 
 /// A fence stands through a move.
@@ -158,7 +163,8 @@ pub fn retry_spent_after_eight()
 
 /// Two queue pairs share a completion queue of one entry.
 pub fn shared_queue_of_one_entry()
-    ensures { written_for in_shared_queue_of_one_entry.script ≡ in_shared_queue_of_one_entry.written }
+    ensures { written_for in_shared_queue_of_one_entry.script
+        ≡ in_shared_queue_of_one_entry.written }
 {}
 
 /// Verbs are refused, each for its first reason.

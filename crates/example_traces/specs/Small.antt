@@ -3,9 +3,9 @@ use Rattle.std.specs.Prelude.{ℕ, List, [], ◌∷◌, Result, Ok, Err, codes}
 use Rattle.script_lang.specs.declared.lines.LineWhy.TheVariants as why
 use Rattle.script_lang.specs.declared.lines.Offence.{Offence}
 use Rattle.script_lang.specs.Words.{offence}
-use Rattle.trace_audit.specs.declared.verdicts.AuditWhy.TheVariants.{Step, Answer}
-use Rattle.trace_audit.specs.declared.verdicts.Verdict.{Verdict}
-use Rattle.trace_audit.specs.declared.verdicts.Verdict.TheVariants.{Legal, Illegal}
+use Rattle.run_traces.specs.declared.trace_audit.verdicts.AuditWhy.TheVariants.{Step, Answer}
+use Rattle.run_traces.specs.declared.trace_audit.verdicts.Verdict.{Verdict}
+use Rattle.run_traces.specs.declared.trace_audit.verdicts.Verdict.TheVariants.{Legal, Illegal}
 
 -- legal, illegal at a step or at an answer, and bad for each reason that the words of a trace add
 abbrev pub small : List (List ℕ × Result Verdict (ℕ × Offence))

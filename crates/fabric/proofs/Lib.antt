@@ -1,3 +1,2 @@
 pub mod Prefixes
 pub mod Stores
-pub mod Histories

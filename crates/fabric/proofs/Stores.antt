@@ -1,21 +1,15 @@
 -- The kept datagrams behind those that are not kept any more, and what the rules say of them.
-use Rattle.std.proofs.Common.{◌≡◌, ℕ, zero, suc, ◌+◌, ◌-◌, ◌<◌, ◌≤◌, ◌⊎◌, ◌&&◌, ◌||◌, not, nat_lt, if◌then◌else◌, true, false, List, [], ◌∷◌, ◌++◌, length, get_or, set, drop, replicate, Some, None, refl, sym, ap, ◌∙◌, arith, inl, inr, add-zero, length-append, length-drop, length-set}
-use Rattle.std.proofs.lemmas.Bool.{cases_Bool, and_from, and_parts, leb-true, ltb-true, ltb-false, le-leb, lt-ltb, false_from_ne_true, and_right}
+use Rattle.std.proofs.Common.{◌≡◌, ℕ, zero, suc, ◌+◌, ◌-◌, ◌<◌, ◌≤◌, ◌⊎◌, ◌&&◌, ◌||◌, not, nat_lt, true, false, List, [], ◌∷◌, ◌++◌, length, get_or, set, drop, replicate, Some, None, refl, sym, ap, ◌∙◌, arith, inl, inr, add-zero, length-append, length-drop, length-set}
+use Rattle.std.proofs.lemmas.Bool.{cases_Bool, and_from, ltb-true, ltb-false, le-leb, lt-ltb, false_from_ne_true, and_right}
 use Rattle.std.proofs.lemmas.List.{length-replicate, append_assoc, drop_at, drop-drop, drop-append-le}
 use Rattle.std.specs.List.{prefix_len, slice_get}
 use Rattle.protocol.specs.State.{Flight}
-use Rattle.protocol.specs.Fabric.{is_kept, kept_flight, changed_at, marked_taken, marked_lost, pending_from, first_of, pending}
-use Rattle.fabric.specs.Store.{blank, after_blanks, forgetting, is_settled, oldest_of_full, IsStore}
+use Rattle.protocol.specs.Fabric.{after_blanks, blank, changed_at, first_of, forgetting, is_kept, kept_flight, marked_lost, marked_taken, pending, pending_from}
+use Rattle.protocol.proofs.Histories.{changed_at-behind, kept_means, length-after_blanks, marked, pending_from-skips, slice_get-behind}
+use Rattle.fabric.specs.Store.{is_settled, oldest_of_full, IsStore}
 use Rattle.fabric.proofs.Prefixes.{prefix_within, prefix_from, prefix-set_passing, prefix-append_more, prefix-drop_fewer}
 
 -- ---- which are kept
-
--- what it means to be kept
-pub kept_means : (count k : ℕ) → is_kept count k ≡ true → (1 ≤ k) × (k ≤ count) × (count < k + 16384)
-kept_means count k h =
-    let parts = and_parts _ _ h in
-    let more = and_parts _ _ parts.1 in
-    (leb-true 1 k parts.0, leb-true k count more.0, ltb-true count (k + 16384) more.1)
 
 -- the kept ones are those behind the blank ones
 pub is_kept_behind : (gone n k : ℕ) → n ≤ 16384 → (0 < gone → n ≡ 16384) → gone < k → k ≤ gone + n → is_kept (gone + n) k ≡ true
@@ -32,31 +26,12 @@ not_kept_after gone n k above = false_from_ne_true _ (λ h. let means = kept_mea
 
 -- ---- lists behind others
 
--- an element behind the blank ones
-pub slice_get-behind : (n j : ℕ) (fs : List Flight) → n ≤ j → slice_get (replicate n blank ++ fs) j ≡ slice_get fs (j - n)
-slice_get-behind zero j fs h = let same : j - 0 ≡ j = omega arith in rw same refl
-slice_get-behind (suc n) zero fs h = absurd (omega arith)
-slice_get-behind (suc n) (suc j) fs h = let same : suc j - suc n ≡ j - n = omega arith in rw same (slice_get-behind n j fs (omega arith))
-
--- a change behind them
-pub changed_at-behind : (change : Flight → Flight) (n j : ℕ) (fs : List Flight) → n ≤ j → changed_at change j (replicate n blank ++ fs) ≡ replicate n blank ++ changed_at change (j - n) fs
-unfolding changed_at
-changed_at-behind change zero j fs h = let same : j - 0 ≡ j = omega arith in rw same refl
-changed_at-behind change (suc n) zero fs h = absurd (omega arith)
-changed_at-behind change (suc n) (suc j) fs h =
-    let same : suc j - suc n ≡ j - n = omega arith in
-    rw same (ap (λ (gs : List Flight). blank ∷ gs) (changed_at-behind change n j fs (omega arith)))
-
 -- a change is a write
 pub changed_at-set : (change : Flight → Flight) (j : ℕ) (fs : List Flight) (f : Flight) → j < length fs → f ≡ get_or fs j f → changed_at change j fs ≡ set fs j (change f)
 unfolding changed_at
 changed_at-set change j [] f h e = absurd (omega arith)
 changed_at-set change zero (g ∷ fs) f h e = ap (λ (x : Flight). change x ∷ fs) (sym e)
 changed_at-set change (suc j) (g ∷ fs) f h e = ap (λ (xs : List Flight). g ∷ xs) (changed_at-set change j fs f (omega arith) e)
-
--- how long it is
-pub length-after_blanks : (gone : ℕ) (kept : List Flight) → length (after_blanks gone kept) ≡ gone + length kept
-length-after_blanks gone kept = omega (arith, length-append (replicate gone blank) kept, length-replicate gone blank)
 
 -- ---- the store's answers
 
@@ -96,10 +71,6 @@ kept_flight-oldest gone kept room full =
 
 -- ---- the store changed
 
--- the datagrams with one of the kept ones changed
-abbrev pub marked : (Flight → Flight) → List Flight → ℕ → List Flight
-marked change sent k = if is_kept (length sent) k then changed_at change (k - 1) sent else sent
-
 pub marked-here : (change : Flight → Flight) (gone : ℕ) (kept : List Flight) (k i : ℕ) (f : Flight) → length kept ≤ 16384 → (0 < gone → length kept ≡ 16384) → i < length kept → k ≡ gone + i + 1 → f ≡ get_or kept i f → after_blanks gone (set kept i (change f)) ≡ marked change (after_blanks gone kept) k
 marked-here change gone kept k i f room full within at is =
     let place : k - 1 - gone ≡ i = omega arith in
@@ -122,14 +93,6 @@ pub settled_within : (gone settled : ℕ) (kept : List Flight) → IsStore gone 
 settled_within gone settled kept store = omega (arith, store.front, prefix_within is_settled kept)
 
 -- ---- pending
-
--- numbers that are not kept are not pending
-pub pending_from-skips : (count k : ℕ) (front rest : List Flight) → ((j : ℕ) → k ≤ j → j < k + length front → is_kept count j ≡ false) → pending_from count k (front ++ rest) ≡ pending_from count (k + length front) rest
-unfolding pending_from
-pending_from-skips count k [] rest none = rw add-zero refl
-pending_from-skips count k (f ∷ fs) rest none =
-    let along : k + suc (length fs) ≡ k + 1 + length fs = omega arith in
-    rw (none k (omega arith) (omega arith), along) (pending_from-skips count (k + 1) fs rest (λ j above below. none j (omega arith) (omega arith)))
 
 -- the first that is not settled
 pub first_pending : (count k : ℕ) (fs : List Flight) → ((j : ℕ) → k ≤ j → j < k + length fs → is_kept count j ≡ true) → prefix_len is_settled fs < length fs → Some (k + prefix_len is_settled fs) ≡ first_of (pending_from count k fs)

@@ -1,22 +1,8 @@
 -- What the network's store knows of the list of every datagram ever sent: it keeps the last 16,384.
-use Rattle.std.specs.Prelude.{ℕ, ◌≡◌, ◌+◌, ◌-◌, ◌^◌, ◌<◌, ◌≤◌, ◌&&◌, ◌||◌, not, Bool, false, List, [], ◌++◌, length, drop, replicate, slice_get, nat_lt, if◌then◌else◌, Option, Some, None}
+use Rattle.std.specs.Prelude.{ℕ, ◌≡◌, ◌+◌, ◌^◌, ◌<◌, ◌≤◌, ◌&&◌, ◌||◌, not, Bool, false, List, length, slice_get, nat_lt, if◌then◌else◌, Option, Some, None}
 use Rattle.std.specs.List.{prefix_len}
-use Rattle.rdma_types.specs.Limits.{most_flights}
-use Rattle.rdma_types.specs.Objects.{no_address}
 use Rattle.protocol.specs.Fabric.{kept_flight}
 use Rattle.protocol.specs.State.{Flight}
-
--- what stands for a datagram that is not kept any more
-abbrev pub blank : Flight
-blank = record { from = no_address; to = no_address; number = None; bytes = []; lost = false; taken = false }
-
--- the datagrams, and n before them that are not kept any more
-abbrev pub after_blanks : ℕ → List Flight → List Flight
-after_blanks n kept = replicate n blank ++ kept
-
--- every datagram ever sent, where those that are not kept any more are blank
-unfoldable pub forgetting : List Flight → List Flight
-forgetting sent = after_blanks (length sent - most_flights) (drop (length sent - most_flights) sent)
 
 -- the oldest of 16,384 datagrams, and none of fewer
 abbrev pub oldest_of_full : List Flight → Option Flight

@@ -31,7 +31,7 @@ impl Model for Flight {
 
 /// What a datagram is for its receiver.
 #[derive(Clone, Copy)]
-pub enum Look<'a> {
+pub enum DatagramState<'a> {
     /// It is kept, not lost and not too late.
     Here(&'a Flight),
     /// It is not among the last 16,384 that were sent.
@@ -86,15 +86,15 @@ impl Flight {
     }
 
     /// What it is where its receiver is at number `now`.
-    pub fn look(&self, now: u64) -> Look<'_>
+    pub fn look(&self, now: u64) -> DatagramState<'_>
         ensures { told result ≡ look_at (Some self.now) now }
     {
         if self.lost {
-            return Look::Lost;
+            return DatagramState::Lost;
         }
         match self.sent.number {
-            Some(number) if number < now.saturating_sub(LATEST) => Look::Aged,
-            _ => Look::Here(self),
+            Some(number) if number < now.saturating_sub(LATEST) => DatagramState::Aged,
+            _ => DatagramState::Here(self),
         }
     }
 }

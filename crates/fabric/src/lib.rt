@@ -7,12 +7,13 @@ ghost use Rattle.std.specs.List.{prefix_len};
 ghost use Rattle.std.specs.Option.{option_copied};
 ghost use Rattle.std.specs.VecDeque.{deque_capacity, deque_len};
 ghost use Rattle.protocol.specs.Fabric as rules;
-ghost use Rattle.fabric.specs.Store.{forgetting, is_pending, is_settled, oldest_of_full};
+ghost use Rattle.protocol.specs.Fabric.{forgetting};
+ghost use Rattle.fabric.specs.Store.{is_pending, is_settled, oldest_of_full};
 
 mod flights;
 mod laws;
 
-pub use flights::{Flight, Look};
+pub use flights::{DatagramState, Flight};
 pub use laws::nothing_asked_for_is_forgotten;
 use rdma_types::{Address, Sent};
 use std::alloc::{AllocError, Global};
@@ -36,7 +37,8 @@ impl Model for Fabric {
     ghost use Rattle.std.specs.Prelude.{◌≤◌, List};
     ghost use Rattle.std.specs.VecDeque.{deque_capacity};
     ghost use Rattle.protocol.specs.State as state;
-    ghost use Rattle.fabric.specs.Store.{IsStore, after_blanks};
+    ghost use Rattle.protocol.specs.Fabric.{after_blanks};
+    ghost use Rattle.fabric.specs.Store.{IsStore};
 
     ghost Value = { List state.Flight };
 
@@ -95,11 +97,11 @@ impl Fabric {
     }
 
     /// What datagram `k` is where its receiver is at number `now`: gone, lost, aged or here, by the first that holds.
-    pub fn look(&self, k: u64, now: u64) -> Look<'_>
+    pub fn look(&self, k: u64, now: u64) -> DatagramState<'_>
         ensures { told result ≡ rules.look self.now k now }
     {
         match self.kept(k) {
-            None => Look::Gone,
+            None => DatagramState::Gone,
             Some(flight) => flight.look(now),
         }
     }
@@ -154,7 +156,8 @@ impl Fabric {
 /// Where datagram `k` stands among the `count` kept ones, where `gone` were sent before them.
 fn place_of(k: u64, gone: u64, count: usize) -> Option<usize>
     requires { gone < 2 ^ 63 }
-    ensures { MatchOption result ((k ≤ gone) ⊎ (gone + count < k)) (λ i. (i < count) × (k ≡ gone + i + 1)) }
+    ensures { MatchOption result ((k ≤ gone) ⊎ (gone + count < k)) (λ i. (i < count)
+        × (k ≡ gone + i + 1)) }
 {
     let place = k.checked_sub(gone + 1)?;
     if place < count as u64 {

@@ -3,8 +3,8 @@ use Rattle.std.proofs.Common.{◌≡◌, ◌≢◌, ◌⊎◌, ℕ, List, [], �
 use Rattle.std.specs.Prelude.{All, Option, Some, None, bytes_eq, if◌then◌else◌, slice_get, ◌==◌, ◌&&◌}
 use Rattle.std.proofs.lemmas.List.Elements.{All-append, All-cons, All-head, All-nil, All-tail}
 use Rattle.rdma_types.specs.declared.answers.Answer.TheVariants as answer
-use Rattle.rdma_types.specs.declared.answers.SilentWhy.TheVariants as why
-use Rattle.rdma_types.specs.declared.answers.Took.TheVariants as took
+use Rattle.rdma_types.specs.declared.answers.DropReason.TheVariants as why
+use Rattle.rdma_types.specs.declared.answers.ArrivalEffect.TheVariants as took
 use Rattle.rdma_types.specs.declared.names.Name.{Name}
 use Rattle.rdma_types.specs.declared.requests.Address.{Address}
 use Rattle.rdma_types.specs.Lists.{has_name, named, some, store_named}
@@ -22,12 +22,12 @@ use Rattle.protocol.specs.Responder.{takes_request}
 use Rattle.protocol.specs.State.{Context, Device, End, HuskEntry, Link, no_context}
 use Rattle.protocol.specs.Wire.{Packet, is_control, is_request, packet_of, wire_of}
 use Rattle.rdma_types.specs.Causes.{first_cause}
-use Rattle.responder.specs.Changes.{may_change}
-use Rattle.law_device_sound.specs.Sound.{IsSoundContext, IsSoundDevice}
-use Rattle.law_device_sound.proofs.Founds.{IsFoundThere, all-at, founds-there, named-at}
-use Rattle.law_device_sound.proofs.Opcodes.{HasNoWord, reads-no-word}
-use Rattle.law_device_sound.proofs.Rooms.{IsHere}
-use Rattle.law_device_sound.proofs.Tables.{map-store, name_tells}
+use Rattle.protocol.specs.Changes.{may_change}
+use Rattle.law_devices.specs.Sound.{IsSoundContext, IsSoundDevice}
+use Rattle.law_devices.proofs.Founds.{IsFoundThere, all-at, founds-there, named-at}
+use Rattle.law_devices.proofs.Opcodes.{HasNoWord, reads-no-word}
+use Rattle.law_devices.proofs.Rooms.{IsHere}
+use Rattle.law_devices.proofs.Tables.{map-store, name_tells}
 use Rattle.law_arrivals.specs.Touched.{ChangesOnly, HasDistinctContexts, frame, is_landing_byte, is_touched, is_touched_at, is_touched_by, may_touch}
 use Rattle.law_arrivals.proofs.Changes.{Changes, changes-frame, changes-none}
 use Rattle.law_arrivals.proofs.Landing.{response_fine}

@@ -6,7 +6,7 @@ use Rattle.std.proofs.lemmas.List.{places}
 use Rattle.std.proofs.lemmas.Option.{slice_get-get_or, slice_get_past}
 use Rattle.rdma_types.specs.Lists.{at, store}
 use Rattle.rdma_types.specs.Memory.{put}
-use Rattle.law_device_sound.proofs.Regions.{length-put}
+use Rattle.law_devices.proofs.Regions.{length-put}
 
 -- what stands under a number after a storing: the stored thing under its own, and what was there under another
 pub at-store : {A : Type 0} (number : A → ℕ) (none : A) (j k : ℕ) (e : A) (xs : List A) → number e ≡ j → at number none k (store number j e xs) ≡ (if j == k then e else at number none k xs)

@@ -11,11 +11,11 @@ use Rattle.rdma_types.specs.Objects.{CompletionQueue, Region, no_queue, no_regio
 use Rattle.protocol.specs.EndWords.{completing, linked, with_end, with_entries, with_link, with_queue, with_unused}
 use Rattle.protocol.specs.Memory.{region_of_key, stored, with_region, written}
 use Rattle.protocol.specs.State.{Context, End, Link, no_end, queue_at}
-use Rattle.law_device_sound.specs.Sound.{IsSoundContext, names_of_queues, plans}
-use Rattle.law_device_sound.proofs.Regions.{All-at, IsPlace, at_key, plans-written}
-use Rattle.law_device_sound.proofs.Rooms.{IsHere, has-same}
-use Rattle.law_device_sound.proofs.Tables.{map-store, name-named_there}
-use Rattle.law_device_sound.specs.Sound.{IsSoundRegion}
+use Rattle.law_devices.specs.Sound.{IsSoundContext, names_of_queues, plans}
+use Rattle.law_devices.proofs.Regions.{All-at, IsPlace, at_key, plans-written}
+use Rattle.law_devices.proofs.Rooms.{IsHere, has-same}
+use Rattle.law_devices.proofs.Tables.{map-store, name-named_there}
+use Rattle.law_devices.specs.Sound.{IsSoundRegion}
 use Rattle.law_arrivals.specs.Touched.{connection_of, end_frame, frame, queue_frame}
 use Rattle.law_arrivals.proofs.Bytes.{at-store, put-apart}
 

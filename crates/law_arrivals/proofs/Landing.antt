@@ -3,7 +3,7 @@ use Rattle.std.proofs.Common.{arith, ◌≡◌, ◌≢◌, ◌⊎◌, ◌≤◌,
 use Rattle.std.specs.Prelude.{AllPairs, Option, Some, None, if◌then◌else◌, nat_lt, ◌==◌, ◌&&◌, ◌||◌, slice_get}
 use Rattle.std.proofs.lemmas.Bool.{cases_lt}
 use Rattle.std.proofs.lemmas.Bool.Decides.{nat_tests}
-use Rattle.rdma_types.specs.declared.answers.Took.TheVariants as took
+use Rattle.rdma_types.specs.declared.answers.ArrivalEffect.TheVariants as took
 use Rattle.rdma_types.specs.declared.names.Name.{Name}
 use Rattle.rdma_types.specs.Kinds.{is_read, kind_of, lands}
 use Rattle.rdma_types.specs.Lists.{at, some}
@@ -16,14 +16,14 @@ use Rattle.protocol.specs.Numbers.{unwrap_near}
 use Rattle.protocol.specs.Requester.{advanced, barrier, is_this_piece, landing, old_bytes, response_at, takes_landing, takes_piece, takes_response, telling, useless}
 use Rattle.protocol.specs.State.{Context, End, Link}
 use Rattle.protocol.specs.Wire.{Packet, is_read_response}
-use Rattle.requester.proofs.Places.{landing_lands, request_of_piece}
-use Rattle.responder.specs.Changes.{is_among}
-use Rattle.law_device_sound.specs.Sound.{IsGrantedTo, IsSoundContext, IsSoundRequest, plans}
-use Rattle.law_device_sound.proofs.Ends.{written_ends}
-use Rattle.law_device_sound.proofs.Landing.{granted-place, lands_word, nothing_long, old_few}
-use Rattle.law_device_sound.proofs.Regions.{All-at, at_key, granted-cases, region_at}
-use Rattle.law_device_sound.proofs.Rooms.{IsHere}
-use Rattle.law_device_sound.proofs.Working.{linked-sound}
+use Rattle.rdma_types.proofs.Places.{landing_lands, request_of_piece}
+use Rattle.protocol.specs.Changes.{is_among}
+use Rattle.law_devices.specs.Sound.{IsGrantedTo, IsSoundContext, IsSoundRequest, plans}
+use Rattle.law_devices.proofs.Ends.{written_ends}
+use Rattle.law_devices.proofs.Landing.{granted-place, lands_word, nothing_long, old_few}
+use Rattle.law_devices.proofs.Regions.{All-at, at_key, granted-cases, region_at}
+use Rattle.law_devices.proofs.Rooms.{IsHere}
+use Rattle.law_devices.proofs.Working.{linked-sound}
 use Rattle.law_arrivals.specs.Touched.{is_landing_byte}
 use Rattle.law_arrivals.proofs.Changes.{Changes, changes-written}
 use Rattle.law_arrivals.proofs.Steps as steps

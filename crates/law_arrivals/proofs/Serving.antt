@@ -3,8 +3,8 @@ use Rattle.std.proofs.Common.{arith, ◌≡◌, ◌≤◌, ◌<◌, ◌+◌, ◌
 use Rattle.std.specs.Prelude.{All, Option, Some, None, is_some, if◌then◌else◌, nat_lt, nat_le, ◌==◌, ◌&&◌, ◌||◌, slice_get}
 use Rattle.std.proofs.lemmas.Bool.Decides.{nat_tests}
 use Rattle.std.proofs.lemmas.List.Elements.{All-append, All-head}
-use Rattle.rdma_types.specs.declared.answers.Why.{Why}
-use Rattle.rdma_types.specs.declared.answers.Why.TheVariants as refused
+use Rattle.rdma_types.specs.declared.answers.RefusalReason.{RefusalReason}
+use Rattle.rdma_types.specs.declared.answers.RefusalReason.TheVariants as refused
 use Rattle.rdma_types.specs.declared.names.Name.{Name}
 use Rattle.rdma_types.specs.declared.requests.Receive.{Receive}
 use Rattle.rdma_types.specs.declared.requests.WcStatus.TheVariants as status
@@ -24,16 +24,16 @@ use Rattle.protocol.specs.Numbers.{unwrap_near}
 use Rattle.protocol.specs.Responder.{Place, acts, ahead, answers_old, answers_read, atomic_acts, atomic_done, atomic_value, bytes_before, executed, expected_packet, finishes, front, granted_packet, idled, is_bad_write, is_invalid, is_not_ready, is_read_request, is_send, is_too_long, is_write, keeping, no_repeat, not_ready, packet_acts, part_of, place_of, read_acts, read_grant, receive_of, refuses, refuses_length, repeated, repeats_read, request_at, reth_target, send_done, span_of_packet, takes_request, target, target_of, unused_after, with_immediate, write_done, write_length}
 use Rattle.protocol.specs.State.{Context, End, InSend, InWrite, Link, NoMessage, Progress}
 use Rattle.protocol.specs.Wire.{Packet}
-use Rattle.responder.proofs.Acts.{write-fits}
-use Rattle.responder.specs.Changes.{is_among, is_atomic_byte, is_granted_byte, is_message_byte, is_receive_byte, is_reth_byte, may_change}
-use Rattle.law_device_sound.specs.Sound.{IsSoundContext, IsSoundLink, IsSoundProgress, IsSoundReceive, IsSoundWrite, plan_of, plans}
-use Rattle.law_device_sound.proofs.Ends.{written_ends}
-use Rattle.law_device_sound.proofs.Landing.{nothing_long, word_length}
-use Rattle.law_device_sound.proofs.Opcodes.{HasNoWord, IsValid, and-false, valid-parts}
-use Rattle.law_device_sound.proofs.Regions.{at_key, first_found, region_at}
-use Rattle.law_device_sound.proofs.Rooms.{IsHere, end-sound}
-use Rattle.law_device_sound.proofs.Serving.{in_use_sound}
-use Rattle.law_device_sound.proofs.Working.{linked-sound}
+use Rattle.protocol.proofs.WriteSizes.{write-fits}
+use Rattle.protocol.specs.Changes.{is_among, is_atomic_byte, is_granted_byte, is_message_byte, is_receive_byte, is_reth_byte, may_change}
+use Rattle.law_devices.specs.Sound.{IsSoundContext, IsSoundLink, IsSoundProgress, IsSoundReceive, IsSoundWrite, plan_of, plans}
+use Rattle.law_devices.proofs.Ends.{written_ends}
+use Rattle.law_devices.proofs.Landing.{nothing_long, word_length}
+use Rattle.law_devices.proofs.Opcodes.{HasNoWord, IsValid, and-false, valid-parts}
+use Rattle.law_devices.proofs.Regions.{at_key, first_found, region_at}
+use Rattle.law_devices.proofs.Rooms.{IsHere, end-sound}
+use Rattle.law_devices.proofs.Serving.{in_use_sound}
+use Rattle.law_devices.proofs.Working.{linked-sound}
 use Rattle.law_arrivals.proofs.Changes.{Changes, changes-written}
 use Rattle.law_arrivals.proofs.Landing.{among, changes-landed}
 use Rattle.law_arrivals.proofs.Steps as steps
@@ -114,7 +114,7 @@ module _ (c : Context) (e : End) (l : Link) (s : IsSoundContext c) (here : IsHer
 
   -- ---- refusals, ahead and before
 
-  refused_fine : (n : ℕ) (w : Why) → Fine (refuses c e l n w)
+  refused_fine : (n : ℕ) (w : RefusalReason) → Fine (refuses c e l n w)
   unfolding with_unused
   refused_fine n w = steps.to_ended may c e l s here there c e.unused l status.Flush none refl refl
 

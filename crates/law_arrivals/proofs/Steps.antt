@@ -1,7 +1,7 @@
 -- Steps of an end that write no bytes: its link, its receives and its completions.
 use Rattle.std.proofs.Common.{◌≡◌, ◌+◌, ℕ, List, [], true, false, Bool, refl, sym, ◌∙◌}
 use Rattle.std.specs.Prelude.{Option, Some, None, if◌then◌else◌, nat_lt, nat_le, not, ◌==◌, ◌&&◌}
-use Rattle.rdma_types.specs.declared.answers.Took.TheVariants as took
+use Rattle.rdma_types.specs.declared.answers.ArrivalEffect.TheVariants as took
 use Rattle.rdma_types.specs.declared.requests.Completion.{Completion}
 use Rattle.rdma_types.specs.declared.requests.Receive.{Receive}
 use Rattle.rdma_types.specs.declared.requests.WcStatus.{WcStatus}
@@ -14,9 +14,9 @@ use Rattle.protocol.specs.EndWords.{EndStep, completing, linked, stays, with_mov
 use Rattle.protocol.specs.Moves.{Control, Stopped, Resume, ResumeAck, MoveTook, GoesPaused, Resumed, Again, GoesRunning, in_phase, move_row, moves_by, resumed_link, takes_control}
 use Rattle.protocol.specs.Requester.{acknowledged, after_telling, ended_link, ended_with, ends_after, goes_back, moved_or_useless, rewound, takes_ack, takes_aeth, takes_nak, takes_refusal, takes_rnr, takes_syndrome, telling, told_completions, useless, waited, waiting, waits_again}
 use Rattle.protocol.specs.State.{Context, End, Link, Paused, Running, Sender}
-use Rattle.law_device_sound.specs.Sound.{IsSoundContext}
-use Rattle.law_device_sound.proofs.Rooms.{IsHere, end-sound}
-use Rattle.law_device_sound.proofs.Tables.{word-there}
+use Rattle.law_devices.specs.Sound.{IsSoundContext}
+use Rattle.law_devices.proofs.Rooms.{IsHere, end-sound}
+use Rattle.law_devices.proofs.Tables.{word-there}
 use Rattle.law_arrivals.specs.Touched.{connection_of}
 use Rattle.law_arrivals.proofs.Changes.{Changes, changes-completing, changes-linked, changes-none}
 

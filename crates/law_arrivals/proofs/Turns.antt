@@ -4,7 +4,7 @@ use Rattle.std.specs.Prelude.{All, AllPairs, Option, Some, None, if◌then◌els
 use Rattle.std.proofs.lemmas.List.Elements.{All-head, All-tail}
 use Rattle.rdma_types.specs.Causes.{Cause, cause, first_cause}
 use Rattle.rdma_types.specs.declared.answers.Answer.TheVariants as answer
-use Rattle.rdma_types.specs.declared.answers.NotWhy.{NotWhy}
+use Rattle.rdma_types.specs.declared.answers.ExpiryIgnored.{ExpiryIgnored}
 use Rattle.rdma_types.specs.declared.answers.Refusal.{Refusal}
 use Rattle.rdma_types.specs.declared.answers.Refusal.TheVariants.{NoSuch}
 use Rattle.rdma_types.specs.declared.names.Name.{Name}
@@ -21,11 +21,11 @@ use Rattle.protocol.specs.Refusals.{causes_of, has_end, refusal_of}
 use Rattle.protocol.specs.Replay.{replay}
 use Rattle.protocol.specs.Requester.{IsFenced, IsIdle, ReadsAreFull, Sends, SendsResume, Transmission, Waits, WindowIsFull, counted, not_counted, transmission, transmitted, waited_out}
 use Rattle.protocol.specs.State.{Context, Device, End, Link, context_at, end_at, no_context}
-use Rattle.law_device_sound.specs.Sound.{GivesNames, IsSoundContext, IsSoundDevice}
-use Rattle.law_device_sound.proofs.Founds.{Within, here-named, live, no-cause, not-false, within-context}
-use Rattle.law_device_sound.proofs.Law.{stays-sound}
-use Rattle.law_device_sound.proofs.Rooms.{IsHere}
-use Rattle.law_device_sound.proofs.Tables.{name-named_there}
+use Rattle.law_devices.specs.Sound.{GivesNames, IsSoundContext, IsSoundDevice}
+use Rattle.law_devices.proofs.Founds.{Within, here-named, live, no-cause, not-false, within-context}
+use Rattle.law_devices.proofs.Law.{stays-sound}
+use Rattle.law_devices.proofs.Rooms.{IsHere}
+use Rattle.law_devices.proofs.Tables.{name-named_there}
 use Rattle.law_arrivals.specs.Touched.{ChangesOnly, HasDistinctContexts, frame}
 use Rattle.law_arrivals.specs.Turns.{IsOfTurn, is_touched_by_event, is_touched_in}
 use Rattle.law_arrivals.proofs.Arriving.{IsNamed, arriving, changes-context, changes-more, changes-nothing}
@@ -79,7 +79,7 @@ module _ (d : Device) (c : Context) (e : End) (s : IsSoundContext c) (here : IsH
         (goes _ (steps.to_ended none_may c e l s here there c e.unused l status.RetryExceeded none refl refl))
         (goes _ (steps.to_link none_may c e l s here there c (record l { sender = counted l.sender }) none refl refl))
 
-    expires_fine : (o : Option NotWhy) → Fine (expires_by d c e l o)
+    expires_fine : (o : Option ExpiryIgnored) → Fine (expires_by d c e l o)
     expires_fine None = counts_fine
     expires_fine (Some w) = still
 

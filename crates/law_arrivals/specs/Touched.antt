@@ -10,8 +10,8 @@ use Rattle.protocol.specs.DeviceStep.{Found, found_in}
 use Rattle.protocol.specs.Memory.{region_of_key}
 use Rattle.protocol.specs.State.{Context, Device, End, Link, context_at, fresh_link}
 use Rattle.protocol.specs.Wire.{Packet, is_request, packet_of}
-use Rattle.responder.specs.Changes.{is_among, may_change}
-use Rattle.law_device_sound.specs.Sound.{plans}
+use Rattle.protocol.specs.Changes.{is_among, may_change}
+use Rattle.law_devices.specs.Sound.{plans}
 
 -- ---- bytes that may change
 

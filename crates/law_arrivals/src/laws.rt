@@ -7,7 +7,7 @@ ghost use Rattle.protocol.specs.declared.events.Event.TheVariants as event;
 ghost use Rattle.protocol.specs.DeviceStep.{device_step};
 ghost use Rattle.protocol.specs.Replay.{replay};
 ghost use Rattle.protocol.specs.State.{Device};
-ghost use Rattle.law_device_sound.specs.Sound.{IsSoundDevice};
+ghost use Rattle.law_devices.specs.Sound.{IsSoundDevice};
 ghost use Rattle.law_arrivals.specs.Touched.{ChangesOnly, HasDistinctContexts, is_touched};
 ghost use Rattle.law_arrivals.specs.Turns.{IsOfTurn, is_touched_by_event, is_touched_in};
 

@@ -13,9 +13,9 @@ use Rattle.protocol.specs.Script as script
 use Rattle.protocol.specs.Script.{Happening, happens, dumps, settles}
 use Rattle.protocol.specs.State.{World}
 use Rattle.protocol.specs.WorldStep.{world_step}
-use Rattle.ideal_model.specs.declared.steps.IdealStep.{IdealStep}
-use Rattle.ideal_model.specs.Legal.{IsLegalFrom, IsRun, after, effect, seen, seen_of}
-use Rattle.ideal_model.specs.Machine.{Machine}
+use Rattle.packetless_machine.specs.declared.steps.MachineStep.{MachineStep}
+use Rattle.packetless_machine.specs.Legal.{IsLegalFrom, IsRun, after, effect, seen, seen_of}
+use Rattle.packetless_machine.specs.Machine.{Machine}
 use Rattle.script_lang.specs.declared.lines.Line.{Line}
 use Rattle.law_simulation.specs.Kept.{kept_of, kept_verb, verb_in, verb_of}
 use Rattle.law_simulation.specs.Carries.{Allows}
@@ -118,15 +118,15 @@ all_within (l ∷ ls) all = by (happening_of l) (All-head IsLineInRange l ls all
 
 -- ---- where they lead, and what is heard
 
-after_on : (m : Machine) (ss ts : List IdealStep) → after m (ss ++ ts) ≡ after (after m ss) ts
+after_on : (m : Machine) (ss ts : List MachineStep) → after m (ss ++ ts) ≡ after (after m ss) ts
 after_on m [] ts = refl
 after_on m (s ∷ ss) ts = after_on (effect m s) ss ts
 
-runs_on : (m : Machine) (ss ts : List IdealStep) → IsRun m ss → IsRun (after m ss) ts → IsRun m (ss ++ ts)
+runs_on : (m : Machine) (ss ts : List MachineStep) → IsRun m ss → IsRun (after m ss) ts → IsRun m (ss ++ ts)
 runs_on m [] ts first second = second
 runs_on m (s ∷ ss) ts first second = (first.0, runs_on (effect m s) ss ts first.1 second)
 
-seen_on : (m : Machine) (ss ts : List IdealStep) → seen m (ss ++ ts) ≡ seen m ss ++ seen (after m ss) ts
+seen_on : (m : Machine) (ss ts : List MachineStep) → seen m (ss ++ ts) ≡ seen m ss ++ seen (after m ss) ts
 seen_on m [] ts = refl
 seen_on m (s ∷ ss) ts = ap (λ x. seen_of m s ++ x) (seen_on (effect m s) ss ts) ∙ sym (append_assoc (seen_of m s) (seen (effect m s) ss) (seen (after (effect m s) ss) ts))
 
@@ -136,7 +136,7 @@ all_reached w m [] f = record { is_run = tt; heard_all = refl; stands = f }
 all_reached w m (h ∷ hs) f =
     let m1 : Machine = after m (line_steps w m h) in
     let rest : ReachesAll (happens w h).world m1 hs = all_reached (happens w h).world m1 hs f.1 in
-    let more : List IdealStep = lines_steps (happens w h).world m1 hs in
+    let more : List MachineStep = lines_steps (happens w h).world m1 hs in
     record {
       is_run = runs_on m (line_steps w m h) more f.0.is_run rest.is_run;
       heard_all = seen_on m (line_steps w m h) more ∙ rw (f.0.heard, rest.heard_all) refl;

@@ -2,8 +2,8 @@
 use Rattle.std.specs.Prelude.{ℕ, ◌≡◌, List}
 use Rattle.protocol.specs.Script.{Happening}
 use Rattle.protocol.specs.State.{World, empty_world}
-use Rattle.ideal_model.specs.Legal.{IsRun, after, seen}
-use Rattle.ideal_model.specs.Machine.{Machine, empty}
+use Rattle.packetless_machine.specs.Legal.{IsRun, after, seen}
+use Rattle.packetless_machine.specs.Machine.{Machine, empty}
 use Rattle.law_simulation.specs.Stands.{Stands}
 use Rattle.law_kept_datagrams.specs.Alike.{with_kept_datagrams}
 use Rattle.law_headline.specs.Follows.{lines_steps}

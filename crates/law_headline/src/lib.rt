@@ -7,8 +7,8 @@ ghost use Rattle.std.specs.Prelude.{◌≡◌, ℕ, [], ◌++◌, List, All, Ok}
 ghost use Rattle.protocol.specs.declared.events.WorldEvent.{WorldEvent};
 ghost use Rattle.protocol.specs.State.{World, empty_world};
 ghost use Rattle.protocol.specs.Script.{Happening};
-ghost use Rattle.ideal_model.specs.Legal.{IsLegal};
-ghost use Rattle.ideal_model.specs.Machine.{Machine, empty};
+ghost use Rattle.packetless_machine.specs.Legal.{IsLegal};
+ghost use Rattle.packetless_machine.specs.Machine.{Machine, empty};
 ghost use Rattle.script_lang.specs.declared.lines.Line.{Line};
 ghost use Rattle.law_settling.specs.Settling.{IsSettling};
 ghost use Rattle.law_simulation.specs.Law.{IsInRange};
@@ -40,9 +40,12 @@ pub fn lines_are_in_range()
 /// The machine follows each list of lines whose fields are in their ranges, one line after the other and each by exactly the steps
 /// that are named at it, from each state for which the world stands; and what applications hear of lines from the empty world on is legal.
 pub fn lines_are_followed()
-    ensures from_any { (w : World) (m : Machine) (hs : List Happening) → All IsWithin hs → Stands w m → FollowsAll w m hs }
-    ensures follows { (ls : List Line) → All IsLineInRange ls → FollowsAll empty_world empty (happenings_of ls) }
-    ensures legal { (ls : List Line) → All IsLineInRange ls → IsLegal (heard_from empty_world (happenings_of ls)) }
+    ensures from_any { (w : World) (m : Machine) (hs : List Happening) → All IsWithin hs
+        → Stands w m → FollowsAll w m hs }
+    ensures follows { (ls : List Line) → All IsLineInRange ls
+        → FollowsAll empty_world empty (happenings_of ls) }
+    ensures legal { (ls : List Line) → All IsLineInRange ls
+        → IsLegal (heard_from empty_world (happenings_of ls)) }
 {
     law_holds();
     steps_are_named();
@@ -54,8 +57,10 @@ pub fn lines_are_followed()
 /// comes to.
 pub fn scripts_are_followed()
     ensures whole { (text : List ℕ) → IsFollowed text }
-    ensures follows_prefix { (text : List ℕ) (prefix rest : List Happening) → happenings text ≡ prefix ++ rest → FollowsAll empty_world empty prefix }
-    ensures legal_prefix { (text : List ℕ) (prefix rest : List Happening) → happenings text ≡ prefix ++ rest → IsLegal (heard_from empty_world prefix) }
+    ensures follows_prefix { (text : List ℕ) (prefix rest : List Happening)
+        → happenings text ≡ prefix ++ rest → FollowsAll empty_world empty prefix }
+    ensures legal_prefix { (text : List ℕ) (prefix rest : List Happening)
+        → happenings text ≡ prefix ++ rest → IsLegal (heard_from empty_world prefix) }
     ensures reached { (text : List ℕ) → ReachesAll empty_world empty (happenings text) }
 {
     lines_are_in_range();

@@ -19,8 +19,11 @@ pub fn scripts_say_their_lines()
 /// Each line that is not blank has one answer, and what is written for lines is what is written for a prefix of them, and then
 /// for the others from the world that the prefix leaves.
 pub fn answers_stand_in_order()
-    ensures count { (text : List ℕ) (w : World) → length (answers_in w (happenings text)) ≡ count_by is_answered (script_of text).lines }
-    ensures text { (w : World) (prefix rest : List Happening) → text_from w (prefix ++ rest) ≡ text_from w prefix ++ text_from (world_left w prefix) rest }
+    ensures count { (text : List ℕ) (w : World)
+        → length (answers_in w (happenings text)) ≡ count_by is_answered (script_of text).lines }
+    ensures text { (w : World) (prefix rest : List Happening)
+        → text_from w (prefix ++ rest) ≡ text_from w prefix
+        ++ text_from (world_left w prefix) rest }
 {}
 
 /// A loop that reads line after line, answers each and writes the text has written the answers to the whole text where it comes to

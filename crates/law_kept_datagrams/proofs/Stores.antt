@@ -3,11 +3,9 @@ use Rattle.std.proofs.Common.{arith, ◌≡◌, ℕ, ◌+◌, ◌-◌, ◌<◌, 
 use Rattle.std.proofs.lemmas.List.{length-replicate, length-take-le, take-append-drop}
 use Rattle.rdma_types.specs.declared.answers.Sent.{Sent}
 use Rattle.rdma_types.specs.declared.requests.Address.{Address}
-use Rattle.protocol.specs.Fabric.{is_kept, kept_flight, look, losing, pending_from, pending_numbers, sending, took}
+use Rattle.protocol.specs.Fabric.{blank, forgetting, is_kept, kept_flight, look, losing, pending_from, pending_numbers, sending, took}
 use Rattle.protocol.specs.State.{Flight}
-use Rattle.fabric.specs.Store.{blank, forgetting}
-use Rattle.fabric.proofs.Histories.{kept_flight-forgetting, length-forgetting, look-forgetting, losing-forgetting, sending-forgetting, took-forgetting}
-use Rattle.fabric.proofs.Stores.{kept_means, pending_from-skips}
+use Rattle.protocol.proofs.Histories.{kept_flight-forgetting, kept_means, length-forgetting, look-forgetting, losing-forgetting, pending_from-skips, sending-forgetting, took-forgetting}
 
 -- the same where they are kept
 abbrev pub AreSame : List Flight → List Flight → Type 0

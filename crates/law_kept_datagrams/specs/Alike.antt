@@ -2,7 +2,7 @@
 use Rattle.std.specs.Prelude.{◌≡◌}
 use Rattle.protocol.specs.State.{World}
 use Rattle.protocol.specs.WorldStep.{Step}
-use Rattle.fabric.specs.Store.{forgetting}
+use Rattle.protocol.specs.Fabric.{forgetting}
 
 -- the world in which the datagrams that are not kept any more are blank
 abbrev pub with_kept_datagrams : World → World

@@ -15,7 +15,10 @@ ghost use Rattle.law_kept_datagrams.specs.Alike.{AreAlike, StepAlike, with_kept_
 /// differ in no more after it. So a world that keeps only the last datagrams answers a script as one that keeps all.
 pub fn alike_worlds_are_answered_alike()
     ensures kept_datagrams { (w : World) → AreAlike (with_kept_datagrams w) w }
-    ensures event { (a b : World) (e : WorldEvent) → AreAlike a b → StepAlike (world_step a e) (world_step b e) }
-    ensures line { (a b : World) (h : Happening) → AreAlike a b → StepAlike (happens a h) (happens b h) }
-    ensures script { (w : World) (hs : List Happening) → answers_in (with_kept_datagrams w) hs ≡ answers_in w hs }
+    ensures event { (a b : World) (e : WorldEvent) → AreAlike a b
+        → StepAlike (world_step a e) (world_step b e) }
+    ensures line { (a b : World) (h : Happening) → AreAlike a b
+        → StepAlike (happens a h) (happens b h) }
+    ensures script { (w : World) (hs : List Happening)
+        → answers_in (with_kept_datagrams w) hs ≡ answers_in w hs }
 {}

@@ -3,7 +3,7 @@ use Rattle.std.specs.Prelude.{All}
 use Rattle.protocol.specs.Lawful.{IsLawful}
 use Rattle.protocol.specs.State.{World}
 use Rattle.protocol.specs.Settle.{settled, unfinished}
-use Rattle.ideal_model.specs.Machine.{Machine}
+use Rattle.packetless_machine.specs.Machine.{Machine}
 use Rattle.law_simulation.specs.Quiet.{IsQuiet}
 use Rattle.law_simulation.specs.Stands.{Stands}
 

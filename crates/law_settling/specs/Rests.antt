@@ -5,7 +5,7 @@ use Rattle.protocol.specs.EndWords.{is_running}
 use Rattle.protocol.specs.Fabric.{pending}
 use Rattle.protocol.specs.State.{World, Link}
 use Rattle.protocol.specs.Settle.{link_at, settled}
-use Rattle.ideal_model.specs.Machine.{Machine}
+use Rattle.packetless_machine.specs.Machine.{Machine}
 use Rattle.law_simulation.specs.Stands.{Stands}
 
 -- nothing is pending; a live end that is Running waits for its RNR timer only with rnr 7, and where it does not wait it has

@@ -7,7 +7,7 @@ use Rattle.protocol.specs.declared.events.WorldEvent.TheVariants.{At, Deliver}
 use Rattle.protocol.specs.State.{World}
 use Rattle.protocol.specs.WorldStep.{world_after}
 use Rattle.protocol.specs.Settle.{settled}
-use Rattle.ideal_model.specs.Machine.{Machine}
+use Rattle.packetless_machine.specs.Machine.{Machine}
 use Rattle.law_simulation.specs.Stands.{Stands}
 use Rattle.law_simulation.specs.Law.{FollowsRun}
 use Rattle.law_simulation.specs.Named.{RunFollowsByName}

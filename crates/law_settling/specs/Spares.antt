@@ -6,7 +6,7 @@ use Rattle.protocol.specs.Fabric.{pending}
 use Rattle.protocol.specs.State.{Link}
 use Rattle.protocol.specs.WorldStep.{world_step}
 use Rattle.protocol.specs.Settle.{Settling, drained, is_sent, link_at, settle_step, transmit}
-use Rattle.ideal_model.specs.Machine.{Machine}
+use Rattle.packetless_machine.specs.Machine.{Machine}
 use Rattle.law_simulation.specs.Stands.{Stands}
 
 -- where an end with the link l has l' later, its requester is the same, or it is in Error, or Paused

@@ -5,7 +5,7 @@ use Rattle.protocol.specs.EndWords.{is_running}
 use Rattle.protocol.specs.Fabric.{pending}
 use Rattle.protocol.specs.WorldStep.{world_step}
 use Rattle.protocol.specs.Settle.{Settling, is_sent, link_at, sends_all, transmit}
-use Rattle.ideal_model.specs.Machine.{Machine}
+use Rattle.packetless_machine.specs.Machine.{Machine}
 use Rattle.law_simulation.specs.Stands.{Stands}
 
 -- where nothing is pending, an end that runs sends until the answer is not Sent: the fuel is not used up

@@ -4,7 +4,7 @@ use Rattle.rdma_types.specs.declared.names.ObjName.{ObjName}
 use Rattle.protocol.specs.EndWords.{is_running}
 use Rattle.protocol.specs.State.{World, Link}
 use Rattle.protocol.specs.Settle.{link_at, settled}
-use Rattle.ideal_model.specs.Machine.{Machine}
+use Rattle.packetless_machine.specs.Machine.{Machine}
 use Rattle.law_simulation.specs.Stands.{Stands}
 
 -- after settling a live end that is Running and does not wait for its RNR timer has no untold request

@@ -5,7 +5,7 @@ use Rattle.protocol.specs.EndWords.{is_running}
 use Rattle.protocol.specs.State.{World, Link}
 use Rattle.protocol.specs.WorldStep.{world_step}
 use Rattle.protocol.specs.Settle.{is_sent, link_at, transmit}
-use Rattle.ideal_model.specs.Machine.{Machine}
+use Rattle.packetless_machine.specs.Machine.{Machine}
 use Rattle.law_simulation.specs.Stands.{Stands}
 
 -- an end that runs, does not wait for its RNR timer, has nothing in flight and now sends nothing has no untold request

@@ -4,7 +4,7 @@ use Rattle.rdma_types.specs.declared.names.ObjName.{ObjName}
 use Rattle.protocol.specs.EndWords.{is_running}
 use Rattle.protocol.specs.State.{World, Link}
 use Rattle.protocol.specs.Settle.{link_at, settled}
-use Rattle.ideal_model.specs.Machine.{Machine}
+use Rattle.packetless_machine.specs.Machine.{Machine}
 use Rattle.law_simulation.specs.Quiet.{lacks_receive}
 use Rattle.law_simulation.specs.Stands.{Stands}
 

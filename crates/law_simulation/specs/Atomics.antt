@@ -4,9 +4,9 @@ use Rattle.rdma_types.specs.declared.names.ObjName.{ObjName}
 use Rattle.rdma_types.specs.Kinds.{is_atomic, kind_of}
 use Rattle.protocol.specs.State.{World, Link}
 use Rattle.protocol.specs.Wire.{Packet}
-use Rattle.ideal_model.specs.Machine as machine
-use Rattle.ideal_model.specs.Machine.{Machine}
-use Rattle.ideal_model.specs.Steps.{may_atom}
+use Rattle.packetless_machine.specs.Machine as machine
+use Rattle.packetless_machine.specs.Machine.{Machine}
+use Rattle.packetless_machine.specs.Steps.{may_atom}
 use Rattle.law_simulation.specs.Taken.{IsExpected, IsRepeat, asked}
 
 -- the expected request is an atomic that the machine may let act

@@ -2,8 +2,8 @@
 use Rattle.std.specs.Prelude.{◌≡◌, ℕ, ◌-◌, List, [], ◌∷◌, slice_get, Bool, true, false, Option, Some, None, if◌then◌else◌}
 use Rattle.rdma_types.specs.declared.names.ObjName.{ObjName}
 use Rattle.rdma_types.specs.declared.answers.Answer.TheVariants as answers
-use Rattle.rdma_types.specs.declared.answers.Took.{Took}
-use Rattle.rdma_types.specs.declared.answers.Took.TheVariants as took
+use Rattle.rdma_types.specs.declared.answers.ArrivalEffect.{ArrivalEffect}
+use Rattle.rdma_types.specs.declared.answers.ArrivalEffect.TheVariants as took
 use Rattle.protocol.specs.declared.events.WorldEvent.TheVariants.{Deliver}
 use Rattle.protocol.specs.Fabric.{Look, Here, IsGone, IsLost, IsAged, is_late, kept_flight, look}
 use Rattle.protocol.specs.Wire.{Packet, packet_of, wire_of, is_request, is_control}
@@ -13,11 +13,11 @@ use Rattle.protocol.specs.State.{World, Device, Flight, HuskEntry, Link, context
 use Rattle.protocol.specs.EndStep.{takes}
 use Rattle.protocol.specs.DeviceStep.{ended_step, gives, husk_entries, found_in}
 use Rattle.protocol.specs.WorldStep.{is_live, home, ran, now_of, device_with}
-use Rattle.ideal_model.specs.declared.steps.IdealStep.{IdealStep}
-use Rattle.ideal_model.specs.declared.steps.IdealStep.TheVariants as steps
-use Rattle.ideal_model.specs.Machine as machine
-use Rattle.ideal_model.specs.Machine.{Machine}
-use Rattle.ideal_model.specs.Legal.{IsRun, after}
+use Rattle.packetless_machine.specs.declared.steps.MachineStep.{MachineStep}
+use Rattle.packetless_machine.specs.declared.steps.MachineStep.TheVariants as steps
+use Rattle.packetless_machine.specs.Machine as machine
+use Rattle.packetless_machine.specs.Machine.{Machine}
+use Rattle.packetless_machine.specs.Legal.{IsRun, after}
 use Rattle.law_simulation.specs.Packets.{Class, class_of, IsRequest, IsReadResponse, IsAtomicResponse, IsAck, IsSequenceNak, IsRefusal, IsReceiverNotReady, IsStopped, IsResume, IsResumeAck}
 use Rattle.law_simulation.specs.Views.{net_of, name_of, peer}
 use Rattle.law_simulation.specs.Facts.{Fact, PacketFact}
@@ -55,19 +55,19 @@ pub record Arrives (w : World) (m : Machine) (o : ObjName) (l : Link) (number : 
   pub fresh : is_late number (mark_at l d) ≡ false
 
 -- no verb is among the steps
-abbrev pub AreInner : List IdealStep → Type 0
+abbrev pub AreInner : List MachineStep → Type 0
 AreInner [] = Unit {0}
 AreInner (steps.Verb verb given ∷ ss) = ⊥
 AreInner (other ∷ ss) = AreInner ss
 
 -- what the end took the packet for
-abbrev pub taken_for : World → ObjName → Link → Packet → Took
+abbrev pub taken_for : World → ObjName → Link → Packet → ArrivalEffect
 taken_for w o l d = (takes (context_there w o) (end_there w o) l d).took
 
 -- the machine makes inner steps that the datagram may carry, those that are named, and comes to a state for which the world
 -- stands once the end took the packet and its answers are on their way
 pub record Takes (w : World) (m : Machine) (o : ObjName) (l : Link) (number : Option ℕ) (d : Packet) : Type 0 where
-  pub steps : List IdealStep
+  pub steps : List MachineStep
   pub inner : AreInner steps
   pub is_run : IsRun m steps
   pub allowed : CarriesNumbered w m o number d.payload (class_of d) steps

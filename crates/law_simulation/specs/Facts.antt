@@ -1,8 +1,8 @@
 -- What stays true of each husk, and of each datagram that was ever sent: the network may bring it at any later time.
 use Rattle.std.specs.Prelude.{◌≡◌, ℕ, suc, ◌*◌, ◌<◌, ◌≤◌, ◌⊎◌, List, slice_get, Contains, Bool, true, false, if◌then◌else◌, Option, Some, None}
 use Rattle.rdma_types.specs.declared.requests.Address.{Address}
-use Rattle.rdma_types.specs.declared.answers.Why.{Why}
-use Rattle.rdma_types.specs.declared.answers.Why.TheVariants as whys
+use Rattle.rdma_types.specs.declared.answers.RefusalReason.{RefusalReason}
+use Rattle.rdma_types.specs.declared.answers.RefusalReason.TheVariants as whys
 use Rattle.rdma_types.specs.Kinds.{is_read, kind_of}
 use Rattle.rdma_types.specs.Objects.{Posted}
 use Rattle.rdma_types.specs.Spans.{first_number, piece_of, request_of}
@@ -10,9 +10,9 @@ use Rattle.protocol.specs.Numbers.{wire_number}
 use Rattle.protocol.specs.Segments.{packet_at}
 use Rattle.protocol.specs.Wire.{Packet, packet_of, wire_of}
 use Rattle.protocol.specs.State.{Flight, Link, HuskEntry}
-use Rattle.ideal_model.specs.declared.reply.Reply.TheVariants.{OldValue, Denied}
-use Rattle.ideal_model.specs.Machine.{End, posted_at}
-use Rattle.ideal_model.specs.Numbers.{due}
+use Rattle.packetless_machine.specs.declared.reply.Reply.TheVariants.{OldValue, Denied}
+use Rattle.packetless_machine.specs.Machine.{End, posted_at}
+use Rattle.packetless_machine.specs.Numbers.{due}
 use Rattle.law_simulation.specs.Packets.{Class, class_of, IsRequest, IsReadResponse, IsAtomicResponse, IsAck, IsSequenceNak, IsRefusal, IsReceiverNotReady, IsStopped, IsResume, IsResumeAck}
 use Rattle.law_simulation.specs.Views.{Net, Side, peer}
 use Rattle.law_simulation.specs.Joined.{lands_untold_before}
@@ -71,7 +71,7 @@ pub record IsOld (q : End) (n : ℕ) (old : Option ℕ) : Type 0 where
   pub answer : slice_get q.answers (request_of q.posted q.mtu n) ≡ Some (OldValue value)
 
 -- a refusal is an access error, or another
-unfoldable pub is_access_denied : Why → Bool
+unfoldable pub is_access_denied : RefusalReason → Bool
 is_access_denied whys.Access = true
 is_access_denied whys.Invalid = false
 is_access_denied whys.Length = false
@@ -79,7 +79,7 @@ is_access_denied whys.Length = false
 -- request n of q is due, and refused for such a reason
 pub record IsRefused (q : End) (n : ℕ) (is_access : Bool) : Type 0 where
   pub due : n ≡ due q
-  pub why : Why
+  pub why : RefusalReason
   pub answer : slice_get q.answers q.acted ≡ Some (Denied why)
   pub matches : is_access_denied why ≡ is_access
 

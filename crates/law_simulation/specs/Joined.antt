@@ -14,11 +14,11 @@ use Rattle.rdma_types.specs.declared.names.Name.{Name}
 use Rattle.protocol.specs.declared.images.KeptReply.{KeptReply}
 use Rattle.protocol.specs.State.{Sender, Receiver, Paused, Resuming, Progress, NoMessage, InSend, InWrite}
 use Rattle.protocol.specs.WorldStep.{exchanged}
-use Rattle.ideal_model.specs.declared.reply.Reply.{Reply}
-use Rattle.ideal_model.specs.declared.reply.Reply.TheVariants.{Finished, OldValue, Denied}
-use Rattle.ideal_model.specs.Machine.{End, posted_at}
-use Rattle.ideal_model.specs.Numbers.{due, oldest}
-use Rattle.ideal_model.specs.Steps.{current, front, right_for}
+use Rattle.packetless_machine.specs.declared.reply.Reply.{Reply}
+use Rattle.packetless_machine.specs.declared.reply.Reply.TheVariants.{Finished, OldValue, Denied}
+use Rattle.packetless_machine.specs.Machine.{End, posted_at}
+use Rattle.packetless_machine.specs.Numbers.{due, oldest}
+use Rattle.packetless_machine.specs.Steps.{current, front, right_for}
 use Rattle.law_simulation.specs.Views.{Side}
 
 -- ---- ranges of fields, and whole pieces

@@ -12,10 +12,10 @@ use Rattle.protocol.specs.declared.events.WorldEvent.{WorldEvent}
 use Rattle.protocol.specs.declared.events.WorldEvent.TheVariants as world_events
 use Rattle.protocol.specs.State.{World, empty_world}
 use Rattle.protocol.specs.WorldStep.{world_step, world_after}
-use Rattle.ideal_model.specs.declared.steps.IdealStep.{IdealStep}
-use Rattle.ideal_model.specs.declared.steps.IdealStep.TheVariants as steps
-use Rattle.ideal_model.specs.Machine.{Machine, empty}
-use Rattle.ideal_model.specs.Legal.{IsRun, IsLegal, after, seen}
+use Rattle.packetless_machine.specs.declared.steps.MachineStep.{MachineStep}
+use Rattle.packetless_machine.specs.declared.steps.MachineStep.TheVariants as steps
+use Rattle.packetless_machine.specs.Machine.{Machine, empty}
+use Rattle.packetless_machine.specs.Legal.{IsRun, IsLegal, after, seen}
 use Rattle.law_simulation.specs.Kept.{kept_of}
 use Rattle.law_simulation.specs.Carries.{Allows}
 use Rattle.law_simulation.specs.Stands.{Stands}
@@ -62,7 +62,7 @@ IsInRange other = Unit {0}
 -- ---- one event
 
 -- the inner steps among some steps
-abbrev pub inner_of : List IdealStep → List IdealStep
+abbrev pub inner_of : List MachineStep → List MachineStep
 inner_of [] = []
 inner_of (steps.Verb verb given ∷ ss) = inner_of ss
 inner_of (other ∷ ss) = other ∷ inner_of ss
@@ -70,7 +70,7 @@ inner_of (other ∷ ss) = other ∷ inner_of ss
 -- from m the machine makes steps that the event allows, hears what an application hears of it, and comes to a state
 -- that the next world stands for
 pub record Reaches (w : World) (m : Machine) (e : WorldEvent) (w' : World) (answer : Answer) : Type 0 where
-  pub steps : List IdealStep
+  pub steps : List MachineStep
   pub is_run : IsRun m steps
   pub heard : seen m steps ≡ kept_of w e answer
   pub allowed : Allows w m e answer (inner_of steps)
@@ -92,20 +92,20 @@ kept w [] = []
 kept w (e ∷ es) = let s = world_step w e in kept_of w e s.answer ++ kept s.world es
 
 -- the steps of a run of the machine, event by event, each allowed by its event
-abbrev pub AllowsAll : World → Machine → List WorldEvent → List (List IdealStep) → Type 0
+abbrev pub AllowsAll : World → Machine → List WorldEvent → List (List MachineStep) → Type 0
 AllowsAll w m [] [] = Unit {0}
 AllowsAll w m [] (ss ∷ rest) = ⊥
 AllowsAll w m (e ∷ es) [] = ⊥
 AllowsAll w m (e ∷ es) (ss ∷ rest) = Allows w m e (world_step w e).answer (inner_of ss) × AllowsAll (world_step w e).world (after m ss) es rest
 
 -- those of all events, one after the other
-abbrev pub joined_steps : List (List IdealStep) → List IdealStep
+abbrev pub joined_steps : List (List MachineStep) → List MachineStep
 joined_steps [] = []
 joined_steps (ss ∷ rest) = ss ++ joined_steps rest
 
 -- the machine follows a whole run
 pub record FollowsRun (w : World) (m : Machine) (es : List WorldEvent) : Type 0 where
-  pub steps : List (List IdealStep)  -- those of each event
+  pub steps : List (List MachineStep)  -- those of each event
   pub is_run : IsRun m (joined_steps steps)
   pub heard : seen m (joined_steps steps) ≡ kept w es
   pub allowed : AllowsAll w m es steps

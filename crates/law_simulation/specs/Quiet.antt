@@ -3,8 +3,8 @@ use Rattle.std.specs.Prelude.{◌≡◌, ℕ, ◌+◌, ◌-◌, List, [], ◌∷
 use Rattle.rdma_types.specs.declared.names.ObjName.{ObjName}
 use Rattle.rdma_types.specs.declared.requests.Kind.{Kind}
 use Rattle.rdma_types.specs.declared.requests.Kind.TheVariants as kinds
-use Rattle.rdma_types.specs.declared.answers.LeftWhy.{LeftWhy}
-use Rattle.rdma_types.specs.declared.answers.LeftWhy.TheVariants as left_whys
+use Rattle.rdma_types.specs.declared.answers.UnfinishedReason.{UnfinishedReason}
+use Rattle.rdma_types.specs.declared.answers.UnfinishedReason.TheVariants as left_whys
 use Rattle.rdma_types.specs.Objects.{Posted}
 use Rattle.rdma_types.specs.Kinds.{kind_of}
 use Rattle.protocol.specs.Images as images
@@ -13,9 +13,9 @@ use Rattle.protocol.specs.State.{World, Link}
 use Rattle.protocol.specs.Fabric.{pending}
 use Rattle.protocol.specs.EndWords.{is_paused, is_resuming}
 use Rattle.protocol.specs.Requester.{end_of_queue}
-use Rattle.ideal_model.specs.Machine as machine
-use Rattle.ideal_model.specs.Machine.{Machine}
-use Rattle.ideal_model.specs.Steps.{has_current, front, has_unused, has_imm, peer_of}
+use Rattle.packetless_machine.specs.Machine as machine
+use Rattle.packetless_machine.specs.Machine.{Machine}
+use Rattle.packetless_machine.specs.Steps.{has_current, front, has_unused, has_imm, peer_of}
 use Rattle.law_simulation.specs.Views.{link_of, link_or_none, is_carried}
 
 -- the ends with untold requests of some contexts, in order
@@ -42,7 +42,7 @@ lacks_receive m o =
     && not (has_unused (peer_of m o)))))
 
 -- why the requests of an end are left: the first reason that holds
-unfoldable pub reason_of : World → Machine → ObjName → Option LeftWhy
+unfoldable pub reason_of : World → Machine → ObjName → Option UnfinishedReason
 reason_of w m o =
     if is_carried w o.context
     then Some left_whys.Carried
@@ -53,14 +53,14 @@ reason_of w m o =
     else if lacks_receive m o then Some left_whys.NoReceive else None
 
 -- each end is named once, in order, with its reason
-abbrev pub AreReasons : World → Machine → List ObjName → List (ObjName × LeftWhy) → Type 0
+abbrev pub AreReasons : World → Machine → List ObjName → List (ObjName × UnfinishedReason) → Type 0
 AreReasons w m [] [] = Unit {0}
 AreReasons w m [] (x ∷ xs) = ⊥
 AreReasons w m (o ∷ os) [] = ⊥
 AreReasons w m (o ∷ os) (x ∷ xs) = (x.0 ≡ o) × (reason_of w m o ≡ Some x.1) × AreReasons w m os xs
 
 -- nothing is pending, and each end with untold requests is named once, with its reason
-pub record IsQuiet (w : World) (m : Machine) (left : List (ObjName × LeftWhy)) : Type 0 where
+pub record IsQuiet (w : World) (m : Machine) (left : List (ObjName × UnfinishedReason)) : Type 0 where
   pub nothing_pending : pending w.sent ≡ None
   pub reasons : AreReasons w m (unfinished w) left
 

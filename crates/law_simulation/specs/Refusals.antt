@@ -5,9 +5,9 @@ use Rattle.rdma_types.specs.Kinds.{is_send, is_write, kind_of}
 use Rattle.protocol.specs.State.{World, Link}
 use Rattle.protocol.specs.Wire.{Packet}
 use Rattle.protocol.specs.Responder.{is_invalid, is_not_ready, is_too_long, target}
-use Rattle.ideal_model.specs.Machine as machine
-use Rattle.ideal_model.specs.Machine.{Machine, End}
-use Rattle.ideal_model.specs.Steps.{current, fills, has_imm, has_unused, is_current_granted, is_misaligned, may_atom, may_read, may_run, overflows, peer_of, receive_for}
+use Rattle.packetless_machine.specs.Machine as machine
+use Rattle.packetless_machine.specs.Machine.{Machine, End}
+use Rattle.packetless_machine.specs.Steps.{current, fills, has_imm, has_unused, is_current_granted, is_misaligned, may_atom, may_read, may_run, overflows, peer_of, receive_for}
 use Rattle.law_simulation.specs.Packets.{class_of, IsRequest}
 use Rattle.law_simulation.specs.Delivered.{Arrives, context_there, end_there}
 use Rattle.law_simulation.specs.Taken.{IsExpected}

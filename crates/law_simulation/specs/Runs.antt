@@ -2,8 +2,8 @@
 use Rattle.std.specs.Prelude.{List, All}
 use Rattle.protocol.specs.declared.events.WorldEvent.{WorldEvent}
 use Rattle.protocol.specs.State.{World, empty_world}
-use Rattle.ideal_model.specs.Machine.{Machine, empty}
-use Rattle.ideal_model.specs.Legal.{IsLegal}
+use Rattle.packetless_machine.specs.Machine.{Machine, empty}
+use Rattle.packetless_machine.specs.Legal.{IsLegal}
 use Rattle.law_simulation.specs.Stands.{Stands}
 use Rattle.law_simulation.specs.Law.{AlwaysFollows, FollowsRun, IsInRange, kept}
 

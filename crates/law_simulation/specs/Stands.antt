@@ -12,10 +12,10 @@ use Rattle.rdma_types.specs.Objects.{IsWhole, Region}
 use Rattle.protocol.specs.State as state
 use Rattle.protocol.specs.State.{World, Device, Flight, HuskEntry, device_at}
 use Rattle.protocol.specs.WorldStep.{same_address}
-use Rattle.ideal_model.specs.Machine as machine
-use Rattle.ideal_model.specs.Machine.{Machine, new_end}
-use Rattle.ideal_model.specs.Steps.{untold, receives_of}
-use Rattle.ideal_model.specs.Sound.{IsSound}
+use Rattle.packetless_machine.specs.Machine as machine
+use Rattle.packetless_machine.specs.Machine.{Machine, new_end}
+use Rattle.packetless_machine.specs.Steps.{untold, receives_of}
+use Rattle.packetless_machine.specs.Sound.{IsSound}
 use Rattle.law_simulation.specs.Views.{Net, net_of, requests_of, numbered_ends, peer, owned, owned_there, contexts_of, context_of}
 use Rattle.law_simulation.specs.Joined.{IsJoined, IsProgress}
 use Rattle.law_simulation.specs.Facts.{Fact, HuskFact}

@@ -6,9 +6,9 @@ use Rattle.rdma_types.specs.Objects.{Posted}
 use Rattle.protocol.specs.EndWords.{is_paused}
 use Rattle.protocol.specs.State.{World, Link}
 use Rattle.protocol.specs.Wire.{Packet}
-use Rattle.ideal_model.specs.Machine as machine
-use Rattle.ideal_model.specs.Machine.{Machine}
-use Rattle.ideal_model.specs.Steps.{current, may_dry, may_read, may_run}
+use Rattle.packetless_machine.specs.Machine as machine
+use Rattle.packetless_machine.specs.Machine.{Machine}
+use Rattle.packetless_machine.specs.Steps.{current, may_dry, may_read, may_run}
 use Rattle.law_simulation.specs.Packets.{class_of, IsRequest}
 use Rattle.law_simulation.specs.Facts.{request_for}
 use Rattle.law_simulation.specs.Delivered.{Arrives, Takes}

@@ -5,7 +5,7 @@ use Rattle.protocol.specs.Wire.{Packet, packet_of}
 use Rattle.protocol.specs.State.{World, Device, Flight}
 use Rattle.protocol.specs.DeviceStep.{found_in}
 use Rattle.protocol.specs.WorldStep.{device_with}
-use Rattle.ideal_model.specs.Machine.{Machine}
+use Rattle.packetless_machine.specs.Machine.{Machine}
 use Rattle.law_simulation.specs.Stands.{Stands}
 use Rattle.law_simulation.specs.Named.{FollowsByName}
 

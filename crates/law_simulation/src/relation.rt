@@ -7,7 +7,7 @@ ghost use Rattle.std.specs.Prelude.{ℕ};
 ghost use Rattle.rdma_types.specs.declared.requests.Address.{Address};
 ghost use Rattle.protocol.specs.State.{empty_world};
 ghost use Rattle.protocol.specs.declared.events.WorldEvent.TheVariants.{AddDevice};
-ghost use Rattle.ideal_model.specs.Machine.{empty};
+ghost use Rattle.packetless_machine.specs.Machine.{empty};
 ghost use Rattle.law_simulation.specs.Law.{IsInRange, Follows};
 
 mod making;
@@ -22,7 +22,8 @@ pub use posting::posting_follows;
 
 // How a crate above uses the law: it calls the functions, and cites what they promise.
 fn first_device_follows()
-    ensures { (id : ℕ) (address : Address) → IsInRange (AddDevice id address) → Follows empty_world empty (AddDevice id address) }
+    ensures { (id : ℕ) (address : Address) → IsInRange (AddDevice id address)
+        → Follows empty_world empty (AddDevice id address) }
 {
     starts();
     making_follows();

@@ -7,7 +7,7 @@ ghost use Rattle.rdma_types.specs.declared.names.ObjName.{ObjName};
 ghost use Rattle.protocol.specs.State.{empty_world};
 ghost use Rattle.protocol.specs.declared.events.Event.TheVariants.{Transmit};
 ghost use Rattle.protocol.specs.declared.events.WorldEvent.TheVariants.{At};
-ghost use Rattle.ideal_model.specs.Machine.{empty};
+ghost use Rattle.packetless_machine.specs.Machine.{empty};
 ghost use Rattle.law_simulation.specs.Law.{Follows};
 
 mod sending;

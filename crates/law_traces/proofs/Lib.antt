@@ -1,2 +1,14 @@
-pub mod Played
-pub mod Heard
+pub mod GivenKeys
+pub mod Legal
+pub mod PrintedAgain
+pub mod RecordedLines
+pub mod Said
+pub mod SaidAnswers
+pub mod SaidCalls
+pub mod SaidFits
+pub mod SaidLines
+pub mod SaidMachine
+pub mod SaidReaders
+pub mod SaidSteps
+pub mod SaidVerbs
+pub mod SaidWords

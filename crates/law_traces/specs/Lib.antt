@@ -1,4 +1,3 @@
-pub mod Recording
-pub mod Playing
-pub mod Heard
-pub mod Evaluate
+pub mod Records
+pub mod Said
+pub mod Whole

@@ -1,21 +1,50 @@
-//! What is recorded of a script, and what holds of the record.
+//! The record of a script is a trace that an audit finds legal.
 //!
 //! The functions do nothing. Each promises the law that it names.
 #![tactic(auto)]
 
-ghost use Rattle.law_traces.specs.Heard.{AllIsHeard};
-ghost use Rattle.law_traces.specs.Playing.{RecordingBegins, RecordingEnds, RecordingGoesOn, RecordingStops};
+ghost use Rattle.law_traces.specs.Records.{RecordsAreLegal};
+ghost use Rattle.law_traces.specs.Said.{RecordsAreSaid};
+ghost use Rattle.law_traces.specs.Whole.{RecordsAreWhole};
 
-/// A script is recorded line by line: nothing is recorded at first; a line that is read adds its own text, and leads to
-/// the next world and machine; a bad line is the first one; and behind the last line nothing is added but `end`.
-pub fn scripts_are_recorded_line_by_line()
-    ensures begins { RecordingBegins }
-    ensures goes_on { RecordingGoesOn }
-    ensures stops { RecordingStops }
-    ensures ends { RecordingEnds }
-{}
+use law_headline::{lines_are_followed, lines_are_in_range};
+use law_simulation::runs::{law_holds, steps_are_named};
+use run_traces::trace_audit::audits_are_right;
+use script_lang::{
+    a_number_is_spelled_in_one_way, answers_are_whole_lines, what_is_printed_reads_back,
+};
+use trace_rules::all_is_heard;
 
-/// The verbs of what is recorded, with their answers, are exactly those that count as made, in their order.
-pub fn all_is_heard()
-    ensures { AllIsHeard }
-{}
+/// The text of what is recorded of a script is in the grammar of traces, and reads back as the steps of the run, where the
+/// numbers of its inner steps have 32 bits.
+pub fn records_are_said()
+    ensures { RecordsAreSaid }
+{
+    audits_are_right();
+    law_holds();
+    steps_are_named();
+    lines_are_in_range();
+    a_number_is_spelled_in_one_way();
+    what_is_printed_reads_back();
+}
+
+/// The recorded steps are a run of the packetless machine with these answers: an audit finds them legal.
+pub fn records_are_legal()
+    ensures { RecordsAreLegal }
+{
+    lines_are_in_range();
+    lines_are_followed();
+    what_is_printed_reads_back();
+    answers_are_whole_lines();
+    audits_are_right();
+}
+
+/// So the record of a script is all that it must be, where those numbers have 32 bits: its text reads back as the steps of the
+/// run, its verbs and answers are those that count as made, and an audit finds it legal.
+pub fn records_are_whole()
+    ensures { RecordsAreWhole }
+{
+    records_are_said();
+    all_is_heard();
+    records_are_legal();
+}

@@ -14,7 +14,7 @@ use Rattle.rdma_types.specs.Limits.{most_regions}
 use Rattle.rdma_types.specs.Lists.{has_name}
 use Rattle.rdma_types.specs.Memory.{put}
 use Rattle.rdma_types.specs.Objects.{Region}
-use Rattle.byte_run.proofs.Cuts.{length-put}
+use Rattle.rdma_types.proofs.Cuts.{length-put}
 use Rattle.rdma_types.specs.declared.answers.Refusal.TheVariants as refusal
 use Rattle.rdma_types.specs.declared.names.Name.{Name}
 use Rattle.page_pool.specs.Store.{blank}
@@ -26,7 +26,7 @@ use Rattle.page_pool.proofs.Writes.{bytes-after, in-after}
 use Rattle.memory_keys.specs.Causes.{register_causes, refusal_of, told_as}
 use Rattle.memory_keys.specs.Faults.{fault_of}
 use Rattle.memory_keys.specs.Regions.{AreHeld, Lies, region_of, regions_of, blank_region}
-use Rattle.memory_keys.specs.declared.Held.{Held}
+use Rattle.memory_keys.specs.declared.RegisteredRegion.{RegisteredRegion}
 use Rattle.memory_keys.specs.declared.MemFault.{MemFault}
 use Rattle.memory_keys.specs.declared.MemFault.TheVariants.{OutOfMemory}
 use Rattle.memory_keys.specs.declared.RegionHead.{RegionHead}
@@ -34,7 +34,7 @@ use Rattle.memory_keys.proofs.Spots.{holds-pages}
 use Rattle.memory_keys.proofs.Stores.{IsApart, apart-new, held-new, regions-new}
 
 -- some region has the name where its place is found
-place-name : (pool : Pool) (n : Name) (hs : List Held) → nat_lt (position_or_len (λ h. bytes_eq h.head.name n) hs) (length hs) ≡ has_name (λ r. r.name) n (regions_of pool hs)
+place-name : (pool : Pool) (n : Name) (hs : List RegisteredRegion) → nat_lt (position_or_len (λ h. bytes_eq h.head.name n) hs) (length hs) ≡ has_name (λ r. r.name) n (regions_of pool hs)
 unfolding has_name
 place-name pool n [] = refl
 place-name pool n (x ∷ xs) = by_test (bytes_eq x.head.name n) refl (place-name pool n xs)
@@ -43,7 +43,7 @@ place-name pool n (x ∷ xs) = by_test (bytes_eq x.head.name n) refl (place-name
     by_test true t rest = grind (arith, nat_tests, t)
     by_test false t rest = grind (arith, nat_tests, t, rest)
 
-pub is-named : (pool : Pool) (n : Name) (hs : List Held) (r : Option ℕ) → r ≡ position (λ h. bytes_eq h.head.name n) hs → is_some r ≡ has_name (λ x. x.name) n (regions_of pool hs)
+pub is-named : (pool : Pool) (n : Name) (hs : List RegisteredRegion) (r : Option ℕ) → r ≡ position (λ h. bytes_eq h.head.name n) hs → is_some r ≡ has_name (λ x. x.name) n (regions_of pool hs)
 is-named pool n hs r e = ap is_some e ∙ (by_test (nat_lt (position_or_len (λ h. bytes_eq h.head.name n) hs) (length hs)) ∙ place-name pool n hs)
   where
     by_test : (b : Bool) → is_some (cond b (Some (position_or_len (λ h. bytes_eq h.head.name n) hs)) None) ≡ b
@@ -84,7 +84,7 @@ pool-told (Err e) pool.NoPage free n h k l = absurd (omega (arith, k.0 refl))
 pool-told (Err e) pool.OutOfMemory free n h k l = ap told_as h
 
 -- as many regions as are held
-pub length-regions : (pool : Pool) (es : List (ℕ × Held)) (hs : List Held) → values_of es ≡ hs → length (regions_of pool hs) ≡ length es
+pub length-regions : (pool : Pool) (es : List (ℕ × RegisteredRegion)) (hs : List RegisteredRegion) → values_of es ≡ hs → length (regions_of pool hs) ≡ length es
 length-regions pool es hs e = ap (λ x. length (regions_of pool x)) (sym e) ∙ grind (arith, common_steps)
 
 pub pages-are : (n length' pages : ℕ) → n ≡ div_ceil length' 4096 → n ≡ pages_for length'
@@ -92,18 +92,18 @@ unfolding pages_for
 pages-are n length' pages e = e
 
 -- the list of one more region
-all-more : (k : ℕ) (hs : List Held) (v : Held) → IsApart k hs → nat_eq k v.list ≡ false → IsApart k (hs ++ v ∷ [])
+all-more : (k : ℕ) (hs : List RegisteredRegion) (v : RegisteredRegion) → IsApart k hs → nat_eq k v.list ≡ false → IsApart k (hs ++ v ∷ [])
 all-more k [] v a e = (e, tt)
 all-more k (x ∷ xs) v a e = (a.0, all-more k xs v a.1 e)
 
-apart-more : (hs : List Held) (v : Held) → IsDistinct nat_eq (map (λ h. h.list) hs) → IsApart v.list hs → IsDistinct nat_eq (map (λ h. h.list) (hs ++ v ∷ []))
+apart-more : (hs : List RegisteredRegion) (v : RegisteredRegion) → IsDistinct nat_eq (map (λ h. h.list) hs) → IsApart v.list hs → IsDistinct nat_eq (map (λ h. h.list) (hs ++ v ∷ []))
 unfolding IsDistinct
 apart-more [] v d a = (tt, tt)
 apart-more (x ∷ xs) v d a =
     let e : nat_eq x.list v.list ≡ false = grind (arith, nat_tests, a.0) in
     (all-more x.list xs v d.0 e, apart-more xs v d.1 a.1)
 
-pub held-more : (a b : Pool) (hs : List Held) (v : Held) (n : ℕ) (bytes : List ℕ) → AreHeld a hs → bytes_of a v.list ≡ None → Puts a b v.list (Some (put (blank (4096 * n)) 0 bytes)) → n ≡ pages_for v.head.length → length bytes ≤ v.head.length → AreHeld b (hs ++ v ∷ [])
+pub held-more : (a b : Pool) (hs : List RegisteredRegion) (v : RegisteredRegion) (n : ℕ) (bytes : List ℕ) → AreHeld a hs → bytes_of a v.list ≡ None → Puts a b v.list (Some (put (blank (4096 * n)) 0 bytes)) → n ≡ pages_for v.head.length → length bytes ≤ v.head.length → AreHeld b (hs ++ v ∷ [])
 held-more a b hs v n bytes h none p e inside =
     let is = bytes-after a b v.list (put (blank (4096 * n)) 0 bytes) p in
     let zeros : length (blank (4096 * n)) ≡ 4096 * n = length-blank (4096 * n) in
@@ -121,24 +121,24 @@ unfolding put
 begun bytes k n h l = same_lists _ _ (simp (length-append, length-take, length-drop, length-replicate) (omega arith)) (λ i d m. grind (arith, places))
 
 -- one more region of bytes, with zeros behind them
-region-made : (a b : Pool) (v : Held) (n : ℕ) (bytes : List ℕ) → Puts a b v.list (Some (put (blank (4096 * n)) 0 bytes)) → n ≡ pages_for v.head.length → length bytes ≤ v.head.length → region_of b v ≡ record (blank_region v.head) { bytes = put (blank_region v.head).bytes 0 bytes }
+region-made : (a b : Pool) (v : RegisteredRegion) (n : ℕ) (bytes : List ℕ) → Puts a b v.list (Some (put (blank (4096 * n)) 0 bytes)) → n ≡ pages_for v.head.length → length bytes ≤ v.head.length → region_of b v ≡ record (blank_region v.head) { bytes = put (blank_region v.head).bytes 0 bytes }
 unfolding blank
 region-made a b v n bytes p e inside =
     let is = bytes-after a b v.list (put (blank (4096 * n)) 0 bytes) p in
     let room : v.head.length ≤ 4096 * n = omega (arith, holds-pages v.head.length) in
     ap (λ bs. record { name = v.head.name; domain = v.head.domain; base = v.head.base; length = v.head.length; rights = v.head.rights; keys = v.head.keys; bytes = bs }) (ap (take v.head.length) is ∙ begun bytes v.head.length (4096 * n) inside room)
 
-region-behind : (b : Pool) (hs : List Held) (v : Held) → regions_of b (hs ++ v ∷ []) ≡ regions_of b hs ++ region_of b v ∷ []
+region-behind : (b : Pool) (hs : List RegisteredRegion) (v : RegisteredRegion) → regions_of b (hs ++ v ∷ []) ≡ regions_of b hs ++ region_of b v ∷ []
 region-behind b [] v = refl
 region-behind b (x ∷ xs) v = ap (λ rs. region_of b x ∷ rs) (region-behind b xs v)
 
-pub regions-more : (a b : Pool) (hs : List Held) (v : Held) (n : ℕ) (bytes : List ℕ) → AreHeld a hs → bytes_of a v.list ≡ None → Puts a b v.list (Some (put (blank (4096 * n)) 0 bytes)) → n ≡ pages_for v.head.length → length bytes ≤ v.head.length → regions_of b (hs ++ v ∷ []) ≡ regions_of a hs ++ record (blank_region v.head) { bytes = put (blank_region v.head).bytes 0 bytes } ∷ []
+pub regions-more : (a b : Pool) (hs : List RegisteredRegion) (v : RegisteredRegion) (n : ℕ) (bytes : List ℕ) → AreHeld a hs → bytes_of a v.list ≡ None → Puts a b v.list (Some (put (blank (4096 * n)) 0 bytes)) → n ≡ pages_for v.head.length → length bytes ≤ v.head.length → regions_of b (hs ++ v ∷ []) ≡ regions_of a hs ++ record (blank_region v.head) { bytes = put (blank_region v.head).bytes 0 bytes } ∷ []
 regions-more a b hs v n bytes h none p e inside =
     region-behind b hs v
     ∙ (ap (λ rs. rs ++ region_of b v ∷ []) (regions-new a b v.list _ hs h none p)
     ∙ ap (λ r. regions_of a hs ++ r ∷ []) (region-made a b v n bytes p e inside))
 
 -- what is seen of one more entry
-pub seen-more : (es : List (ℕ × Held)) (e : ℕ × Held) → values_of (es ++ e ∷ []) ≡ values_of es ++ e.1 ∷ []
+pub seen-more : (es : List (ℕ × RegisteredRegion)) (e : ℕ × RegisteredRegion) → values_of (es ++ e ∷ []) ≡ values_of es ++ e.1 ∷ []
 seen-more [] e = refl
 seen-more (x ∷ xs) e = ap (λ vs. x.1 ∷ vs) (seen-more xs e)

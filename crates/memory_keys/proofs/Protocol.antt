@@ -11,8 +11,8 @@ use Rattle.rdma_types.specs.Objects.{Region, no_region}
 use Rattle.protocol.specs.Memory.{landed, region_of_key, stored, with_region, written}
 use Rattle.protocol.specs.State.{Context}
 use Rattle.page_pool.specs.Pool.{Pool, bytes_in}
-use Rattle.memory_keys.specs.declared.Held.{Held}
-use Rattle.memory_keys.specs.declared.Spot.{Spot}
+use Rattle.memory_keys.specs.declared.RegisteredRegion.{RegisteredRegion}
+use Rattle.memory_keys.specs.declared.RegionRange.{RegionRange}
 use Rattle.memory_keys.specs.Regions.{AreKeyed, IsSpot, granted_spot, held_at, place_in, region_of, regions_of, spot_bytes, stored_at}
 use Rattle.memory_keys.proofs.Spots.{spot-is}
 use Rattle.memory_keys.proofs.Stores.{stored-nothing}
@@ -20,15 +20,15 @@ use Rattle.memory_keys.proofs.Stores.{stored-nothing}
 -- ---- regions under their keys
 
 -- the keys of regions do not depend on bytes
-pub keys-of : (pool : Pool) (held : List Held) → map local_key (regions_of pool held) ≡ map (λ h. h.head.keys.local) held
+pub keys-of : (pool : Pool) (held : List RegisteredRegion) → map local_key (regions_of pool held) ≡ map (λ h. h.head.keys.local) held
 keys-of pool [] = refl
 keys-of pool (h ∷ hs) = ap (λ ks. h.head.keys.local ∷ ks) (keys-of pool hs)
 
-pub distinct-keys : (pool : Pool) (held : List Held) → AreKeyed held → IsDistinct nat_eq (map local_key (regions_of pool held))
+pub distinct-keys : (pool : Pool) (held : List RegisteredRegion) → AreKeyed held → IsDistinct nat_eq (map local_key (regions_of pool held))
 distinct-keys pool held k = subst (IsDistinct nat_eq) (sym (keys-of pool held)) k.distinct
 
 -- the region with a key
-pub found-region : (pool : Pool) (key : ℕ) (held : List Held) (h : Held) → held_at key held ≡ Some h → at local_key no_region key (regions_of pool held) ≡ region_of pool h
+pub found-region : (pool : Pool) (key : ℕ) (held : List RegisteredRegion) (h : RegisteredRegion) → held_at key held ≡ Some h → at local_key no_region key (regions_of pool held) ≡ region_of pool h
 unfolding first_that at
 found-region pool key [] h e = absurd (cc)
 found-region pool key (x ∷ xs) h e = by_test (x.head.keys.local == key) refl (found-region pool key xs h)
@@ -37,7 +37,7 @@ found-region pool key (x ∷ xs) h e = by_test (x.head.keys.local == key) refl (
     by_test true t rest = let same : x ≡ h = grind (arith, t, e) in rw t (ap (region_of pool) same)
     by_test false t rest = let found : held_at key xs ≡ Some h = grind (arith, t, e) in rw t (rest found)
 
-pub found-has : (pool : Pool) (key : ℕ) (held : List Held) (h : Held) → held_at key held ≡ Some h → has local_key key (regions_of pool held) ≡ true
+pub found-has : (pool : Pool) (key : ℕ) (held : List RegisteredRegion) (h : RegisteredRegion) → held_at key held ≡ Some h → has local_key key (regions_of pool held) ≡ true
 unfolding first_that has
 found-has pool key [] h e = absurd (cc)
 found-has pool key (x ∷ xs) h e = by_test (x.head.keys.local == key) refl (found-has pool key xs h)
@@ -57,14 +57,14 @@ key-of-region key (r ∷ rs) h = by_test (r.keys.local == key) refl (key-of-regi
     by_test false t rest = let later : has local_key key rs ≡ true = grind (arith, t, h) in rw t (rest later)
 
 -- no other region has the key of an earlier one
-stored-nowhere : (spot : Spot) (new : List ℕ) (k : ℕ) (rs : List Region) → k ≡ spot.region → AllByRecursion (λ y. nat_eq k y ≡ false) (map local_key rs) → stored_at spot new rs ≡ rs
+stored-nowhere : (spot : RegionRange) (new : List ℕ) (k : ℕ) (rs : List Region) → k ≡ spot.region → AllByRecursion (λ y. nat_eq k y ≡ false) (map local_key rs) → stored_at spot new rs ≡ rs
 stored-nowhere spot new k [] e d = refl
 stored-nowhere spot new k (r ∷ rs) e d =
     let no : (r.keys.local == spot.region) ≡ false = grind (arith, nat_tests, e, d.0) in
     rw no (ap (λ xs. r ∷ xs) (stored-nowhere spot new k rs e d.1))
 
 -- the region put back with bytes at the spot
-put-back : (spot : Spot) (new : List ℕ) (rs : List Region) → IsDistinct nat_eq (map local_key rs) → has local_key spot.region rs ≡ true → store local_key spot.region (stored (at local_key no_region spot.region rs) spot.off new) rs ≡ stored_at spot new rs
+put-back : (spot : RegionRange) (new : List ℕ) (rs : List Region) → IsDistinct nat_eq (map local_key rs) → has local_key spot.region rs ≡ true → store local_key spot.region (stored (at local_key no_region spot.region rs) spot.off new) rs ≡ stored_at spot new rs
 unfolding has at store IsDistinct
 put-back spot new [] d h = absurd (cc)
 put-back spot new (r ∷ rs) d h = by_test (r.keys.local == spot.region) refl (put-back spot new rs d.1)
@@ -81,17 +81,17 @@ put-back spot new (r ∷ rs) d h = by_test (r.keys.local == spot.region) refl (p
 -- ---- stores are writes
 
 -- the region of a spot of some bytes
-pub spot-found : (held : List Held) (spot : Spot) → IsSpot held spot → 0 < spot.length → IsSome (held_at spot.region held)
+pub spot-found : (held : List RegisteredRegion) (spot : RegionRange) → IsSpot held spot → 0 < spot.length → IsSome (held_at spot.region held)
 spot-found held spot is some = by_case (held_at spot.region held) (is some)
   where
-    by_case : (o : Option Held) → IsSomeAnd o (λ h. spot.off + spot.length ≤ h.head.length) → IsSome o
+    by_case : (o : Option RegisteredRegion) → IsSomeAnd o (λ h. spot.off + spot.length ≤ h.head.length) → IsSome o
     by_case None h = absurd h
     by_case (Some h) i = refl
 
-spot-has : (pool : Pool) (held : List Held) (spot : Spot) → IsSpot held spot → 0 < spot.length → has local_key spot.region (regions_of pool held) ≡ true
+spot-has : (pool : Pool) (held : List RegisteredRegion) (spot : RegionRange) → IsSpot held spot → 0 < spot.length → has local_key spot.region (regions_of pool held) ≡ true
 spot-has pool held spot is some = by_case (held_at spot.region held) refl (spot-found held spot is some)
   where
-    by_case : (o : Option Held) → held_at spot.region held ≡ o → IsSome o → has local_key spot.region (regions_of pool held) ≡ true
+    by_case : (o : Option RegisteredRegion) → held_at spot.region held ≡ o → IsSome o → has local_key spot.region (regions_of pool held) ≡ true
     by_case None e h = absurd (cc)
     by_case (Some h) e i = found-has pool spot.region held h e
 
@@ -99,7 +99,7 @@ stored-key : (r : Region) (off : ℕ) (new : List ℕ) → (stored r off new).ke
 unfolding stored
 stored-key r off new = refl
 
-pub written-some : (c : Context) (rs : List Region) (spot : Spot) (new : List ℕ) → c.regions ≡ rs → IsDistinct nat_eq (map local_key rs) → has local_key spot.region rs ≡ true → with_region c (stored (region_of_key c spot.region) spot.off new) ≡ record c { regions = stored_at spot new c.regions }
+pub written-some : (c : Context) (rs : List Region) (spot : RegionRange) (new : List ℕ) → c.regions ≡ rs → IsDistinct nat_eq (map local_key rs) → has local_key spot.region rs ≡ true → with_region c (stored (region_of_key c spot.region) spot.off new) ≡ record c { regions = stored_at spot new c.regions }
 unfolding with_region region_of_key
 written-some c rs spot new e d h =
     let has' : has local_key spot.region c.regions ≡ true = ap (has local_key spot.region) e ∙ h in
@@ -108,7 +108,7 @@ written-some c rs spot new e d h =
     let r = stored (at local_key no_region spot.region c.regions) spot.off new in
     ap (λ rs. record c { regions = rs }) (ap (λ k. store local_key k r c.regions) (stored-key (at local_key no_region spot.region c.regions) spot.off new ∙ key) ∙ put-back spot new c.regions d' has')
 
-pub written-is : (c : Context) (pool : Pool) (held : List Held) → c.regions ≡ regions_of pool held → AreKeyed held → (spot : Spot) (new : List ℕ) → IsSpot held spot → length new ≡ spot.length → written c spot.region spot.off new ≡ record c { regions = stored_at spot new c.regions }
+pub written-is : (c : Context) (pool : Pool) (held : List RegisteredRegion) → c.regions ≡ regions_of pool held → AreKeyed held → (spot : RegionRange) (new : List ℕ) → IsSpot held spot → length new ≡ spot.length → written c spot.region spot.off new ≡ record c { regions = stored_at spot new c.regions }
 unfolding written
 written-is c pool held e k spot [] is l = ap (λ rs. record c { regions = rs }) (sym (stored-nothing spot [] c.regions refl))
 written-is c pool held e k spot (b ∷ bs) is l = written-some c (regions_of pool held) spot (b ∷ bs) e (distinct-keys pool held k) (spot-has pool held spot is (omega (arith, l)))
@@ -158,7 +158,7 @@ place-refused key_of rs domain key at count right = by_test (count == 0) refl (g
     by_test false t (Some r) e = rw t (rw e (λ h. absurd (cc), λ h. absurd (cc)))
 
 -- the region that grants a spot
-granting : (key_of : Region → ℕ) (rs : List Region) (domain : Name) (key from count : ℕ) (right : Right) (spot : Spot) → 0 < count → granted_spot key_of rs domain key from count right ≡ Some spot → (r : Region) × ((granted key_of rs domain key from count right ≡ Some r) × (spot ≡ place_in from count r))
+granting : (key_of : Region → ℕ) (rs : List Region) (domain : Name) (key from count : ℕ) (right : Right) (spot : RegionRange) → 0 < count → granted_spot key_of rs domain key from count right ≡ Some spot → (r : Region) × ((granted key_of rs domain key from count right ≡ Some r) × (spot ≡ place_in from count r))
 granting key_of rs domain key from count right spot some e = by_case (granted key_of rs domain key from count right) refl (sym (place-some key_of rs domain key from count right some) ∙ e)
   where
     by_case : (o : Option Region) → granted key_of rs domain key from count right ≡ o → option_map (place_in from count) (granted key_of rs domain key from count right) ≡ Some spot → (r : Region) × ((granted key_of rs domain key from count right ≡ Some r) × (spot ≡ place_in from count r))
@@ -180,7 +180,7 @@ granted-key (x ∷ xs) domain key from count right r e = by_test (grants local_k
     by_test true t rest = let same : x ≡ r = grind (arith, t, e) in let key' : x.keys.local ≡ key = grind (arith, nat_tests, t) in ap (λ y. y.keys.local) (sym same) ∙ key'
     by_test false t rest = rest (grind (arith, t, e))
 
-pub place-region : (c : Context) (pool : Pool) (held : List Held) → c.regions ≡ regions_of pool held → AreKeyed held → (key_of : Region → ℕ) (domain : Name) (key from count : ℕ) (right : Right) (spot : Spot) → 0 < count → granted_spot key_of c.regions domain key from count right ≡ Some spot → granted key_of c.regions domain key from count right ≡ Some (region_of_key c spot.region)
+pub place-region : (c : Context) (pool : Pool) (held : List RegisteredRegion) → c.regions ≡ regions_of pool held → AreKeyed held → (key_of : Region → ℕ) (domain : Name) (key from count : ℕ) (right : Right) (spot : RegionRange) → 0 < count → granted_spot key_of c.regions domain key from count right ≡ Some spot → granted key_of c.regions domain key from count right ≡ Some (region_of_key c spot.region)
 unfolding region_of_key
 place-region c pool held e k key_of domain key from count right spot some s =
     let g = granting key_of c.regions domain key from count right spot some s in
@@ -188,7 +188,7 @@ place-region c pool held e k key_of domain key from count right spot some s =
     let there = under-key c.regions key_of domain key from count right g.0 d g.1.0 in
     g.1.0 ∙ ap Some (sym there.1 ∙ ap (λ n. at local_key no_region n c.regions) (sym (ap (λ p. p.region) g.1.1)))
 
-pub place-offset : (c : Context) (pool : Pool) (held : List Held) → c.regions ≡ regions_of pool held → AreKeyed held → (key_of : Region → ℕ) (domain : Name) (key from count : ℕ) (right : Right) (spot : Spot) → 0 < count → granted_spot key_of c.regions domain key from count right ≡ Some spot → spot.off ≡ from - (region_of_key c spot.region).base
+pub place-offset : (c : Context) (pool : Pool) (held : List RegisteredRegion) → c.regions ≡ regions_of pool held → AreKeyed held → (key_of : Region → ℕ) (domain : Name) (key from count : ℕ) (right : Right) (spot : RegionRange) → 0 < count → granted_spot key_of c.regions domain key from count right ≡ Some spot → spot.off ≡ from - (region_of_key c spot.region).base
 place-offset c pool held e k key_of domain key from count right spot some s =
     let g = granting key_of c.regions domain key from count right spot some s in
     let is = place-region c pool held e k key_of domain key from count right spot some s in
@@ -196,7 +196,7 @@ place-offset c pool held e k key_of domain key from count right spot some s =
     ap (λ p. p.off) g.1.1 ∙ ap (λ r. from - r.base) same
 
 -- bytes that land
-pub landed-is : (c : Context) (pool : Pool) (held : List Held) → c.regions ≡ regions_of pool held → AreKeyed held → (domain : Name) (key from count : ℕ) (right : Right) (spot : Spot) (new : List ℕ) → granted_spot local_key c.regions domain key from count right ≡ Some spot → length new ≡ count → landed c key from new ≡ record c { regions = stored_at spot new c.regions }
+pub landed-is : (c : Context) (pool : Pool) (held : List RegisteredRegion) → c.regions ≡ regions_of pool held → AreKeyed held → (domain : Name) (key from count : ℕ) (right : Right) (spot : RegionRange) (new : List ℕ) → granted_spot local_key c.regions domain key from count right ≡ Some spot → length new ≡ count → landed c key from new ≡ record c { regions = stored_at spot new c.regions }
 unfolding landed written
 landed-is c pool held e k domain key from count right spot [] s l = ap (λ rs. record c { regions = rs }) (sym (stored-nothing spot [] c.regions refl))
 landed-is c pool held e k domain key from count right spot (b ∷ bs) s l =
@@ -219,11 +219,11 @@ cut-front off n size bytes h =
     let few : n ≤ size - off = omega arith in
     ap (λ s. take n (drop off (take s bytes))) is ∙ (ap (take n) (drop-take off (size - off) bytes) ∙ take-take n (size - off) (drop off bytes) few)
 
-pub spot-cut : (c : Context) (pool : Pool) (held : List Held) → c.regions ≡ regions_of pool held → (spot : Spot) → IsSpot held spot → 0 < spot.length → spot_bytes pool held spot ≡ cut spot.off spot.length (region_of_key c spot.region).bytes
+pub spot-cut : (c : Context) (pool : Pool) (held : List RegisteredRegion) → c.regions ≡ regions_of pool held → (spot : RegionRange) → IsSpot held spot → 0 < spot.length → spot_bytes pool held spot ≡ cut spot.off spot.length (region_of_key c spot.region).bytes
 unfolding region_of_key
 spot-cut c pool held e spot is some = by_case (held_at spot.region held) refl (is some)
   where
-    by_case : (o : Option Held) → held_at spot.region held ≡ o → IsSomeAnd o (λ h. spot.off + spot.length ≤ h.head.length) → spot_bytes pool held spot ≡ cut spot.off spot.length (at local_key no_region spot.region c.regions).bytes
+    by_case : (o : Option RegisteredRegion) → held_at spot.region held ≡ o → IsSomeAnd o (λ h. spot.off + spot.length ≤ h.head.length) → spot_bytes pool held spot ≡ cut spot.off spot.length (at local_key no_region spot.region c.regions).bytes
     by_case None f inside = absurd inside
     by_case (Some h) f inside =
         let r : at local_key no_region spot.region c.regions ≡ region_of pool h = ap (at local_key no_region spot.region) e ∙ found-region pool spot.region held h f in
@@ -231,7 +231,7 @@ spot-cut c pool held e spot is some = by_case (held_at spot.region held) refl (i
 
 -- ---- regions whatever their bytes
 
-pub first-region : (pool : Pool) (key : ℕ) (held : List Held) → first_that (λ r. r.keys.local == key) (regions_of pool held) ≡ option_map (region_of pool) (held_at key held)
+pub first-region : (pool : Pool) (key : ℕ) (held : List RegisteredRegion) → first_that (λ r. r.keys.local == key) (regions_of pool held) ≡ option_map (region_of pool) (held_at key held)
 unfolding first_that
 first-region pool key [] = refl
 first-region pool key (h ∷ hs) = by_test (h.head.keys.local == key) refl (first-region pool key hs)
@@ -240,13 +240,13 @@ first-region pool key (h ∷ hs) = by_test (h.head.keys.local == key) refl (firs
     by_test true t rest = rw t refl
     by_test false t rest = rw t rest
 
-pub spot-in-regions : (pool : Pool) (held : List Held) (spot : Spot) → IsSpot held spot ↔ (0 < spot.length → IsSomeAnd (first_that (λ r. r.keys.local == spot.region) (regions_of pool held)) (λ r. spot.off + spot.length ≤ r.length))
+pub spot-in-regions : (pool : Pool) (held : List RegisteredRegion) (spot : RegionRange) → IsSpot held spot ↔ (0 < spot.length → IsSomeAnd (first_that (λ r. r.keys.local == spot.region) (regions_of pool held)) (λ r. spot.off + spot.length ≤ r.length))
 spot-in-regions pool held spot = (λ h some. to (held_at spot.region held) (first-region pool spot.region held) (h some), λ h some. from (held_at spot.region held) (first-region pool spot.region held) (h some))
   where
-    to : (o : Option Held) → first_that (λ r. r.keys.local == spot.region) (regions_of pool held) ≡ option_map (region_of pool) o → IsSomeAnd o (λ h. spot.off + spot.length ≤ h.head.length) → IsSomeAnd (first_that (λ r. r.keys.local == spot.region) (regions_of pool held)) (λ r. spot.off + spot.length ≤ r.length)
+    to : (o : Option RegisteredRegion) → first_that (λ r. r.keys.local == spot.region) (regions_of pool held) ≡ option_map (region_of pool) o → IsSomeAnd o (λ h. spot.off + spot.length ≤ h.head.length) → IsSomeAnd (first_that (λ r. r.keys.local == spot.region) (regions_of pool held)) (λ r. spot.off + spot.length ≤ r.length)
     to None e h = absurd h
     to (Some x) e h = subst (λ y. IsSomeAnd y (λ r. spot.off + spot.length ≤ r.length)) (sym e) h
 
-    from : (o : Option Held) → first_that (λ r. r.keys.local == spot.region) (regions_of pool held) ≡ option_map (region_of pool) o → IsSomeAnd (first_that (λ r. r.keys.local == spot.region) (regions_of pool held)) (λ r. spot.off + spot.length ≤ r.length) → IsSomeAnd o (λ h. spot.off + spot.length ≤ h.head.length)
+    from : (o : Option RegisteredRegion) → first_that (λ r. r.keys.local == spot.region) (regions_of pool held) ≡ option_map (region_of pool) o → IsSomeAnd (first_that (λ r. r.keys.local == spot.region) (regions_of pool held)) (λ r. spot.off + spot.length ≤ r.length) → IsSomeAnd o (λ h. spot.off + spot.length ≤ h.head.length)
     from None e h = absurd (subst (λ y. IsSomeAnd y (λ r. spot.off + spot.length ≤ r.length)) e h)
     from (Some x) e h = subst (λ y. IsSomeAnd y (λ r. spot.off + spot.length ≤ r.length)) e h

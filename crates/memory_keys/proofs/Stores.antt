@@ -9,27 +9,27 @@ use Rattle.rdma_types.specs.Lists.{first_that}
 use Rattle.rdma_types.specs.Memory.{cut, put}
 use Rattle.rdma_types.specs.Objects.{Region}
 use Rattle.protocol.specs.Memory.{stored}
-use Rattle.byte_run.proofs.Cuts.{length-put, put-none, cut-put_inside}
+use Rattle.rdma_types.proofs.Cuts.{length-put, put-none, cut-put_inside}
 use Rattle.page_pool.specs.Pool.{Pool, Puts, IsIn, bytes_of, bytes_in}
 use Rattle.page_pool.proofs.Writes.{bytes-after, in-after}
-use Rattle.memory_keys.specs.declared.Held.{Held}
-use Rattle.memory_keys.specs.declared.Spot.{Spot}
+use Rattle.memory_keys.specs.declared.RegisteredRegion.{RegisteredRegion}
+use Rattle.memory_keys.specs.declared.RegionRange.{RegionRange}
 use Rattle.memory_keys.specs.Regions.{AreHeld, KeepsOthers, Lies, held_at, region_of, regions_of, stored_at}
 use Rattle.memory_keys.proofs.Spots.{holds-pages}
 
 -- the list is that of no region
-abbrev pub IsApart : ℕ → List Held → Type 0
+abbrev pub IsApart : ℕ → List RegisteredRegion → Type 0
 IsApart list hs = AllByRecursion (λ y. nat_eq list y ≡ false) (map (λ h. h.list) hs)
 
 -- a region whose list has the bytes that it had
-pub region-same : (a b : Pool) (h : Held) → bytes_of b h.list ≡ bytes_of a h.list → region_of b h ≡ region_of a h
+pub region-same : (a b : Pool) (h : RegisteredRegion) → bytes_of b h.list ≡ bytes_of a h.list → region_of b h ≡ region_of a h
 region-same a b h e = ap (λ o. record { name = h.head.name; domain = h.head.domain; base = h.head.base; length = h.head.length; rights = h.head.rights; keys = h.head.keys; bytes = take h.head.length (unwrap_or o []) }) e
 
-pub lies-same : (a b : Pool) (h : Held) → bytes_of b h.list ≡ bytes_of a h.list → Lies a h → Lies b h
+pub lies-same : (a b : Pool) (h : RegisteredRegion) → bytes_of b h.list ≡ bytes_of a h.list → Lies a h → Lies b h
 lies-same a b h e l = record { lives = ap is_some e ∙ l.lives; size = ap (λ o. length (unwrap_or o [])) e ∙ l.size }
 
 -- a change of a list of no region
-pub regions-apart : (a b : Pool) (k : ℕ) (v : Option (List ℕ)) (hs : List Held) → Puts a b k v → IsApart k hs → regions_of b hs ≡ regions_of a hs
+pub regions-apart : (a b : Pool) (k : ℕ) (v : Option (List ℕ)) (hs : List RegisteredRegion) → Puts a b k v → IsApart k hs → regions_of b hs ≡ regions_of a hs
 regions-apart a b k v [] p h = refl
 regions-apart a b k v (x ∷ xs) p h =
     let other : x.list ≢ k = λ e. grind (arith, nat_tests, h.0, e) in
@@ -37,14 +37,14 @@ regions-apart a b k v (x ∷ xs) p h =
     let rest : regions_of b xs ≡ regions_of a xs = regions-apart a b k v xs p h.1 in
     cc
 
-pub lie-apart : (a b : Pool) (k : ℕ) (v : Option (List ℕ)) (hs : List Held) → Puts a b k v → IsApart k hs → All (Lies a) hs → All (Lies b) hs
+pub lie-apart : (a b : Pool) (k : ℕ) (v : Option (List ℕ)) (hs : List RegisteredRegion) → Puts a b k v → IsApart k hs → All (Lies a) hs → All (Lies b) hs
 lie-apart a b k v [] p h all = All-nil (Lies b)
 lie-apart a b k v (x ∷ xs) p h all =
     let other : x.list ≢ k = λ e. grind (arith, nat_tests, h.0, e) in
     All-cons (Lies b) x xs (lies-same a b x (p.others x.list other) (All-head (Lies a) x xs all)) (lie-apart a b k v xs p h.1 (All-tail (Lies a) x xs all))
 
 -- a new list is that of no region
-pub apart-new : (a : Pool) (k : ℕ) (hs : List Held) → All (Lies a) hs → bytes_of a k ≡ None → IsApart k hs
+pub apart-new : (a : Pool) (k : ℕ) (hs : List RegisteredRegion) → All (Lies a) hs → bytes_of a k ≡ None → IsApart k hs
 apart-new a k [] all none = tt
 apart-new a k (x ∷ xs) all none = (differs (nat_eq k x.list) refl, apart-new a k xs (All-tail (Lies a) x xs all) none)
   where
@@ -55,12 +55,12 @@ apart-new a k (x ∷ xs) all none = (differs (nat_eq k x.list) refl, apart-new a
     differs false e = e
     differs true e = let same : k ≡ x.list = grind (arith, nat_tests, e) in absurd (let none' : bytes_of a x.list ≡ None = ap (bytes_of a) (sym same) ∙ none in cc (there, none'))
 
-pub others-new : (a : Pool) (k : ℕ) (hs : List Held) → All (Lies a) hs → bytes_of a k ≡ None → All (λ h. h.list ≢ k) hs
+pub others-new : (a : Pool) (k : ℕ) (hs : List RegisteredRegion) → All (Lies a) hs → bytes_of a k ≡ None → All (λ h. h.list ≢ k) hs
 others-new a k [] all none = All-nil (λ h. h.list ≢ k)
 others-new a k (x ∷ xs) all none = All-cons (λ h. h.list ≢ k) x xs (λ same. absurd (let none' : bytes_of a x.list ≡ None = ap (bytes_of a) same ∙ none in cc ((All-head (Lies a) x xs all).lives, none'))) (others-new a k xs (All-tail (Lies a) x xs all) none)
 
 -- the regions stay where a list of none of them is changed
-apart-other : (k : ℕ) (hs : List Held) → All (λ h. h.list ≢ k) hs → IsApart k hs
+apart-other : (k : ℕ) (hs : List RegisteredRegion) → All (λ h. h.list ≢ k) hs → IsApart k hs
 apart-other k [] all = tt
 apart-other k (x ∷ xs) all = (differs (nat_eq k x.list) refl (All-head (λ h. h.list ≢ k) x xs all), apart-other k xs (All-tail (λ h. h.list ≢ k) x xs all))
   where
@@ -68,21 +68,21 @@ apart-other k (x ∷ xs) all = (differs (nat_eq k x.list) refl (All-head (λ h. 
     differs false e n = e
     differs true e n = absurd (n (grind (arith, nat_tests, e)))
 
-pub held-other : (a b : Pool) (k : ℕ) (v : Option (List ℕ)) (hs : List Held) → AreHeld a hs → All (λ h. h.list ≢ k) hs → Puts a b k v → AreHeld b hs
+pub held-other : (a b : Pool) (k : ℕ) (v : Option (List ℕ)) (hs : List RegisteredRegion) → AreHeld a hs → All (λ h. h.list ≢ k) hs → Puts a b k v → AreHeld b hs
 held-other a b k v hs h other p = record { lie = lie-apart a b k v hs p (apart-other k hs other) h.lie; apart = h.apart }
 
-pub regions-other : (a b : Pool) (k : ℕ) (v : Option (List ℕ)) (hs : List Held) → All (λ h. h.list ≢ k) hs → Puts a b k v → regions_of b hs ≡ regions_of a hs
+pub regions-other : (a b : Pool) (k : ℕ) (v : Option (List ℕ)) (hs : List RegisteredRegion) → All (λ h. h.list ≢ k) hs → Puts a b k v → regions_of b hs ≡ regions_of a hs
 regions-other a b k v hs other p = regions-apart a b k v hs p (apart-other k hs other)
 
 -- the regions stay where a new list is made
-pub held-new : (a b : Pool) (k : ℕ) (v : Option (List ℕ)) (hs : List Held) → AreHeld a hs → bytes_of a k ≡ None → Puts a b k v → AreHeld b hs
+pub held-new : (a b : Pool) (k : ℕ) (v : Option (List ℕ)) (hs : List RegisteredRegion) → AreHeld a hs → bytes_of a k ≡ None → Puts a b k v → AreHeld b hs
 held-new a b k v hs h none p = record { lie = lie-apart a b k v hs p (apart-new a k hs h.lie none) h.lie; apart = h.apart }
 
-pub regions-new : (a b : Pool) (k : ℕ) (v : Option (List ℕ)) (hs : List Held) → AreHeld a hs → bytes_of a k ≡ None → Puts a b k v → regions_of b hs ≡ regions_of a hs
+pub regions-new : (a b : Pool) (k : ℕ) (v : Option (List ℕ)) (hs : List RegisteredRegion) → AreHeld a hs → bytes_of a k ≡ None → Puts a b k v → regions_of b hs ≡ regions_of a hs
 regions-new a b k v hs h none p = regions-apart a b k v hs p (apart-new a k hs h.lie none)
 
 -- the list of a region that is found
-pub found-apart : (k key : ℕ) (hs : List Held) (h : Held) → IsApart k hs → held_at key hs ≡ Some h → k ≢ h.list
+pub found-apart : (k key : ℕ) (hs : List RegisteredRegion) (h : RegisteredRegion) → IsApart k hs → held_at key hs ≡ Some h → k ≢ h.list
 unfolding first_that
 found-apart k key [] h a e = absurd (cc)
 found-apart k key (x ∷ xs) h a e = by_test (x.head.keys.local == key) refl (found-apart k key xs h a.1)
@@ -92,7 +92,7 @@ found-apart k key (x ∷ xs) h a e = by_test (x.head.keys.local == key) refl (fo
     by_test false t rest = rest (grind (arith, t, e))
 
 -- a region whose list is written
-pub region-stored : (a b : Pool) (h : Held) (off : ℕ) (new : List ℕ) → Lies a h → off + length new ≤ h.head.length → Puts a b h.list (Some (put (bytes_in a h.list) off new)) → region_of b h ≡ stored (region_of a h) off new
+pub region-stored : (a b : Pool) (h : RegisteredRegion) (off : ℕ) (new : List ℕ) → Lies a h → off + length new ≤ h.head.length → Puts a b h.list (Some (put (bytes_in a h.list) off new)) → region_of b h ≡ stored (region_of a h) off new
 unfolding stored cut
 region-stored a b h off new l inside p =
     let is = bytes-after a b h.list (put (bytes_in a h.list) off new) p in
@@ -101,7 +101,7 @@ region-stored a b h off new l inside p =
     let bytes : take h.head.length (bytes_in b h.list) ≡ put (take h.head.length (bytes_in a h.list)) off new = ap (take h.head.length) is ∙ (ap (λ n. take h.head.length (put (bytes_in a h.list) n new)) zero ∙ cut-put_inside (bytes_in a h.list) off new 0 h.head.length (omega arith) inside) in
     ap (λ bs. record { name = h.head.name; domain = h.head.domain; base = h.head.base; length = h.head.length; rights = h.head.rights; keys = h.head.keys; bytes = bs }) bytes
 
-pub lies-stored : (a b : Pool) (h : Held) (off : ℕ) (new : List ℕ) → Lies a h → off + length new ≤ h.head.length → Puts a b h.list (Some (put (bytes_in a h.list) off new)) → Lies b h
+pub lies-stored : (a b : Pool) (h : RegisteredRegion) (off : ℕ) (new : List ℕ) → Lies a h → off + length new ≤ h.head.length → Puts a b h.list (Some (put (bytes_in a h.list) off new)) → Lies b h
 lies-stored a b h off new l inside p =
     let is = bytes-after a b h.list (put (bytes_in a h.list) off new) p in
     record {
@@ -110,7 +110,7 @@ lies-stored a b h off new l inside p =
     }
 
 -- nothing is stored in regions with other keys
-stored-none : (a : Pool) (spot : Spot) (new : List ℕ) (k : ℕ) (hs : List Held) → k ≡ spot.region → AllByRecursion (λ y. nat_eq k y ≡ false) (map (λ h. h.head.keys.local) hs) → stored_at spot new (regions_of a hs) ≡ regions_of a hs
+stored-none : (a : Pool) (spot : RegionRange) (new : List ℕ) (k : ℕ) (hs : List RegisteredRegion) → k ≡ spot.region → AllByRecursion (λ y. nat_eq k y ≡ false) (map (λ h. h.head.keys.local) hs) → stored_at spot new (regions_of a hs) ≡ regions_of a hs
 stored-none a spot new k [] e d = refl
 stored-none a spot new k (x ∷ xs) e d =
     let no : (x.head.keys.local == spot.region) ≡ false = grind (arith, nat_tests, e, d.0) in
@@ -118,7 +118,7 @@ stored-none a spot new k (x ∷ xs) e d =
     rw no (ap (λ rs. region_of a x ∷ rs) rest)
 
 -- the regions after a region's list is written
-pub regions-stored : (a b : Pool) (spot : Spot) (new : List ℕ) (h : Held) (hs : List Held) → IsDistinct nat_eq (map (λ x. x.head.keys.local) hs) → IsDistinct nat_eq (map (λ x. x.list) hs) → All (Lies a) hs → held_at spot.region hs ≡ Some h → spot.off + length new ≤ h.head.length → Puts a b h.list (Some (put (bytes_in a h.list) spot.off new)) → regions_of b hs ≡ stored_at spot new (regions_of a hs)
+pub regions-stored : (a b : Pool) (spot : RegionRange) (new : List ℕ) (h : RegisteredRegion) (hs : List RegisteredRegion) → IsDistinct nat_eq (map (λ x. x.head.keys.local) hs) → IsDistinct nat_eq (map (λ x. x.list) hs) → All (Lies a) hs → held_at spot.region hs ≡ Some h → spot.off + length new ≤ h.head.length → Puts a b h.list (Some (put (bytes_in a h.list) spot.off new)) → regions_of b hs ≡ stored_at spot new (regions_of a hs)
 unfolding first_that IsDistinct
 regions-stored a b spot new h [] keys lists all e inside p = refl
 regions-stored a b spot new h (x ∷ xs) keys lists all e inside p = by_test (x.head.keys.local == spot.region) refl (λ found. regions-stored a b spot new h xs keys.1 lists.1 (All-tail (Lies a) x xs all) found inside p)
@@ -136,7 +136,7 @@ regions-stored a b spot new h (x ∷ xs) keys lists all e inside p = by_test (x.
         rw t (ap (λ r. r ∷ regions_of b xs) here ∙ ap (λ rs. region_of a x ∷ rs) (later found))
 
 -- the regions lie in the pool after a region's list is written
-pub lie-stored : (a b : Pool) (spot : Spot) (new : List ℕ) (h : Held) (hs : List Held) → IsDistinct nat_eq (map (λ x. x.list) hs) → All (Lies a) hs → held_at spot.region hs ≡ Some h → spot.off + length new ≤ h.head.length → Puts a b h.list (Some (put (bytes_in a h.list) spot.off new)) → All (Lies b) hs
+pub lie-stored : (a b : Pool) (spot : RegionRange) (new : List ℕ) (h : RegisteredRegion) (hs : List RegisteredRegion) → IsDistinct nat_eq (map (λ x. x.list) hs) → All (Lies a) hs → held_at spot.region hs ≡ Some h → spot.off + length new ≤ h.head.length → Puts a b h.list (Some (put (bytes_in a h.list) spot.off new)) → All (Lies b) hs
 unfolding first_that IsDistinct
 lie-stored a b spot new h [] lists all e inside p = All-nil (Lies b)
 lie-stored a b spot new h (x ∷ xs) lists all e inside p = by_test (x.head.keys.local == spot.region) refl (λ found. lie-stored a b spot new h xs lists.1 (All-tail (Lies a) x xs all) found inside p)
@@ -152,7 +152,7 @@ lie-stored a b spot new h (x ∷ xs) lists all e inside p = by_test (x.head.keys
         All-cons (Lies b) x xs (lies-same a b x (p.others x.list (found-apart x.list spot.region xs h lists.0 found)) (All-head (Lies a) x xs all)) (later found)
 
 -- no bytes are stored
-pub stored-nothing : (spot : Spot) (new : List ℕ) (rs : List Region) → length new ≡ 0 → stored_at spot new rs ≡ rs
+pub stored-nothing : (spot : RegionRange) (new : List ℕ) (rs : List Region) → length new ≡ 0 → stored_at spot new rs ≡ rs
 unfolding stored
 stored-nothing spot new [] e = refl
 stored-nothing spot [] (r ∷ rs) e = by_test (r.keys.local == spot.region) refl (stored-nothing spot [] rs e)
@@ -163,7 +163,7 @@ stored-nothing spot [] (r ∷ rs) e = by_test (r.keys.local == spot.region) refl
 stored-nothing spot (n ∷ ns) (r ∷ rs) e = absurd (omega arith)
 
 -- a list of no region is not that of a region that is found
-pub found-other : (key list : ℕ) (hs : List Held) (h : Held) → All (λ x. x.list ≢ list) hs → held_at key hs ≡ Some h → list ≢ h.list
+pub found-other : (key list : ℕ) (hs : List RegisteredRegion) (h : RegisteredRegion) → All (λ x. x.list ≢ list) hs → held_at key hs ≡ Some h → list ≢ h.list
 unfolding first_that
 found-other key list [] h a e = absurd (cc)
 found-other key list (x ∷ xs) h a e = by_test (x.head.keys.local == key) refl (found-other key list xs h (All-tail (λ y. y.list ≢ list) x xs a))
@@ -172,11 +172,11 @@ found-other key list (x ∷ xs) h a e = by_test (x.head.keys.local == key) refl 
     by_test true t rest = let same : x ≡ h = grind (arith, t, e) in λ is. All-head (λ y. y.list ≢ list) x xs a (ap (λ y. y.list) same ∙ sym is)
     by_test false t rest = rest (grind (arith, t, e))
 
-pub others-kept : (a b : Pool) (key : ℕ) (v : Option (List ℕ)) (h : Held) (hs : List Held) → held_at key hs ≡ Some h → Puts a b h.list v → KeepsOthers a b hs
+pub others-kept : (a b : Pool) (key : ℕ) (v : Option (List ℕ)) (h : RegisteredRegion) (hs : List RegisteredRegion) → held_at key hs ≡ Some h → Puts a b h.list v → KeepsOthers a b hs
 others-kept a b key v h hs e p = record { pages = p.pages; others = λ list there apart. p.others list (found-other key list hs h apart e) }
 
 -- a region written back as it was
-pub set-same : (key : ℕ) (es : List (ℕ × Held)) (h w : Held) → lookup (nat_eq key) es ≡ Some h → w ≡ h → set_value (nat_eq key) es w ≡ es
+pub set-same : (key : ℕ) (es : List (ℕ × RegisteredRegion)) (h w : RegisteredRegion) → lookup (nat_eq key) es ≡ Some h → w ≡ h → set_value (nat_eq key) es w ≡ es
 set-same key [] h w e s = refl
 set-same key (x ∷ xs) h w e s = by_test (nat_eq key x.0) refl (λ f. set-same key xs h w f s)
   where

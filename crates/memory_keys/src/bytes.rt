@@ -4,16 +4,16 @@ ghost use Rattle.std.specs.Prelude.{◌≡◌, ◌≢◌, All, ℕ, ◌+◌, ◌
 ghost use Rattle.rdma_types.specs.Memory.{put, word_of, word_bytes};
 ghost use Rattle.page_pool.specs.Pool.{Pool, Puts, bytes_of, bytes_in, free_pages, pages_of};
 ghost use Rattle.page_pool.specs.Held.{HoldsPayload, payload_bytes};
-ghost use Rattle.memory_keys.specs.declared.Held.{Held};
+ghost use Rattle.memory_keys.specs.declared.RegisteredRegion.{RegisteredRegion};
 ghost use Rattle.memory_keys.specs.Regions.{AreHeld, KeepsOthers, IsSpot, part_of, regions_of, spot_bytes, stored_at, held_at, pages_touched};
 
-use crate::{MemFault, Regions, Spot};
+use crate::{MemFault, RegionRange, Regions};
 use page_pool::{PagePool, Payload};
 use std::alloc::Global;
 
 impl Regions {
     /// Copies the bytes of a spot. It takes no memory.
-    pub fn load(&self, pool: &PagePool, spot: Spot, out: &mut [u8])
+    pub fn load(&self, pool: &PagePool, spot: RegionRange, out: &mut [u8])
         requires held { AreHeld pool.now self.now }
         requires spot { IsSpot self.now spot }
         requires length { length out.old ≡ spot.length }
@@ -23,7 +23,7 @@ impl Regions {
     }
 
     /// Copies the bytes of a part of a spot, from its byte `from` on. It takes no memory.
-    pub fn load_part(&self, pool: &PagePool, spot: Spot, from: u32, out: &mut [u8])
+    pub fn load_part(&self, pool: &PagePool, spot: RegionRange, from: u32, out: &mut [u8])
         requires held { AreHeld pool.now self.now }
         requires spot { IsSpot self.now spot }
         requires inside { from + length out.old ≤ spot.length }
@@ -42,14 +42,15 @@ impl Regions {
     pub fn piece<'a>(
         &self,
         pool: &'a PagePool,
-        spot: Spot,
+        spot: RegionRange,
         from: u32,
         count: u32,
     ) -> Option<&'a [u8]>
         requires held { AreHeld pool.now self.now }
         requires spot { IsSpot self.now spot }
         requires inside { from + count ≤ spot.length }
-        ensures bytes { IfSome result (λ bytes. bytes.now ≡ spot_bytes pool.now self.now (part_of spot from count)) }
+        ensures bytes { IfSome result (λ bytes. bytes.now
+            ≡ spot_bytes pool.now self.now (part_of spot from count)) }
         ensures one_page { is_some result ≡ (pages_touched (part_of spot from count) == 1) }
     {
         if count == 0 {
@@ -61,7 +62,7 @@ impl Regions {
     }
 
     /// The word at a spot of eight bytes (this project's choice: big-endian). It takes no memory.
-    pub fn fetch_word(&self, pool: &PagePool, spot: Spot) -> u64
+    pub fn fetch_word(&self, pool: &PagePool, spot: RegionRange) -> u64
         requires held { AreHeld pool.now self.now }
         requires spot { IsSpot self.now spot }
         requires length { spot.length ≡ 8 }
@@ -74,13 +75,14 @@ impl Regions {
 
     /// Stores bytes at a spot, as many as it has. A page that a payload shares is copied first, and there is always a page
     /// for the copy. It takes no memory.
-    pub fn store(&mut self, pool: &mut PagePool, spot: Spot, bytes: &[u8])
+    pub fn store(&mut self, pool: &mut PagePool, spot: RegionRange, bytes: &[u8])
         requires held { AreHeld pool.old self.old }
         requires spot { IsSpot self.old spot }
         requires length { length bytes.now ≡ spot.length }
         ensures same { self.new ≡ self.old }
         ensures held { AreHeld pool.new self.new }
-        ensures regions { regions_of pool.new self.new ≡ stored_at spot bytes.now (regions_of pool.old self.old) }
+        ensures regions { regions_of pool.new self.new
+            ≡ stored_at spot bytes.now (regions_of pool.old self.old) }
         ensures others { KeepsOthers pool.old pool.new self.old }
         ensures free { free_pages pool.new ≡ free_pages pool.old }
     {
@@ -88,13 +90,15 @@ impl Regions {
     }
 
     /// Stores bytes in a part of a spot, from its byte `from` on. Pages are copied as `store` says. It takes no memory.
-    pub fn store_part(&mut self, pool: &mut PagePool, spot: Spot, from: u32, bytes: &[u8])
+    pub fn store_part(&mut self, pool: &mut PagePool, spot: RegionRange, from: u32, bytes: &[u8])
         requires held { AreHeld pool.old self.old }
         requires spot { IsSpot self.old spot }
         requires inside { from + length bytes.now ≤ spot.length }
         ensures same { self.new ≡ self.old }
         ensures held { AreHeld pool.new self.new }
-        ensures regions { regions_of pool.new self.new ≡ stored_at (part_of spot from (length bytes.now)) bytes.now (regions_of pool.old self.old) }
+        ensures regions { regions_of pool.new self.new
+            ≡ stored_at (part_of spot from (length bytes.now)) bytes.now
+            (regions_of pool.old self.old) }
         ensures others { KeepsOthers pool.old pool.new self.old }
         ensures free { free_pages pool.new ≡ free_pages pool.old }
     {
@@ -107,13 +111,14 @@ impl Regions {
     }
 
     /// Stores a word at a spot of eight bytes (this project's choice: big-endian). It takes no memory.
-    pub fn put_word(&mut self, pool: &mut PagePool, spot: Spot, word: u64)
+    pub fn put_word(&mut self, pool: &mut PagePool, spot: RegionRange, word: u64)
         requires held { AreHeld pool.old self.old }
         requires spot { IsSpot self.old spot }
         requires length { spot.length ≡ 8 }
         ensures same { self.new ≡ self.old }
         ensures held { AreHeld pool.new self.new }
-        ensures regions { regions_of pool.new self.new ≡ stored_at spot (word_bytes word) (regions_of pool.old self.old) }
+        ensures regions { regions_of pool.new self.new
+            ≡ stored_at spot (word_bytes word) (regions_of pool.old self.old) }
         ensures others { KeepsOthers pool.old pool.new self.old }
         ensures free { free_pages pool.new ≡ free_pages pool.old }
     {
@@ -126,7 +131,7 @@ impl Regions {
         &mut self,
         pool: &mut PagePool,
         alloc: Global,
-        spot: Spot,
+        spot: RegionRange,
     ) -> Result<Payload, MemFault>
         requires held { AreHeld pool.old self.old }
         requires spot { IsSpot self.old spot }
@@ -138,10 +143,14 @@ impl Regions {
         ensures puts { IfOk result (λ p. Puts pool.old pool.new p.list (bytes_of pool.new p.list)) }
         ensures holds { IfOk result (λ p. HoldsPayload pool.new p) }
         ensures length { IfOk result (λ p. p.length ≡ spot.length) }
-        ensures bytes { IfOk result (λ p. payload_bytes pool.new p ≡ spot_bytes pool.old self.old spot) }
-        ensures pages { IfOk result (λ p. pages_of (bytes_of pool.new p.list) ≡ pages_touched spot) }
-        ensures free { OnOk result (free_pages pool.new + pages_touched spot ≡ free_pages pool.old) }
-        ensures no_page { IsErrOf result MemFault.NoPage ↔ (free_pages pool.old < pages_touched spot) }
+        ensures bytes { IfOk result (λ p. payload_bytes pool.new p
+            ≡ spot_bytes pool.old self.old spot) }
+        ensures pages { IfOk result (λ p. pages_of (bytes_of pool.new p.list)
+            ≡ pages_touched spot) }
+        ensures free { OnOk result (free_pages pool.new + pages_touched spot
+            ≡ free_pages pool.old) }
+        ensures no_page { IsErrOf result MemFault.NoPage
+            ↔ (free_pages pool.old < pages_touched spot) }
         ensures err { OnErr result (pool.new ≡ pool.old) }
     {
         if spot.length == 0 {

@@ -2,16 +2,16 @@
 
 ghost use Rattle.std.specs.Prelude.{◌≡◌, IfOk};
 
-use crate::{Held, Regions};
+use crate::{Regions, RegisteredRegion};
 use indexmap::IndexMap;
 use std::alloc::{AllocError, Global};
 
-impl Held {
+impl RegisteredRegion {
     /// The same region, for a copy of its pool.
-    fn in_copied_pool(&self) -> Held
+    fn in_copied_pool(&self) -> RegisteredRegion
         ensures { result ≡ self.now }
     {
-        Held {
+        RegisteredRegion {
             head: self.head,
             list: self.list.in_copied_pool(),
         }

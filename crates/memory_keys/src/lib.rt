@@ -27,7 +27,7 @@ use thiserror::Error;
 /// A part of a region: `length` bytes from byte `off` on of the region with that local key. A spot of no bytes is of no
 /// region.
 #[derive(Clone, Copy, Debug, PartialEq, Eq)]
-pub struct Spot {
+pub struct RegionRange {
     pub region: u32,
     pub off: u32,
     pub length: u32,
@@ -47,7 +47,7 @@ pub struct RegionHead {
 
 /// A region and the list of its pages.
 #[derive(Drop)]
-pub struct Held {
+pub struct RegisteredRegion {
     pub head: RegionHead,
     pub list: PageList,
 }

@@ -9,7 +9,7 @@ ghost use Rattle.page_pool.specs.Pool.{Pool, bytes_of, free_pages, pages_for};
 ghost use Rattle.memory_keys.specs.Causes.{register_causes, deregister_causes, region_named, refusal_of};
 ghost use Rattle.memory_keys.specs.Regions.{AreHeld, AreKeyed, IsAdded, IsNamed, IsRemoved, KeepsOthers, held_at, regions_of, blank_region};
 
-use crate::{Held, MemFault, RegionHead, Regions};
+use crate::{MemFault, RegionHead, Regions, RegisteredRegion};
 use page_pool::{ByteRun, PagePool};
 use rdma_types::{Name, Refusal};
 use std::alloc::Global;
@@ -34,11 +34,14 @@ impl Regions {
         requires new { held_at head.keys.local self.old ≡ None }
         requires pair { head.keys.remote ≡ head.keys.local + 1 }
         ensures held { AreHeld pool.new self.new }
-        ensures regions { OnOk result (regions_of pool.new self.new ≡ regions_of pool.old self.old ++ blank_region head ∷ []) }
+        ensures regions { OnOk result (regions_of pool.new self.new
+            ≡ regions_of pool.old self.old ++ blank_region head ∷ []) }
         ensures others { KeepsOthers pool.old pool.new self.old }
         ensures added { OnOk result (IsAdded pool.old self.old self.new head) }
-        ensures free { OnOk result (free_pages pool.new + pages_for head.length ≡ free_pages pool.old) }
-        ensures refused { refusal_of result ≡ first_cause (register_causes (regions_of pool.old self.old) (free_pages pool.old) head) }
+        ensures free { OnOk result (free_pages pool.new + pages_for head.length
+            ≡ free_pages pool.old) }
+        ensures refused { refusal_of result ≡ first_cause
+            (register_causes (regions_of pool.old self.old) (free_pages pool.old) head) }
         ensures err { OnErr result (self.new ≡ self.old) }
         ensures err_pool { OnErr result (pool.new ≡ pool.old) }
     {
@@ -59,11 +62,15 @@ impl Regions {
         requires pair { head.keys.remote ≡ head.keys.local + 1 }
         requires length { length bytes.now ≡ head.length }
         ensures held { AreHeld pool.new self.new }
-        ensures regions { OnOk result (regions_of pool.new self.new ≡ regions_of pool.old self.old ++ record (blank_region head) { bytes = bytes.now } ∷ []) }
+        ensures regions { OnOk result (regions_of pool.new self.new
+            ≡ regions_of pool.old self.old ++ record (blank_region head) { bytes = bytes.now }
+            ∷ []) }
         ensures others { KeepsOthers pool.old pool.new self.old }
         ensures added { OnOk result (IsAdded pool.old self.old self.new head) }
-        ensures free { OnOk result (free_pages pool.new + pages_for head.length ≡ free_pages pool.old) }
-        ensures refused { refusal_of result ≡ first_cause (register_causes (regions_of pool.old self.old) (free_pages pool.old) head) }
+        ensures free { OnOk result (free_pages pool.new + pages_for head.length
+            ≡ free_pages pool.old) }
+        ensures refused { refusal_of result ≡ first_cause
+            (register_causes (regions_of pool.old self.old) (free_pages pool.old) head) }
         ensures err { OnErr result (self.new ≡ self.old) }
         ensures err_pool { OnErr result (pool.new ≡ pool.old) }
     {
@@ -83,11 +90,15 @@ impl Regions {
         requires pair { head.keys.remote ≡ head.keys.local + 1 }
         requires inside { length bytes.now ≤ head.length }
         ensures held { AreHeld pool.new self.new }
-        ensures regions { OnOk result (regions_of pool.new self.new ≡ regions_of pool.old self.old ++ record (blank_region head) { bytes = put (blank_region head).bytes 0 bytes.now } ∷ []) }
+        ensures regions { OnOk result (regions_of pool.new self.new
+            ≡ regions_of pool.old self.old ++ record
+            (blank_region head) { bytes = put (blank_region head).bytes 0 bytes.now } ∷ []) }
         ensures others { KeepsOthers pool.old pool.new self.old }
         ensures added { OnOk result (IsAdded pool.old self.old self.new head) }
-        ensures free { OnOk result (free_pages pool.new + pages_for head.length ≡ free_pages pool.old) }
-        ensures refused { refusal_of result ≡ first_cause (register_causes (regions_of pool.old self.old) (free_pages pool.old) head) }
+        ensures free { OnOk result (free_pages pool.new + pages_for head.length
+            ≡ free_pages pool.old) }
+        ensures refused { refusal_of result ≡ first_cause
+            (register_causes (regions_of pool.old self.old) (free_pages pool.old) head) }
         ensures err { OnErr result (self.new ≡ self.old) }
         ensures err_pool { OnErr result (pool.new ≡ pool.old) }
     {
@@ -104,7 +115,9 @@ impl Regions {
         self.held.reserve(1)?;
         let list = pool.take_with(alloc, pages, 0, bytes)?;
         let key = head.keys.local;
-        self.held.insert(key, Held { head, list }).unwrap();
+        self.held
+            .insert(key, RegisteredRegion { head, list })
+            .unwrap();
         Ok(())
     }
 
@@ -118,11 +131,15 @@ impl Regions {
     ) -> Result<(), Refusal>
         requires { AreHeld pool.old self.old }
         ensures held { AreHeld pool.new self.new }
-        ensures regions { OnOk result (regions_of pool.new self.new ≡ without (λ r. r.name) name (regions_of pool.old self.old)) }
+        ensures regions { OnOk result (regions_of pool.new self.new
+            ≡ without (λ r. r.name) name (regions_of pool.old self.old)) }
         ensures others { KeepsOthers pool.old pool.new self.old }
         ensures removed { OnOk result (IsRemoved self.old self.new name) }
-        ensures free { OnOk result (free_pages pool.new ≡ free_pages pool.old + pages_for (region_named name (regions_of pool.old self.old)).length) }
-        ensures refused { result_err result ≡ first_cause (deregister_causes (regions_of pool.old self.old) name busy.now) }
+        ensures free { OnOk result (free_pages pool.new
+            ≡ free_pages pool.old + pages_for (region_named name
+            (regions_of pool.old self.old)).length) }
+        ensures refused { result_err result ≡ first_cause
+            (deregister_causes (regions_of pool.old self.old) name busy.now) }
         ensures err { OnErr result (self.new ≡ self.old) }
         ensures err_pool { OnErr result (pool.new ≡ pool.old) }
     {
@@ -143,7 +160,8 @@ impl Regions {
         requires { AreHeld pool.old self }
         ensures others { KeepsOthers pool.old pool.new self }
         ensures gone { All (λ h. bytes_of pool.new h.list ≡ None) self }
-        ensures free { free_pages pool.new ≡ free_pages pool.old + sum_by (λ h. pages_for h.head.length) self }
+        ensures free { free_pages pool.new ≡ free_pages pool.old
+            + sum_by (λ h. pages_for h.head.length) self }
     {
         let Regions { mut held } = self;
         while let Some((_, last)) = held.pop() {
@@ -153,7 +171,8 @@ impl Regions {
 
     /// What is told of the region with a name; None exactly where there is none.
     pub fn named(&self, name: Name) -> Option<RegionHead>
-        ensures there { (pool : Pool) → is_some result ≡ has_name (λ r. r.name) name (regions_of pool self.now) }
+        ensures there { (pool : Pool) → is_some result
+            ≡ has_name (λ r. r.name) name (regions_of pool self.now) }
         ensures named { IfSome result (λ head. IsNamed self.now name head) }
         ensures keyed { AreKeyed self.now }
     {

@@ -9,7 +9,7 @@ ghost use Rattle.rdma_types.specs.Memory.{Right, NoRight, LocalWrite, allows, se
 ghost use Rattle.page_pool.specs.Pool.{Pool};
 ghost use Rattle.memory_keys.specs.Regions.{held_at, AreKeyed, region_of, regions_of, gives, granted_spot, holds_range, IsSpot, AreHeld};
 
-use crate::{Held, RegionHead, Spot};
+use crate::{RegionHead, RegionRange, RegisteredRegion};
 use indexmap::IndexMap;
 use page_pool::{ByteRun, PagePool};
 use rdma_types::{Keys, Name, Rights};
@@ -19,16 +19,16 @@ use std::marker::Model;
 /// The regions of a context, in order of making, each under its local key.
 #[derive(Drop)]
 pub struct Regions {
-    pub(crate) held: IndexMap<u32, Held>,
+    pub(crate) held: IndexMap<u32, RegisteredRegion>,
 }
 
 impl Model for Regions {
     ghost use Rattle.std.specs.Prelude.{List};
     ghost use Rattle.indexmap.specs.IndexMap.{values};
-    ghost use Rattle.memory_keys.specs.declared.Held.{Held};
+    ghost use Rattle.memory_keys.specs.declared.RegisteredRegion.{RegisteredRegion};
     ghost use Rattle.memory_keys.specs.Keyed.{IsKeyed};
 
-    ghost Value = { List Held };
+    ghost Value = { List RegisteredRegion };
 
     ghost view = { λ r. values r.held };
 
@@ -65,7 +65,8 @@ impl Regions {
     pub fn bytes_at(&self, alloc: Global, pool: &PagePool, i: usize) -> Result<ByteRun, AllocError>
         requires held { AreHeld pool.now self.now }
         requires there { i < length self.now }
-        ensures { IfOk result (λ run. IfSome (slice_get self.now i) (λ h. run ≡ (region_of pool.now h).bytes)) }
+        ensures { IfOk result (λ run. IfSome (slice_get self.now i) (λ h. run
+            ≡ (region_of pool.now h).bytes)) }
     {
         let (_, held) = self.held.get_index(i).unwrap();
         pool.copy_out(alloc, &held.list, 0, held.head.length as usize)
@@ -73,7 +74,8 @@ impl Regions {
 
     /// Whether a region has the key, local or remote.
     pub fn has_key(&self, key: u32) -> bool
-        ensures { (pool : Pool) → result ≡ some (λ r. r.keys.local == key || r.keys.remote == key) (regions_of pool self.now) }
+        ensures { (pool : Pool) → result ≡ some (λ r. r.keys.local == key
+            || r.keys.remote == key) (regions_of pool self.now) }
     {
         self.finds_key(key)
     }
@@ -87,9 +89,11 @@ impl Regions {
         at: u64,
         length: u32,
         landing: bool,
-    ) -> Option<Spot>
+    ) -> Option<RegionRange>
         ensures keyed { AreKeyed self.now }
-        ensures granted { (pool : Pool) → result ≡ granted_spot local_key (regions_of pool self.now) domain lkey at length (if landing then LocalWrite else NoRight) }
+        ensures granted { (pool : Pool) → result
+            ≡ granted_spot local_key (regions_of pool self.now) domain lkey at length (if landing
+            then LocalWrite else NoRight) }
         ensures inside { IfSome result (λ spot. IsSpot self.now spot) }
         ensures length { IfSome result (λ spot. spot.length ≡ length) }
     {
@@ -110,15 +114,17 @@ impl Regions {
         at: u64,
         length: u32,
         right: Rights,
-    ) -> Option<Spot>
+    ) -> Option<RegionRange>
         ensures keyed { AreKeyed self.now }
-        ensures granted { (pool : Pool) (needed : Right) → right.0 ≡ set_of needed → result ≡ granted_spot remote_key (regions_of pool self.now) domain rkey at length needed }
+        ensures granted { (pool : Pool) (needed : Right) → right.0 ≡ set_of needed
+            → result ≡ granted_spot remote_key
+            (regions_of pool self.now) domain rkey at length needed }
         ensures inside { IfSome result (λ spot. IsSpot self.now spot) }
         ensures length { IfSome result (λ spot. spot.length ≡ length) }
     {
         let _held = &self.held;
         if length == 0 {
-            return Some(Spot {
+            return Some(RegionRange {
                 region: 0,
                 off: 0,
                 length,
@@ -129,15 +135,25 @@ impl Regions {
     }
 
     /// The place that the region with a local key grants.
-    fn check(&self, domain: Name, key: u32, at: u64, length: u32, right: Rights) -> Option<Spot>
+    #[inline(always)]
+    fn check(
+        &self,
+        domain: Name,
+        key: u32,
+        at: u64,
+        length: u32,
+        right: Rights,
+    ) -> Option<RegionRange>
         ensures keyed { AreKeyed self.now }
-        ensures granted { (pool : Pool) (needed : Right) → right.0 ≡ set_of needed → result ≡ granted_spot local_key (regions_of pool self.now) domain key at length needed }
+        ensures granted { (pool : Pool) (needed : Right) → right.0 ≡ set_of needed
+            → result
+            ≡ granted_spot local_key (regions_of pool self.now) domain key at length needed }
         ensures inside { IfSome result (λ spot. IsSpot self.now spot) }
         ensures length { IfSome result (λ spot. spot.length ≡ length) }
     {
         let _held = &self.held;
         if length == 0 {
-            return Some(Spot {
+            return Some(RegionRange {
                 region: 0,
                 off: 0,
                 length,
@@ -148,7 +164,7 @@ impl Regions {
             return None;
         }
         let off = (at - head.base) as u32;
-        Some(Spot {
+        Some(RegionRange {
             region: key,
             off,
             length,
@@ -165,13 +181,14 @@ impl Regions {
 
     /// Whether a region that is held has the key.
     fn finds_key(&self, key: u32) -> bool
-        ensures { result ≡ list_any (λ h. h.head.keys.local == key || h.head.keys.remote == key) self.now }
+        ensures { result ≡ list_any (λ h. h.head.keys.local == key
+            || h.head.keys.remote == key) self.now }
     {
         self.held.values().any(|h| has(h.head.keys, key))
     }
 
     /// The region with a local key.
-    pub(crate) fn find(&self, key: u32) -> Option<&Held>
+    pub(crate) fn find(&self, key: u32) -> Option<&RegisteredRegion>
         ensures found { option_copied result ≡ held_at key self.now }
         ensures keyed { AreKeyed self.now }
     {
@@ -188,7 +205,8 @@ fn has(keys: Keys, key: u32) -> bool
 
 /// Whether a region of the domain gives a right over that many bytes.
 fn gives(head: &RegionHead, domain: Name, at: u64, length: u32, right: Rights) -> bool
-    ensures value { (needed : Right) → right.0 ≡ set_of needed → result ≡ gives head.now domain at length needed }
+    ensures value { (needed : Right) → right.0 ≡ set_of needed
+        → result ≡ gives head.now domain at length needed }
     ensures low { OnTrue result (head.now.base ≤ at) }
     ensures high { OnTrue result (at + length ≤ head.now.base + head.now.length) }
     ensures offset { OnTrue result (at - head.now.base < 2 ^ 32) }

@@ -1,9 +1,9 @@
 -- What a run leaves of the counts of faults.
 use Rattle.std.proofs.Common.{◌≡◌, ◌∙◌, List, [], ◌∷◌, None, Some, Result, Ok, Err, ap, subst}
-use Rattle.law_node.specs.Plan as plan
-use Rattle.law_node.specs.Plan.{Call, Plan}
-use Rattle.law_node.specs.Stops.{HasEnded, Rises, StopsAt}
-use Rattle.law_node.specs.Told.{Contents, Counts, Tells, TellsAll}
+use Rattle.node_rules.specs.Plan as plan
+use Rattle.node_rules.specs.Plan.{Call, Plan}
+use Rattle.node_rules.specs.Stops.{HasEnded, Rises, StopsAt}
+use Rattle.node_rules.specs.Told.{Contents, Counts, Tells, TellsAll}
 use Rattle.node_engine.specs.Answered.{Answers}
 use Rattle.node_engine.specs.Counting.{Counted}
 use Rattle.node_engine.specs.declared.faults.NodeFault.{NodeFault}

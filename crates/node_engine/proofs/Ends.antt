@@ -5,8 +5,8 @@ use Rattle.context_core.specs.declared.lives.LiveEnd.{LiveEnd}
 use Rattle.context_core.specs.Links.{link_view, live_end}
 use Rattle.device_core.specs.Readings.{end_named, live_ends, mark_pair, marks_at}
 use Rattle.indexmap.specs.IndexMap.{insert_entry}
-use Rattle.law_node.specs.Node.{connected, connected_in, connected_of, if_connected, number_at}
-use Rattle.law_node.specs.Serve.{dated, number_if}
+use Rattle.node_rules.specs.Node.{connected, connected_in, connected_of, if_connected, number_at}
+use Rattle.node_rules.specs.Serve.{dated, number_if}
 use Rattle.protocol.specs.DeviceStep.{Found, found_in}
 use Rattle.protocol.specs.Readers.{marks_by, marks_of, view_by, view_of}
 use Rattle.protocol.specs.Refusals.{has_context, has_end}

@@ -1,25 +1,25 @@
 -- The parts of a turn one after another, and what lines do.
 use Rattle.std.proofs.Common.{◌≡◌, ◌∙◌, ℕ, List, [], ◌∷◌, true, false, Option, None, Some, Result, Ok, Err, take, refl, sym, ap, subst}
-use Rattle.law_node.specs.Lines.{answering, clearing, removed, restoring_bytes, restoring_image, served_text, serves, storing, version}
-use Rattle.law_node.specs.Node.{Node, connected, number_at, stepping}
-use Rattle.law_node.specs.Parts.{Comes, IsMadeWhole, joined}
-use Rattle.law_node.specs.Plan as plan
-use Rattle.law_node.specs.Plan.{Plan}
-use Rattle.law_node.specs.Serve.{arrived, arriving, asked, expiring, is_active, marking, receivers, serving, taking, timing, transmitting, turn, turns, waiting_out}
-use Rattle.law_node.specs.Stops.{HasEnded, StopsAt}
-use Rattle.law_node.specs.Told.{Contents}
-use Rattle.law_node.proofs.Joining.{comes_on, parts_join, stops_here, stops_on}
-use Rattle.mig_ports.specs.declared.link.Got.{Got}
-use Rattle.mig_ports.specs.declared.link.Got.TheVariants as got_is
-use Rattle.mig_ports.specs.Links.{Addressed, got_of}
-use Rattle.mig_ports.specs.Memory.{counted}
+use Rattle.node_rules.specs.Lines.{answering, clearing, removed, restoring_bytes, restoring_image, served_text, serves, storing, version}
+use Rattle.node_rules.specs.Node.{Node, connected, number_at, stepping}
+use Rattle.node_rules.specs.Parts.{Comes, IsMadeWhole, joined}
+use Rattle.node_rules.specs.Plan as plan
+use Rattle.node_rules.specs.Plan.{Plan}
+use Rattle.node_rules.specs.Serve.{arrived, arriving, asked, expiring, is_active, marking, receivers, serving, taking, timing, transmitting, turn, turns, waiting_out}
+use Rattle.node_rules.specs.Stops.{HasEnded, StopsAt}
+use Rattle.node_rules.specs.Told.{Contents}
+use Rattle.node_rules.proofs.Joining.{comes_on, parts_join, stops_here, stops_on}
+use Rattle.host_ports.specs.declared.link.Got.{Got}
+use Rattle.host_ports.specs.declared.link.Got.TheVariants as got_is
+use Rattle.host_ports.specs.Links.{Addressed, got_of}
+use Rattle.host_ports.specs.Memory.{counted}
 use Rattle.protocol.specs.declared.events.Event.TheVariants as event
 use Rattle.protocol.specs.declared.images.Outcome.{Outcome}
 use Rattle.protocol.specs.Dumps.{Reading, dump_bytes, read_dump}
 use Rattle.protocol.specs.declared.images.ContextImage.{ContextImage}
 use Rattle.rdma_types.specs.declared.answers.Answer.{Answer}
 use Rattle.rdma_types.specs.declared.answers.Answer.TheVariants as answer
-use Rattle.rdma_types.specs.declared.answers.NotWhy.TheVariants as not_why
+use Rattle.rdma_types.specs.declared.answers.ExpiryIgnored.TheVariants as not_why
 use Rattle.rdma_types.specs.declared.names.Name.{Name}
 use Rattle.rdma_types.specs.declared.names.ObjName.{ObjName}
 use Rattle.rdma_types.specs.declared.requests.Address.{Address}

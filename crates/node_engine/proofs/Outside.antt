@@ -1,15 +1,15 @@
 -- Calls of the outside, and what its objects tell of them.
 use Rattle.std.proofs.Common.{◌≡◌, ◌∙◌, ◌≤◌, ◌<◌, ℕ, List, Option, None, Some, length, take, drop, length-drop, refl, sym, ap, arith}
 use Rattle.std.proofs.lemmas.List.{take-append-drop}
-use Rattle.law_node.specs.Parts.{IsMadeWhole}
-use Rattle.law_node.specs.Plan as plan
-use Rattle.law_node.specs.Plan.{Plan}
-use Rattle.law_node.specs.Stops.{DepotFailed, IsOfDepot, IsOfLink, KeepsHeld, LinkFailed, MemoryRanOut, OutputFailed, StopsAt}
-use Rattle.law_node.specs.Told.{Contents}
-use Rattle.law_node.proofs.Joining.{comes_by, stops_here}
-use Rattle.mig_ports.specs.Depots.{Has, Holding, Sets}
-use Rattle.mig_ports.specs.Links.{Addressed, SendsOne, TakesFirst, TellsMoment}
-use Rattle.mig_ports.specs.Streams.{FaultsCounted, Puts as PutsText}
+use Rattle.node_rules.specs.Parts.{IsMadeWhole}
+use Rattle.node_rules.specs.Plan as plan
+use Rattle.node_rules.specs.Plan.{Plan}
+use Rattle.node_rules.specs.Stops.{DepotFailed, IsOfDepot, IsOfLink, KeepsHeld, LinkFailed, MemoryRanOut, OutputFailed, StopsAt}
+use Rattle.node_rules.specs.Told.{Contents}
+use Rattle.node_rules.proofs.Joining.{comes_by, stops_here}
+use Rattle.host_ports.specs.Depots.{Has, Holding, Sets}
+use Rattle.host_ports.specs.Links.{Addressed, SendsOne, TakesFirst, TellsMoment}
+use Rattle.host_ports.specs.Streams.{FaultsCounted, Puts as PutsText}
 use Rattle.rdma_types.specs.declared.names.Name.{Name}
 use Rattle.rdma_types.specs.declared.requests.Address.{Address}
 

@@ -1,13 +1,13 @@
 -- Parts of a plan one after another, and what stops them.
 use Rattle.std.proofs.Common.{◌≡◌, Option, None, Some, Result, Ok, Err, refl, sym, subst}
 use Rattle.std.specs.Result.{IsErrAnd}
-use Rattle.law_node.specs.Parts.{Comes, IsMadeWhole, joined}
-use Rattle.law_node.specs.Plan as plan
-use Rattle.law_node.specs.Plan.{Call, Plan}
-use Rattle.law_node.specs.Stops.{HasEnded, KeepsHeld, MemoryRanOut, StopsAt}
-use Rattle.law_node.specs.Told.{Contents}
-use Rattle.law_node.proofs.Joining.{comes_inside, comes_nowhere, comes_on, stops_here, stops_on}
-use Rattle.mig_ports.specs.Depots.{Holding, KeepsOthers}
+use Rattle.node_rules.specs.Parts.{Comes, IsMadeWhole, joined}
+use Rattle.node_rules.specs.Plan as plan
+use Rattle.node_rules.specs.Plan.{Call, Plan}
+use Rattle.node_rules.specs.Stops.{HasEnded, KeepsHeld, MemoryRanOut, StopsAt}
+use Rattle.node_rules.specs.Told.{Contents}
+use Rattle.node_rules.proofs.Joining.{comes_inside, comes_nowhere, comes_on, stops_here, stops_on}
+use Rattle.host_ports.specs.Depots.{Holding, KeepsOthers}
 use Rattle.rdma_types.specs.declared.names.Name.{Name}
 use Rattle.node_engine.specs.Answered.{Does, stop_of}
 use Rattle.node_engine.specs.declared.faults.NodeFault.{NodeFault}

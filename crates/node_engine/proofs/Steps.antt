@@ -1,14 +1,14 @@
 -- Steps of a node and their datagrams, turns, and lines, as parts of a plan.
 use Rattle.std.proofs.Common.{◌≡◌, ◌∙◌, ◌+◌, ◌-◌, ◌<◌, ◌≤◌, ℕ, suc, List, [], ◌∷◌, Option, None, Some, Result, Ok, Err, length, drop, get_or, sym, ap, subst, add-one, drop-cons, drop_of_length-le, arith}
-use Rattle.law_node.specs.Node.{Node, node_after, node_outcome, sending, stepping}
-use Rattle.law_node.specs.Parts.{Comes, IsMadeWhole}
-use Rattle.law_node.specs.Plan as plan
-use Rattle.law_node.specs.Plan.{Plan}
-use Rattle.law_node.specs.Script.{lines_do, reading_does}
-use Rattle.law_node.specs.Serve.{expiring, transmitting, turn, turns}
-use Rattle.law_node.specs.Stops.{StopsAt}
-use Rattle.law_node.specs.Told.{Contents}
-use Rattle.law_node.proofs.Joining.{comes_nowhere, comes_on}
+use Rattle.node_rules.specs.Node.{Node, node_after, node_outcome, sending, stepping}
+use Rattle.node_rules.specs.Parts.{Comes, IsMadeWhole}
+use Rattle.node_rules.specs.Plan as plan
+use Rattle.node_rules.specs.Plan.{Plan}
+use Rattle.node_rules.specs.Script.{lines_do, reading_does}
+use Rattle.node_rules.specs.Serve.{expiring, transmitting, turn, turns}
+use Rattle.node_rules.specs.Stops.{StopsAt}
+use Rattle.node_rules.specs.Told.{Contents}
+use Rattle.node_rules.proofs.Joining.{comes_nowhere, comes_on}
 use Rattle.context_core.specs.declared.lives.LinkView.{LinkView}
 use Rattle.context_core.specs.declared.lives.LiveEnd.{LiveEnd}
 use Rattle.protocol.specs.declared.events.Event.{Event}

@@ -4,14 +4,14 @@ use Rattle.std.proofs.lemmas.List.Splits.{length-slice_split}
 use Rattle.std.proofs.lemmas.List.Sums.{count_by-le-length}
 use Rattle.std.specs.List.{slice_split}
 use Rattle.std.specs.Result.{IsErrAnd}
-use Rattle.law_node.specs.Node.{Node, new_node}
-use Rattle.law_node.specs.Parts.{Comes, IsMadeWhole}
-use Rattle.law_node.specs.Plan as plan
-use Rattle.law_node.specs.Plan.{Plan}
-use Rattle.law_node.specs.Script.{lines_do, node_plan, reading_does}
-use Rattle.law_node.specs.Stops.{HasEnded, StopsAt}
-use Rattle.law_node.specs.Told.{Contents}
-use Rattle.law_node.proofs.Joining.{stops_here, stops_on}
+use Rattle.node_rules.specs.Node.{Node, new_node}
+use Rattle.node_rules.specs.Parts.{Comes, IsMadeWhole}
+use Rattle.node_rules.specs.Plan as plan
+use Rattle.node_rules.specs.Plan.{Plan}
+use Rattle.node_rules.specs.Script.{lines_do, node_plan, reading_does}
+use Rattle.node_rules.specs.Stops.{HasEnded, StopsAt}
+use Rattle.node_rules.specs.Told.{Contents}
+use Rattle.node_rules.proofs.Joining.{stops_here, stops_on}
 use Rattle.rdma_types.specs.declared.requests.Address.{Address}
 use Rattle.node_engine.specs.declared.faults.NodeFault.TheVariants as fault
 use Rattle.node_engine.specs.LineFaults.{fault_at_line}

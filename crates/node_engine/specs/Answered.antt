@@ -1,10 +1,10 @@
 -- What a run of a node leaves with each of its answers, and what a part of it leaves (this project's choice).
 use Rattle.std.specs.Prelude.{Result, Ok, Err}
-use Rattle.law_node.specs.Parts.{IsMadeWhole}
-use Rattle.law_node.specs.Plan as plan
-use Rattle.law_node.specs.Plan.{Plan}
-use Rattle.law_node.specs.Stops.{DepotFailed, HasEnded, LinkFailed, MemoryRanOut, OutputFailed, StopsAt}
-use Rattle.law_node.specs.Told.{Contents}
+use Rattle.node_rules.specs.Parts.{IsMadeWhole}
+use Rattle.node_rules.specs.Plan as plan
+use Rattle.node_rules.specs.Plan.{Plan}
+use Rattle.node_rules.specs.Stops.{DepotFailed, HasEnded, LinkFailed, MemoryRanOut, OutputFailed, StopsAt}
+use Rattle.node_rules.specs.Told.{Contents}
 use Rattle.node_engine.specs.declared.faults.NodeFault.{NodeFault}
 use Rattle.node_engine.specs.declared.faults.NodeFault.TheVariants as fault
 

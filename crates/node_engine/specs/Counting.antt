@@ -1,7 +1,7 @@
 -- What a run leaves of the counts of faults (this project's choice).
 use Rattle.std.specs.Prelude.{◌≡◌, Result, Ok, Err}
-use Rattle.law_node.specs.Stops.{Rises}
-use Rattle.law_node.specs.Told.{Counts}
+use Rattle.node_rules.specs.Stops.{Rises}
+use Rattle.node_rules.specs.Told.{Counts}
 use Rattle.node_engine.specs.declared.faults.NodeFault.{NodeFault}
 use Rattle.node_engine.specs.declared.faults.NodeFault.TheVariants as fault
 

@@ -2,13 +2,13 @@
 use Rattle.std.specs.Prelude.{ℕ, List, [], ◌∷◌, Bool, true, false, Option, Some, None}
 use Rattle.context_core.specs.declared.lives.LinkView.{LinkView}
 use Rattle.context_core.specs.declared.lives.LiveEnd.{LiveEnd}
-use Rattle.law_node.specs.Node.{Node, stepping}
-use Rattle.law_node.specs.Plan.{Plan}
+use Rattle.node_rules.specs.Node.{Node, stepping}
+use Rattle.node_rules.specs.Plan.{Plan}
 use Rattle.protocol.specs.declared.events.Event.{Event}
 use Rattle.protocol.specs.declared.images.Outcome.{Outcome}
 use Rattle.rdma_types.specs.declared.answers.Answer.{Answer}
 use Rattle.rdma_types.specs.declared.answers.Answer.TheVariants as answer
-use Rattle.rdma_types.specs.declared.answers.NotWhy.TheVariants as not_why
+use Rattle.rdma_types.specs.declared.answers.ExpiryIgnored.TheVariants as not_why
 use Rattle.rdma_types.specs.declared.names.ObjName.{ObjName}
 
 -- one name before others, where the end is connected

@@ -1,14 +1,14 @@
 //! Which queue pairs are active, and since when one is not.
 
 ghost use Rattle.std.specs.Prelude.{◌≡◌, [], ◌∷◌, OnOk, IfOk};
-ghost use Rattle.law_node.specs.Node.{connected, number_at};
-ghost use Rattle.law_node.specs.Serve as rules;
+ghost use Rattle.node_rules.specs.Node.{connected, number_at};
+ghost use Rattle.node_rules.specs.Serve as rules;
 ghost use Rattle.node_engine.specs.Names.{listed, names_of};
 
 use crate::state::Node;
 use device_core::{Device, LiveEnd, Outcome};
 use indexmap::IndexMap;
-use rdma_types::{Answer, ObjName, Took};
+use rdma_types::{Answer, ArrivalEffect, ObjName};
 use roce_headers::decode;
 use std::alloc::AllocError;
 
@@ -24,7 +24,7 @@ pub(crate) fn is_active(outcome: &Outcome) -> bool
     }
     match outcome.answer {
         Answer::Took {
-            took: Took::Silent(_),
+            took: ArrivalEffect::Silent(_),
             ..
         } => false,
         Answer::Took { .. } => true,
@@ -97,7 +97,8 @@ impl Node {
 
     /// Marks an end as active in this turn, where the step was an active one. Errors: `AllocError` when out of memory.
     pub(crate) fn mark(&mut self, number: Option<u32>, outcome: &Outcome) -> Result<(), AllocError>
-        ensures { OnOk result (self.new ≡ rules.marking (rules.is_active outcome.now) (listed number) self.old) }
+        ensures { OnOk result (self.new ≡ rules.marking (rules.is_active outcome.now)
+            (listed number) self.old) }
     {
         let Some(number) = number else {
             return Ok(());

@@ -1,7 +1,7 @@
 //! What each line of a script does.
 
 ghost use Rattle.std.specs.Prelude.{◌≡◌, IfOk, IfSome, Some};
-ghost use Rattle.law_node.specs.Lines as rules;
+ghost use Rattle.node_rules.specs.Lines as rules;
 ghost use Rattle.protocol.specs.Events.{IsLawfulEvent};
 ghost use Rattle.protocol.specs.Lawful.{IsLawful};
 ghost use Rattle.script_lang.specs.Printed.{printed};
@@ -81,7 +81,8 @@ impl Node {
         ports: &mut P,
         answer: Answer,
     ) -> Result<(), NodeFault>
-        ensures { Does (rules.answering answer self.now) (λ done. self.now) (P.contents ports.old) result (P.contents ports.new) }
+        ensures { Does (rules.answering answer self.now) (λ done. self.now)
+            (P.contents ports.old) result (P.contents ports.new) }
     {
         let text = text_of(alloc, answer, self.sent_count())?;
         ports.write(text.as_slice())
@@ -95,7 +96,8 @@ impl Node {
         event: &Event,
     ) -> Result<(), NodeFault>
         requires { IsLawfulEvent event.now }
-        ensures { Does (rules.stepped self.old event.now) (λ done. self.new) (P.contents ports.old) result (P.contents ports.new) }
+        ensures { Does (rules.stepped self.old event.now) (λ done. self.new)
+            (P.contents ports.old) result (P.contents ports.new) }
     {
         let outcome = self.step(alloc, ports, event)?;
         self.give_back(outcome.sent);
@@ -111,7 +113,8 @@ impl Node {
         answer: Answer,
     ) -> Result<(), NodeFault>
         requires { IsLawful image.now }
-        ensures { Does (rules.storing file (Some image.now) answer self.now) (λ done. self.now) (P.contents ports.old) result (P.contents ports.new) }
+        ensures { Does (rules.storing file (Some image.now) answer self.now) (λ done. self.now)
+            (P.contents ports.old) result (P.contents ports.new) }
     {
         let dump = encode_dump(alloc, image)?;
         ports.put(alloc, file, dump.as_slice())?;
@@ -128,7 +131,8 @@ impl Node {
         answer: Answer,
     ) -> Result<(), NodeFault>
         requires { IfSome image.now (λ i. IsLawful i) }
-        ensures { Does (rules.storing file image.now answer self.now) (λ done. self.now) (P.contents ports.old) result (P.contents ports.new) }
+        ensures { Does (rules.storing file image.now answer self.now) (λ done. self.now)
+            (P.contents ports.old) result (P.contents ports.new) }
     {
         match image {
             None => self.answer(alloc, ports, answer),
@@ -144,7 +148,8 @@ impl Node {
         name: Name,
         file: Name,
     ) -> Result<(), NodeFault>
-        ensures { Does (rules.stopping self.old name file) (λ done. self.new) (P.contents ports.old) result (P.contents ports.new) }
+        ensures { Does (rules.stopping self.old name file) (λ done. self.new)
+            (P.contents ports.old) result (P.contents ports.new) }
     {
         let event = Event::Stop {
             context: name,
@@ -157,7 +162,8 @@ impl Node {
 
     /// Takes a dump that was restored out of the depot, and writes that it is done.
     fn remove<P: Ports>(&self, alloc: Global, ports: &mut P, file: Name) -> Result<(), NodeFault>
-        ensures { Does (rules.clearing file Answer.Done self.now) (λ done. self.now) (P.contents ports.old) result (P.contents ports.new) }
+        ensures { Does (rules.clearing file Answer.Done self.now) (λ done. self.now)
+            (P.contents ports.old) result (P.contents ports.new) }
     {
         let found = ports.remove(alloc, file)?;
         match found {
@@ -174,7 +180,8 @@ impl Node {
         file: Name,
         answer: Answer,
     ) -> Result<(), NodeFault>
-        ensures { Does (rules.clearing file answer self.now) (λ done. self.now) (P.contents ports.old) result (P.contents ports.new) }
+        ensures { Does (rules.clearing file answer self.now) (λ done. self.now)
+            (P.contents ports.old) result (P.contents ports.new) }
     {
         if is_done(&answer) {
             self.remove(alloc, ports, file)
@@ -191,7 +198,8 @@ impl Node {
         file: Name,
         bytes: &[u8],
     ) -> Result<(), NodeFault>
-        ensures { Does (rules.restoring_bytes self.old file (Some bytes.now)) (λ done. self.new) (P.contents ports.old) result (P.contents ports.new) }
+        ensures { Does (rules.restoring_bytes self.old file (Some bytes.now)) (λ done. self.new)
+            (P.contents ports.old) result (P.contents ports.new) }
     {
         let image = decode_dump(alloc, bytes)?;
         let outcome = self.step_restore(alloc, ports, &image)?;
@@ -205,7 +213,8 @@ impl Node {
         ports: &mut P,
         file: Name,
     ) -> Result<(), NodeFault>
-        ensures { Does (rules.restoring self.old file) (λ done. self.new) (P.contents ports.old) result (P.contents ports.new) }
+        ensures { Does (rules.restoring self.old file) (λ done. self.new)
+            (P.contents ports.old) result (P.contents ports.new) }
     {
         let found = ports.look(alloc, file)?;
         match found {
@@ -221,7 +230,8 @@ impl Node {
         ports: &mut P,
         turns: u32,
     ) -> Result<(), NodeFault>
-        ensures { Does (rules.serves self.old turns) (λ done. self.new) (P.contents ports.old) result (P.contents ports.new) }
+        ensures { Does (rules.serves self.old turns) (λ done. self.new)
+            (P.contents ports.old) result (P.contents ports.new) }
     {
         self.serve(alloc, ports, turns)?;
         let text = served_text(alloc, self.taken_count())?;
@@ -236,7 +246,8 @@ impl Node {
         verb: Verb,
     ) -> Result<(), NodeFault>
         requires { IsLawfulVerb verb }
-        ensures { Does (rules.stepped_if self.old (rules.verb_event verb)) (λ done. self.new) (P.contents ports.old) result (P.contents ports.new) }
+        ensures { Does (rules.stepped_if self.old (rules.verb_event verb)) (λ done. self.new)
+            (P.contents ports.old) result (P.contents ports.new) }
     {
         match device_event_of(verb) {
             Some(event) => self.step_and_answer(alloc, ports, &event),
@@ -252,7 +263,8 @@ impl Node {
         line: NodeLine,
     ) -> Result<(), NodeFault>
         requires { IsLawfulNodeLine line }
-        ensures { Does (rules.line_does self.old line) (λ done. self.new) (P.contents ports.old) result (P.contents ports.new) }
+        ensures { Does (rules.line_does self.old line) (λ done. self.new)
+            (P.contents ports.old) result (P.contents ports.new) }
     {
         match line {
             NodeLine::Blank => Ok(()),

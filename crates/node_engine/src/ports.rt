@@ -1,19 +1,19 @@
 //! What a run speaks to, as one: the link, the clock, the depot and the output.
 
 ghost use Rattle.std.specs.Prelude.{◌≡◌, ◌≤◌, length, IfOk, option_map};
-ghost use Rattle.mig_ports.specs.Links.{FitsIn, got_of, longest_datagram};
-ghost use Rattle.law_node.specs.Parts.{IsMadeWhole};
-ghost use Rattle.law_node.specs.Plan as plan;
+ghost use Rattle.host_ports.specs.Links.{FitsIn, got_of, longest_datagram};
+ghost use Rattle.node_rules.specs.Parts.{IsMadeWhole};
+ghost use Rattle.node_rules.specs.Plan as plan;
 ghost use Rattle.node_engine.specs.Answered.{Does, DoesAll};
 
 use crate::NodeFault;
-use mig_ports::{Depot, DepotFault, Failed, Got, Link, Sink, Ticks, WriteFault, write_all_of};
+use host_ports::{Depot, DepotFault, Failed, Got, Link, Sink, Ticks, WriteFault, write_all_of};
 use rdma_types::{Address, Name};
 use std::alloc::Global;
 
 /// The outside of a run. Each call is one of the plan of its script.
 pub(crate) trait Ports {
-    ghost use Rattle.law_node.specs.Told.{Contents};
+    ghost use Rattle.node_rules.specs.Told.{Contents};
 
     // What the objects tell that they hold, and the faults that they counted.
     ghost contents: { Self → Contents };

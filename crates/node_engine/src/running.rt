@@ -1,7 +1,7 @@
 //! A whole script.
 
 ghost use Rattle.std.specs.Prelude.{◌≡◌, ◌≤◌};
-ghost use Rattle.law_node.specs.Script.{node_plan, reading_does};
+ghost use Rattle.node_rules.specs.Script.{node_plan, reading_does};
 ghost use Rattle.script_lang.specs.Lines.{node_reading_of};
 ghost use Rattle.node_engine.specs.Answered.{Answers, Does};
 ghost use Rattle.node_engine.specs.Counting.{Counted};
@@ -10,7 +10,7 @@ ghost use Rattle.node_engine.specs.LineFaults.{fault_at_line};
 use crate::NodeFault;
 use crate::ports::{NodePorts, Ports};
 use crate::state::Node;
-use mig_ports::{Depot, Link, Sink, Ticks};
+use host_ports::{Depot, Link, Sink, Ticks};
 use rdma_types::Address;
 use script_lang::{LineFault, Lines, parse_node_line};
 use std::alloc::Global;
@@ -38,7 +38,8 @@ impl Node {
         number: u64,
         line: &[u8],
     ) -> Result<(), NodeFault>
-        ensures { Does (reading_does number self.old (node_reading_of line.now)) (λ done. self.new) (P.contents ports.old) result (P.contents ports.new) }
+        ensures { Does (reading_does number self.old (node_reading_of line.now)) (λ done. self.new)
+            (P.contents ports.old) result (P.contents ports.new) }
     {
         match parse_node_line(alloc, line) {
             Ok(line) => self.do_line(alloc, ports, line),
@@ -56,7 +57,8 @@ fn run<P: Ports>(
     ports: &mut P,
 ) -> Result<(), NodeFault>
     requires { 1 ≤ id }
-    ensures { Answers (node_plan id own input.now) (P.contents ports.old) result (P.contents ports.new) }
+    ensures { Answers (node_plan id own input.now) (P.contents ports.old) result
+        (P.contents ports.new) }
 {
     ports.start(own)?;
     let mut node = Node::make(alloc, id, own)?;

@@ -1,9 +1,9 @@
 //! The state of a run.
 
 ghost use Rattle.std.specs.Prelude.{◌≡◌, ◌≤◌, [], IfOk};
-ghost use Rattle.law_node.specs.Node.{new_node};
-ghost use Rattle.law_node.specs.Serve.{serving};
-ghost use Rattle.mig_ports.specs.Memory.{counted};
+ghost use Rattle.node_rules.specs.Node.{new_node};
+ghost use Rattle.node_rules.specs.Serve.{serving};
+ghost use Rattle.host_ports.specs.Memory.{counted};
 
 use device_core::Device;
 use indexmap::IndexMap;
@@ -28,7 +28,7 @@ pub(crate) struct Node {
 }
 
 impl Model for Node {
-    ghost use Rattle.law_node.specs.Node as rules;
+    ghost use Rattle.node_rules.specs.Node as rules;
 
     ghost Value = { rules.Node };
 

@@ -1,7 +1,7 @@
 //! Steps of the device, and the datagrams that they send.
 
 ghost use Rattle.std.specs.Prelude.{◌≡◌, IfOk, IfSome, OnOk};
-ghost use Rattle.law_node.specs.Node as rules;
+ghost use Rattle.node_rules.specs.Node as rules;
 ghost use Rattle.protocol.specs.Events.{IsLawfulEvent};
 ghost use Rattle.protocol.specs.Lawful.{IsLawful};
 ghost use Rattle.node_engine.specs.Answered.{Does, DoesAll};
@@ -16,7 +16,8 @@ use std::alloc::{AllocError, Global};
 
 /// Sends datagrams, one after the other.
 fn send_all<P: Ports>(ports: &mut P, sent: &[Sent]) -> Result<(), NodeFault>
-    ensures { DoesAll (rules.sending sent.now) (P.contents ports.old) result (P.contents ports.new) }
+    ensures { DoesAll (rules.sending sent.now) (P.contents ports.old) result
+        (P.contents ports.new) }
 {
     for datagram in sent {
         ports.send(datagram.to, datagram.bytes.as_slice())?;
@@ -26,7 +27,7 @@ fn send_all<P: Ports>(ports: &mut P, sent: &[Sent]) -> Result<(), NodeFault>
 
 impl Node {
     /// Steps an event, and counts the datagrams that are to be sent. Errors: `AllocError` when out of memory.
-    #[tactic(auto, unfolding(law_node::specs::Node::node_after, law_node::specs::Node::node_outcome))]
+    #[tactic(auto, unfolding(node_rules::specs::Node::node_after, node_rules::specs::Node::node_outcome))]
     fn advance(&mut self, alloc: Global, event: &Event) -> Result<Outcome, AllocError>
         requires { IsLawfulEvent event.now }
         ensures node { OnOk result (self.new ≡ rules.node_after self.old event.now) }
@@ -39,15 +40,17 @@ impl Node {
     }
 
     /// .. the arrival of bytes.
-    #[tactic(auto, unfolding(law_node::specs::Node::node_after, law_node::specs::Node::node_outcome))]
+    #[tactic(auto, unfolding(node_rules::specs::Node::node_after, node_rules::specs::Node::node_outcome))]
     fn advance_arrival(
         &mut self,
         alloc: Global,
         from: Address,
         bytes: &[u8],
     ) -> Result<Outcome, AllocError>
-        ensures node { OnOk result (self.new ≡ rules.node_after self.old (Event.Arrive from bytes.now)) }
-        ensures outcome { IfOk result (λ o. o ≡ rules.node_outcome self.old (Event.Arrive from bytes.now)) }
+        ensures node { OnOk result (self.new ≡ rules.node_after self.old
+            (Event.Arrive from bytes.now)) }
+        ensures outcome { IfOk result (λ o. o ≡ rules.node_outcome self.old
+            (Event.Arrive from bytes.now)) }
     {
         let outcome = self.device.arrive(alloc, from, bytes)?;
         self.sent = self.sent.saturating_add(outcome.sent.len() as u64);
@@ -55,15 +58,17 @@ impl Node {
     }
 
     /// .. the restore of an image.
-    #[tactic(auto, unfolding(law_node::specs::Node::node_after, law_node::specs::Node::node_outcome))]
+    #[tactic(auto, unfolding(node_rules::specs::Node::node_after, node_rules::specs::Node::node_outcome))]
     fn advance_restore(
         &mut self,
         alloc: Global,
         image: &ContextImage,
     ) -> Result<Outcome, AllocError>
         requires { IsLawful image.now }
-        ensures node { OnOk result (self.new ≡ rules.node_after self.old (Event.Restore image.now)) }
-        ensures outcome { IfOk result (λ o. o ≡ rules.node_outcome self.old (Event.Restore image.now)) }
+        ensures node { OnOk result (self.new ≡ rules.node_after self.old
+            (Event.Restore image.now)) }
+        ensures outcome { IfOk result (λ o. o ≡ rules.node_outcome self.old
+            (Event.Restore image.now)) }
     {
         let outcome = self.device.restore(alloc, image)?;
         self.sent = self.sent.saturating_add(outcome.sent.len() as u64);
@@ -79,7 +84,8 @@ impl Node {
     ) -> Result<Outcome, NodeFault>
         requires { IsLawfulEvent event.now }
         ensures image { IfOk result (λ o. IfSome o.image (λ i. IsLawful i)) }
-        ensures stepped { Does (stepping_pair self.old event.now) (with_outcome self.new) (P.contents ports.old) result (P.contents ports.new) }
+        ensures stepped { Does (stepping_pair self.old event.now) (with_outcome self.new)
+            (P.contents ports.old) result (P.contents ports.new) }
     {
         let outcome = self.advance(alloc, event)?;
         send_all(ports, outcome.sent.as_slice())?;
@@ -94,7 +100,8 @@ impl Node {
         from: Address,
         bytes: &[u8],
     ) -> Result<Outcome, NodeFault>
-        ensures { Does (stepping_pair self.old (Event.Arrive from bytes.now)) (with_outcome self.new) (P.contents ports.old) result (P.contents ports.new) }
+        ensures { Does (stepping_pair self.old (Event.Arrive from bytes.now))
+            (with_outcome self.new) (P.contents ports.old) result (P.contents ports.new) }
     {
         let outcome = self.advance_arrival(alloc, from, bytes)?;
         send_all(ports, outcome.sent.as_slice())?;
@@ -109,7 +116,8 @@ impl Node {
         image: &ContextImage,
     ) -> Result<Outcome, NodeFault>
         requires { IsLawful image.now }
-        ensures { Does (stepping_pair self.old (Event.Restore image.now)) (with_outcome self.new) (P.contents ports.old) result (P.contents ports.new) }
+        ensures { Does (stepping_pair self.old (Event.Restore image.now)) (with_outcome self.new)
+            (P.contents ports.old) result (P.contents ports.new) }
     {
         let outcome = self.advance_restore(alloc, image)?;
         send_all(ports, outcome.sent.as_slice())?;

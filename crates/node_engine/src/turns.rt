@@ -1,10 +1,10 @@
 //! Turns of serving.
 
 ghost use Rattle.std.specs.Prelude.{◌≡◌, ◌≤◌, [], Some, length};
-ghost use Rattle.law_node.specs.Node.{stepping};
-ghost use Rattle.law_node.specs.Plan as plan;
-ghost use Rattle.law_node.specs.Serve as rules;
-ghost use Rattle.mig_ports.specs.Links.{longest_datagram};
+ghost use Rattle.node_rules.specs.Node.{stepping};
+ghost use Rattle.node_rules.specs.Plan as plan;
+ghost use Rattle.node_rules.specs.Serve as rules;
+ghost use Rattle.host_ports.specs.Links.{longest_datagram};
 ghost use Rattle.node_engine.specs.Answered.{Does};
 ghost use Rattle.node_engine.specs.Names.{name_if, names_of, waits_for_timer};
 
@@ -12,8 +12,8 @@ use crate::NodeFault;
 use crate::ports::Ports;
 use crate::state::Node;
 use device_core::{Event, LiveEnd};
-use mig_ports::{Got, LONGEST_DATAGRAM};
-use rdma_types::{Address, Answer, NotWhy, ObjName};
+use host_ports::{Got, LONGEST_DATAGRAM};
+use rdma_types::{Address, Answer, ExpiryIgnored, ObjName};
 use std::alloc::Global;
 
 /// Whether an expiry was not counted since the end waits for its RNR timer.
@@ -21,7 +21,7 @@ fn is_rnr(answer: &Answer) -> bool
     ensures { result ≡ waits_for_timer answer.now }
 {
     match answer {
-        Answer::NotCounted(NotWhy::Rnr) => true,
+        Answer::NotCounted(ExpiryIgnored::Rnr) => true,
         _ => false,
     }
 }
@@ -35,7 +35,8 @@ impl Node {
         from: Address,
         bytes: &[u8],
     ) -> Result<(), NodeFault>
-        ensures { Does (rules.arriving self.old (Some (from, bytes.now))) (λ done. self.new) (P.contents ports.old) result (P.contents ports.new) }
+        ensures { Does (rules.arriving self.old (Some (from, bytes.now))) (λ done. self.new)
+            (P.contents ports.old) result (P.contents ports.new) }
     {
         let number = self.receiver(bytes);
         let outcome = self.step_arrival(alloc, ports, from, bytes)?;
@@ -53,7 +54,8 @@ impl Node {
         buffer: &mut [u8],
     ) -> Result<(), NodeFault>
         requires { longest_datagram ≤ length buffer.old }
-        ensures { Does (rules.taking self.old) (λ done. self.new) (P.contents ports.old) result (P.contents ports.new) }
+        ensures { Does (rules.taking self.old) (λ done. self.new) (P.contents ports.old) result
+            (P.contents ports.new) }
     {
         self.begin_turn();
         let got = ports.take(buffer)?;
@@ -73,7 +75,8 @@ impl Node {
         ports: &mut P,
         end: &ObjName,
     ) -> Result<(), NodeFault>
-        ensures { Does (rules.transmitting_one end.now self.old) (λ done. self.new) (P.contents ports.old) result (P.contents ports.new) }
+        ensures { Does (rules.transmitting_one end.now self.old) (λ done. self.new)
+            (P.contents ports.old) result (P.contents ports.new) }
     {
         let number = self.number_of(end);
         let outcome = self.step(alloc, ports, &Event::Transmit { end: *end })?;
@@ -89,7 +92,8 @@ impl Node {
         ports: &mut P,
         end: &LiveEnd,
     ) -> Result<(), NodeFault>
-        ensures { Does (rules.transmitting (name_if end.now.name end.now.link []) self.old) (λ done. self.new) (P.contents ports.old) result (P.contents ports.new) }
+        ensures { Does (rules.transmitting (name_if end.now.name end.now.link []) self.old)
+            (λ done. self.new) (P.contents ports.old) result (P.contents ports.new) }
     {
         match end.link {
             None => Ok(()),
@@ -104,7 +108,8 @@ impl Node {
         ports: &mut P,
         live: &[LiveEnd],
     ) -> Result<(), NodeFault>
-        ensures { Does (rules.transmitting (names_of live.now) self.old) (λ done. self.new) (P.contents ports.old) result (P.contents ports.new) }
+        ensures { Does (rules.transmitting (names_of live.now) self.old) (λ done. self.new)
+            (P.contents ports.old) result (P.contents ports.new) }
     {
         for end in live {
             self.transmit(alloc, ports, end)?;
@@ -119,7 +124,8 @@ impl Node {
         ports: &mut P,
         end: &ObjName,
     ) -> Result<(), NodeFault>
-        ensures { Does (λ more. stepping self.old (Event.RnrOver end.now) (λ n x. more n)) (λ done. self.new) (P.contents ports.old) result (P.contents ports.new) }
+        ensures { Does (λ more. stepping self.old (Event.RnrOver end.now) (λ n x. more n))
+            (λ done. self.new) (P.contents ports.old) result (P.contents ports.new) }
     {
         let _outcome = self.step(alloc, ports, &Event::RnrOver { end: *end })?;
         Ok(())
@@ -133,7 +139,8 @@ impl Node {
         end: &ObjName,
         answer: &Answer,
     ) -> Result<(), NodeFault>
-        ensures { Does (rules.waiting_out answer.now end.now self.old) (λ done. self.new) (P.contents ports.old) result (P.contents ports.new) }
+        ensures { Does (rules.waiting_out answer.now end.now self.old) (λ done. self.new)
+            (P.contents ports.old) result (P.contents ports.new) }
     {
         if is_rnr(answer) {
             self.end_wait(alloc, ports, end)
@@ -149,7 +156,8 @@ impl Node {
         ports: &mut P,
         end: &ObjName,
     ) -> Result<(), NodeFault>
-        ensures { Does (rules.expiring_one end.now self.old) (λ done. self.new) (P.contents ports.old) result (P.contents ports.new) }
+        ensures { Does (rules.expiring_one end.now self.old) (λ done. self.new)
+            (P.contents ports.old) result (P.contents ports.new) }
     {
         let outcome = self.step(alloc, ports, &Event::Expire { end: *end })?;
         self.wait_out(alloc, ports, end, &outcome.answer)
@@ -163,7 +171,8 @@ impl Node {
         now: u64,
         end: &ObjName,
     ) -> Result<(), NodeFault>
-        ensures { Does (rules.expiring_if (rules.is_due self.old now end.now) end.now self.old) (λ done. self.new) (P.contents ports.old) result (P.contents ports.new) }
+        ensures { Does (rules.expiring_if (rules.is_due self.old now end.now) end.now self.old)
+            (λ done. self.new) (P.contents ports.old) result (P.contents ports.new) }
     {
         if self.is_due(now, end) {
             self.expire_now(alloc, ports, end)
@@ -180,7 +189,8 @@ impl Node {
         now: u64,
         end: &LiveEnd,
     ) -> Result<(), NodeFault>
-        ensures { Does (rules.expiring now (name_if end.now.name end.now.link []) self.old) (λ done. self.new) (P.contents ports.old) result (P.contents ports.new) }
+        ensures { Does (rules.expiring now (name_if end.now.name end.now.link []) self.old)
+            (λ done. self.new) (P.contents ports.old) result (P.contents ports.new) }
     {
         match end.link {
             None => Ok(()),
@@ -196,7 +206,8 @@ impl Node {
         now: u64,
         live: &[LiveEnd],
     ) -> Result<(), NodeFault>
-        ensures { Does (rules.expiring now (names_of live.now) self.old) (λ done. self.new) (P.contents ports.old) result (P.contents ports.new) }
+        ensures { Does (rules.expiring now (names_of live.now) self.old) (λ done. self.new)
+            (P.contents ports.old) result (P.contents ports.new) }
     {
         for end in live {
             self.expire(alloc, ports, now, end)?;
@@ -211,7 +222,9 @@ impl Node {
         ports: &mut P,
         live: &[LiveEnd],
     ) -> Result<(), NodeFault>
-        ensures { Does (λ more. plan.Asks (λ now. rules.expiring now (names_of live.now) (rules.asked self.old now) more)) (λ done. self.new) (P.contents ports.old) result (P.contents ports.new) }
+        ensures { Does (λ more. plan.Asks (λ now. rules.expiring now (names_of live.now)
+            (rules.asked self.old now) more)) (λ done. self.new) (P.contents ports.old) result
+            (P.contents ports.new) }
     {
         let now = ports.now();
         self.ask(now)?;
@@ -228,7 +241,8 @@ impl Node {
         live: &mut Vec<LiveEnd>,
     ) -> Result<(), NodeFault>
         requires { longest_datagram ≤ length buffer.old }
-        ensures { Does (rules.turn self.old) (λ done. self.new) (P.contents ports.old) result (P.contents ports.new) }
+        ensures { Does (rules.turn self.old) (λ done. self.new) (P.contents ports.old) result
+            (P.contents ports.new) }
     {
         self.take(alloc, ports, buffer)?;
         self.list_ends(live)?;
@@ -244,7 +258,8 @@ impl Node {
         ports: &mut P,
         turns: u32,
     ) -> Result<(), NodeFault>
-        ensures { Does (rules.turns turns (rules.serving self.old)) (λ done. self.new) (P.contents ports.old) result (P.contents ports.new) }
+        ensures { Does (rules.turns turns (rules.serving self.old)) (λ done. self.new)
+            (P.contents ports.old) result (P.contents ports.new) }
     {
         let mut buffer = [0; LONGEST_DATAGRAM];
         let mut live = Vec::new(alloc);

@@ -5,7 +5,7 @@ use Rattle.std.proofs.lemmas.Bool.{cases_lt}
 use Rattle.std.proofs.lemmas.List.{length-append, length-set, length_push, nil_from_length}
 use Rattle.rdma_types.specs.Memory.{put}
 use Rattle.page_pool.specs.Store.{Store, IsSound, IsStock, IsMade, padded, later_pages, waiting, times, idle}
-use Rattle.byte_run.proofs.Cuts.{length-put}
+use Rattle.rdma_types.proofs.Cuts.{length-put}
 use Rattle.page_pool.proofs.Counts.{one_if, one_if-same, times-push, idle-is}
 use Rattle.page_pool.proofs.Padded.{length-padded, padded-set, padded-put, padded-next, padded-append, later-in, waiting-push, waiting-same, waiting-next, length-waiting, times-waiting}
 use Rattle.page_pool.proofs.Stock.{in_stock, restated, sound, stocked, taken}

@@ -10,7 +10,7 @@ use Rattle.std.proofs.lemmas.List.Elements.{All-nil, All-cons}
 use Rattle.std.proofs.lemmas.List.Sums.{sum_by-append}
 use Rattle.rdma_types.specs.Memory.{cut, put}
 use Rattle.byte_run.proofs.Runs.{take-meet}
-use Rattle.byte_run.proofs.Cuts.{length-put}
+use Rattle.rdma_types.proofs.Cuts.{length-put}
 use Rattle.page_pool.specs.Store.{times}
 use Rattle.page_pool.specs.Ledger.{own_number, own_numbers, page_at, page_bytes}
 use Rattle.page_pool.specs.declared.page.Page.{Page}

@@ -6,7 +6,7 @@ use Rattle.std.proofs.lemmas.List.{length-append, length-replicate, length-set, 
 use Rattle.std.proofs.Math.Seq.{set-append_seam}
 use Rattle.std.proofs.lemmas.List.Sums.{sum_by-append}
 use Rattle.rdma_types.specs.Memory.{cut, put}
-use Rattle.byte_run.proofs.Cuts.{length-put, cut-middle, put-middle}
+use Rattle.rdma_types.proofs.Cuts.{length-put, cut-middle, put-middle}
 use Rattle.page_pool.specs.Store.{padded, later_pages, waiting, times}
 use Rattle.page_pool.proofs.Pages.{put-whole}
 use Rattle.page_pool.proofs.Counts.{one_if, one_if-same, one_if-other, times-none, times-push}

@@ -9,7 +9,7 @@ use Rattle.rdma_types.specs.Memory.{cut, put}
 use Rattle.byte_run.specs.Pages.{ArePages, joined}
 use Rattle.byte_run.proofs.Runs.{cut-take, length-pages}
 use Rattle.byte_run.proofs.Joined.{cut-joined}
-use Rattle.byte_run.proofs.Cuts.{length-cut, length-put, cut-whole, cut-put_below, cut-put_above, cut-put_inside}
+use Rattle.rdma_types.proofs.Cuts.{length-cut, length-put, cut-whole, cut-put_below, cut-put_above, cut-put_inside}
 use Rattle.page_pool.specs.Store.{blank}
 use Rattle.page_pool.specs.Ledger.{page_at}
 use Rattle.page_pool.proofs.Places.{length-blank}

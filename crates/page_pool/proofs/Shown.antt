@@ -5,7 +5,7 @@ use Rattle.std.specs.List.{flat_map}
 use Rattle.std.proofs.lemmas.List.{length-set, append-nil, get_or_default, get_or-set_same, get_or-set_other}
 use Rattle.std.proofs.lemmas.List.Concat.{flat_map-append}
 use Rattle.rdma_types.specs.Memory.{cut, put}
-use Rattle.byte_run.proofs.Cuts.{cut-whole}
+use Rattle.rdma_types.proofs.Cuts.{cut-whole}
 use Rattle.byte_run.proofs.Joined.{AreEven, length-joined, cut-joined, put-joined}
 use Rattle.page_pool.proofs.Pages.{put-whole}
 

@@ -9,7 +9,7 @@ use Rattle.std.proofs.lemmas.Bool.{cases_lt}
 use Rattle.std.proofs.lemmas.List.{get_or_past, length-set, get_or-set_same, get_or-set_other, length-drop, length-take, take_all}
 use Rattle.std.proofs.lemmas.List.Elements.{All-set, All-take, All-drop}
 use Rattle.rdma_types.specs.Memory.{cut, put}
-use Rattle.byte_run.proofs.Cuts.{length-put, cut-meet, put-none}
+use Rattle.rdma_types.proofs.Cuts.{length-put, cut-meet, put-none}
 use Rattle.byte_run.proofs.Runs.{take-cut, put-more}
 use Rattle.byte_run.proofs.Joined.{joined-part, put-joined, cut-joined}
 use Rattle.page_pool.specs.Store.{Store, IsSound, times}

@@ -17,7 +17,10 @@ use std::sync::Arc;
 /// zeros elsewhere.
 fn lay_page(bytes: &ByteRun, first: u64, at: u64, page: &mut [u8])
     requires { length page.old ≡ 4096 }
-    ensures { let before = min (first - at) 4096 in let from = min (at - first) (length bytes.now) in let count = min (4096 - before) (length bytes.now - from) in page.new ≡ replicate before 0 ++ (cut from count bytes.now ++ replicate (4096 - before - count) 0) }
+    ensures { let before = min (first - at) 4096 in let from = min (at - first) (length bytes.now)
+        in let count = min (4096 - before) (length bytes.now - from)
+        in page.new ≡ replicate before 0 ++ (cut from count bytes.now
+        ++ replicate (4096 - before - count) 0) }
 {
     let before = first.saturating_sub(at).min(4096);
     let from = at.saturating_sub(first).min(bytes.len());
@@ -39,7 +42,8 @@ fn whole_page(
 ) -> Option<Arc<[u8; 4096]>>
     requires zeros { arc_value zeros.now ≡ blank 4096 }
     ensures whole { IfSome result (λ page. length (arc_value page) ≡ 4096) }
-    ensures bytes { IfSome result (λ page. (n : ℕ) → at + 4096 ≤ n → first + length bytes.now ≤ n → arc_value page ≡ cut at 4096 (put (blank n) first bytes.now)) }
+    ensures bytes { IfSome result (λ page. (n : ℕ) → at + 4096 ≤ n → first + length bytes.now ≤ n
+        → arc_value page ≡ cut at 4096 (put (blank n) first bytes.now)) }
 {
     if at < first {
         return None;
@@ -70,11 +74,14 @@ fn take_page(
     requires zeros { arc_value zeros.now ≡ blank 4096 }
     ensures sound { IsSound frames.new }
     ensures pages { length frames.new.holders ≡ length frames.old.holders }
-    ensures counted { (page : ℕ) → slice_index frames.new.holders page ≡ slice_index frames.old.holders page + times page (own_number result) }
+    ensures counted { (page : ℕ) → slice_index frames.new.holders page
+        ≡ slice_index frames.old.holders page + times page (own_number result) }
     ensures total { sum frames.new.holders ≡ sum frames.old.holders + length (own_number result) }
-    ensures kept { (page : ℕ) → 0 < slice_index frames.old.holders page → page_at frames.new.bytes page ≡ page_at frames.old.bytes page }
+    ensures kept { (page : ℕ) → 0 < slice_index frames.old.holders page
+        → page_at frames.new.bytes page ≡ page_at frames.old.bytes page }
     ensures whole { IsWholePage result }
-    ensures bytes { (n : ℕ) → at + 4096 ≤ n → first + length bytes.now ≤ n → page_bytes frames.new.bytes result ≡ cut at 4096 (put (blank n) first bytes.now) }
+    ensures bytes { (n : ℕ) → at + 4096 ≤ n → first + length bytes.now ≤ n
+        → page_bytes frames.new.bytes result ≡ cut at 4096 (put (blank n) first bytes.now) }
 {
     match whole_page(zeros, bytes, first, at) {
         Some(page) => Page::Shared(page),
@@ -88,7 +95,9 @@ fn take_copy(frames: &mut Frames, bytes: &ByteRun, first: u64, at: u64) -> u32
     ensures page { result < length frames.old.holders }
     ensures idle { slice_index frames.old.holders result ≡ 0 }
     ensures holders { frames.new.holders ≡ slice_set frames.old.holders result 1 }
-    ensures bytes { (n : ℕ) → at + 4096 ≤ n → first + length bytes.now ≤ n → frames.new.bytes ≡ put frames.old.bytes (4096 * result) (cut at 4096 (put (blank n) first bytes.now)) }
+    ensures bytes { (n : ℕ) → at + 4096 ≤ n → first + length bytes.now ≤ n
+        → frames.new.bytes ≡ put frames.old.bytes (4096 * result)
+        (cut at 4096 (put (blank n) first bytes.now)) }
     ensures sound { IsSound frames.new }
 {
     let mut page = [0; PAGE];
@@ -114,11 +123,15 @@ pub fn take_pages(
     requires inside { first + length bytes.now ≤ 4096 * count }
     ensures sound { IsSound frames.new }
     ensures pages { length frames.new.holders ≡ length frames.old.holders }
-    ensures counted { (page : ℕ) → slice_index frames.new.holders page ≡ slice_index frames.old.holders page + times page (own_numbers pages.new.items) }
-    ensures total { sum frames.new.holders ≡ sum frames.old.holders + length (own_numbers pages.new.items) }
-    ensures kept { (page : ℕ) → 0 < slice_index frames.old.holders page → page_at frames.new.bytes page ≡ page_at frames.old.bytes page }
+    ensures counted { (page : ℕ) → slice_index frames.new.holders page
+        ≡ slice_index frames.old.holders page + times page (own_numbers pages.new.items) }
+    ensures total { sum frames.new.holders ≡ sum frames.old.holders
+        + length (own_numbers pages.new.items) }
+    ensures kept { (page : ℕ) → 0 < slice_index frames.old.holders page
+        → page_at frames.new.bytes page ≡ page_at frames.old.bytes page }
     ensures whole { All IsWholePage pages.new.items }
-    ensures bytes { flat_map (page_bytes frames.new.bytes) pages.new.items ≡ put (blank (4096 * count)) first bytes.now }
+    ensures bytes { flat_map (page_bytes frames.new.bytes) pages.new.items
+        ≡ put (blank (4096 * count)) first bytes.now }
     ensures len { length pages.new.items ≡ count }
 {
     for taken in 0..count {
@@ -130,12 +143,16 @@ pub fn take_pages(
 /// One more holder of each of these pages that is the pool's own.
 pub fn hold_pages(frames: &mut Frames, pages: &[Page])
     requires sound { IsSound frames.old }
-    requires held { (i : ℕ) → i < length (own_numbers pages.now) → 0 < slice_index frames.old.holders (slice_index (own_numbers pages.now) i) }
-    requires free { sum frames.old.holders + length (own_numbers pages.now) ≤ length frames.old.holders }
+    requires held { (i : ℕ) → i < length (own_numbers pages.now)
+        → 0 < slice_index frames.old.holders (slice_index (own_numbers pages.now) i) }
+    requires free { sum frames.old.holders + length (own_numbers pages.now)
+        ≤ length frames.old.holders }
     ensures sound { IsSound frames.new }
     ensures pages { length frames.new.holders ≡ length frames.old.holders }
-    ensures counted { (page : ℕ) → slice_index frames.new.holders page ≡ slice_index frames.old.holders page + times page (own_numbers pages.now) }
-    ensures total { sum frames.new.holders ≡ sum frames.old.holders + length (own_numbers pages.now) }
+    ensures counted { (page : ℕ) → slice_index frames.new.holders page
+        ≡ slice_index frames.old.holders page + times page (own_numbers pages.now) }
+    ensures total { sum frames.new.holders ≡ sum frames.old.holders
+        + length (own_numbers pages.now) }
     ensures bytes { frames.new.bytes ≡ frames.old.bytes }
 {
     for page in pages {
@@ -149,12 +166,16 @@ pub fn hold_pages(frames: &mut Frames, pages: &[Page])
 /// told.
 pub fn give_pages(frames: &mut Frames, pages: &[Page])
     requires sound { IsSound frames.old }
-    requires held { (page : ℕ) → times page (own_numbers pages.now) ≤ slice_index frames.old.holders page }
+    requires held { (page : ℕ) → times page (own_numbers pages.now)
+        ≤ slice_index frames.old.holders page }
     ensures sound { IsSound frames.new }
     ensures pages { length frames.new.holders ≡ length frames.old.holders }
-    ensures counted { (page : ℕ) → slice_index frames.new.holders page + times page (own_numbers pages.now) ≡ slice_index frames.old.holders page }
-    ensures total { sum frames.new.holders + length (own_numbers pages.now) ≡ sum frames.old.holders }
-    ensures kept { (page : ℕ) → 0 < slice_index frames.new.holders page → page_at frames.new.bytes page ≡ page_at frames.old.bytes page }
+    ensures counted { (page : ℕ) → slice_index frames.new.holders page
+        + times page (own_numbers pages.now) ≡ slice_index frames.old.holders page }
+    ensures total { sum frames.new.holders + length (own_numbers pages.now)
+        ≡ sum frames.old.holders }
+    ensures kept { (page : ℕ) → 0 < slice_index frames.new.holders page
+        → page_at frames.new.bytes page ≡ page_at frames.old.bytes page }
 {
     for page in pages {
         if let Page::Own(number) = page {

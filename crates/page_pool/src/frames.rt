@@ -33,7 +33,8 @@ impl Model for Frames {
 impl Frames {
     /// Pages of zeros that nobody holds. Errors: `AllocError` when out of memory.
     pub fn make(alloc: Global, pages: u32) -> Result<Frames, AllocError>
-        ensures { IfOk result (λ f. f ≡ record { bytes = replicate (4096 * pages) 0; holders = replicate pages 0 }) }
+        ensures { IfOk result (λ f. f
+            ≡ record { bytes = replicate (4096 * pages) 0; holders = replicate pages 0 }) }
     {
         let count = pages as usize;
         Ok(Frames {
@@ -89,7 +90,8 @@ impl Frames {
     pub fn put(&mut self, page: u32, at: usize, bytes: &[u8])
         requires held { 0 < slice_index self.old.holders page }
         requires room { at + length bytes.now ≤ 4096 }
-        ensures new { self.new ≡ record self.old { bytes = put self.old.bytes (4096 * page + at) bytes.now } }
+        ensures new { self.new
+            ≡ record self.old { bytes = put self.old.bytes (4096 * page + at) bytes.now } }
         ensures sound { IsSound self.new }
     {
         self.bytes.put(page as usize, at, bytes);
@@ -99,7 +101,11 @@ impl Frames {
     pub fn hold(&mut self, page: u32)
         requires held { 0 < slice_index self.old.holders page }
         requires room { sum self.old.holders < length self.old.holders }
-        ensures new { self.new ≡ record self.old { holders = slice_set self.old.holders page (slice_index self.old.holders page + 1) } }
+        ensures new { self.new
+            ≡ record self.old {
+              holders = slice_set self.old.holders page
+                  (slice_index self.old.holders page + 1);
+            } }
         ensures sound { IsSound self.new }
     {
         self.holders[page as usize] += 1;
@@ -108,8 +114,10 @@ impl Frames {
     /// One holder of a page less. The bytes of a page that nobody holds any longer are not told.
     pub fn release(&mut self, page: u32)
         requires held { 0 < slice_index self.old.holders page }
-        ensures holders { self.new.holders ≡ slice_set self.old.holders page (slice_index self.old.holders page - 1) }
-        ensures kept { (other : ℕ) → 0 < slice_index self.new.holders other → page_at self.new.bytes other ≡ page_at self.old.bytes other }
+        ensures holders { self.new.holders ≡ slice_set self.old.holders page
+            (slice_index self.old.holders page - 1) }
+        ensures kept { (other : ℕ) → 0 < slice_index self.new.holders other
+            → page_at self.new.bytes other ≡ page_at self.old.bytes other }
         ensures sound { IsSound self.new }
     {
         let left = self.holders[page as usize] - 1;

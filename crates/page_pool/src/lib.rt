@@ -62,7 +62,7 @@ impl Payload {
 
 /// Bytes that a pool did not take in, and why.
 #[derive(Drop)]
-pub struct Unlowered {
+pub struct LowerError {
     pub bytes: ByteRun,
     pub why: PoolFault,
 }

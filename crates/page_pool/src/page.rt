@@ -35,16 +35,24 @@ impl Clone for Page {
 pub fn write_page(frames: &mut Frames, page: &mut Page, at: usize, bytes: &[u8])
     requires sound { IsSound frames.old }
     requires whole { IsWholePage page.old }
-    requires held { All (λ number. 0 < slice_index frames.old.holders number) (own_number page.old) }
-    requires free { sum frames.old.holders + 1 ≤ length frames.old.holders + length (own_number page.old) }
+    requires held { All (λ number. 0 < slice_index frames.old.holders number)
+        (own_number page.old) }
+    requires free { sum frames.old.holders + 1
+        ≤ length frames.old.holders + length (own_number page.old) }
     requires room { at + length bytes.now ≤ 4096 }
     ensures sound { IsSound frames.new }
     ensures pages { length frames.new.holders ≡ length frames.old.holders }
-    ensures counted { (number : ℕ) → slice_index frames.new.holders number + times number (own_number page.old) ≡ slice_index frames.old.holders number + times number (own_number page.new) }
-    ensures total { sum frames.new.holders + length (own_number page.old) ≡ sum frames.old.holders + length (own_number page.new) }
-    ensures kept { (number : ℕ) → times number (own_number page.old) < slice_index frames.old.holders number → page_at frames.new.bytes number ≡ page_at frames.old.bytes number }
+    ensures counted { (number : ℕ) → slice_index frames.new.holders number
+        + times number (own_number page.old) ≡ slice_index frames.old.holders number
+        + times number (own_number page.new) }
+    ensures total { sum frames.new.holders + length (own_number page.old)
+        ≡ sum frames.old.holders + length (own_number page.new) }
+    ensures kept { (number : ℕ) → times number (own_number page.old)
+        < slice_index frames.old.holders number
+        → page_at frames.new.bytes number ≡ page_at frames.old.bytes number }
     ensures whole { IsWholePage page.new }
-    ensures bytes { page_bytes frames.new.bytes page.new ≡ put (page_bytes frames.old.bytes page.old) at bytes.now }
+    ensures bytes { page_bytes frames.new.bytes page.new
+        ≡ put (page_bytes frames.old.bytes page.old) at bytes.now }
 {
     if put_shared(page, at, bytes) {
         return;
@@ -61,7 +69,8 @@ fn put_shared(page: &mut Page, at: usize, bytes: &[u8]) -> bool
     ensures own { OnTrue result (own_number page.old ≡ []) }
     ensures shared { OnTrue result (own_number page.new ≡ []) }
     ensures whole { IsWholePage page.new }
-    ensures done { (all : List ℕ) → OnTrue result (page_bytes all page.new ≡ put (page_bytes all page.old) at bytes.now) }
+    ensures done { (all : List ℕ) → OnTrue result (page_bytes all page.new
+        ≡ put (page_bytes all page.old) at bytes.now) }
     ensures left { IsFalse result → page.new ≡ page.old }
 {
     match page {
@@ -75,13 +84,20 @@ fn put_shared(page: &mut Page, at: usize, bytes: &[u8]) -> bool
 fn own_page(frames: &mut Frames, page: &Page) -> u32
     requires sound { IsSound frames.old }
     requires whole { IsWholePage page.now }
-    requires held { All (λ number. 0 < slice_index frames.old.holders number) (own_number page.now) }
-    requires free { sum frames.old.holders + 1 ≤ length frames.old.holders + length (own_number page.now) }
+    requires held { All (λ number. 0 < slice_index frames.old.holders number)
+        (own_number page.now) }
+    requires free { sum frames.old.holders + 1
+        ≤ length frames.old.holders + length (own_number page.now) }
     ensures sound { IsSound frames.new }
     ensures pages { length frames.new.holders ≡ length frames.old.holders }
-    ensures counted { (number : ℕ) → slice_index frames.new.holders number + times number (own_number page.now) ≡ slice_index frames.old.holders number + times number (result ∷ []) }
-    ensures total { sum frames.new.holders + length (own_number page.now) ≡ sum frames.old.holders + 1 }
-    ensures kept { (number : ℕ) → times number (own_number page.now) < slice_index frames.old.holders number → page_at frames.new.bytes number ≡ page_at frames.old.bytes number }
+    ensures counted { (number : ℕ) → slice_index frames.new.holders number
+        + times number (own_number page.now) ≡ slice_index frames.old.holders number
+        + times number (result ∷ []) }
+    ensures total { sum frames.new.holders + length (own_number page.now)
+        ≡ sum frames.old.holders + 1 }
+    ensures kept { (number : ℕ) → times number (own_number page.now)
+        < slice_index frames.old.holders number
+        → page_at frames.new.bytes number ≡ page_at frames.old.bytes number }
     ensures bytes { page_at frames.new.bytes result ≡ page_bytes frames.old.bytes page.now }
     ensures alone { slice_index frames.new.holders result ≡ 1 }
 {

@@ -12,7 +12,7 @@ ghost use Rattle.page_pool.specs.Pool.{Pool, bytes_of, bytes_in, IsIn, Puts, pag
 use crate::claims::{give_pages, hold_pages, take_pages};
 use crate::frames::Frames;
 use crate::page::{self, Page};
-use crate::{PAGE, PoolFault, Unlowered};
+use crate::{LowerError, PAGE, PoolFault};
 use byte_run::ByteRun;
 use slab::Slab;
 use std::alloc::{AllocError, Global};
@@ -134,7 +134,8 @@ impl PagePool {
     ) -> Result<PageList, PoolFault>
         requires { first + length bytes.now ≤ 4096 * n }
         ensures new { IfOk result (λ list. bytes_of self.old list ≡ None) }
-        ensures puts { IfOk result (λ list. Puts self.old self.new list (Some (put (blank (4096 * n)) first bytes.now))) }
+        ensures puts { IfOk result (λ list. Puts self.old self.new list
+            (Some (put (blank (4096 * n)) first bytes.now))) }
         ensures free { OnOk result (free_pages self.new + n ≡ free_pages self.old) }
         ensures no_page { IsErrOf result PoolFault.NoPage ↔ (free_pages self.old < n) }
         ensures err { OnErr result (self.new ≡ self.old) }
@@ -162,7 +163,8 @@ impl PagePool {
         requires held { IsIn self.old list.now }
         requires inside { first + count ≤ pages_of (bytes_of self.old list.now) }
         ensures new { IfOk result (λ other. bytes_of self.old other ≡ None) }
-        ensures puts { IfOk result (λ other. Puts self.old self.new other (Some (cut (4096 * first) (4096 * count) (bytes_in self.old list.now)))) }
+        ensures puts { IfOk result (λ other. Puts self.old self.new other
+            (Some (cut (4096 * first) (4096 * count) (bytes_in self.old list.now)))) }
         ensures free { OnOk result (free_pages self.new + count ≡ free_pages self.old) }
         ensures no_page { IsErrOf result PoolFault.NoPage ↔ (free_pages self.old < count) }
         ensures err { OnErr result (self.new ≡ self.old) }
@@ -187,7 +189,8 @@ impl PagePool {
     pub fn give(&mut self, list: PageList)
         requires { IsIn self.old list }
         ensures puts { Puts self.old self.new list None }
-        ensures free { free_pages self.new ≡ free_pages self.old + pages_of (bytes_of self.old list) }
+        ensures free { free_pages self.new ≡ free_pages self.old
+            + pages_of (bytes_of self.old list) }
     {
         let pages = self.lists.remove(list.list);
         give_pages(&mut self.frames, &pages);
@@ -224,10 +227,12 @@ impl PagePool {
 
     /// Writes bytes into a list from `at` on. A page that another list holds is copied first, and there is always a page
     /// for the copy. It takes no memory.
+    #[inline(always)]
     pub fn write(&mut self, list: &mut PageList, at: u64, bytes: &[u8])
         requires held { IsIn self.old list.old }
         requires inside { at + length bytes.now ≤ length (bytes_in self.old list.old) }
-        ensures puts { Puts self.old self.new list.old (Some (put (bytes_in self.old list.old) at bytes.now)) }
+        ensures puts { Puts self.old self.new list.old
+            (Some (put (bytes_in self.old list.old) at bytes.now)) }
         ensures list { list.new ≡ list.old }
         ensures free { free_pages self.new ≡ free_pages self.old }
     {
@@ -254,7 +259,8 @@ impl PagePool {
         requires inside { first + count ≤ length (bytes_in self.old list) }
         ensures bytes { IfOk result (λ run. run ≡ cut first count (bytes_in self.old list)) }
         ensures puts { OnOk result (Puts self.old self.new list None) }
-        ensures free { OnOk result (free_pages self.new ≡ free_pages self.old + pages_of (bytes_of self.old list)) }
+        ensures free { OnOk result (free_pages self.new
+            ≡ free_pages self.old + pages_of (bytes_of self.old list)) }
         ensures back { IfErr result (λ other. other ≡ list) }
         ensures err { OnErr result (self.new ≡ self.old) }
     {
@@ -303,25 +309,28 @@ impl PagePool {
         alloc: Global,
         bytes: ByteRun,
         first: u64,
-    ) -> Result<PageList, Unlowered>
+    ) -> Result<PageList, LowerError>
         requires { first < 4096 }
         ensures new { IfOk result (λ list. bytes_of self.old list ≡ None) }
-        ensures puts { IfOk result (λ list. Puts self.old self.new list (Some (put (blank (4096 * pages_for (first + length bytes))) first bytes))) }
-        ensures free { OnOk result (free_pages self.new + pages_for (first + length bytes) ≡ free_pages self.old) }
+        ensures puts { IfOk result (λ list. Puts self.old self.new list
+            (Some (put (blank (4096 * pages_for (first + length bytes))) first bytes))) }
+        ensures free { OnOk result (free_pages self.new + pages_for (first + length bytes)
+            ≡ free_pages self.old) }
         ensures back { IfErr result (λ unlowered. unlowered.bytes ≡ bytes) }
-        ensures no_page { IfErr result (λ unlowered. (unlowered.why ≡ PoolFault.NoPage) ↔ (free_pages self.old < pages_for (first + length bytes))) }
+        ensures no_page { IfErr result (λ unlowered. (unlowered.why ≡ PoolFault.NoPage)
+            ↔ (free_pages self.old < pages_for (first + length bytes))) }
         ensures enough { OnOk result (pages_for (first + length bytes) ≤ free_pages self.old) }
         ensures err { OnErr result (self.new ≡ self.old) }
     {
         let room = u64::from(self.free()) * 4096;
         if room < first || room - first < bytes.len() {
             let why = PoolFault::NoPage;
-            return Err(Unlowered { bytes, why });
+            return Err(LowerError { bytes, why });
         }
         let pages = (first + bytes.len()).div_ceil(4096) as u32;
         match self.take_with(alloc, pages, first, &bytes) {
             Ok(list) => Ok(list),
-            Err(why) => Err(Unlowered { bytes, why }),
+            Err(why) => Err(LowerError { bytes, why }),
         }
     }
 
@@ -329,7 +338,8 @@ impl PagePool {
     pub fn write_run(&mut self, list: &mut PageList, at: u64, bytes: &ByteRun)
         requires held { IsIn self.old list.old }
         requires inside { at + length bytes.now ≤ length (bytes_in self.old list.old) }
-        ensures puts { Puts self.old self.new list.old (Some (put (bytes_in self.old list.old) at bytes.now)) }
+        ensures puts { Puts self.old self.new list.old
+            (Some (put (bytes_in self.old list.old) at bytes.now)) }
         ensures list { list.new ≡ list.old }
         ensures free { free_pages self.new ≡ free_pages self.old }
     {
@@ -348,7 +358,8 @@ impl PagePool {
         requires held { IsIn self.old list.now }
         requires inside { at < length (bytes_in self.old list.now) }
         requires page { at % 4096 + length bytes.now ≤ 4096 }
-        ensures puts { Puts self.old self.new list.now (Some (put (bytes_in self.old list.now) at bytes.now)) }
+        ensures puts { Puts self.old self.new list.now
+            (Some (put (bytes_in self.old list.now) at bytes.now)) }
         ensures free { free_pages self.new ≡ free_pages self.old }
     {
         let pages = &mut self.lists[list.list];
@@ -366,7 +377,8 @@ fn rest_of(bytes: &[u8], from: usize) -> &[u8]
 
 /// The bytes of a page of a list.
 fn page_of<'a>(frames: &'a Frames, page: &'a Page) -> &'a [u8]
-    requires held { All (λ number. 0 < slice_index frames.now.holders number) (own_number page.now) }
+    requires held { All (λ number. 0 < slice_index frames.now.holders number)
+        (own_number page.now) }
     ensures { result.now ≡ page_bytes frames.now.bytes page.now }
 {
     match page {
@@ -379,9 +391,11 @@ fn page_of<'a>(frames: &'a Frames, page: &'a Page) -> &'a [u8]
 /// of memory.
 fn shared_page(alloc: Global, frames: &Frames, page: &Page) -> Result<Arc<[u8; 4096]>, AllocError>
     requires sound { IsSound frames.now }
-    requires held { All (λ number. 0 < slice_index frames.now.holders number) (own_number page.now) }
+    requires held { All (λ number. 0 < slice_index frames.now.holders number)
+        (own_number page.now) }
     requires whole { IsWholePage page.now }
-    ensures bytes { IfOk result (λ shared. arc_value shared ≡ page_bytes frames.now.bytes page.now) }
+    ensures bytes { IfOk result (λ shared. arc_value shared
+        ≡ page_bytes frames.now.bytes page.now) }
     ensures whole { IfOk result (λ shared. length (arc_value shared) ≡ 4096) }
 {
     match page {
@@ -393,7 +407,8 @@ fn shared_page(alloc: Global, frames: &Frames, page: &Page) -> Result<Arc<[u8; 4
 /// The bytes of pages in a row, of which those to share are shared. Errors: `AllocError` when out of memory.
 fn run_of(alloc: Global, frames: &Frames, pages: &[Page]) -> Result<ByteRun, AllocError>
     requires sound { IsSound frames.now }
-    requires held { All (λ number. 0 < slice_index frames.now.holders number) (own_numbers pages.now) }
+    requires held { All (λ number. 0 < slice_index frames.now.holders number)
+        (own_numbers pages.now) }
     requires whole { All IsWholePage pages.now }
     ensures { IfOk result (λ run. run ≡ flat_map (page_bytes frames.now.bytes) pages.now) }
 {
@@ -412,7 +427,8 @@ fn part_of(
     count: usize,
 ) -> Result<Vec<Page>, AllocError>
     requires { first + count ≤ length pages.now }
-    ensures { IfOk result (λ part. AllZip IsSamePage (take count (drop first pages.now)) part.items) }
+    ensures { IfOk result (λ part. AllZip IsSamePage
+        (take count (drop first pages.now)) part.items) }
 {
     pages[first..first + count].to_vec(alloc)
 }

@@ -1,3 +1,9 @@
 pub mod Moved
 pub mod NearNumbers
 pub mod Waits
+pub mod FittingPackets
+pub mod PacketGrammar
+pub mod WrittenPackets
+pub mod SentPieces
+pub mod Histories
+pub mod WriteSizes

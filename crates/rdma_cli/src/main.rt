@@ -4,7 +4,7 @@
 mod help;
 
 use help::about;
-use mig_ports::{Failed, write_all_of};
+use host_ports::{Failed, write_all_of};
 use node_adapters::{ClockTicks, FolderDepot, StdSink, StdSource, UdpLink};
 use node_engine::NodePorts;
 use std::io::{BufReader, BufWriter};
@@ -12,7 +12,7 @@ use std::process::ExitCode;
 use std::sync::Wait;
 use std::thread::Threads;
 use std::{env, io};
-use tool_calls::run_words;
+use tools::tool::run_words;
 
 /// The words of the command, without the program's name. Words that are no text are of no command.
 ///

@@ -5,12 +5,12 @@ use Rattle.rdma_types.specs.Objects as objects
 use Rattle.rdma_types.specs.Kinds.{kind_of}
 use Rattle.rdma_types.specs.Spans.{end_number, first_number, span, span_of}
 use Rattle.protocol.specs.Requester.{overlap, packets_in_flight, packets_of, reads_in_flight}
-use Rattle.work_queues.specs.declared.posted.QueuedRequest.{QueuedRequest}
+use Rattle.end_queues.specs.declared.work_queues.posted.QueuedRequest.{QueuedRequest}
 use Rattle.requester.specs.declared.marks.Mark.{Mark}
 use Rattle.requester.specs.Marks.{IsMark}
 use Rattle.requester.specs.Sending.{bare, bares}
 use Rattle.requester.proofs.Flight.{reads_of}
-use Rattle.requester.proofs.Places.{first-suc, found_within, span_inside, span_positive}
+use Rattle.rdma_types.proofs.Places.{first-suc, found_within, span_inside, span_positive}
 
 pub length-bares : (ps : List QueuedRequest) → length (bares ps) ≡ length ps
 length-bares [] = refl

@@ -7,8 +7,9 @@ use Rattle.rdma_types.specs.declared.requests.Kind.TheVariants.{Write, Send, Rea
 use Rattle.rdma_types.specs.Objects.{Posted}
 use Rattle.rdma_types.specs.Kinds.{is_atomic, is_read, kind_of, lands}
 use Rattle.rdma_types.specs.Spans.{Piece, end_number, next_landing, piece_at, span, span_of}
-use Rattle.requester.specs.Sending.{is_inside_read}
-use Rattle.protocol.specs.Requester.{overlap, packets_in_flight, packets_of, reads_in_flight}
+use Rattle.rdma_types.proofs.Places.{piece_below_span}
+use Rattle.protocol.proofs.SentPieces.{past_piece}
+use Rattle.protocol.specs.Requester.{is_inside_read, overlap, packets_in_flight, packets_of, reads_in_flight}
 
 -- the Reads and atomics of one request in flight
 abbrev pub reads_of : Kind → ℕ → ℕ
@@ -151,10 +152,6 @@ reads_without_front p ps mtu low una next h =
 
 -- ---- one more piece is sent
 
--- where `next` goes past a piece
-abbrev pub past_piece : ℕ → ℕ → Piece → ℕ
-past_piece mtu next x = if is_read (kind_of x.posted) then (next - x.k) + span_of x.posted mtu else next + 1
-
 -- the front request is sent on: its packets, and the requests behind it have none in flight
 sent_front : (p : Posted) (ps : List Posted) (mtu low una next : ℕ) → low ≤ next → una ≤ next → next < low + span_of p mtu → (is_read (kind_of p) ≡ true → (next ≡ low) ⊎ (una ≡ next))
     → packets_in_flight (p ∷ ps) mtu low una (past_piece mtu next (record { posted = p; k = next - low })) ≡ packets_in_flight (p ∷ ps) mtu low una next + 1
@@ -210,22 +207,6 @@ reads_front p ps mtu low una next from above below whole = by_kind _ refl _ refl
 -- a later request is sent on: nothing changes for the front one
 past_above : (mtu next : ℕ) (x : Piece) → x.k ≤ next → x.k < span_of x.posted mtu → next < past_piece mtu next x
 past_above mtu next x h k = elim (is_read (kind_of x.posted)) as (λ b. next < (if b then (next - x.k) + span_of x.posted mtu else next + 1)) [ true ↦ omega arith | false ↦ omega arith ]
-
-pub piece_below_span : (ps : List Posted) (mtu n : ℕ) (x : Piece) → piece_at ps mtu n ≡ Some x → (x.k ≤ n) × (x.k < span_of x.posted mtu)
-unfolding piece_at
-piece_below_span [] mtu n x h = absurd (cc)
-piece_below_span (p ∷ ps) mtu n x h = by_test _ refl h (λ g. piece_below_span ps mtu (n - span_of p mtu) x g)
-  where
-    by_test : (b : Bool) → nat_lt n (span_of p mtu) ≡ b → (if b then Some (record { posted = p; k = n }) else piece_at ps mtu (n - span_of p mtu)) ≡ Some x
-        → (piece_at ps mtu (n - span_of p mtu) ≡ Some x → (x.k ≤ n - span_of p mtu) × (x.k < span_of x.posted mtu))
-        → (x.k ≤ n) × (x.k < span_of x.posted mtu)
-    by_test true e g more =
-        let px : (record { posted = p; k = n }) ≡ x = cc in
-        let k : n ≡ x.k = ap (λ (y : Piece). y.k) px in
-        let s : span_of p mtu ≡ span_of x.posted mtu = ap (λ (y : Piece). span_of y.posted mtu) px in
-        let below : n < span_of p mtu = grind (arith, nat_tests, e) in
-        (omega (arith, k), omega (arith, k, s, below))
-    by_test false e g more = let m = more g in (omega (arith, m.0), m.1)
 
 pub packets_sent : (ps : List Posted) (mtu low una next : ℕ) (x : Piece) → low ≤ next → una ≤ next → piece_at ps mtu (next - low) ≡ Some x → (is_read (kind_of x.posted) ≡ true → (x.k ≡ 0) ⊎ (una ≡ next))
     → packets_in_flight ps mtu low una (past_piece mtu next x) ≡ packets_in_flight ps mtu low una next + 1

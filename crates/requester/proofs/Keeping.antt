@@ -8,24 +8,17 @@ use Rattle.rdma_types.specs.Kinds.{is_read, kind_of, lands}
 use Rattle.rdma_types.specs.Limits.{number_limit}
 use Rattle.rdma_types.specs.Spans.{Piece, end_number, first_number, next_landing, piece_at, request_of, span_of}
 use Rattle.rdma_types.proofs.Numbers as numbers
-use Rattle.protocol.specs.Requester.{packets_in_flight, reads_in_flight}
+use Rattle.protocol.proofs.SentPieces.{less_or_same, past_outside, past_piece}
+use Rattle.protocol.specs.Requester.{is_inside_read, packets_in_flight, reads_in_flight}
 use Rattle.protocol.specs.State.{Sender}
-use Rattle.requester.specs.declared.caches.Caches.{Caches}
+use Rattle.requester.specs.declared.caches.DerivedNumbers.{DerivedNumbers}
 use Rattle.requester.specs.declared.marks.Mark.{Mark}
 use Rattle.requester.specs.Held.{IsHeld}
 use Rattle.requester.specs.Marks.{IsMark}
 use Rattle.requester.specs.declared.answers.RequesterParts.{RequesterParts}
-use Rattle.requester.specs.Sending.{AreInOrder, is_inside_read, sender_with}
-use Rattle.requester.proofs.Flight.{is_last, landed, packets_acked, packets_few, packets_none, packets-push, packets_sent, packets_without_front, past_piece, piece_below_span, reads_acked, reads_few, reads_none, reads-push, reads_sent, reads_without_front}
-use Rattle.requester.proofs.Places.{end-push, first-push, first-suc, request_here, landing-push, landing_between, landing_lands, landing_pushed, piece-push, piece_pushed, request-push, request_past, span_positive}
-
-less_or_same : (a b : ℕ) → a ≤ b → (a < b) ⊎ (a ≡ b)
-less_or_same a b le = grind (arith, le)
-
-pub first-zero : (ps : List Posted) (mtu : ℕ) → first_number ps mtu 0 ≡ 0
-unfolding first_number
-first-zero [] mtu = refl
-first-zero (p ∷ ps) mtu = refl
+use Rattle.requester.specs.Sending.{AreInOrder, sender_with}
+use Rattle.requester.proofs.Flight.{is_last, landed, packets_acked, packets_few, packets_none, packets-push, packets_sent, packets_without_front, reads_acked, reads_few, reads_none, reads-push, reads_sent, reads_without_front}
+use Rattle.rdma_types.proofs.Places.{end-push, first-push, first-zero, landing-push, landing_between, landing_lands, landing_pushed, piece-push, piece_behind, piece_below_span, piece_ends, piece_pushed, request-push, request_here, request_past, span_positive}
 
 -- the front is a mark
 pub IsMark-front : (ps : List Posted) (mtu : ℕ) → IsMark ps mtu (record { index = 0; offset = 0 })
@@ -33,7 +26,7 @@ IsMark-front ps mtu = record { within = omega arith; offset = sym (first-zero ps
 
 -- ---- a rewind
 
-pub held_rewound : (t : Terms) (s : Sender) (c : Caches) → IsHeld t s c → IsHeld t (record s { next = s.una }) (record c { cursor = record { index = 0; offset = 0 }; packets = 0; reads = 0 })
+pub held_rewound : (t : Terms) (s : Sender) (c : DerivedNumbers) → IsHeld t s c → IsHeld t (record s { next = s.una }) (record c { cursor = record { index = 0; offset = 0 }; packets = 0; reads = 0 })
 held_rewound t s c h = record {
   mtu = h.mtu;
   order = record {
@@ -56,7 +49,7 @@ held_rewound t s c h = record {
 }
 
 -- one more expiry is counted
-pub held_spent : (t : Terms) (s : Sender) (c : Caches) → IsHeld t s c → s.spent ≢ t.retry → IsHeld t (record s { spent = s.spent + 1 }) c
+pub held_spent : (t : Terms) (s : Sender) (c : DerivedNumbers) → IsHeld t s c → s.spent ≢ t.retry → IsHeld t (record s { spent = s.spent + 1 }) c
 held_spent t s c h other = record {
   mtu = h.mtu;
   order = record {
@@ -81,13 +74,13 @@ held_spent t s c h other = record {
 -- ---- numbers before the barrier are acknowledged
 
 -- so many packets are in flight at least
-pub acked_few : (t : Terms) (s : Sender) (c : Caches) → IsHeld t s c → (n : ℕ) → s.una ≤ n → n ≤ c.barrier → n < s.next → n - s.una ≤ c.packets
+pub acked_few : (t : Terms) (s : Sender) (c : DerivedNumbers) → IsHeld t s c → (n : ℕ) → s.una ≤ n → n ≤ c.barrier → n < s.next → n - s.una ≤ c.packets
 acked_few t s c h n low bar below =
     let bar' : n ≤ s.first + next_landing s.untold t.mtu (s.una - s.first) = omega (arith, bar, h.barrier) in
     let e = packets_acked s.untold t.mtu s.first s.una n s.next low (omega (arith, below)) bar' in
     omega (arith, e, h.packets, h.order.una, low)
 
-pub held_acked : (t : Terms) (s : Sender) (c : Caches) → IsHeld t s c → (n : ℕ) → s.una < n → n ≤ c.barrier → n ≤ s.top
+pub held_acked : (t : Terms) (s : Sender) (c : DerivedNumbers) → IsHeld t s c → (n : ℕ) → s.una < n → n ≤ c.barrier → n ≤ s.top
     → IsHeld t (record s { una = n; next = max s.next n; spent = 0; waits = 0 }) (record c { packets = if nat_lt n s.next then c.packets - (n - s.una) else 0; reads = if nat_lt n s.next then c.reads else 0 })
 held_acked t s c h n low bar below = record {
   mtu = h.mtu;
@@ -136,13 +129,13 @@ held_acked t s c h n low bar below = record {
 -- ---- the response at the barrier lands
 
 -- what is in flight before and after
-pub record Passed (t : Terms) (s : Sender) (c : Caches) (x : Piece) : Type 0 where
+pub record Passed (t : Terms) (s : Sender) (c : DerivedNumbers) (x : Piece) : Type 0 where
   pub packets : c.barrier - s.una + (if is_last t.mtu x then 1 else 0) ≤ c.packets
   pub reads : (if is_last t.mtu x then 1 else 0) ≤ c.reads
   pub packets-left : c.packets - (c.barrier - s.una + (if is_last t.mtu x then 1 else 0)) ≡ packets_in_flight s.untold t.mtu s.first (c.barrier + 1) s.next
   pub reads-left : c.reads - (if is_last t.mtu x then 1 else 0) ≡ reads_in_flight s.untold t.mtu s.first (c.barrier + 1) s.next
 
-pub landed_few : (t : Terms) (s : Sender) (c : Caches) → IsHeld t s c → (x : Piece) → piece_at s.untold t.mtu (c.barrier - s.first) ≡ Some x → c.barrier < s.next → Passed t s c x
+pub landed_few : (t : Terms) (s : Sender) (c : DerivedNumbers) → IsHeld t s c → (x : Piece) → piece_at s.untold t.mtu (c.barrier - s.first) ≡ Some x → c.barrier < s.next → Passed t s c x
 landed_few t s c h x found below =
     let gone : s.first + next_landing s.untold t.mtu (s.una - s.first) - s.first ≡ next_landing s.untold t.mtu (s.una - s.first) = omega arith in
     let place : c.barrier - s.first ≡ next_landing s.untold t.mtu (s.una - s.first) = ap (λ n. n - s.first) h.barrier ∙ gone in
@@ -160,17 +153,17 @@ landed_few t s c h x found below =
     }
 
 -- it is not before `una`
-pub barrier_above : (t : Terms) (s : Sender) (c : Caches) → IsHeld t s c → s.una ≤ c.barrier
+pub barrier_above : (t : Terms) (s : Sender) (c : DerivedNumbers) → IsHeld t s c → s.una ≤ c.barrier
 barrier_above t s c h = let after = numbers.landing_after s.untold t.mtu (s.una - s.first) in omega (arith, after, h.barrier, h.order.una)
 
 -- .. nor past the end
-pub barrier_within : (t : Terms) (s : Sender) (c : Caches) → IsHeld t s c → c.barrier ≤ c.end
+pub barrier_within : (t : Terms) (s : Sender) (c : DerivedNumbers) → IsHeld t s c → c.barrier ≤ c.end
 barrier_within t s c h =
     let o = h.order in
     let w = numbers.landing_before_end s.untold t.mtu (s.una - s.first) (omega (arith, o.next, o.top, o.all)) in
     omega (arith, w, h.barrier, h.end)
 
-pub held_landed : (t : Terms) (s : Sender) (c : Caches) → IsHeld t s c → (x : Piece) → piece_at s.untold t.mtu (c.barrier - s.first) ≡ Some x → c.barrier < s.top
+pub held_landed : (t : Terms) (s : Sender) (c : DerivedNumbers) → IsHeld t s c → (x : Piece) → piece_at s.untold t.mtu (c.barrier - s.first) ≡ Some x → c.barrier < s.top
     → (n : ℕ) (at : Mark) → n ≡ next_landing s.untold t.mtu (c.barrier - s.first + 1) → IsMark s.untold t.mtu at → at.index ≡ request_of s.untold t.mtu n
     → IsHeld t (record s { una = c.barrier + 1; next = max s.next (c.barrier + 1); spent = 0; waits = 0 })
     (record c {
@@ -228,80 +221,6 @@ held_landed t s c h x found below n at next mark place = record {
 
 -- ---- a piece is sent
 
--- the numbers of a request begin with none of its pieces sent
-start_outside : (ps : List Posted) (mtu : ℕ) → is_inside_read (piece_at ps mtu 0) ≡ false
-unfolding piece_at
-start_outside [] mtu = refl
-start_outside (p ∷ ps) mtu =
-    let some = span_positive p.request.shape mtu in
-    let here : piece_at (p ∷ ps) mtu 0 ≡ Some (record { posted = p; k = 0 }) = grind (arith, nat_tests, some) in
-    ap is_inside_read here ∙ (elim (is_read (kind_of p)) as (λ b. (b && false) ≡ false) [ true ↦ refl | false ↦ refl ])
-
--- the number behind a front request is the first of the others
-behind : (p : Posted) (ps : List Posted) (mtu n : ℕ) → span_of p mtu ≤ n → piece_at (p ∷ ps) mtu n ≡ piece_at ps mtu (n - span_of p mtu)
-unfolding piece_at
-behind p ps mtu n h = grind (arith, nat_tests, h)
-
-within_front : (p : Posted) (ps : List Posted) (mtu n : ℕ) → n < span_of p mtu → piece_at (p ∷ ps) mtu n ≡ Some (record { posted = p; k = n })
-unfolding piece_at
-within_front p ps mtu n h = grind (arith, nat_tests, h)
-
-past_front : (p : Posted) (ps : List Posted) (mtu n : ℕ) → n < span_of p mtu → is_inside_read (piece_at (p ∷ ps) mtu (past_piece mtu n (record { posted = p; k = n }))) ≡ false
-past_front p ps mtu n h = by_kind _ refl
-  where
-    next : (m : ℕ) → m ≡ span_of p mtu → is_inside_read (piece_at (p ∷ ps) mtu m) ≡ false
-    next m e =
-        let zero' : m - span_of p mtu ≡ 0 = omega (arith, e) in
-        ap is_inside_read (behind p ps mtu m (omega (arith, e)) ∙ ap (λ k. piece_at ps mtu k) zero') ∙ start_outside ps mtu
-
-    by_kind : (b : Bool) → is_read (kind_of p) ≡ b → is_inside_read (piece_at (p ∷ ps) mtu (if b then (n - n) + span_of p mtu else n + 1)) ≡ false
-    by_kind true r = next ((n - n) + span_of p mtu) (omega arith)
-    by_kind false r = ⊎_elim (λ lt. ap is_inside_read (within_front p ps mtu (n + 1) lt) ∙ (rw r refl)) (λ e. next (n + 1) e) (less_or_same (n + 1) (span_of p mtu) (omega (arith, h)))
-
-pub past_outside : (ps : List Posted) (mtu n : ℕ) (x : Piece) → piece_at ps mtu n ≡ Some x → is_inside_read (piece_at ps mtu (past_piece mtu n x)) ≡ false
-unfolding piece_at
-past_outside [] mtu n x h = absurd (cc)
-past_outside (p ∷ ps) mtu n x h = by_test _ refl h (λ g. past_outside ps mtu (n - span_of p mtu) x g)
-  where
-    Fact : Piece → Type 0
-    Fact y = is_inside_read (piece_at (p ∷ ps) mtu (past_piece mtu n y)) ≡ false
-
-    later : (b : Bool) → x.k ≤ n - span_of p mtu → span_of p mtu ≤ n → (if b then (n - x.k) + span_of x.posted mtu else n + 1) - span_of p mtu ≡ (if b then (n - span_of p mtu - x.k) + span_of x.posted mtu else n - span_of p mtu + 1)
-    later true k past = omega (arith, k, past)
-    later false k past = omega (arith, past)
-
-    not_before : (b : Bool) → x.k ≤ n - span_of p mtu → span_of p mtu ≤ n → span_of p mtu ≤ (if b then (n - x.k) + span_of x.posted mtu else n + 1)
-    not_before true k past = omega (arith, k, past)
-    not_before false k past = omega (arith, past)
-
-    by_test : (b : Bool) → nat_lt n (span_of p mtu) ≡ b → (if b then Some (record { posted = p; k = n }) else piece_at ps mtu (n - span_of p mtu)) ≡ Some x
-        → (piece_at ps mtu (n - span_of p mtu) ≡ Some x → is_inside_read (piece_at ps mtu (past_piece mtu (n - span_of p mtu) x)) ≡ false)
-        → Fact x
-    by_test true e g more =
-        let px : (record { posted = p; k = n }) ≡ x = cc in
-        let inside : n < span_of p mtu = grind (arith, nat_tests, e) in
-        subst Fact px (past_front p ps mtu n inside)
-    by_test false e g more =
-        let past : span_of p mtu ≤ n = grind (arith, nat_tests, e) in
-        let sizes = piece_below_span ps mtu (n - span_of p mtu) x g in
-        ap is_inside_read (behind p ps mtu (past_piece mtu n x) (not_before (is_read (kind_of x.posted)) sizes.0 past) ∙ ap (λ k. piece_at ps mtu k) (later (is_read (kind_of x.posted)) sizes.0 past)) ∙ more g
-
--- a request ends within the numbers
-pub piece_ends : (ps : List Posted) (mtu n : ℕ) (x : Piece) → piece_at ps mtu n ≡ Some x → (n - x.k) + span_of x.posted mtu ≤ end_number ps mtu
-unfolding piece_at end_number
-piece_ends [] mtu n x h = absurd (cc)
-piece_ends (p ∷ ps) mtu n x h = by_test _ refl h (λ g. piece_ends ps mtu (n - span_of p mtu) x g)
-  where
-    by_test : (b : Bool) → nat_lt n (span_of p mtu) ≡ b → (if b then Some (record { posted = p; k = n }) else piece_at ps mtu (n - span_of p mtu)) ≡ Some x
-        → (piece_at ps mtu (n - span_of p mtu) ≡ Some x → (n - span_of p mtu - x.k) + span_of x.posted mtu ≤ end_number ps mtu)
-        → (n - x.k) + span_of x.posted mtu ≤ span_of p mtu + end_number ps mtu
-    by_test true e g more =
-        let px : (record { posted = p; k = n }) ≡ x = cc in
-        let k : n ≡ x.k = ap (λ (y : Piece). y.k) px in
-        let s : span_of p mtu ≡ span_of x.posted mtu = ap (λ (y : Piece). span_of y.posted mtu) px in
-        omega (arith, k, s)
-    by_test false e g more = let m = more g in omega (arith, m)
-
 -- where `next` is, its request is whole or nothing is in flight
 pub whole_or_rewound : (x : Piece) (una next : ℕ) → una ≤ next → (una < next → is_inside_read (Some x) ≡ false) → is_read (kind_of x.posted) ≡ true → (x.k ≡ 0) ⊎ (una ≡ next)
 whole_or_rewound x una next le whole r = by_order (less_or_same una next le)
@@ -310,7 +229,7 @@ whole_or_rewound x una next le whole r = by_order (less_or_same una next le)
     by_order (inl lt) = let w : (not (x.k == 0)) ≡ false = rw r at (whole lt) in inl (grind (arith, nat_tests, w))
     by_order (inr e) = inr e
 
-pub held_sent : (t : Terms) (s : Sender) (c : Caches) → IsHeld t s c → (x : Piece) (at : Mark) → piece_at s.untold t.mtu (s.next - s.first) ≡ Some x → IsMark s.untold t.mtu at → at.offset ≤ s.next - s.first
+pub held_sent : (t : Terms) (s : Sender) (c : DerivedNumbers) → IsHeld t s c → (x : Piece) (at : Mark) → piece_at s.untold t.mtu (s.next - s.first) ≡ Some x → IsMark s.untold t.mtu at → at.offset ≤ s.next - s.first
     → IsHeld t (record s { next = past_piece t.mtu s.next x; top = max s.top (past_piece t.mtu s.next x) }) (record c { cursor = at; packets = c.packets + 1; reads = c.reads + (if lands (kind_of x.posted) then 1 else 0) })
 held_sent t s c h x at found mark before = record {
   mtu = h.mtu;
@@ -369,7 +288,7 @@ length-push [] p = refl
 length-push (q ∷ ps) p = ap suc (length-push ps p)
 
 -- what the barrier is where one more request is posted
-record Barred (t : Terms) (s : Sender) (c : Caches) (p : Posted) (stays : Bool) : Type 0 where
+record Barred (t : Terms) (s : Sender) (c : DerivedNumbers) (p : Posted) (stays : Bool) : Type 0 where
   pub barrier : (if stays then c.barrier else c.barrier + span_of p t.mtu) ≡ s.first + next_landing (s.untold ++ p ∷ []) t.mtu (s.una - s.first)
   pub mark : IsMark (s.untold ++ p ∷ []) t.mtu (if stays then c.barrier_at else record { index = c.barrier_at.index + 1; offset = c.barrier_at.offset + span_of p t.mtu })
   pub index : (if stays then c.barrier_at else record { index = c.barrier_at.index + 1; offset = c.barrier_at.offset + span_of p t.mtu }).index ≡ request_of (s.untold ++ p ∷ []) t.mtu ((if stays then c.barrier else c.barrier + span_of p t.mtu) - s.first)
@@ -384,7 +303,7 @@ request_pushed (q ∷ ps) mtu p =
     let gone : span_of q mtu + end_number ps mtu - span_of q mtu ≡ end_number ps mtu = omega arith in
     grind (arith, nat_tests, gone, request_pushed ps mtu p)
 
-module _ (t : Terms) (s : Sender) (c : Caches) (h : IsHeld t s c) (p : Posted) where
+module _ (t : Terms) (s : Sender) (c : DerivedNumbers) (h : IsHeld t s c) (p : Posted) where
   place : c.barrier - s.first ≡ next_landing s.untold t.mtu (s.una - s.first)
   place = let gone : s.first + next_landing s.untold t.mtu (s.una - s.first) - s.first ≡ next_landing s.untold t.mtu (s.una - s.first) = omega arith in ap (λ n. n - s.first) h.barrier ∙ gone
 
@@ -506,7 +425,7 @@ request_behind : (q : Posted) (us : List Posted) (mtu n : ℕ) → span_of q mtu
 unfolding request_of
 request_behind q us mtu n h = grind (arith, nat_tests, h)
 
-pub held_front : (t : Terms) (q : Posted) (us : List Posted) (n : RequesterParts) (c : Caches) → IsHeld t (sender_with (q ∷ us) n) c → n.first + span_of q t.mtu ≤ n.una
+pub held_front : (t : Terms) (q : Posted) (us : List Posted) (n : RequesterParts) (c : DerivedNumbers) → IsHeld t (sender_with (q ∷ us) n) c → n.first + span_of q t.mtu ≤ n.una
     → IsHeld t (sender_with us (record n { first = n.first + span_of q t.mtu }))
     (record c {
       cursor = record { index = c.cursor.index - 1; offset = c.cursor.offset - span_of q t.mtu };
@@ -521,7 +440,7 @@ held_front t q us n c h past = record {
     top = h.order.top;
     all = omega (arith, h.order.all);
     limit = omega (arith, h.order.limit);
-    whole_reads = λ lt. ap is_inside_read (ap (λ k. piece_at us t.mtu k) (sym next_rest) ∙ sym (behind q us t.mtu (n.next - n.first) (omega (arith, past, h.order.next)))) ∙ h.order.whole_reads lt;
+    whole_reads = λ lt. ap is_inside_read (ap (λ k. piece_at us t.mtu k) (sym next_rest) ∙ sym (piece_behind q us t.mtu (n.next - n.first) (omega (arith, past, h.order.next)))) ∙ h.order.whole_reads lt;
     spent = h.order.spent;
   };
   end = omega (arith, h.end);
@@ -546,7 +465,7 @@ held_front t q us n c h past = record {
     place : request_of us t.mtu (c.barrier - n.first - span_of q t.mtu) ≡ request_of us t.mtu (c.barrier - (n.first + span_of q t.mtu))
     place = let rest : c.barrier - n.first - span_of q t.mtu ≡ c.barrier - (n.first + span_of q t.mtu) = omega arith in ap (λ k. request_of us t.mtu k) rest
 
-pub held_told : (t : Terms) (us : List Posted) (n : RequesterParts) (c : Caches) (p : Posted) → slice_get us 0 ≡ Some p → IsHeld t (sender_with us n) c → n.first + span_of p t.mtu ≤ n.una
+pub held_told : (t : Terms) (us : List Posted) (n : RequesterParts) (c : DerivedNumbers) (p : Posted) → slice_get us 0 ≡ Some p → IsHeld t (sender_with us n) c → n.first + span_of p t.mtu ≤ n.una
     → IsHeld t (sender_with (drop 1 us) (record n { first = n.first + span_of p t.mtu }))
     (record c {
       cursor = record { index = c.cursor.index - 1; offset = c.cursor.offset - span_of p t.mtu };
@@ -593,9 +512,6 @@ held_failed t us first end mtu e limit =
 
 -- ---- the front request
 
-pub first-one : (ps : List Posted) (mtu : ℕ) (p : Posted) → slice_get ps 0 ≡ Some p → first_number ps mtu 1 ≡ span_of p mtu
-first-one ps mtu p h = let e = first-suc ps mtu 0 p h in let z = first-zero ps mtu in omega (arith, e, z)
-
 pub end-drop : (ps : List Posted) (mtu : ℕ) (p : Posted) → slice_get ps 0 ≡ Some p → end_number ps mtu ≡ span_of p mtu + end_number (drop 1 ps) mtu
 unfolding end_number
 end-drop [] mtu p h = absurd (cc)
@@ -633,7 +549,7 @@ unfolding first_number
 first-none mtu i = refl
 
 -- waits are counted, and the timer runs or not
-pub held_waited : (t : Terms) (s : Sender) (c : Caches) (waits : ℕ) (rnr : Bool) → IsHeld t s c → IsHeld t (record s { waits = waits; rnr_wait = rnr }) c
+pub held_waited : (t : Terms) (s : Sender) (c : DerivedNumbers) (waits : ℕ) (rnr : Bool) → IsHeld t s c → IsHeld t (record s { waits = waits; rnr_wait = rnr }) c
 held_waited t s c waits rnr h = record {
   mtu = h.mtu;
   order = record {

@@ -18,8 +18,8 @@ use Rattle.protocol.specs.Requester.{advanced, barrier, packets_in_flight, reads
 use Rattle.protocol.specs.State.{Sender}
 use Rattle.protocol.specs.Wire.{Packet, is_read_response}
 use Rattle.page_pool.specs.Pool.{Pool}
-use Rattle.work_queues.specs.declared.posted.QueuedRequest.{QueuedRequest}
-use Rattle.work_queues.specs.Untold.{posted_in, untold_in}
+use Rattle.end_queues.specs.declared.work_queues.posted.QueuedRequest.{QueuedRequest}
+use Rattle.end_queues.specs.Untold.{posted_in, untold_in}
 use Rattle.requester.specs.declared.answers.ResponseEffect.TheVariants.{Acked, Ended, Landed, OldLanded, Rewound, Useless, Waits}
 use Rattle.requester.specs.Sending.{Sending, bare, bares, numbers_of, sender_in, sender_of, sender_with}
 use Rattle.requester.specs.Taking.{Taking, acknowledge_taking, acknowledging, answers, is_of_piece, landing_of, landing_taking, moved_or_useless, nak_taking, not_ready_taking, number_taking, piece_taking, refusing, rnr_taking, syndrome_taking, taken_response, wait_taking}

@@ -2,7 +2,7 @@
 use Rattle.std.proofs.Common.{arith, ◌≡◌, ◌<◌, ◌≤◌, ◌+◌, ◌-◌, ◌*◌, ℕ, List, [], ◌∷◌, length, Bool, true, false, refl, sym, ap, ◌∙◌}
 use Rattle.std.specs.Prelude.{Option, Some, None, min, nat_lt, nat_le, if◌then◌else◌, not, ◌==◌, ◌&&◌, ◌||◌, slice_get, unwrap_or, IsSome}
 use Rattle.std.proofs.lemmas.Bool.Decides.{nat_tests}
-use Rattle.rdma_types.specs.declared.answers.Took.TheVariants as took
+use Rattle.rdma_types.specs.declared.answers.ArrivalEffect.TheVariants as took
 use Rattle.rdma_types.specs.declared.requests.Terms.{Terms}
 use Rattle.rdma_types.specs.declared.requests.WcStatus.{WcStatus}
 use Rattle.rdma_types.specs.declared.requests.WcStatus.TheVariants as status
@@ -23,7 +23,7 @@ use Rattle.requester.specs.declared.answers.ResponseEffect.TheVariants.{Acked, E
 use Rattle.requester.specs.Taking as table
 use Rattle.requester.specs.Taking.{Taking, acknowledge_taking, acknowledging, answers, is_of_piece, landing_of, landing_taking, nak_taking, not_ready_taking, number_taking, piece_taking, refusing, request_at, rnr_taking, step_by, step_of, syndrome_taking, taken_response, wait_taking}
 use Rattle.requester.specs.Transmitting.{next_row}
-use Rattle.requester.proofs.Places.{request_of_piece}
+use Rattle.rdma_types.proofs.Places.{request_of_piece}
 
 module _ (c : Context) (e : End) (l : Link) (d : Packet) where
   -- ---- acknowledges

@@ -15,7 +15,7 @@ use Rattle.protocol.specs.State.{Sender}
 use Rattle.protocol.specs.Wire.{Packet, is_read_response}
 use Rattle.rdma_types.specs.declared.requests.WcStatus.{WcStatus}
 use Rattle.rdma_types.specs.declared.requests.WcStatus.TheVariants as status
-use Rattle.requester.specs.declared.caches.Caches.{Caches}
+use Rattle.requester.specs.declared.caches.DerivedNumbers.{DerivedNumbers}
 use Rattle.requester.specs.declared.marks.Mark.{Mark}
 use Rattle.requester.specs.declared.answers.ResponseEffect.{ResponseEffect}
 use Rattle.requester.specs.declared.answers.ResponseEffect.TheVariants.{Acked, Ended, Landed, OldLanded, Rewound, Useless, Waits}
@@ -26,27 +26,27 @@ use Rattle.requester.specs.Sending.{sender_with}
 use Rattle.requester.specs.Telling.{failing_without_oldest}
 use Rattle.requester.proofs.Keeping.{failed}
 use Rattle.requester.specs.Transmitting.{after_row, next_row, piece_said}
-use Rattle.requester.proofs.Places.{at_end, landing_lands, span_inside}
+use Rattle.rdma_types.proofs.Places.{at_end, landing_lands, span_inside}
 
 -- ---- the barrier
 
-pub barrier_is : (t : Terms) (s : Sender) (c : Caches) → IsHeld t s c → barrier t s ≡ c.barrier
+pub barrier_is : (t : Terms) (s : Sender) (c : DerivedNumbers) → IsHeld t s c → barrier t s ≡ c.barrier
 unfolding barrier
 barrier_is t s c h = sym h.barrier
 
-pub end_is : (t : Terms) (s : Sender) (c : Caches) → IsHeld t s c → end_of_queue t s ≡ c.end
+pub end_is : (t : Terms) (s : Sender) (c : DerivedNumbers) → IsHeld t s c → end_of_queue t s ≡ c.end
 unfolding end_of_queue
 end_is t s c h = sym h.end
 
 -- the request of the barrier
-pub record Here (t : Terms) (s : Sender) (c : Caches) (p : Posted) : Type 0 where
+pub record Here (t : Terms) (s : Sender) (c : DerivedNumbers) (p : Posted) : Type 0 where
   pub piece : piece_at s.untold t.mtu (c.barrier - s.first) ≡ Some (record { posted = p; k = c.barrier - s.first - c.barrier_at.offset })
   pub low : c.barrier_at.offset ≤ c.barrier - s.first
   pub high : c.barrier - s.first < c.barrier_at.offset + span_of p t.mtu
   pub within : c.barrier_at.offset + span_of p t.mtu ≤ end_number s.untold t.mtu
   pub landing : lands (kind_of p) ≡ true
 
-pub here : (t : Terms) (s : Sender) (c : Caches) → IsHeld t s c → (p : Posted) → slice_get s.untold c.barrier_at.index ≡ Some p → Here t s c p
+pub here : (t : Terms) (s : Sender) (c : DerivedNumbers) → IsHeld t s c → (p : Posted) → slice_get s.untold c.barrier_at.index ≡ Some p → Here t s c p
 here t s c h p there =
     let there' = rw h.barrier_index at there in
     let below = numbers.piece_below s.untold t.mtu (c.barrier - s.first) p there' in
@@ -66,7 +66,7 @@ here t s c h p there =
     }
 
 -- a barrier below `top` has one
-pub some_there : (t : Terms) (s : Sender) (c : Caches) → IsHeld t s c → c.barrier < s.top → slice_get s.untold c.barrier_at.index ≡ None → ⊥
+pub some_there : (t : Terms) (s : Sender) (c : DerivedNumbers) → IsHeld t s c → c.barrier < s.top → slice_get s.untold c.barrier_at.index ≡ None → ⊥
 some_there t s c h below none =
     let last = at_end s.untold c.barrier_at.index none h.barrier_mark.within in
     let after = numbers.landing_after s.untold t.mtu (s.una - s.first) in
@@ -96,7 +96,7 @@ next_is t s at p mark index there =
       k = omega (arith, mark.offset);
     }
 
-pub next_there : (t : Terms) (s : Sender) (c : Caches) (i : ℕ) → IsHeld t s c → s.next ≢ c.end → i ≡ request_of s.untold t.mtu (s.next - s.first) → i ≤ length s.untold → slice_get s.untold i ≡ None → ⊥
+pub next_there : (t : Terms) (s : Sender) (c : DerivedNumbers) (i : ℕ) → IsHeld t s c → s.next ≢ c.end → i ≡ request_of s.untold t.mtu (s.next - s.first) → i ≤ length s.untold → slice_get s.untold i ≡ None → ⊥
 next_there t s c i h other index within none =
     let last = at_end s.untold i none within in
     let inside = numbers.within s.untold t.mtu (s.next - s.first) (omega (arith, h.order.una, h.order.next, h.order.top, h.order.all, h.end, other)) in
@@ -108,13 +108,13 @@ pub row_waits : (t : Terms) (s : Sender) → s.rnr_wait ≡ true → next_row t 
 unfolding next_row
 row_waits t s e = rw e refl
 
-pub row_idle : (t : Terms) (s : Sender) (c : Caches) → IsHeld t s c → s.rnr_wait ≡ false → s.next ≡ c.end → next_row t s ≡ IsIdle
+pub row_idle : (t : Terms) (s : Sender) (c : DerivedNumbers) → IsHeld t s c → s.rnr_wait ≡ false → s.next ≡ c.end → next_row t s ≡ IsIdle
 unfolding next_row end_of_queue
 row_idle t s c h e last =
     let same : (s.next == end_of_queue t s) ≡ true = rw (end_is t s c h) (grind (arith, nat_tests, last)) in
     rw (e, same) refl
 
-pub row_window : (t : Terms) (s : Sender) (c : Caches) → IsHeld t s c → s.rnr_wait ≡ false → s.next ≢ c.end → 64 ≤ c.packets → next_row t s ≡ WindowIsFull
+pub row_window : (t : Terms) (s : Sender) (c : DerivedNumbers) → IsHeld t s c → s.rnr_wait ≡ false → s.next ≢ c.end → 64 ≤ c.packets → next_row t s ≡ WindowIsFull
 unfolding next_row end_of_queue
 row_window t s c h e other full =
     let differs : (s.next == end_of_queue t s) ≡ false = rw (end_is t s c h) (grind (arith, nat_tests, other)) in
@@ -122,7 +122,7 @@ row_window t s c h e other full =
     rw (e, differs, many) refl
 
 -- the last three rows
-pub row_next : (t : Terms) (s : Sender) (c : Caches) → IsHeld t s c → s.rnr_wait ≡ false → s.next ≢ c.end → c.packets < 64 → (x : Piece) → piece_at s.untold t.mtu (s.next - s.first) ≡ Some x
+pub row_next : (t : Terms) (s : Sender) (c : DerivedNumbers) → IsHeld t s c → s.rnr_wait ≡ false → s.next ≢ c.end → c.packets < 64 → (x : Piece) → piece_at s.untold t.mtu (s.next - s.first) ≡ Some x
     → next_row t s ≡ (if lands (kind_of x.posted) && nat_le t.reads c.reads then ReadsAreFull else if x.posted.request.fence && (x.k == 0 && nat_lt c.barrier s.next) then IsFenced else Sends x)
 unfolding next_row next_transmission end_of_queue reads_in_flight barrier
 row_next t s c h e other few x found =
@@ -136,14 +136,14 @@ row_stays t s r e same = sym (ap (λ q. after_row t s q) e ∙ same)
 
 -- ---- acknowledging
 
-pub acknowledging_stays : (t : Terms) (s : Sender) (c : Caches) → IsHeld t s c → (n : ℕ) → min n c.barrier ≤ s.una → acknowledging t s n ≡ s
+pub acknowledging_stays : (t : Terms) (s : Sender) (c : DerivedNumbers) → IsHeld t s c → (n : ℕ) → min n c.barrier ≤ s.una → acknowledging t s n ≡ s
 unfolding acknowledging advanced
 acknowledging_stays t s c h n low =
     let bar = barrier_is t s c h in
     let not_above : nat_lt s.una (min n (barrier t s)) ≡ false = rw bar (grind (arith, nat_tests, low)) in
     rw not_above refl
 
-pub acknowledging_moves : (t : Terms) (s : Sender) (c : Caches) → IsHeld t s c → (n m : ℕ) → m ≡ min n c.barrier → s.una < m → acknowledging t s n ≡ record s { una = m; next = max s.next m; spent = 0; waits = 0 }
+pub acknowledging_moves : (t : Terms) (s : Sender) (c : DerivedNumbers) → IsHeld t s c → (n m : ℕ) → m ≡ min n c.barrier → s.una < m → acknowledging t s n ≡ record s { una = m; next = max s.next m; spent = 0; waits = 0 }
 unfolding acknowledging advanced
 acknowledging_moves t s c h n m e low =
     let same : min n (barrier t s) ≡ m = ap (λ b. min n b) (barrier_is t s c h) ∙ sym e in
@@ -156,7 +156,7 @@ advanced_moves s m low = let above : nat_lt s.una m ≡ true = grind (arith, nat
 
 -- ---- an end fails
 
-pub failing_is : (t : Terms) (s : Sender) (c : Caches) → IsHeld t s c → (first : ℕ) → first ≡ s.first + first_number s.untold t.mtu 1 → sender_with (drop 1 s.untold) (failed first c.end) ≡ failing_without_oldest t s
+pub failing_is : (t : Terms) (s : Sender) (c : DerivedNumbers) → IsHeld t s c → (first : ℕ) → first ≡ s.first + first_number s.untold t.mtu 1 → sender_with (drop 1 s.untold) (failed first c.end) ≡ failing_without_oldest t s
 unfolding failing_without_oldest end_of_queue
 failing_is t s c h first e = rw (e, h.end) refl
 
@@ -264,7 +264,7 @@ landed_said t d index x = elim (is_read (kind_of x.posted)) as (λ b.
     ≡ (if (if b then is_read_response d.opcode && length d.payload == piece_length x.posted.request.shape.length x.k t.mtu else d.opcode == 0x12) then Some (if b then Landed index (x.k * t.mtu) else OldLanded index (unwrap_or d.old 0)) else None)) [ true ↦ refl | false ↦ refl ]
 
 -- the row of the piece at the barrier
-pub landing_row : (t : Terms) (s : Sender) (c : Caches) → IsHeld t s c → (d : Packet) (n : ℕ) (p : Posted) → Here t s c p → (n == c.barrier && nat_lt n s.top) ≡ true → n ≡ c.barrier
+pub landing_row : (t : Terms) (s : Sender) (c : DerivedNumbers) → IsHeld t s c → (d : Packet) (n : ℕ) (p : Posted) → Here t s c p → (n == c.barrier && nat_lt n s.top) ≡ true → n ≡ c.barrier
     → landing_taking t s d n ≡ (if is_of_piece t d (record { posted = p; k = n - s.first - c.barrier_at.offset }) then answers (landing_of t d c.barrier_at.index (record { posted = p; k = n - s.first - c.barrier_at.offset })) (advanced s (n + 1)) else answers Useless s)
 unfolding landing_taking
 landing_row t s c h d n p r due same =
@@ -287,7 +287,7 @@ landing_none t s s' d index x e = by_test (is_of_piece t d x) e
     by_test true g = absurd (cc)
     by_test false g = refl
 
-pub landing_undue : (t : Terms) (s : Sender) (c : Caches) → IsHeld t s c → (d : Packet) (n : ℕ) → (n == c.barrier && nat_lt n s.top) ≡ false → landing_taking t s d n ≡ answers Useless s
+pub landing_undue : (t : Terms) (s : Sender) (c : DerivedNumbers) → IsHeld t s c → (d : Packet) (n : ℕ) → (n == c.barrier && nat_lt n s.top) ≡ false → landing_taking t s d n ≡ answers Useless s
 unfolding landing_taking
 landing_undue t s c h d n due =
     let due' : (n == barrier t s && nat_lt n s.top) ≡ false = rw (barrier_is t s c h) due in

@@ -4,12 +4,12 @@ use Rattle.rdma_types.specs.declared.requests.Terms.{Terms}
 use Rattle.rdma_types.specs.Spans.{end_number, next_landing, request_of}
 use Rattle.protocol.specs.Requester.{packets_in_flight, reads_in_flight}
 use Rattle.protocol.specs.State.{Sender}
-use Rattle.requester.specs.declared.caches.Caches.{Caches}
+use Rattle.requester.specs.declared.caches.DerivedNumbers.{DerivedNumbers}
 use Rattle.requester.specs.Marks.{IsMark}
 use Rattle.requester.specs.Sending.{AreInOrder}
 
 -- the end, a place at or before the request of `next`, the barrier and its request, and what is in flight
-pub record IsHeld (terms : Terms) (s : Sender) (c : Caches) : Type 0 where
+pub record IsHeld (terms : Terms) (s : Sender) (c : DerivedNumbers) : Type 0 where
   pub mtu : 0 < terms.mtu
   pub order : AreInOrder terms s
   pub end : c.end ≡ s.first + end_number s.untold terms.mtu

@@ -1,13 +1,13 @@
 -- A requester as contracts see it: its terms, its queue and its numbers, and the protocol's sender that it is.
-use Rattle.std.specs.Prelude.{ℕ, ◌+◌, ◌-◌, ◌≡◌, ◌≤◌, ◌<◌, Bool, true, false, List, [], ◌∷◌, ◌++◌, drop, map, not, ◌&&◌, ◌==◌, Option, Some, None, slice_get, unwrap_or}
+use Rattle.std.specs.Prelude.{ℕ, ◌+◌, ◌-◌, ◌≡◌, ◌≤◌, ◌<◌, false, List, [], ◌∷◌, ◌++◌, drop, map, slice_get, unwrap_or}
 use Rattle.rdma_types.specs.declared.requests.Terms.{Terms}
-use Rattle.rdma_types.specs.Kinds.{is_read}
 use Rattle.rdma_types.specs.Limits.{number_limit}
 use Rattle.rdma_types.specs.Objects as objects
-use Rattle.rdma_types.specs.Spans.{Piece, end_number, piece_at, span_of}
+use Rattle.rdma_types.specs.Spans.{end_number, piece_at, span_of}
 use Rattle.page_pool.specs.Pool.{Pool}
-use Rattle.work_queues.specs.declared.posted.QueuedRequest.{QueuedRequest}
-use Rattle.work_queues.specs.Untold.{untold_in}
+use Rattle.end_queues.specs.declared.work_queues.posted.QueuedRequest.{QueuedRequest}
+use Rattle.end_queues.specs.Untold.{untold_in}
+use Rattle.protocol.specs.Requester.{is_inside_read}
 use Rattle.protocol.specs.State.{Sender}
 use Rattle.requester.specs.declared.answers.RequesterParts.{RequesterParts}
 
@@ -55,11 +55,6 @@ posting v p = record v { items = v.items ++ p ∷ [] }
 -- nothing is sent yet
 abbrev pub no_numbers : RequesterParts
 no_numbers = record { first = 0; una = 0; next = 0; top = 0; spent = 0; waits = 0; rnr_wait = false }
-
--- a piece of a Read, and not its first one
-abbrev pub is_inside_read : Option Piece → Bool
-is_inside_read None = false
-is_inside_read (Some x) = is_read x.posted.request.shape.kind && not (x.k == 0)
 
 -- numbers in order, within the requests and below the limit; inside a Read the next is only where it is the oldest
 -- unacknowledged one

@@ -1,7 +1,7 @@
 -- What a response does to a requester (IBA 9.7): its answer, and the sender that it leaves, whose told requests are not
 -- handed out yet.
 use Rattle.std.specs.Prelude.{ℕ, ◌+◌, ◌-◌, ◌*◌, ◌==◌, ◌&&◌, ◌||◌, not, min, Bool, true, false, List, length, Option, Some, None, slice_get, unwrap_or, nat_lt, nat_le, if◌then◌else◌}
-use Rattle.rdma_types.specs.declared.answers.Took.TheVariants as took
+use Rattle.rdma_types.specs.declared.answers.ArrivalEffect.TheVariants as took
 use Rattle.rdma_types.specs.declared.requests.Terms.{Terms}
 use Rattle.rdma_types.specs.declared.requests.WcStatus.{WcStatus}
 use Rattle.rdma_types.specs.declared.requests.WcStatus.TheVariants as status

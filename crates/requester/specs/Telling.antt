@@ -2,7 +2,7 @@
 use Rattle.std.specs.Prelude.{ℕ, ◌+◌, ◌≡◌, false, drop, nat_lt, if◌then◌else◌, Option, None, slice_get}
 use Rattle.rdma_types.specs.declared.requests.Terms.{Terms}
 use Rattle.rdma_types.specs.Spans.{first_number}
-use Rattle.work_queues.specs.declared.posted.QueuedRequest.{QueuedRequest}
+use Rattle.end_queues.specs.declared.work_queues.posted.QueuedRequest.{QueuedRequest}
 use Rattle.protocol.specs.Requester.{cut_by, end_of_queue, told_count}
 use Rattle.protocol.specs.State.{Sender}
 use Rattle.requester.specs.Sending.{Sending, sender_of}

@@ -8,8 +8,8 @@ use Rattle.protocol.specs.Requester as rows
 use Rattle.protocol.specs.Requester.{Transmission, Sends, SendsResume, IsIdle, WindowIsFull, ReadsAreFull, IsFenced, end_of_queue, going_to, next_transmission, packets_in_flight, past}
 use Rattle.protocol.specs.Segments.{packet_of_piece}
 use Rattle.protocol.specs.State.{Sender}
-use Rattle.segmenter.specs.declared.head.PacketHead.{PacketHead}
-use Rattle.segmenter.specs.Heads.{Asks, packet_with}
+use Rattle.transport.specs.declared.segmenter.head.PacketHead.{PacketHead}
+use Rattle.transport.specs.Heads.{Asks, packet_with}
 use Rattle.requester.specs.declared.answers.Transmit.{Transmit}
 use Rattle.requester.specs.declared.answers.Transmit.TheVariants.{Sent, Idle, WindowFull, ReadsFull, Fenced, Waiting}
 use Rattle.requester.specs.Taking.{request_at}

@@ -3,7 +3,7 @@
 ghost use Rattle.std.specs.Prelude.{◌≡◌, max};
 
 use rdma_types::WcStatus;
-use segmenter::PacketHead;
+use transport::segmenter::PacketHead;
 
 /// What is sent next, or why nothing is.
 #[derive(Clone, Copy, Debug, PartialEq, Eq)]

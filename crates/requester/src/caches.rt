@@ -10,13 +10,13 @@ ghost use Rattle.requester.specs.Held.{IsHeld};
 use crate::answers::RequesterParts;
 use crate::kinds;
 use crate::marks::{FRONT, Mark, seek_barrier};
+use end_queues::work_queues::SendQueue;
 use rdma_types::{Kind, Terms};
-use segmenter::span_of;
-use work_queues::SendQueue;
+use transport::segmenter::span_of;
 
 /// Places in the queue and counts of what is in flight.
 #[derive(Clone, Copy)]
-pub struct Caches {
+pub struct DerivedNumbers {
     /// The number past the last request.
     pub end: u64,
     /// A request not past that of the next number.
@@ -68,7 +68,8 @@ fn reads_of(kind: Kind, inside: u64) -> u64
 fn count(terms: &Terms, queue: &SendQueue, numbers: &RequesterParts) -> Counts
     requires mtu { 0 < terms.now.mtu }
     requires order { AreInOrder terms.now (sender_with (bares queue.now.items) numbers.now) }
-    ensures end { result.end ≡ numbers.now.first + end_number (bares queue.now.items) terms.now.mtu }
+    ensures end { result.end ≡ numbers.now.first
+        + end_number (bares queue.now.items) terms.now.mtu }
     ensures packets { result.packets
         ≡ packets_in_flight (bares queue.now.items) terms.now.mtu numbers.now.first numbers.now.una numbers.now.next }
     ensures reads { result.reads
@@ -100,9 +101,9 @@ fn one_if(holds: bool) -> u64
     if holds { 1 } else { 0 }
 }
 
-impl Caches {
+impl DerivedNumbers {
     /// What a requester with this queue and these numbers keeps. It goes through the queue.
-    pub fn of(terms: &Terms, queue: &SendQueue, numbers: &RequesterParts) -> Caches
+    pub fn of(terms: &Terms, queue: &SendQueue, numbers: &RequesterParts) -> DerivedNumbers
         requires mtu { 0 < terms.now.mtu }
         requires order { AreInOrder terms.now (sender_with (bares queue.now.items) numbers.now) }
         ensures { IsHeld terms.now (sender_with (bares queue.now.items) numbers.now) result }
@@ -110,7 +111,7 @@ impl Caches {
         let counts = count(terms, queue, numbers);
         let una = numbers.una - numbers.first;
         let barrier = seek_barrier(queue, terms.mtu, FRONT, una);
-        Caches {
+        DerivedNumbers {
             end: counts.end,
             cursor: FRONT,
             barrier: numbers.first + barrier.number,
@@ -143,7 +144,7 @@ impl Caches {
     }
 
     /// One more request is posted, which takes `span` numbers; the barrier stays or goes past it.
-    pub fn posted(self, span: u64, stays: bool) -> Caches
+    pub fn posted(self, span: u64, stays: bool) -> DerivedNumbers
         requires end { self.end + span < 2 ^ 62 }
         requires barrier { self.barrier ≤ self.end }
         requires offset { self.barrier_at.offset ≤ self.end }
@@ -157,13 +158,13 @@ impl Caches {
     {
         let end = self.end + span;
         if stays {
-            return Caches { end, ..self };
+            return DerivedNumbers { end, ..self };
         }
         let barrier_at = Mark {
             index: self.barrier_at.index + 1,
             offset: self.barrier_at.offset + span,
         };
-        Caches {
+        DerivedNumbers {
             end,
             barrier: self.barrier + span,
             barrier_at,
@@ -172,13 +173,13 @@ impl Caches {
     }
 
     /// A packet of the request at a mark is sent.
-    pub fn sent(self, at: Mark, lands: bool) -> Caches
+    pub fn sent(self, at: Mark, lands: bool) -> DerivedNumbers
         requires packets { self.packets < 2 ^ 63 }
         requires reads { self.reads < 2 ^ 63 }
         ensures { result
             ≡ record self { cursor = at; packets = self.packets + 1; reads = self.reads + (if lands then 1 else 0) } }
     {
-        Caches {
+        DerivedNumbers {
             cursor: at,
             packets: self.packets + 1,
             reads: self.reads + one_if(lands),
@@ -187,10 +188,11 @@ impl Caches {
     }
 
     /// Nothing is in flight, and all is sent again.
-    pub fn rewound(self) -> Caches
-        ensures { result ≡ record self { cursor = record { index = 0; offset = 0 }; packets = 0; reads = 0 } }
+    pub fn rewound(self) -> DerivedNumbers
+        ensures { result
+            ≡ record self { cursor = record { index = 0; offset = 0 }; packets = 0; reads = 0 } }
     {
-        Caches {
+        DerivedNumbers {
             cursor: FRONT,
             packets: 0,
             reads: 0,
@@ -199,7 +201,7 @@ impl Caches {
     }
 
     /// Numbers below `n`, which is not past the barrier, are acknowledged.
-    pub fn acknowledged(self, numbers: &RequesterParts, n: u64) -> Caches
+    pub fn acknowledged(self, numbers: &RequesterParts, n: u64) -> DerivedNumbers
         requires una { numbers.now.una ≤ n }
         requires packets { n < numbers.now.next → n - numbers.now.una ≤ self.packets }
         ensures { result
@@ -210,9 +212,9 @@ impl Caches {
     {
         if n < numbers.next {
             let packets = self.packets - (n - numbers.una);
-            return Caches { packets, ..self };
+            return DerivedNumbers { packets, ..self };
         }
-        Caches {
+        DerivedNumbers {
             packets: 0,
             reads: 0,
             ..self
@@ -220,7 +222,13 @@ impl Caches {
     }
 
     /// The response at the barrier has landed, and this is the next one; all before it is acknowledged.
-    pub fn landed(self, numbers: &RequesterParts, last: bool, barrier: u64, at: Mark) -> Caches
+    pub fn landed(
+        self,
+        numbers: &RequesterParts,
+        last: bool,
+        barrier: u64,
+        at: Mark,
+    ) -> DerivedNumbers
         requires una { numbers.now.una ≤ self.barrier }
         requires packets { self.barrier < numbers.now.next
             → self.barrier - numbers.now.una + (if last then 1 else 0) ≤ self.packets }
@@ -235,7 +243,7 @@ impl Caches {
     {
         let flying = self.barrier < numbers.next;
         let passed = one_if(last);
-        Caches {
+        DerivedNumbers {
             barrier,
             barrier_at: at,
             packets: if flying {
@@ -249,14 +257,14 @@ impl Caches {
     }
 
     /// The oldest request, which took `span` numbers, has left the queue.
-    pub fn without_first(self, span: u64) -> Caches
+    pub fn without_first(self, span: u64) -> DerivedNumbers
         ensures { result
             ≡ record self {
               cursor = record { index = self.cursor.index - 1; offset = self.cursor.offset - span };
               barrier_at = record { index = self.barrier_at.index - 1; offset = self.barrier_at.offset - span };
             } }
     {
-        Caches {
+        DerivedNumbers {
             cursor: self.cursor.without_first(span),
             barrier_at: self.barrier_at.without_first(span),
             ..self

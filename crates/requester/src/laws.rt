@@ -2,7 +2,7 @@
 
 ghost use Rattle.std.specs.Prelude.{◌≡◌, false, IsSome};
 ghost use Rattle.page_pool.specs.Pool.{Pool};
-ghost use Rattle.work_queues.specs.Untold.{untold_in};
+ghost use Rattle.end_queues.specs.Untold.{untold_in};
 ghost use Rattle.requester.specs.Sending.{Sending, numbers_of, sender_in, sender_of, sender_with};
 ghost use Rattle.protocol.specs.Requester.{Sends, takes_response, told_count, transmission, transmitted};
 ghost use Rattle.protocol.specs.State.{Context, End, Link, Running};
@@ -19,7 +19,8 @@ pub fn answers_are_the_protocols_rows()
         → takes_response c e l d ≡ step_of c e l d (taken_response l.terms l.sender d) }
     ensures transmission { (l : Link) → l.ended ≡ false → l.moving.phase ≡ Running
         → transmission l ≡ next_row l.terms l.sender }
-    ensures transmitted { (l : Link) (x : Piece) → transmitted l x ≡ with_sender l (after_row l.terms l.sender (Sends x)) }
+    ensures transmitted { (l : Link) (x : Piece)
+        → transmitted l x ≡ with_sender l (after_row l.terms l.sender (Sends x)) }
 {}
 
 /// The rules look at requests and not at their bytes: whatever a pool holds, a response does the same at the sender with
@@ -31,5 +32,6 @@ pub fn rules_look_at_no_payload()
           taken = (taken_response v.terms (sender_of v) d).taken;
           sender = sender_with (untold_in pool v.items) (numbers_of (taken_response v.terms (sender_of v) d).sender);
         } }
-    ensures told { (pool : Pool) (v : Sending) → told_count v.terms (sender_in pool v) ≡ told_count v.terms (sender_of v) }
+    ensures told { (pool : Pool) (v : Sending)
+        → told_count v.terms (sender_in pool v) ≡ told_count v.terms (sender_of v) }
 {}

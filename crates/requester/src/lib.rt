@@ -12,12 +12,12 @@ mod responses;
 mod telling;
 mod transmitting;
 
-use crate::caches::Caches;
+use crate::caches::DerivedNumbers;
 pub use answers::{Expiry, RequesterParts, ResponseEffect, Transmit};
+use end_queues::work_queues::SendQueue;
 pub use laws::{answers_are_the_protocols_rows, rules_look_at_no_payload};
 use rdma_types::Terms;
 use std::marker::Model;
-use work_queues::SendQueue;
 
 /// The requester of a connected end: its posted requests that are not told yet, and its numbers. Only what its queue
 /// was made with takes memory. Each call takes constant time, where each request is passed once between two rewinds,
@@ -27,7 +27,7 @@ pub struct Requester {
     terms: Terms,
     queue: SendQueue,
     numbers: RequesterParts,
-    caches: Caches,
+    caches: DerivedNumbers,
 }
 
 impl Model for Requester {

@@ -6,8 +6,8 @@ ghost use Rattle.requester.specs.Sending.{bares};
 ghost use Rattle.requester.specs.Marks.{IsMark};
 
 use crate::kinds;
-use segmenter::span_of;
-use work_queues::SendQueue;
+use end_queues::work_queues::SendQueue;
+use transport::segmenter::span_of;
 
 /// A place in a queue, and how many numbers the requests before it take.
 #[derive(Clone, Copy)]

@@ -7,19 +7,20 @@ ghost use Rattle.protocol.specs.Requester.{end_of_queue};
 ghost use Rattle.requester.specs.Sending.{AreInOrder, bares, no_numbers, posting, sender_of, sender_with};
 
 use crate::answers::RequesterParts;
-use crate::caches::Caches;
+use crate::caches::DerivedNumbers;
 use crate::{Requester, kinds};
+use end_queues::work_queues::{QueuedRequest, SendQueue, copy_sends};
 use rdma_types::Terms;
-use segmenter::span_of;
 use std::alloc::{AllocError, Global};
-use work_queues::{QueuedRequest, SendQueue, copy_sends};
+use transport::segmenter::span_of;
 
 impl Requester {
     /// The requester of a new connection, whose first packet has number 0.
     pub fn make(terms: &Terms, queue: SendQueue) -> Requester
         requires empty { queue.items ≡ [] }
         requires mtu { 0 < terms.now.mtu }
-        ensures { result ≡ record { terms = terms.now; depth = queue.depth; items = []; numbers = no_numbers } }
+        ensures { result
+            ≡ record { terms = terms.now; depth = queue.depth; items = []; numbers = no_numbers } }
     {
         let numbers = RequesterParts {
             first: 0,
@@ -37,9 +38,15 @@ impl Requester {
     pub fn from_parts(terms: &Terms, queue: SendQueue, parts: RequesterParts) -> Requester
         requires mtu { 0 < terms.now.mtu }
         requires order { AreInOrder terms.now (sender_with (bares queue.items) parts) }
-        ensures { result ≡ record { terms = terms.now; depth = queue.depth; items = queue.items; numbers = parts } }
+        ensures { result
+            ≡ record {
+              terms = terms.now;
+              depth = queue.depth;
+              items = queue.items;
+              numbers = parts;
+            } }
     {
-        let caches = Caches::of(terms, &queue, &parts);
+        let caches = DerivedNumbers::of(terms, &queue, &parts);
         Requester {
             terms: *terms,
             queue,
@@ -63,7 +70,8 @@ impl Requester {
     /// Puts a request at the end of the queue. Errors: the request itself, exactly where the depth is reached; all then
     /// stays as it was.
     pub fn post(&mut self, p: QueuedRequest) -> Result<(), QueuedRequest>
-        requires below_limit { end_of_queue self.old.terms (sender_of self.old) + span p.request.shape self.old.terms.mtu < 2 ^ 62 }
+        requires below_limit { end_of_queue self.old.terms (sender_of self.old)
+            + span p.request.shape self.old.terms.mtu < 2 ^ 62 }
         ensures ok { OnOk result (self.new ≡ posting self.old p) }
         ensures full { IsErr result ↔ (length self.old.items ≡ self.old.depth) }
         ensures back { IfErr result (λ x. x ≡ p) }

@@ -12,11 +12,11 @@ ghost use Rattle.requester.specs.Taking.{acknowledge_taking, acknowledging, land
 use crate::answers::ResponseEffect;
 use crate::marks::seek_barrier;
 use crate::{Requester, kinds};
-use psn_math::unwrap_near;
 use rdma_types::{Shape, WcStatus};
 use roce_headers::opcodes::{ATOMIC_ACKNOWLEDGE, is_read_response};
 use roce_headers::{Aeth, Datagram, Syndrome};
-use segmenter::{piece_at, span_of};
+use transport::psn_math::unwrap_near;
+use transport::segmenter::{piece_at, span_of};
 
 /// A READ response or an ATOMIC acknowledge.
 fn is_landing(opcode: u8) -> bool
@@ -75,8 +75,10 @@ impl Requester {
     /// datagram.
     pub fn take_response(&mut self, d: &Datagram<'_>) -> ResponseEffect
         requires { d.now.psn < 2 ^ 24 }
-        ensures answer { result ≡ (taken_response self.old.terms (sender_of self.old) (packet d.now)).taken }
-        ensures numbers { sender_of self.new ≡ (taken_response self.old.terms (sender_of self.old) (packet d.now)).sender }
+        ensures answer { result
+            ≡ (taken_response self.old.terms (sender_of self.old) (packet d.now)).taken }
+        ensures numbers { sender_of self.new
+            ≡ (taken_response self.old.terms (sender_of self.old) (packet d.now)).sender }
         ensures kept { KeepsQueue self.old self.new }
     {
         let Some(n) = unwrap_near(d.psn, self.terms.own_start, self.numbers.una) else {
@@ -90,8 +92,10 @@ impl Requester {
     }
 
     fn take_acknowledge(&mut self, aeth: Option<Aeth>, n: u64) -> ResponseEffect
-        ensures answer { result ≡ (acknowledge_taking self.old.terms (sender_of self.old) n aeth).taken }
-        ensures numbers { sender_of self.new ≡ (acknowledge_taking self.old.terms (sender_of self.old) n aeth).sender }
+        ensures answer { result
+            ≡ (acknowledge_taking self.old.terms (sender_of self.old) n aeth).taken }
+        ensures numbers { sender_of self.new
+            ≡ (acknowledge_taking self.old.terms (sender_of self.old) n aeth).sender }
         ensures kept { KeepsQueue self.old self.new }
     {
         let Some(aeth) = aeth else {
@@ -109,8 +113,12 @@ impl Requester {
 
     fn take_ack(&mut self, n: u64) -> ResponseEffect
         requires { n ≤ self.old.numbers.top }
-        ensures answer { result ≡ (moved_or_useless (sender_of self.old) (acknowledging self.old.terms (sender_of self.old) n)).taken }
-        ensures numbers { sender_of self.new ≡ (moved_or_useless (sender_of self.old) (acknowledging self.old.terms (sender_of self.old) n)).sender }
+        ensures answer { result
+            ≡ (moved_or_useless (sender_of self.old)
+            (acknowledging self.old.terms (sender_of self.old) n)).taken }
+        ensures numbers { sender_of self.new
+            ≡ (moved_or_useless (sender_of self.old)
+            (acknowledging self.old.terms (sender_of self.old) n)).sender }
         ensures kept { KeepsQueue self.old self.new }
     {
         if self.acknowledge(n) {
@@ -123,7 +131,8 @@ impl Requester {
     fn take_rnr(&mut self, n: u64) -> ResponseEffect
         requires { n ≤ self.old.numbers.top }
         ensures answer { result ≡ (not_ready_taking self.old.terms (sender_of self.old) n).taken }
-        ensures numbers { sender_of self.new ≡ (not_ready_taking self.old.terms (sender_of self.old) n).sender }
+        ensures numbers { sender_of self.new
+            ≡ (not_ready_taking self.old.terms (sender_of self.old) n).sender }
         ensures kept { KeepsQueue self.old self.new }
     {
         if self.numbers.rnr_wait {
@@ -142,7 +151,8 @@ impl Requester {
 
     fn wait_again(&mut self) -> ResponseEffect
         ensures answer { result ≡ (wait_taking self.old.terms (waited (sender_of self.old))).taken }
-        ensures numbers { sender_of self.new ≡ (wait_taking self.old.terms (waited (sender_of self.old))).sender }
+        ensures numbers { sender_of self.new
+            ≡ (wait_taking self.old.terms (waited (sender_of self.old))).sender }
         ensures kept { KeepsQueue self.old self.new }
     {
         let waits = self.numbers.waits.saturating_add(1);
@@ -158,7 +168,8 @@ impl Requester {
     fn take_nak(&mut self, n: u64, code: u8) -> ResponseEffect
         requires { n ≤ self.old.numbers.top }
         ensures answer { result ≡ (nak_taking self.old.terms (sender_of self.old) n code).taken }
-        ensures numbers { sender_of self.new ≡ (nak_taking self.old.terms (sender_of self.old) n code).sender }
+        ensures numbers { sender_of self.new
+            ≡ (nak_taking self.old.terms (sender_of self.old) n code).sender }
         ensures kept { KeepsQueue self.old self.new }
     {
         match code {
@@ -175,8 +186,10 @@ impl Requester {
 
     fn take_refusal(&mut self, n: u64, status: WcStatus) -> ResponseEffect
         requires { n ≤ self.old.numbers.top }
-        ensures answer { result ≡ (refusing (acknowledging self.old.terms (sender_of self.old) n) n status).taken }
-        ensures numbers { sender_of self.new ≡ (refusing (acknowledging self.old.terms (sender_of self.old) n) n status).sender }
+        ensures answer { result
+            ≡ (refusing (acknowledging self.old.terms (sender_of self.old) n) n status).taken }
+        ensures numbers { sender_of self.new
+            ≡ (refusing (acknowledging self.old.terms (sender_of self.old) n) n status).sender }
         ensures kept { KeepsQueue self.old self.new }
     {
         let _ = self.acknowledge(n);
@@ -204,8 +217,10 @@ impl Requester {
     }
 
     fn take_landing(&mut self, d: &Datagram<'_>, n: u64) -> ResponseEffect
-        ensures answer { result ≡ (landing_taking self.old.terms (sender_of self.old) (packet d.now) n).taken }
-        ensures numbers { sender_of self.new ≡ (landing_taking self.old.terms (sender_of self.old) (packet d.now) n).sender }
+        ensures answer { result
+            ≡ (landing_taking self.old.terms (sender_of self.old) (packet d.now) n).taken }
+        ensures numbers { sender_of self.new
+            ≡ (landing_taking self.old.terms (sender_of self.old) (packet d.now) n).sender }
         ensures kept { KeepsQueue self.old self.new }
     {
         if !is_due(n, self.caches.barrier, self.numbers.top) {
@@ -226,7 +241,8 @@ impl Requester {
     /// The response at the barrier has landed, and all before it is acknowledged.
     fn land(&mut self)
         requires { barrier self.old.terms (sender_of self.old) < self.old.numbers.top }
-        ensures numbers { sender_of self.new ≡ advanced (sender_of self.old) (barrier self.old.terms (sender_of self.old) + 1) }
+        ensures numbers { sender_of self.new ≡ advanced (sender_of self.old)
+            (barrier self.old.terms (sender_of self.old) + 1) }
         ensures kept { KeepsQueue self.old self.new }
     {
         let at = self.caches.barrier_at;

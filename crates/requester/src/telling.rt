@@ -6,14 +6,23 @@ ghost use Rattle.requester.specs.Telling.{LosesOldest, failing_without_oldest, n
 
 use crate::Requester;
 use crate::answers::RequesterParts;
-use crate::caches::Caches;
+use crate::caches::DerivedNumbers;
 use crate::marks::{FRONT, Mark};
-use segmenter::span_of;
-use work_queues::QueuedRequest;
+use end_queues::work_queues::QueuedRequest;
+use transport::segmenter::span_of;
 
 /// The numbers of an end that fails: all the first past the last request, but that of the oldest request left.
 fn failed_numbers(first: u64, end: u64) -> RequesterParts
-    ensures { result ≡ record { first = first; una = end; next = end; top = end; spent = 0; waits = 0; rnr_wait = false } }
+    ensures { result
+        ≡ record {
+          first = first;
+          una = end;
+          next = end;
+          top = end;
+          spent = 0;
+          waits = 0;
+          rnr_wait = false;
+        } }
 {
     RequesterParts {
         first,
@@ -27,7 +36,7 @@ fn failed_numbers(first: u64, end: u64) -> RequesterParts
 }
 
 /// What is kept where nothing is in flight and `len` requests are left, which take the numbers from `first` up to `end`.
-fn failed_caches(first: u64, end: u64, len: usize) -> Caches
+fn failed_caches(first: u64, end: u64, len: usize) -> DerivedNumbers
     requires { first ≤ end }
     ensures { result ≡ record {
       end = end;
@@ -38,7 +47,7 @@ fn failed_caches(first: u64, end: u64, len: usize) -> Caches
       reads = 0;
     } }
 {
-    Caches {
+    DerivedNumbers {
         end,
         cursor: FRONT,
         barrier: end,
@@ -57,7 +66,8 @@ impl Requester {
     pub fn next_told(&mut self) -> Option<QueuedRequest>
         ensures told { result ≡ next_to_tell self.old }
         ensures rest { OnSome result (LosesOldest self.old self.new) }
-        ensures numbers { OnSome result (sender_of self.new ≡ without_oldest self.old.terms (sender_of self.old)) }
+        ensures numbers { OnSome result (sender_of self.new
+            ≡ without_oldest self.old.terms (sender_of self.old)) }
         ensures none { IfNone result (self.new ≡ self.old) }
     {
         let span = span_of(&self.queue.at(0)?.request.shape, self.terms.mtu);
@@ -76,7 +86,8 @@ impl Requester {
     pub fn cut(&mut self) -> Option<QueuedRequest>
         ensures cut { result ≡ slice_get self.old.items 0 }
         ensures rest { LosesOldest self.old self.new }
-        ensures numbers { sender_of self.new ≡ failing_without_oldest self.old.terms (sender_of self.old) }
+        ensures numbers { sender_of self.new ≡ failing_without_oldest self.old.terms
+            (sender_of self.old) }
     {
         let end = self.caches.end;
         let Some(p) = self.queue.at(0) else {

@@ -13,7 +13,7 @@ use crate::answers::{Expiry, Transmit};
 use crate::marks::{Mark, seek};
 use crate::{Requester, kinds};
 use rdma_types::Shape;
-use segmenter::{packet_of, span_of};
+use transport::segmenter::{packet_of, span_of};
 
 /// Unacknowledged request packets of an end (this project's choice).
 const WINDOW: u64 = 64;

@@ -8,10 +8,10 @@ use Rattle.rdma_types.specs.Memory.{RemoteAtomic, cut, granted, remote_key, word
 use Rattle.rdma_types.specs.Objects.{Region}
 use Rattle.rdma_types.specs.declared.names.Name.{Name}
 use Rattle.page_pool.specs.Pool.{Pool}
-use Rattle.memory_keys.specs.declared.Held.{Held}
+use Rattle.memory_keys.specs.declared.RegisteredRegion.{RegisteredRegion}
 use Rattle.memory_keys.specs.Regions.{AreKeyed, IsSpot, place_in, regions_of, spot_bytes}
 use Rattle.memory_keys.proofs.Protocol.{place-region, place-some, spot-cut}
-use Rattle.memory_keys.specs.declared.Spot.{Spot}
+use Rattle.memory_keys.specs.declared.RegionRange.{RegionRange}
 use Rattle.protocol.specs.declared.wire.AtomicEth.{AtomicEth}
 use Rattle.protocol.specs.declared.wire.Reth.{Reth}
 use Rattle.protocol.specs.EndWords.{in_use_by}
@@ -22,7 +22,8 @@ use Rattle.protocol.specs.State.{Progress, NoMessage, InSend, InWrite}
 use Rattle.protocol.specs.Wire.{Packet}
 use Rattle.responder.specs.Taking.{Around, acting, context_of, end_of, granted_taking, place_at, read_taking, sending, spot_of, atomic_taking, write_taking}
 use Rattle.responder.specs.Taken.{place_next, spot_named, target_in}
-use Rattle.responder.proofs.Kindly.{or-false, write-part, write-not-send}
+use Rattle.protocol.proofs.WriteSizes.{or-false, write-part}
+use Rattle.responder.proofs.Kindly.{write-not-send}
 
 -- ---- receives
 
@@ -67,17 +68,6 @@ write-row : (a : Around) (d : Packet) (n : ℕ) (r : Region) → is_not_ready (e
 unfolding acting
 write-row a d n r ready s w = rw ready (rw s (rw w refl))
 
--- the bytes of a valid WRITE fit
-fitting : (q : Part) (done count : ℕ) → is_part q ≡ true → is_mistotalled q done count ≡ false → done ≤ count
-fitting First done count p e = grind (arith, nat_tests, e)
-fitting Middle done count p e = grind (arith, nat_tests, e)
-fitting Last done count p e = grind (arith, nat_tests, e)
-fitting Only done count p e = grind (arith, nat_tests, e)
-fitting NoPart done count p e = absurd (cc)
-
-pub write-fits : (d : Packet) (p : Progress) → is_write d.opcode ≡ true → is_bad_write d p ≡ false → length d.payload + bytes_before d.reth p ≤ write_length d.reth p
-write-fits d p w e = fitting (part_of d.opcode) _ _ (write-part d.opcode w) (or-false _ _ e).1
-
 -- a spot is as long as its RETH says
 pub spot-length : (r : Region) (h : Reth) → (spot_of r h).length ≡ h.length
 spot-length r h = by_test (h.length == 0) refl
@@ -89,7 +79,7 @@ spot-length r h = by_test (h.length == 0) refl
         none n t = grind (arith, nat_tests, t)
     by_test false t = rw t refl
 
-pub next-fits : (spot : Spot) (r : Region) (reth : Option Reth) (p : Progress) (size : ℕ) → spot ≡ spot_named None reth r → size + bytes_before reth p ≤ write_length reth p → (place_next spot reth p).1 + size ≤ (place_next spot reth p).0.length
+pub next-fits : (spot : RegionRange) (r : Region) (reth : Option Reth) (p : Progress) (size : ℕ) → spot ≡ spot_named None reth r → size + bytes_before reth p ≤ write_length reth p → (place_next spot reth p).1 + size ≤ (place_next spot reth p).0.length
 next-fits spot r (Some h) p size e fits = let l : spot.length ≡ h.length = ap (λ s. s.length) e ∙ spot-length r h in omega (arith, l, fits)
 next-fits spot r None NoMessage size e fits = let l : spot.length ≡ 0 = ap (λ s. s.length) e in omega (arith, l, fits)
 next-fits spot r None (InSend done receive) size e fits = let l : spot.length ≡ 0 = ap (λ s. s.length) e in omega (arith, l, fits)
@@ -111,7 +101,7 @@ no-bytes : (bytes : List ℕ) → length bytes ≡ 0 → bytes ≡ []
 no-bytes [] e = refl
 no-bytes (b ∷ bs) e = absurd (omega arith)
 
-next-by : (a : Around) (d : Packet) (r : Region) (spot : Spot) (reth : Option Reth) (p : Progress) → spot ≡ spot_named None reth r → is_write d.opcode ≡ true → is_mistotalled (part_of d.opcode) (length d.payload + bytes_before reth p) (write_length reth p) ≡ false → write_taking a d (place_of r reth p) ≡ write_taking a d (place_at (place_next spot reth p).0 (place_next spot reth p).1)
+next-by : (a : Around) (d : Packet) (r : Region) (spot : RegionRange) (reth : Option Reth) (p : Progress) → spot ≡ spot_named None reth r → is_write d.opcode ≡ true → is_mistotalled (part_of d.opcode) (length d.payload + bytes_before reth p) (write_length reth p) ≡ false → write_taking a d (place_of r reth p) ≡ write_taking a d (place_at (place_next spot reth p).0 (place_next spot reth p).1)
 unfolding place_of
 next-by a d r spot None NoMessage e w total = ap (λ s. write_taking a d (place_at s 0)) (sym e)
 next-by a d r spot None (InSend done receive) e w total = ap (λ s. write_taking a d (place_at s 0)) (sym e)
@@ -132,7 +122,7 @@ next-by a d r spot (Some h) p e w total = by_test (h.length == 0) refl
         ap (λ s. write_taking a d (place_at s 0)) (sym (e ∙ is))
 
 -- the row of a WRITE, at the place where it goes on
-pub write-next : (a : Around) (d : Packet) (n : ℕ) (r : Region) (spot : Spot) → is_not_ready (end_of a) d ≡ false → is_send d.opcode ≡ false → is_write d.opcode ≡ true → is_bad_write d a.receiver.progress ≡ false → spot ≡ spot_named None d.reth r → granted_taking a d n (Some r) ≡ write_taking a d (place_at (place_next spot d.reth a.receiver.progress).0 (place_next spot d.reth a.receiver.progress).1)
+pub write-next : (a : Around) (d : Packet) (n : ℕ) (r : Region) (spot : RegionRange) → is_not_ready (end_of a) d ≡ false → is_send d.opcode ≡ false → is_write d.opcode ≡ true → is_bad_write d a.receiver.progress ≡ false → spot ≡ spot_named None d.reth r → granted_taking a d n (Some r) ≡ write_taking a d (place_at (place_next spot d.reth a.receiver.progress).0 (place_next spot d.reth a.receiver.progress).1)
 write-next a d n r spot ready s w good e = write-row a d n r ready s w ∙ next-by a d r spot d.reth a.receiver.progress e w (or-false _ _ good).1
 
 -- ---- the rows of READs and atomics
@@ -148,15 +138,15 @@ atomic-row a d n r h ready s w t e = rw ready (rw s (rw w (rw t (ap (atomic_taki
 -- ---- the place of a packet
 
 -- a place that is granted is in a region
-pub in-region : (f : Region → Spot) (o : Option Region) (spot : Spot) → Some spot ≡ option_map f o → (r : Region) × ((o ≡ Some r) × (spot ≡ f r))
+pub in-region : (f : Region → RegionRange) (o : Option Region) (spot : RegionRange) → Some spot ≡ option_map f o → (r : Region) × ((o ≡ Some r) × (spot ≡ f r))
 in-region f None spot e = absurd (cc)
 in-region f (Some r) spot e = (r, (refl, cc))
 
-pub named-by : (f : Region → Spot) (o : Option Region) (spot : Spot) (r : Region) → Some spot ≡ option_map f o → o ≡ Some r → spot ≡ f r
+pub named-by : (f : Region → RegionRange) (o : Option Region) (spot : RegionRange) (r : Region) → Some spot ≡ option_map f o → o ≡ Some r → spot ≡ f r
 named-by f o spot r e t = let is : Some spot ≡ Some (f r) = e ∙ ap (option_map f) t in cc
 
 -- the word of an atomic
-pub word-is : (pool : Pool) (hs : List Held) (domain : Name) (key from : ℕ) (spot : Spot) (r : Region) → AreKeyed hs → IsSpot hs spot → granted remote_key (regions_of pool hs) domain key from 8 RemoteAtomic ≡ Some r → spot ≡ place_in from 8 r → word_of (spot_bytes pool hs spot) ≡ word_at r (from - r.base)
+pub word-is : (pool : Pool) (hs : List RegisteredRegion) (domain : Name) (key from : ℕ) (spot : RegionRange) (r : Region) → AreKeyed hs → IsSpot hs spot → granted remote_key (regions_of pool hs) domain key from 8 RemoteAtomic ≡ Some r → spot ≡ place_in from 8 r → word_of (spot_bytes pool hs spot) ≡ word_at r (from - r.base)
 word-is pool hs domain key from spot r k is g e =
     let c = context_of (regions_of pool hs) in
     let l : spot.length ≡ 8 = ap (λ s. s.length) e in

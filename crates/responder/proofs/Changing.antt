@@ -12,10 +12,10 @@ use Rattle.rdma_types.specs.declared.requests.Receive.{Receive}
 use Rattle.rdma_types.specs.Lists.{first_that}
 use Rattle.rdma_types.specs.Memory.{LocalWrite, RemoteAtomic, RemoteWrite, Right, allows, granted, grants, holds, local_key, put, remote_key}
 use Rattle.rdma_types.specs.Objects.{Region}
-use Rattle.byte_run.proofs.Cuts.{length-put}
+use Rattle.rdma_types.proofs.Cuts.{length-put}
 use Rattle.page_pool.specs.Pool.{Pool, bytes_in}
-use Rattle.memory_keys.specs.declared.Held.{Held}
-use Rattle.memory_keys.specs.declared.Spot.{Spot}
+use Rattle.memory_keys.specs.declared.RegisteredRegion.{RegisteredRegion}
+use Rattle.memory_keys.specs.declared.RegionRange.{RegionRange}
 use Rattle.memory_keys.specs.Regions.{AreHeld, AreKeyed, IsSpot, Lies, granted_spot, held_at, place_in, part_of, region_of, regions_of, stored_at}
 use Rattle.memory_keys.proofs.Spots.{holds-pages, spot-inside}
 use Rattle.memory_keys.proofs.Stores.{stored-nothing}
@@ -32,7 +32,7 @@ use Rattle.responder.proofs.Acts.{in-region}
 use Rattle.memory_keys.proofs.Protocol.{place-some}
 use Rattle.responder.specs.Sound.{IsPlace, IsUnderWay, IsWrite}
 use Rattle.responder.specs.Taken.{no_spot}
-use Rattle.responder.specs.Changes.{KeepsRest, KeepsRestAt, is_among, is_atomic_byte, is_granted_byte, is_message_byte, is_receive_byte, is_reth_byte, may_change}
+use Rattle.protocol.specs.Changes.{KeepsRest, KeepsRestAt, is_among, is_atomic_byte, is_granted_byte, is_message_byte, is_receive_byte, is_reth_byte, may_change}
 
 -- ---- bytes put elsewhere
 
@@ -57,8 +57,8 @@ put-elsewhere bytes off new k inside apart = by_test (nat_lt k (length bytes)) r
 -- ---- regions at places
 
 -- the region at a place is held under its key, and has as many bytes as its length says
-record IsHeldAt (pool : Pool) (hs : List Held) (old : Region) : Type 0 where
-  held : Held
+record IsHeldAt (pool : Pool) (hs : List RegisteredRegion) (old : Region) : Type 0 where
+  held : RegisteredRegion
   is : region_of pool held ≡ old
   there : held_at old.keys.local hs ≡ Some held
   size : length old.bytes ≡ held.head.length
@@ -66,18 +66,18 @@ record IsHeldAt (pool : Pool) (hs : List Held) (old : Region) : Type 0 where
 take-all : (n : ℕ) (xs : List ℕ) → n ≤ length xs → length (take n xs) ≡ n
 take-all n xs h = simp length-take (omega arith)
 
-whole-of : (pool : Pool) (h : Held) → Lies pool h → length (region_of pool h).bytes ≡ h.head.length
+whole-of : (pool : Pool) (h : RegisteredRegion) → Lies pool h → length (region_of pool h).bytes ≡ h.head.length
 whole-of pool h l = take-all h.head.length (bytes_in pool h.list) (omega (arith, l.size, holds-pages h.head.length))
 
 self : (n : ℕ) → (n == n) ≡ true
 self n = grind (arith, nat_tests)
 
-other-key : (k : ℕ) (pool : Pool) (hs : List Held) (i : ℕ) (old : Region) → AllByRecursion (λ y. nat_eq k y ≡ false) (map (λ h. h.head.keys.local) hs) → slice_get (regions_of pool hs) i ≡ Some old → (k == old.keys.local) ≡ false
+other-key : (k : ℕ) (pool : Pool) (hs : List RegisteredRegion) (i : ℕ) (old : Region) → AllByRecursion (λ y. nat_eq k y ≡ false) (map (λ h. h.head.keys.local) hs) → slice_get (regions_of pool hs) i ≡ Some old → (k == old.keys.local) ≡ false
 other-key k pool [] i old a e = absurd (cc)
 other-key k pool (x ∷ xs) zero old a e = let same : region_of pool x ≡ old = cc in subst (λ r. (k == r.keys.local) ≡ false) same a.0
 other-key k pool (x ∷ xs) (suc i) old a e = other-key k pool xs i old a.1 e
 
-at-held : (pool : Pool) (hs : List Held) (i : ℕ) (old : Region) → All (Lies pool) hs → IsDistinct nat_eq (map (λ h. h.head.keys.local) hs) → slice_get (regions_of pool hs) i ≡ Some old → IsHeldAt pool hs old
+at-held : (pool : Pool) (hs : List RegisteredRegion) (i : ℕ) (old : Region) → All (Lies pool) hs → IsDistinct nat_eq (map (λ h. h.head.keys.local) hs) → slice_get (regions_of pool hs) i ≡ Some old → IsHeldAt pool hs old
 unfolding first_that IsDistinct
 at-held pool [] i old lie d e = absurd (cc)
 at-held pool (x ∷ xs) zero old lie d e =
@@ -116,8 +116,8 @@ stored-rest domain receiver unused d off new old inside may = record {
 }
 
 -- bytes stored in a part of a spot
-pub part-keeps : (pool : Pool) (hs : List Held) (domain : Name) (receiver : Receiver) (unused : List Receive) (d : Packet) (spot : Spot) (from : ℕ) (new : List ℕ) (i : ℕ) (old : Region) → AreHeld pool hs → AreKeyed hs → IsSpot hs spot → from + length new ≤ spot.length → slice_get (regions_of pool hs) i ≡ Some old
-    → ((h : Held) → held_at spot.region hs ≡ Some h → region_of pool h ≡ old → (k : ℕ) → spot.off + from ≤ k → k < spot.off + from + length new → may_change domain receiver unused d old k ≡ true)
+pub part-keeps : (pool : Pool) (hs : List RegisteredRegion) (domain : Name) (receiver : Receiver) (unused : List Receive) (d : Packet) (spot : RegionRange) (from : ℕ) (new : List ℕ) (i : ℕ) (old : Region) → AreHeld pool hs → AreKeyed hs → IsSpot hs spot → from + length new ≤ spot.length → slice_get (regions_of pool hs) i ≡ Some old
+    → ((h : RegisteredRegion) → held_at spot.region hs ≡ Some h → region_of pool h ≡ old → (k : ℕ) → spot.off + from ≤ k → k < spot.off + from + length new → may_change domain receiver unused d old k ≡ true)
     → KeepsRestAt domain receiver unused d (regions_of pool hs) (stored_at (part_of spot from (length new)) new (regions_of pool hs)) i old
 part-keeps pool hs domain receiver unused d spot from [] i old are k is inside e may =
     subst (λ rs. KeepsRestAt domain receiver unused d (regions_of pool hs) rs i old) (sym (stored-nothing (part_of spot from 0) [] (regions_of pool hs) refl)) (kept domain receiver unused d (regions_of pool hs) i old e)
@@ -158,7 +158,7 @@ among : (from count k : ℕ) → from ≤ k → k < from + count → is_among fr
 among from count k low high = grind (arith, nat_tests)
 
 -- the held region that was granted is the one that is there
-same-region : (pool : Pool) (hs : List Held) (test : Region → Bool) (r : Region) (h : Held) (old : Region) → AreKeyed hs → first_that test (regions_of pool hs) ≡ Some r → held_at r.keys.local hs ≡ Some h → region_of pool h ≡ old → old ≡ r
+same-region : (pool : Pool) (hs : List RegisteredRegion) (test : Region → Bool) (r : Region) (h : RegisteredRegion) (old : Region) → AreKeyed hs → first_that test (regions_of pool hs) ≡ Some r → held_at r.keys.local hs ≡ Some h → region_of pool h ≡ old → old ≡ r
 same-region pool hs test r h old k e there is =
     let f = first-held pool hs test r k.distinct e in
     let same : h ≡ f.0 = cc (there, f.1.1) in
@@ -191,11 +191,11 @@ receive-byte r k (x ∷ xs) some e g = let t : (r.keys.local == x.lkey) ≡ true
 -- ---- rows
 
 -- an atomic
-pub word-keeps : (pool : Pool) (hs : List Held) (domain : Name) (receiver : Receiver) (unused : List Receive) (d : Packet) (r : Region) (h : AtomicEth) (new : List ℕ) (i : ℕ) (old : Region) → AreHeld pool hs → AreKeyed hs → d.atomic ≡ Some h → length new ≡ 8 → granted remote_key (regions_of pool hs) domain h.rkey h.address 8 RemoteAtomic ≡ Some r → slice_get (regions_of pool hs) i ≡ Some old
+pub word-keeps : (pool : Pool) (hs : List RegisteredRegion) (domain : Name) (receiver : Receiver) (unused : List Receive) (d : Packet) (r : Region) (h : AtomicEth) (new : List ℕ) (i : ℕ) (old : Region) → AreHeld pool hs → AreKeyed hs → d.atomic ≡ Some h → length new ≡ 8 → granted remote_key (regions_of pool hs) domain h.rkey h.address 8 RemoteAtomic ≡ Some r → slice_get (regions_of pool hs) i ≡ Some old
     → KeepsRestAt domain receiver unused d (regions_of pool hs) (written (context_of (regions_of pool hs)) r.keys.local (h.address - r.base) new).regions i old
 unfolding granted
 word-keeps pool hs domain receiver unused d r h new i old are k e size g there =
-    let spot : Spot = record { region = r.keys.local; off = h.address - r.base; length = 8 } in
+    let spot : RegionRange = record { region = r.keys.local; off = h.address - r.base; length = 8 } in
     let f = first-held pool hs (grants remote_key domain h.rkey h.address 8 RemoteAtomic) r k.distinct g in
     let grant = granted-grants remote_key (regions_of pool hs) domain h.rkey h.address 8 RemoteAtomic r g in
     let base : f.0.head.base ≡ r.base = ap (λ x. x.base) f.1.0 in
@@ -212,11 +212,11 @@ word-keeps pool hs domain receiver unused d r h new i old are k e size g there =
     plain-off n = omega arith
 
 -- a WRITE whose RETH is granted
-reth-keeps : (pool : Pool) (hs : List Held) (domain : Name) (receiver : Receiver) (unused : List Receive) (d : Packet) (r : Region) (h : Reth) (new : List ℕ) (i : ℕ) (old : Region) → AreHeld pool hs → AreKeyed hs → d.reth ≡ Some h → length new ≤ h.length → granted remote_key (regions_of pool hs) domain h.rkey h.address h.length RemoteWrite ≡ Some r → slice_get (regions_of pool hs) i ≡ Some old
+reth-keeps : (pool : Pool) (hs : List RegisteredRegion) (domain : Name) (receiver : Receiver) (unused : List Receive) (d : Packet) (r : Region) (h : Reth) (new : List ℕ) (i : ℕ) (old : Region) → AreHeld pool hs → AreKeyed hs → d.reth ≡ Some h → length new ≤ h.length → granted remote_key (regions_of pool hs) domain h.rkey h.address h.length RemoteWrite ≡ Some r → slice_get (regions_of pool hs) i ≡ Some old
     → KeepsRestAt domain receiver unused d (regions_of pool hs) (written (context_of (regions_of pool hs)) r.keys.local (h.address - r.base + 0) new).regions i old
 unfolding granted
 reth-keeps pool hs domain receiver unused d r h new i old are k e size g there =
-    let spot : Spot = record { region = r.keys.local; off = h.address - r.base; length = h.length } in
+    let spot : RegionRange = record { region = r.keys.local; off = h.address - r.base; length = h.length } in
     let f = first-held pool hs (grants remote_key domain h.rkey h.address h.length RemoteWrite) r k.distinct g in
     let grant = granted-grants remote_key (regions_of pool hs) domain h.rkey h.address h.length RemoteWrite r g in
     let base : f.0.head.base ≡ r.base = ap (λ x. x.base) f.1.0 in
@@ -229,10 +229,10 @@ reth-keeps pool hs domain receiver unused d r h new i old are k e size g there =
     subst (λ rs. KeepsRestAt domain receiver unused d (regions_of pool hs) rs i old) (part-written pool hs spot 0 new k is (omega (arith, size))) keeps
 
 -- a WRITE that goes on
-way-keeps : (pool : Pool) (hs : List Held) (domain : Name) (receiver : Receiver) (unused : List Receive) (d : Packet) (mtu region off count done : ℕ) (new : List ℕ) (i : ℕ) (old : Region) → AreHeld pool hs → AreKeyed hs → receiver.progress ≡ InWrite region off count done → IsWrite hs domain mtu region off count done → done + length new ≤ count → slice_get (regions_of pool hs) i ≡ Some old
+way-keeps : (pool : Pool) (hs : List RegisteredRegion) (domain : Name) (receiver : Receiver) (unused : List Receive) (d : Packet) (mtu region off count done : ℕ) (new : List ℕ) (i : ℕ) (old : Region) → AreHeld pool hs → AreKeyed hs → receiver.progress ≡ InWrite region off count done → IsWrite hs domain mtu region off count done → done + length new ≤ count → slice_get (regions_of pool hs) i ≡ Some old
     → KeepsRestAt domain receiver unused d (regions_of pool hs) (written (context_of (regions_of pool hs)) region (off + done) new).regions i old
 way-keeps pool hs domain receiver unused d mtu region off count done new i old are k p m size there =
-    let spot : Spot = record { region = region; off = off; length = count } in
+    let spot : RegionRange = record { region = region; off = off; length = count } in
     let is : IsSpot hs spot = λ some. subst (λ o. IsSomeAnd o (λ h. off + count ≤ h.head.length)) (sym m.there) m.inside in
     let keeps = part-keeps pool hs domain receiver unused d spot done new i old are k is size there (λ x at is' j low high.
     let key : (old.keys.local == region) ≡ true = subst (λ y. (y.keys.local == region) ≡ true) is' (has-key region hs x at) in
@@ -241,7 +241,7 @@ way-keeps pool hs domain receiver unused d mtu region off count done new i old a
     message-may domain receiver unused d old j (rw p byte)) in
     subst (λ rs. KeepsRestAt domain receiver unused d (regions_of pool hs) rs i old) (part-written pool hs spot done new k is size) keeps
   where
-    has-key : (key : ℕ) (hs : List Held) (x : Held) → held_at key hs ≡ Some x → (x.head.keys.local == key) ≡ true
+    has-key : (key : ℕ) (hs : List RegisteredRegion) (x : RegisteredRegion) → held_at key hs ≡ Some x → (x.head.keys.local == key) ≡ true
     has-key key hs x e = first-passes (λ h. h.head.keys.local == key) hs x e
 
 no-bytes : (bytes : List ℕ) → length bytes ≤ 0 → bytes ≡ []
@@ -253,7 +253,7 @@ unfolding written
 nothing-written rs key off new e = rw e refl
 
 -- a WRITE
-pub write-keeps : (pool : Pool) (hs : List Held) (domain : Name) (receiver : Receiver) (unused : List Receive) (d : Packet) (mtu : ℕ) (r : Region) (o : Option Reth) (p : Progress) (new : List ℕ) (i : ℕ) (old : Region) → AreHeld pool hs → AreKeyed hs → d.reth ≡ o → receiver.progress ≡ p → IsUnderWay hs domain mtu p
+pub write-keeps : (pool : Pool) (hs : List RegisteredRegion) (domain : Name) (receiver : Receiver) (unused : List Receive) (d : Packet) (mtu : ℕ) (r : Region) (o : Option Reth) (p : Progress) (new : List ℕ) (i : ℕ) (old : Region) → AreHeld pool hs → AreKeyed hs → d.reth ≡ o → receiver.progress ≡ p → IsUnderWay hs domain mtu p
     → length new + words.bytes_before o p ≤ words.write_length o p
     → ((h : Reth) → o ≡ Some h → 0 < h.length → granted remote_key (regions_of pool hs) domain h.rkey h.address h.length RemoteWrite ≡ Some r)
     → slice_get (regions_of pool hs) i ≡ Some old
@@ -271,19 +271,19 @@ write-keeps pool hs domain receiver unused d mtu r None (InSend done receive) ne
 write-keeps pool hs domain receiver unused d mtu r None (InWrite region off count done) new i old are k e q m size grant there = way-keeps pool hs domain receiver unused d mtu region off count done new i old are k q m (omega (arith, size)) there
 
 -- a spot by its parts
-abbrev part_at : ℕ → ℕ → ℕ → Spot
+abbrev part_at : ℕ → ℕ → ℕ → RegionRange
 part_at region off count = record { region = region; off = off; length = count }
 
 -- the region of a local place of some bytes
-record IsLocal (pool : Pool) (hs : List Held) (key from : ℕ) (spot : Spot) : Type 0 where
-  held : Held
+record IsLocal (pool : Pool) (hs : List RegisteredRegion) (key from : ℕ) (spot : RegionRange) : Type 0 where
+  held : RegisteredRegion
   there : held_at spot.region hs ≡ Some held
   key' : held.head.keys.local ≡ key
   low : held.head.base ≤ from
   off : spot.off ≡ from - held.head.base
 
 -- the spot of a region, and no other
-spot-region : (pool : Pool) (hs : List Held) (domain : Name) (key from count : ℕ) (spot : Spot) → AreKeyed hs → 0 < count → granted_spot local_key (regions_of pool hs) domain key from count LocalWrite ≡ Some spot → IsLocal pool hs key from spot
+spot-region : (pool : Pool) (hs : List RegisteredRegion) (domain : Name) (key from count : ℕ) (spot : RegionRange) → AreKeyed hs → 0 < count → granted_spot local_key (regions_of pool hs) domain key from count LocalWrite ≡ Some spot → IsLocal pool hs key from spot
 unfolding granted
 spot-region pool hs domain key from count spot k some g =
     let t = in-region (place_in from count) (granted local_key (regions_of pool hs) domain key from count LocalWrite) spot (sym g ∙ place-some local_key (regions_of pool hs) domain key from count LocalWrite some) in
@@ -298,7 +298,7 @@ spot-region pool hs domain key from count spot k some g =
       off = ap (λ s. s.off) t.1.1 ∙ ap (λ n. from - n) (sym base);
     }
 
-spot-size : (pool : Pool) (hs : List Held) (domain : Name) (key from count : ℕ) (spot : Spot) → granted_spot local_key (regions_of pool hs) domain key from count LocalWrite ≡ Some spot → spot.length ≡ count
+spot-size : (pool : Pool) (hs : List RegisteredRegion) (domain : Name) (key from count : ℕ) (spot : RegionRange) → granted_spot local_key (regions_of pool hs) domain key from count LocalWrite ≡ Some spot → spot.length ≡ count
 spot-size pool hs domain key from count spot g = by_test (count == 0) refl
   where
     by_test : (b : Bool) → (count == 0) ≡ b → spot.length ≡ count
@@ -312,7 +312,7 @@ spot-size pool hs domain key from count spot g = by_test (count == 0) refl
         let r = in-region (place_in from count) (granted local_key (regions_of pool hs) domain key from count LocalWrite) spot (sym g ∙ place-some local_key (regions_of pool hs) domain key from count LocalWrite some) in
         ap (λ s. s.length) r.1.1
 
-spot-is-held : (pool : Pool) (hs : List Held) (domain : Name) (key from count : ℕ) (spot : Spot) → AreKeyed hs → granted_spot local_key (regions_of pool hs) domain key from count LocalWrite ≡ Some spot → IsSpot hs spot
+spot-is-held : (pool : Pool) (hs : List RegisteredRegion) (domain : Name) (key from count : ℕ) (spot : RegionRange) → AreKeyed hs → granted_spot local_key (regions_of pool hs) domain key from count LocalWrite ≡ Some spot → IsSpot hs spot
 unfolding granted
 spot-is-held pool hs domain key from count spot k g some_bytes =
     let l = spot-size pool hs domain key from count spot g in
@@ -327,11 +327,11 @@ spot-is-held pool hs domain key from count spot k g some_bytes =
     subst (IsSpot hs) same is some_bytes
 
 -- a SEND
-pub send-keeps : (pool : Pool) (hs : List Held) (domain : Name) (receiver : Receiver) (unused : List Receive) (d : Packet) (x : Receive) (before : ℕ) (new : List ℕ) (i : ℕ) (old : Region) → AreHeld pool hs → AreKeyed hs → IsPlace hs domain x → x ≡ words.front (in_use_by receiver.progress ++ unused) → 0 < length (in_use_by receiver.progress ++ unused) → before + length new ≤ x.length → slice_get (regions_of pool hs) i ≡ Some old
+pub send-keeps : (pool : Pool) (hs : List RegisteredRegion) (domain : Name) (receiver : Receiver) (unused : List Receive) (d : Packet) (x : Receive) (before : ℕ) (new : List ℕ) (i : ℕ) (old : Region) → AreHeld pool hs → AreKeyed hs → IsPlace hs domain x → x ≡ words.front (in_use_by receiver.progress ++ unused) → 0 < length (in_use_by receiver.progress ++ unused) → before + length new ≤ x.length → slice_get (regions_of pool hs) i ≡ Some old
     → KeepsRestAt domain receiver unused d (regions_of pool hs) (landed (context_of (regions_of pool hs)) x.lkey (x.local + before) new).regions i old
 send-keeps pool hs domain receiver unused d x before new i old are k place is_front some size there = by_spot (granted_spot local_key (regions_of pool hs) domain x.lkey x.local x.length LocalWrite) refl (granted-place local_key (regions_of pool hs) domain x.lkey x.local x.length LocalWrite (place.granted pool))
   where
-    by_spot : (o : Option Spot) → granted_spot local_key (regions_of pool hs) domain x.lkey x.local x.length LocalWrite ≡ o → IsSome o → KeepsRestAt domain receiver unused d (regions_of pool hs) (landed (context_of (regions_of pool hs)) x.lkey (x.local + before) new).regions i old
+    by_spot : (o : Option RegionRange) → granted_spot local_key (regions_of pool hs) domain x.lkey x.local x.length LocalWrite ≡ o → IsSome o → KeepsRestAt domain receiver unused d (regions_of pool hs) (landed (context_of (regions_of pool hs)) x.lkey (x.local + before) new).regions i old
     by_spot None g s = absurd (cc)
     by_spot (Some spot) g s =
         let l : spot.length ≡ x.length = spot-size pool hs domain x.lkey x.local x.length spot g in

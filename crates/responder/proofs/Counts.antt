@@ -15,7 +15,8 @@ use Rattle.responder.specs.Receiving.{waiting}
 use Rattle.responder.specs.Taking.{Around, Taking, bytes_of, end_of, executed_by, link_of, receives, send_taking, taking, too_long_taking, word_taking, write_taking}
 use Rattle.responder.proofs.Acts.{send-finds, some-unused}
 use Rattle.responder.proofs.Cases.{Names, by-rows}
-use Rattle.responder.proofs.Kindly.{IsValid, send-part, write-part, write-not-send}
+use Rattle.protocol.proofs.WriteSizes.{write-part}
+use Rattle.responder.proofs.Kindly.{IsValid, send-part, write-not-send}
 
 -- no receive is in use where a WRITE is valid
 no-use : (n : ℕ) (p : Progress) → is_write n ≡ true → not (same_kind n p) ≡ false → in_use_by p ≡ []

@@ -3,18 +3,18 @@ use Rattle.std.proofs.Common.{◌≡◌, ℕ, ◌+◌, ◌-◌, ◌<◌, ◌≤�
 use Rattle.std.specs.Prelude.{Option, Some, None, is_some, nat_le, nat_lt, option_map}
 use Rattle.std.proofs.lemmas.Bool.Decides.{nat_tests}
 use Rattle.rdma_types.specs.Limits.{number_limit}
-use Rattle.rdma_types.specs.declared.answers.SilentWhy.TheVariants as why
-use Rattle.rdma_types.specs.declared.answers.Why.TheVariants as refused
+use Rattle.rdma_types.specs.declared.answers.DropReason.TheVariants as why
+use Rattle.rdma_types.specs.declared.answers.RefusalReason.TheVariants as refused
 use Rattle.protocol.specs.Numbers.{unwrap_near}
 use Rattle.rdma_types.specs.declared.names.Name.{Name}
 use Rattle.rdma_types.specs.declared.requests.Receive.{Receive}
 use Rattle.rdma_types.specs.Memory.{word_bytes}
 use Rattle.rdma_types.specs.Objects.{Region}
 use Rattle.rdma_types.specs.Spans.{pieces}
-use Rattle.memory_keys.specs.declared.Spot.{Spot}
+use Rattle.memory_keys.specs.declared.RegionRange.{RegionRange}
 use Rattle.memory_keys.specs.Regions.{place_in}
-use Rattle.completion_queue.specs.Queue as completions
-use Rattle.work_queues.specs.Queue as work
+use Rattle.end_queues.specs.Completions as completions
+use Rattle.end_queues.specs.Postings as work
 use Rattle.protocol.specs.declared.wire.AtomicEth.{AtomicEth}
 use Rattle.protocol.specs.declared.wire.Reth.{Reth}
 use Rattle.protocol.specs.Memory.{word_at, written}
@@ -32,7 +32,7 @@ use Rattle.responder.proofs.Views.{nothing-done}
 pub answered : (now : Receiving) (domain : Name) (qp : ℕ) (rs : List Region) (recvs : work.Queue Receive) (cq : completions.Queue) (reply : Reply) → IsTaken (answers (around_with now domain qp rs recvs.items) reply) reply now now rs recvs recvs cq cq
 answered now domain qp rs recvs cq reply = record { reply = refl; receiver = refl; regions = refl; unused = refl; done = nothing-done cq }
 
-pub read-taken : (now new : Receiving) (domain : Name) (qp : ℕ) (rs : List Region) (recvs : work.Queue Receive) (cq : completions.Queue) (d : Packet) (r : Region) (spot : Spot) (reply : Reply) (o : Option Reth)
+pub read-taken : (now new : Receiving) (domain : Name) (qp : ℕ) (rs : List Region) (recvs : work.Queue Receive) (cq : completions.Queue) (d : Packet) (r : Region) (spot : RegionRange) (reply : Reply) (o : Option Reth)
     → d.reth ≡ o → is_some o ≡ true → spot ≡ spot_named None o r
     → is_not_ready (end_of (around_with now domain qp rs recvs.items)) d ≡ false → is_send d.opcode ≡ false → is_write d.opcode ≡ false → is_read_request d.opcode ≡ true
     → reply ≡ ReadBytes spot now.receiver.expected (pieces spot.length now.terms.mtu)
@@ -47,7 +47,7 @@ read-taken now new domain qp rs recvs cq d r spot reply (Some h) e some is ready
     subst (λ (x : Taking). IsTaken x reply now new rs recvs recvs cq cq) (sym (read-row a d n r h ready s w t e))
     (record { reply = reply_is'; receiver = new_is; regions = refl; unused = refl; done = nothing-done cq })
 
-pub word-taken : (now new : Receiving) (domain : Name) (qp : ℕ) (rs after : List Region) (recvs : work.Queue Receive) (cq : completions.Queue) (d : Packet) (r : Region) (spot : Spot) (reply : Reply) (h : AtomicEth) (old : ℕ)
+pub word-taken : (now new : Receiving) (domain : Name) (qp : ℕ) (rs after : List Region) (recvs : work.Queue Receive) (cq : completions.Queue) (d : Packet) (r : Region) (spot : RegionRange) (reply : Reply) (h : AtomicEth) (old : ℕ)
     → d.atomic ≡ Some h → spot ≡ place_in h.address 8 r
     → is_not_ready (end_of (around_with now domain qp rs recvs.items)) d ≡ false → is_send d.opcode ≡ false → is_write d.opcode ≡ false → is_read_request d.opcode ≡ false
     → old ≡ word_at r (h.address - r.base)
@@ -91,7 +91,7 @@ valid-row : (a : Around) (d : Packet) (n : ℕ) (o : Option Region) → n + span
 unfolding expected_taking target
 valid-row a d n o h e t = rw (unlimited (n + span_of_packet d a.terms.mtu d.reth) h) (rw e (ap (granted_taking a d n) t))
 
-no-region-in : (f : Region → Spot) (o : Option Region) → None ≡ option_map f o → o ≡ None
+no-region-in : (f : Region → RegionRange) (o : Option Region) → None ≡ option_map f o → o ≡ None
 no-region-in f None e = refl
 no-region-in f (Some r) e = absurd (cc)
 
@@ -104,14 +104,14 @@ invalid-taken now domain qp rs recvs cq d h e = by-row _ _ _ now now rs recvs re
 pub no-access-taken : (now : Receiving) (domain : Name) (qp : ℕ) (rs : List Region) (recvs : work.Queue Receive) (cq : completions.Queue) (d : Packet) → now.receiver.expected + span_of_packet d now.terms.mtu d.reth < number_limit → is_invalid (link_with now) d ≡ false → None ≡ place_granted rs domain d → IsTaken (expected_taking (around_with now domain qp rs recvs.items) d now.receiver.expected) (Refused refused.Access) now now rs recvs recvs cq cq
 no-access-taken now domain qp rs recvs cq d h e t = by-row _ _ _ now now rs recvs recvs cq cq (valid-row (around_with now domain qp rs recvs.items) d now.receiver.expected None h e (no-region-in (spot_named d.atomic d.reth) (target_in rs domain d) t)) (answered now domain qp rs recvs cq (Refused refused.Access))
 
-pub not-ready-taken : (now : Receiving) (domain : Name) (qp : ℕ) (rs : List Region) (recvs : work.Queue Receive) (cq : completions.Queue) (d : Packet) (spot : Spot) → now.receiver.expected + span_of_packet d now.terms.mtu d.reth < number_limit → is_invalid (link_with now) d ≡ false → Some spot ≡ place_granted rs domain d → is_not_ready (end_of (around_with now domain qp rs recvs.items)) d ≡ true → IsTaken (expected_taking (around_with now domain qp rs recvs.items) d now.receiver.expected) NotReady now now rs recvs recvs cq cq
+pub not-ready-taken : (now : Receiving) (domain : Name) (qp : ℕ) (rs : List Region) (recvs : work.Queue Receive) (cq : completions.Queue) (d : Packet) (spot : RegionRange) → now.receiver.expected + span_of_packet d now.terms.mtu d.reth < number_limit → is_invalid (link_with now) d ≡ false → Some spot ≡ place_granted rs domain d → is_not_ready (end_of (around_with now domain qp rs recvs.items)) d ≡ true → IsTaken (expected_taking (around_with now domain qp rs recvs.items) d now.receiver.expected) NotReady now now rs recvs recvs cq cq
 not-ready-taken now domain qp rs recvs cq d spot h e t ready =
     let a = around_with now domain qp rs recvs.items in
     let r = in-region (spot_named d.atomic d.reth) (target_in rs domain d) spot t in
     let row : granted_taking a d now.receiver.expected (Some r.0) ≡ answers a NotReady = rw ready refl in
     by-row _ _ _ now now rs recvs recvs cq cq (valid-row a d now.receiver.expected (Some r.0) h e r.1.0 ∙ row) (answered now domain qp rs recvs cq NotReady)
 
-pub acted-taken : (now new : Receiving) (domain : Name) (qp : ℕ) (rs after : List Region) (recvs more : work.Queue Receive) (cq done : completions.Queue) (d : Packet) (reply : Reply) (spot : Spot) → now.receiver.expected + span_of_packet d now.terms.mtu d.reth < number_limit → is_invalid (link_with now) d ≡ false → Some spot ≡ place_granted rs domain d
+pub acted-taken : (now new : Receiving) (domain : Name) (qp : ℕ) (rs after : List Region) (recvs more : work.Queue Receive) (cq done : completions.Queue) (d : Packet) (reply : Reply) (spot : RegionRange) → now.receiver.expected + span_of_packet d now.terms.mtu d.reth < number_limit → is_invalid (link_with now) d ≡ false → Some spot ≡ place_granted rs domain d
     → ((r : Region) → target_in rs domain d ≡ Some r → IsTaken (granted_taking (around_with now domain qp rs recvs.items) d now.receiver.expected (Some r)) reply now new after recvs more cq done)
     → IsTaken (expected_taking (around_with now domain qp rs recvs.items) d now.receiver.expected) reply now new after recvs more cq done
 acted-taken now new domain qp rs after recvs more cq done d reply spot h e t taken =

@@ -9,8 +9,8 @@ use Rattle.rdma_types.specs.Memory.{Grants, Right, LocalWrite, RemoteAtomic, Rem
 use Rattle.rdma_types.specs.Objects.{Region, no_region}
 use Rattle.rdma_types.proofs.Grants.{granting}
 use Rattle.page_pool.specs.Pool.{Pool}
-use Rattle.memory_keys.specs.declared.Held.{Held}
-use Rattle.memory_keys.specs.declared.Spot.{Spot}
+use Rattle.memory_keys.specs.declared.RegisteredRegion.{RegisteredRegion}
+use Rattle.memory_keys.specs.declared.RegionRange.{RegionRange}
 use Rattle.memory_keys.specs.Regions.{AreKeyed, IsSpot, granted_spot, held_at, part_of, place_in, region_of, regions_of, stored_at}
 use Rattle.memory_keys.proofs.Protocol.{written-is, place-refused, place-region, place-offset, place-some}
 use Rattle.memory_keys.proofs.Stores.{stored-nothing}
@@ -40,7 +40,7 @@ unfolding granted
 granted-grants key_of rs domain key at count right r e = granting key_of domain key at count right r (first-passes (grants key_of domain key at count right) rs r e)
 
 -- a key that none of these regions has
-other-held : (k key : ℕ) (hs : List Held) (h : Held) → AllByRecursion (λ y. nat_eq k y ≡ false) (map (λ h. h.head.keys.local) hs) → held_at key hs ≡ Some h → (k == key) ≡ false
+other-held : (k key : ℕ) (hs : List RegisteredRegion) (h : RegisteredRegion) → AllByRecursion (λ y. nat_eq k y ≡ false) (map (λ h. h.head.keys.local) hs) → held_at key hs ≡ Some h → (k == key) ≡ false
 unfolding first_that
 other-held k key [] h a e = absurd (cc)
 other-held k key (x ∷ xs) h a e = by_test (x.head.keys.local == key) refl (other-held k key xs h a.1)
@@ -53,12 +53,12 @@ self : (n : ℕ) → (n == n) ≡ true
 self n = grind (arith, nat_tests)
 
 -- the region that passes a test is held under its key
-pub first-held : (pool : Pool) (hs : List Held) (test : Region → Bool) (r : Region) → IsDistinct nat_eq (map (λ h. h.head.keys.local) hs) → first_that test (regions_of pool hs) ≡ Some r → (h : Held) × ((region_of pool h ≡ r) × (held_at r.keys.local hs ≡ Some h))
+pub first-held : (pool : Pool) (hs : List RegisteredRegion) (test : Region → Bool) (r : Region) → IsDistinct nat_eq (map (λ h. h.head.keys.local) hs) → first_that test (regions_of pool hs) ≡ Some r → (h : RegisteredRegion) × ((region_of pool h ≡ r) × (held_at r.keys.local hs ≡ Some h))
 unfolding first_that IsDistinct
 first-held pool [] test r d e = absurd (cc)
 first-held pool (x ∷ xs) test r d e = by_test (test (region_of pool x)) refl (first-held pool xs test r d.1)
   where
-    by_test : (b : Bool) → test (region_of pool x) ≡ b → (first_that test (regions_of pool xs) ≡ Some r → (h : Held) × ((region_of pool h ≡ r) × (held_at r.keys.local xs ≡ Some h))) → (h : Held) × ((region_of pool h ≡ r) × (held_at r.keys.local (x ∷ xs) ≡ Some h))
+    by_test : (b : Bool) → test (region_of pool x) ≡ b → (first_that test (regions_of pool xs) ≡ Some r → (h : RegisteredRegion) × ((region_of pool h ≡ r) × (held_at r.keys.local xs ≡ Some h))) → (h : RegisteredRegion) × ((region_of pool h ≡ r) × (held_at r.keys.local (x ∷ xs) ≡ Some h))
     by_test true t rest =
         let same : region_of pool x ≡ r = grind (arith, t, e) in
         let here : (x.head.keys.local == r.keys.local) ≡ true = subst (λ y. (x.head.keys.local == y.keys.local) ≡ true) same (self x.head.keys.local) in
@@ -72,32 +72,32 @@ first-held pool (x ∷ xs) test r d e = by_test (test (region_of pool x)) refl (
 -- ---- stores
 
 -- a part of a spot is a spot
-pub part-is : (hs : List Held) (spot : Spot) (from count : ℕ) → IsSpot hs spot → from + count ≤ spot.length → IsSpot hs (part_of spot from count)
+pub part-is : (hs : List RegisteredRegion) (spot : RegionRange) (from count : ℕ) → IsSpot hs spot → from + count ≤ spot.length → IsSpot hs (part_of spot from count)
 part-is hs spot from count is inside some = by_case (held_at spot.region hs) (is (omega arith))
   where
-    by_case : (o : Option Held) → IsSomeAnd o (λ h. spot.off + spot.length ≤ h.head.length) → IsSomeAnd o (λ h. spot.off + from + count ≤ h.head.length)
+    by_case : (o : Option RegisteredRegion) → IsSomeAnd o (λ h. spot.off + spot.length ≤ h.head.length) → IsSomeAnd o (λ h. spot.off + from + count ≤ h.head.length)
     by_case None h = h
     by_case (Some x) h = omega (arith, h)
 
 -- bytes stored in a part of a spot
-pub part-written : (pool : Pool) (hs : List Held) (spot : Spot) (from : ℕ) (new : List ℕ) → AreKeyed hs → IsSpot hs spot → from + length new ≤ spot.length → stored_at (part_of spot from (length new)) new (regions_of pool hs) ≡ (written (context_of (regions_of pool hs)) spot.region (spot.off + from) new).regions
+pub part-written : (pool : Pool) (hs : List RegisteredRegion) (spot : RegionRange) (from : ℕ) (new : List ℕ) → AreKeyed hs → IsSpot hs spot → from + length new ≤ spot.length → stored_at (part_of spot from (length new)) new (regions_of pool hs) ≡ (written (context_of (regions_of pool hs)) spot.region (spot.off + from) new).regions
 part-written pool hs spot from new k is inside =
     sym (ap (λ c. c.regions) (written-is (context_of (regions_of pool hs)) pool hs refl k (part_of spot from (length new)) new (part-is hs spot from (length new) is inside) refl))
 
 -- bytes stored at a spot
-pub spot-written : (pool : Pool) (hs : List Held) (spot : Spot) (new : List ℕ) → AreKeyed hs → IsSpot hs spot → length new ≡ spot.length → stored_at spot new (regions_of pool hs) ≡ (written (context_of (regions_of pool hs)) spot.region spot.off new).regions
+pub spot-written : (pool : Pool) (hs : List RegisteredRegion) (spot : RegionRange) (new : List ℕ) → AreKeyed hs → IsSpot hs spot → length new ≡ spot.length → stored_at spot new (regions_of pool hs) ≡ (written (context_of (regions_of pool hs)) spot.region spot.off new).regions
 spot-written pool hs spot new k is l = sym (ap (λ c. c.regions) (written-is (context_of (regions_of pool hs)) pool hs refl k spot new is l))
 
 -- a granted place is there
 pub granted-place : (key_of : Region → ℕ) (rs : List Region) (domain : Name) (key at count : ℕ) (right : Right) → is_granted key_of rs domain key at count right ≡ true → IsSome (granted_spot key_of rs domain key at count right)
 granted-place key_of rs domain key at count right g = by_case (granted_spot key_of rs domain key at count right) refl
   where
-    by_case : (o : Option Spot) → granted_spot key_of rs domain key at count right ≡ o → IsSome o
+    by_case : (o : Option RegionRange) → granted_spot key_of rs domain key at count right ≡ o → IsSome o
     by_case (Some s) e = refl
     by_case None e = absurd (let no = (place-refused key_of rs domain key at count right).0 (rw e refl) in cc (no, g))
 
 -- bytes that land behind others in a granted place
-pub part-landed : (pool : Pool) (hs : List Held) (domain : Name) (key from count before : ℕ) (spot : Spot) (new : List ℕ) → AreKeyed hs → IsSpot hs spot → granted_spot local_key (regions_of pool hs) domain key from count LocalWrite ≡ Some spot → spot.length ≡ count → before + length new ≤ count → stored_at (part_of spot before (length new)) new (regions_of pool hs) ≡ (landed (context_of (regions_of pool hs)) key (from + before) new).regions
+pub part-landed : (pool : Pool) (hs : List RegisteredRegion) (domain : Name) (key from count before : ℕ) (spot : RegionRange) (new : List ℕ) → AreKeyed hs → IsSpot hs spot → granted_spot local_key (regions_of pool hs) domain key from count LocalWrite ≡ Some spot → spot.length ≡ count → before + length new ≤ count → stored_at (part_of spot before (length new)) new (regions_of pool hs) ≡ (landed (context_of (regions_of pool hs)) key (from + before) new).regions
 unfolding landed written
 part-landed pool hs domain key from count before spot [] k is g l inside = stored-nothing (part_of spot before 0) [] (regions_of pool hs) refl
 part-landed pool hs domain key from count before spot (b ∷ bs) k is g l inside =

@@ -1,19 +1,16 @@
 -- What the opcodes of requests tell of a packet.
 use Rattle.std.proofs.Common.{◌≡◌, ℕ, zero, suc, Bool, true, false, length, refl, ap, sym, ◌∙◌, arith, subst, ◌⊎◌, inl, inr}
-use Rattle.std.specs.Prelude.{◌==◌, ◌||◌, ◌&&◌, Option, Some, None, IsTrue, is_some}
+use Rattle.std.specs.Prelude.{◌==◌, ◌&&◌, Option, Some, None, IsTrue, is_some}
 use Rattle.std.proofs.lemmas.Bool.Decides.{nat_tests}
 use Rattle.protocol.specs.declared.wire.AtomicEth.{AtomicEth}
 use Rattle.protocol.specs.declared.wire.Layout.{Layout}
 use Rattle.protocol.specs.declared.wire.Headers.TheVariants as headers
+use Rattle.protocol.proofs.WriteSizes.{or-false}
 use Rattle.protocol.specs.Responder.{is_invalid, is_bad_read, is_bad_write, is_missized, is_out_of_place, is_part, is_read_request, is_send, is_unaligned, is_write, part_of}
 use Rattle.protocol.specs.State.{Link}
 use Rattle.protocol.specs.Wire.{Fits, Packet, has_atomic, has_reth, is_request, layout_of, loaded, unloaded}
 
 -- ---- tests
-
-pub or-false : (a b : Bool) → (a || b) ≡ false → (a ≡ false) × (b ≡ false)
-or-false true b e = absurd (cc)
-or-false false b e = (refl, e)
 
 pub and-false : (a b : Bool) → a ≡ true → (a && b) ≡ false → b ≡ false
 and-false true b t e = e
@@ -47,22 +44,6 @@ send-part (suc (suc (suc zero))) e = refl
 send-part (suc (suc (suc (suc zero)))) e = refl
 send-part (suc (suc (suc (suc (suc zero))))) e = refl
 send-part (suc (suc (suc (suc (suc (suc n)))))) e = absurd (grind (arith, nat_tests, e))
-
-pub write-part : (n : ℕ) → is_write n ≡ true → is_part (part_of n) ≡ true
-unfolding part_of
-write-part zero e = absurd (cc)
-write-part (suc zero) e = absurd (cc)
-write-part (suc (suc zero)) e = absurd (cc)
-write-part (suc (suc (suc zero))) e = absurd (cc)
-write-part (suc (suc (suc (suc zero)))) e = absurd (cc)
-write-part (suc (suc (suc (suc (suc zero))))) e = absurd (cc)
-write-part (suc (suc (suc (suc (suc (suc zero)))))) e = refl
-write-part (suc (suc (suc (suc (suc (suc (suc zero))))))) e = refl
-write-part (suc (suc (suc (suc (suc (suc (suc (suc zero)))))))) e = refl
-write-part (suc (suc (suc (suc (suc (suc (suc (suc (suc zero))))))))) e = refl
-write-part (suc (suc (suc (suc (suc (suc (suc (suc (suc (suc zero)))))))))) e = refl
-write-part (suc (suc (suc (suc (suc (suc (suc (suc (suc (suc (suc zero))))))))))) e = refl
-write-part (suc (suc (suc (suc (suc (suc (suc (suc (suc (suc (suc (suc n)))))))))))) e = absurd (grind (arith, nat_tests, e))
 
 pub write-not-send : (n : ℕ) → is_write n ≡ true → is_send n ≡ false
 write-not-send n e = grind (arith, nat_tests, e)

@@ -13,10 +13,10 @@ use Rattle.protocol.specs.declared.images.KeptReply.{KeptReply}
 use Rattle.protocol.specs.declared.wire.AtomicEth.{AtomicEth}
 use Rattle.protocol.specs.declared.wire.Reth.{Reth}
 use Rattle.rdma_types.specs.declared.answers.Sent.{Sent}
-use Rattle.rdma_types.specs.declared.answers.Why.{Why}
-use Rattle.rdma_types.specs.declared.answers.Why.TheVariants as refused
+use Rattle.rdma_types.specs.declared.answers.RefusalReason.{RefusalReason}
+use Rattle.rdma_types.specs.declared.answers.RefusalReason.TheVariants as refused
 use Rattle.rdma_types.specs.declared.requests.Receive.{Receive}
-use Rattle.rdma_types.specs.declared.answers.Took.TheVariants as took
+use Rattle.rdma_types.specs.declared.answers.ArrivalEffect.TheVariants as took
 use Rattle.protocol.specs.declared.wire.Syndrome.TheVariants.{Ack}
 use Rattle.responder.specs.declared.answers.Reply.TheVariants.{DupAck, NotReady, Refused}
 use Rattle.protocol.specs.EndWords.{EndStep, linked, to_partner, with_receiver, with_unused}
@@ -247,7 +247,7 @@ atomic-step c e l d n r now (Some h) =
 
 -- ---- refusals
 
-refuse-step : (c : Context) (e : End) (l : Link) (n : ℕ) (w : Why) → n ≡ l.receiver.expected → words.refuses c e l n w ≡ step_of c e l (rows.answers (around c e l) (Refused w))
+refuse-step : (c : Context) (e : End) (l : Link) (n : ℕ) (w : RefusalReason) → n ≡ l.receiver.expected → words.refuses c e l n w ≡ step_of c e l (rows.answers (around c e l) (Refused w))
 unfolding step_of with_receiver with_unused
 refuse-step c e l n w now = rw now refl
 

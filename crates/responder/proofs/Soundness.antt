@@ -11,7 +11,7 @@ use Rattle.rdma_types.specs.Memory.{Grants, RemoteRead, RemoteWrite, Right, allo
 use Rattle.rdma_types.specs.Objects.{Region, no_region}
 use Rattle.rdma_types.specs.Spans.{pieces}
 use Rattle.page_pool.specs.Pool.{Pool}
-use Rattle.memory_keys.specs.declared.Held.{Held}
+use Rattle.memory_keys.specs.declared.RegisteredRegion.{RegisteredRegion}
 use Rattle.memory_keys.specs.Regions.{AreKeyed, IsSpot, held_at, regions_of}
 use Rattle.memory_keys.proofs.Spots.{spot-inside}
 use Rattle.protocol.specs.declared.wire.AtomicEth.{AtomicEth}
@@ -30,13 +30,14 @@ use Rattle.responder.specs.Taking.{Around, Taking, acted, bytes_of, executed_by,
 use Rattle.responder.proofs.Cases.{Names, by-rows, reached}
 use Rattle.responder.proofs.Counts.{send-there, write-uses-none}
 use Rattle.responder.proofs.Granted.{first-held, granted-grants}
-use Rattle.responder.proofs.Kindly.{IsValid, and-false, or-false, send-part, write-part, write-not-send}
+use Rattle.protocol.proofs.WriteSizes.{or-false, write-part}
+use Rattle.responder.proofs.Kindly.{IsValid, and-false, send-part, write-not-send}
 
 -- ---- granted places are spots
 
 -- the region that is granted is held under its key
-record IsGrantedHere (key_of : Region → ℕ) (hs : List Held) (domain : Name) (key at count : ℕ) (right : Right) (r : Region) : Type 0 where
-  held : Held
+record IsGrantedHere (key_of : Region → ℕ) (hs : List RegisteredRegion) (domain : Name) (key at count : ℕ) (right : Right) (r : Region) : Type 0 where
+  held : RegisteredRegion
   there : held_at r.keys.local hs ≡ Some held
   base : held.head.base ≡ r.base
   size : held.head.length ≡ r.length
@@ -44,7 +45,7 @@ record IsGrantedHere (key_of : Region → ℕ) (hs : List Held) (domain : Name) 
   rights : held.head.rights ≡ r.rights
   grant : Grants key_of domain key at count right r
 
-granted-here : (pool : Pool) (key_of : Region → ℕ) (hs : List Held) (domain : Name) (key at count : ℕ) (right : Right) (r : Region) → AreKeyed hs → granted key_of (regions_of pool hs) domain key at count right ≡ Some r → IsGrantedHere key_of hs domain key at count right r
+granted-here : (pool : Pool) (key_of : Region → ℕ) (hs : List RegisteredRegion) (domain : Name) (key at count : ℕ) (right : Right) (r : Region) → AreKeyed hs → granted key_of (regions_of pool hs) domain key at count right ≡ Some r → IsGrantedHere key_of hs domain key at count right r
 unfolding granted
 granted-here pool key_of hs domain key at count right r k e =
     let f = first-held pool hs (grants key_of domain key at count right) r k.distinct e in
@@ -58,7 +59,7 @@ granted-here pool key_of hs domain key at count right r k e =
       grant = granted-grants key_of (regions_of pool hs) domain key at count right r e;
     }
 
-reached-spot : (pool : Pool) (hs : List Held) (domain : Name) (h : Reth) (r : Region) (right : Right) → AreKeyed hs → (if h.length == 0 then Some no_region else granted remote_key (regions_of pool hs) domain h.rkey h.address h.length right) ≡ Some r → IsSpot hs (spot_of r h)
+reached-spot : (pool : Pool) (hs : List RegisteredRegion) (domain : Name) (h : Reth) (r : Region) (right : Right) → AreKeyed hs → (if h.length == 0 then Some no_region else granted remote_key (regions_of pool hs) domain h.rkey h.address h.length right) ≡ Some r → IsSpot hs (spot_of r h)
 reached-spot pool hs domain h r right k e = by_test (h.length == 0) refl
   where
     by_test : (b : Bool) → (h.length == 0) ≡ b → IsSpot hs (spot_of r h)
@@ -80,7 +81,7 @@ spot-length r h = by_test (h.length == 0) refl
 
 -- ---- the bytes that answers hand out
 
-read-none : (hs : List Held) (mtu : ℕ) (reply : Reply) → is_bytes reply ≡ false → IsRead hs mtu reply
+read-none : (hs : List RegisteredRegion) (mtu : ℕ) (reply : Reply) → is_bytes reply ≡ false → IsRead hs mtu reply
 read-none hs mtu Acted e = tt
 read-none hs mtu Ack e = tt
 read-none hs mtu (ReadBytes spot first count) e = absurd (cc)
@@ -91,36 +92,36 @@ read-none hs mtu (Refused w) e = tt
 read-none hs mtu DupAck e = tt
 read-none hs mtu (Silent w) e = tt
 
-acted-none : (hs : List Held) (mtu : ℕ) (d : Packet) → IsRead hs mtu (acted d)
+acted-none : (hs : List RegisteredRegion) (mtu : ℕ) (d : Packet) → IsRead hs mtu (acted d)
 acted-none hs mtu d = by_test (finishes (part_of d.opcode) || d.ack_request) refl
   where
     by_test : (b : Bool) → (finishes (part_of d.opcode) || d.ack_request) ≡ b → IsRead hs mtu (acted d)
     by_test true t = rw t tt
     by_test false t = rw t tt
 
-read-some : (pool : Pool) (hs : List Held) (a : Around) → a.regions ≡ regions_of pool hs → AreKeyed hs → (r : Region) (h : Reth) (n : ℕ) → reached a h ≡ Some r → IsRead hs a.terms.mtu (bytes_of a r h n)
+read-some : (pool : Pool) (hs : List RegisteredRegion) (a : Around) → a.regions ≡ regions_of pool hs → AreKeyed hs → (r : Region) (h : Reth) (n : ℕ) → reached a h ≡ Some r → IsRead hs a.terms.mtu (bytes_of a r h n)
 read-some pool hs a e k r h n t = (
   reached-spot pool hs a.domain h r RemoteRead k (subst (λ rs. (if h.length == 0 then Some no_region else granted remote_key rs a.domain h.rkey h.address h.length RemoteRead) ≡ Some r) e t),
   ap (λ l. pieces l a.terms.mtu) (sym (spot-length r h)),
 )
 
-send-none : (hs : List Held) (mtu : ℕ) (a : Around) (d : Packet) (r : Receive) (before : ℕ) → IsRead hs mtu (send_taking a d r before).reply
+send-none : (hs : List RegisteredRegion) (mtu : ℕ) (a : Around) (d : Packet) (r : Receive) (before : ℕ) → IsRead hs mtu (send_taking a d r before).reply
 unfolding send_taking
 send-none hs mtu a d r before = acted-none hs mtu d
 
-write-none : (hs : List Held) (mtu : ℕ) (a : Around) (d : Packet) (p : words.Place) → IsRead hs mtu (write_taking a d p).reply
+write-none : (hs : List RegisteredRegion) (mtu : ℕ) (a : Around) (d : Packet) (p : words.Place) → IsRead hs mtu (write_taking a d p).reply
 unfolding write_taking
 write-none hs mtu a d p = acted-none hs mtu d
 
-short-none : (hs : List Held) (mtu : ℕ) (a : Around) → IsRead hs mtu (too_long_taking a).reply
+short-none : (hs : List RegisteredRegion) (mtu : ℕ) (a : Around) → IsRead hs mtu (too_long_taking a).reply
 unfolding too_long_taking
 short-none hs mtu a = tt
 
-word-none : (hs : List Held) (mtu : ℕ) (a : Around) (d : Packet) (r : Region) (n : ℕ) (h : AtomicEth) (old : ℕ) → IsRead hs mtu (word_taking a d r n h old).reply
+word-none : (hs : List RegisteredRegion) (mtu : ℕ) (a : Around) (d : Packet) (r : Region) (n : ℕ) (h : AtomicEth) (old : ℕ) → IsRead hs mtu (word_taking a d r n h old).reply
 unfolding word_taking
 word-none hs mtu a d r n h old = tt
 
-pub read-after : (pool : Pool) (hs : List Held) (a : Around) (d : Packet) → a.regions ≡ regions_of pool hs → AreKeyed hs → Names d → IsRead hs a.terms.mtu (taking a d).reply
+pub read-after : (pool : Pool) (hs : List RegisteredRegion) (a : Around) (d : Packet) → a.regions ≡ regions_of pool hs → AreKeyed hs → Names d → IsRead hs a.terms.mtu (taking a d).reply
 read-after pool hs a d e k names = by-rows a d (λ t. IsRead hs a.terms.mtu t.reply) (record {
   quiet = λ reply no. read-none hs a.terms.mtu reply no;
   nak = tt;
@@ -155,7 +156,7 @@ not-false : (b : Bool) → not b ≡ false → b ≡ true
 not-false true e = refl
 not-false false e = absurd (cc)
 
-send-whole : (hs : List Held) (domain : Name) (q : Part) (n mtu : ℕ) (p : Progress) → is_send n ≡ true → is_part q ≡ true → finishes q ≡ false → is_out_of_place q n p ≡ false → 0 < mtu → IsUnderWay hs domain mtu p → is_whole_pieces mtu (bytes_before None p + mtu) ≡ true
+send-whole : (hs : List RegisteredRegion) (domain : Name) (q : Part) (n mtu : ℕ) (p : Progress) → is_send n ≡ true → is_part q ≡ true → finishes q ≡ false → is_out_of_place q n p ≡ false → 0 < mtu → IsUnderWay hs domain mtu p → is_whole_pieces mtu (bytes_before None p + mtu) ≡ true
 send-whole hs domain First n mtu NoMessage s part f out some m = subst (λ k. is_whole_pieces mtu k ≡ true) (plain-sum mtu mtu refl) (whole-one mtu some)
 send-whole hs domain First n mtu (InSend done r) s part f out some m = absurd (cc)
 send-whole hs domain First n mtu (InWrite region off count done) s part f out some m = absurd (cc)
@@ -169,16 +170,16 @@ send-whole hs domain NoPart n mtu p s part f out some m = absurd (cc)
 -- ---- rows
 
 -- sound after a row
-abbrev pub IsSoundAfter : List Held → Around → Taking → Type 0
+abbrev pub IsSoundAfter : List RegisteredRegion → Around → Taking → Type 0
 IsSoundAfter hs a t = IsSound hs a.domain (record { terms = a.terms; receiver = t.receiver }) t.unused
 
-sound-same : (hs : List Held) (a : Around) (reply : Reply) (r : Receiver) → IsSound hs a.domain (record { terms = a.terms; receiver = a.receiver }) a.unused → r.progress ≡ a.receiver.progress → IsSoundAfter hs a (receives a reply r)
+sound-same : (hs : List RegisteredRegion) (a : Around) (reply : Reply) (r : Receiver) → IsSound hs a.domain (record { terms = a.terms; receiver = a.receiver }) a.unused → r.progress ≡ a.receiver.progress → IsSoundAfter hs a (receives a reply r)
 sound-same hs a reply r s e = record {
   receives = subst (λ p. All (IsPlace hs a.domain) (in_use_by p ++ a.unused)) (sym e) s.receives;
   message = subst (λ p. IsUnderWay hs a.domain a.terms.mtu p) (sym e) s.message;
 }
 
-sound-short : (hs : List Held) (a : Around) → IsSound hs a.domain (record { terms = a.terms; receiver = a.receiver }) a.unused → IsSoundAfter hs a (too_long_taking a)
+sound-short : (hs : List RegisteredRegion) (a : Around) → IsSound hs a.domain (record { terms = a.terms; receiver = a.receiver }) a.unused → IsSoundAfter hs a (too_long_taking a)
 unfolding too_long_taking
 sound-short hs a s = record { receives = All-drop (IsPlace hs a.domain) 1 (in_use_by a.receiver.progress ++ a.unused) s.receives; message = tt }
 
@@ -189,7 +190,7 @@ front-drop P (x ∷ xs) all h = all
 pub fits-receive : (l n : ℕ) → nat_lt l n ≡ false → n ≤ l
 fits-receive l n e = grind (arith, nat_tests, e)
 
-sound-send : (hs : List Held) (a : Around) (d : Packet) → 0 < a.terms.mtu → IsSound hs a.domain (record { terms = a.terms; receiver = a.receiver }) a.unused → is_send d.opcode ≡ true → IsValid (link_of a) d → 0 < length (in_use_by a.receiver.progress ++ a.unused) → nat_lt (receive_in a).length (bytes_before None a.receiver.progress + length d.payload) ≡ false → IsSoundAfter hs a (send_taking a d (receive_in a) (bytes_before None a.receiver.progress))
+sound-send : (hs : List RegisteredRegion) (a : Around) (d : Packet) → 0 < a.terms.mtu → IsSound hs a.domain (record { terms = a.terms; receiver = a.receiver }) a.unused → is_send d.opcode ≡ true → IsValid (link_of a) d → 0 < length (in_use_by a.receiver.progress ++ a.unused) → nat_lt (receive_in a).length (bytes_before None a.receiver.progress + length d.payload) ≡ false → IsSoundAfter hs a (send_taking a d (receive_in a) (bytes_before None a.receiver.progress))
 unfolding send_taking receive_of
 sound-send hs a d some s snd valid there fits = by_test (finishes (part_of d.opcode)) refl
   where
@@ -218,7 +219,7 @@ left-over NoPart done count p f e = absurd (cc)
 few-bytes : (n : ℕ) → nat_lt most_bytes n ≡ false → n ≤ most_bytes
 few-bytes n e = grind (arith, nat_tests, e)
 
-write-goes-on : (pool : Pool) (hs : List Held) (domain : Name) (mtu size : ℕ) (r : Region) (o : Option Reth) (p : Progress) → AreKeyed hs → 0 < mtu → size ≡ mtu → IsUnderWay hs domain mtu p
+write-goes-on : (pool : Pool) (hs : List RegisteredRegion) (domain : Name) (mtu size : ℕ) (r : Region) (o : Option Reth) (p : Progress) → AreKeyed hs → 0 < mtu → size ≡ mtu → IsUnderWay hs domain mtu p
     → size + bytes_before o p < write_length o p → write_length o p ≤ most_bytes
     → ((h : Reth) → o ≡ Some h → 0 < h.length → granted remote_key (regions_of pool hs) domain h.rkey h.address h.length RemoteWrite ≡ Some r)
     → IsUnderWay hs domain mtu (InWrite (place_of r o p).region (place_of r o p).off (place_of r o p).length ((place_of r o p).done + size))
@@ -249,7 +250,7 @@ write-goes-on pool hs domain mtu size r None (InWrite region off count done) k s
 }
 
 -- the target of a WRITE is the region that its RETH is granted
-pub write-target : (pool : Pool) (hs : List Held) (a : Around) (d : Packet) (r : Region) → a.regions ≡ regions_of pool hs → d.atomic ≡ None → is_write d.opcode ≡ true → target_in a.regions a.domain d ≡ Some r → (h : Reth) → d.reth ≡ Some h → 0 < h.length → granted remote_key (regions_of pool hs) a.domain h.rkey h.address h.length RemoteWrite ≡ Some r
+pub write-target : (pool : Pool) (hs : List RegisteredRegion) (a : Around) (d : Packet) (r : Region) → a.regions ≡ regions_of pool hs → d.atomic ≡ None → is_write d.opcode ≡ true → target_in a.regions a.domain d ≡ Some r → (h : Reth) → d.reth ≡ Some h → 0 < h.length → granted remote_key (regions_of pool hs) a.domain h.rkey h.address h.length RemoteWrite ≡ Some r
 unfolding target
 write-target pool hs a d r e none w t h reth some =
     let no : is_read_request d.opcode ≡ false = write-no-read d.opcode w in
@@ -260,7 +261,7 @@ write-target pool hs a d r e none w t h reth some =
     write-no-read : (n : ℕ) → is_write n ≡ true → is_read_request n ≡ false
     write-no-read n w = grind (arith, nat_tests, w)
 
-sound-write : (pool : Pool) (hs : List Held) (a : Around) (d : Packet) (r : Region) → a.regions ≡ regions_of pool hs → AreKeyed hs → d.atomic ≡ None → 0 < a.terms.mtu → IsSound hs a.domain (record { terms = a.terms; receiver = a.receiver }) a.unused → is_write d.opcode ≡ true → IsValid (link_of a) d → in_use_by a.receiver.progress ≡ [] → target_in a.regions a.domain d ≡ Some r → IsSoundAfter hs a (write_taking a d (place_of r d.reth a.receiver.progress))
+sound-write : (pool : Pool) (hs : List RegisteredRegion) (a : Around) (d : Packet) (r : Region) → a.regions ≡ regions_of pool hs → AreKeyed hs → d.atomic ≡ None → 0 < a.terms.mtu → IsSound hs a.domain (record { terms = a.terms; receiver = a.receiver }) a.unused → is_write d.opcode ≡ true → IsValid (link_of a) d → in_use_by a.receiver.progress ≡ [] → target_in a.regions a.domain d ≡ Some r → IsSoundAfter hs a (write_taking a d (place_of r d.reth a.receiver.progress))
 unfolding write_taking
 sound-write pool hs a d r e k none some s w valid idle t = by_test (finishes (part_of d.opcode)) refl (is_some d.imm) refl
   where
@@ -282,11 +283,11 @@ executed-keeps : (a : Around) (d : Packet) → (executed_by a d).progress ≡ a.
 unfolding words.executed with_receiver
 executed-keeps a d = refl
 
-sound-word : (hs : List Held) (a : Around) (d : Packet) (r : Region) (n : ℕ) (h : AtomicEth) (old : ℕ) → IsSound hs a.domain (record { terms = a.terms; receiver = a.receiver }) a.unused → IsSoundAfter hs a (word_taking a d r n h old)
+sound-word : (hs : List RegisteredRegion) (a : Around) (d : Packet) (r : Region) (n : ℕ) (h : AtomicEth) (old : ℕ) → IsSound hs a.domain (record { terms = a.terms; receiver = a.receiver }) a.unused → IsSoundAfter hs a (word_taking a d r n h old)
 unfolding word_taking words.executed with_receiver
 sound-word hs a d r n h old s = record { receives = s.receives; message = s.message }
 
-pub sound-after : (pool : Pool) (hs : List Held) (a : Around) (d : Packet) → a.regions ≡ regions_of pool hs → AreKeyed hs → 0 < a.terms.mtu → Names d → IsSound hs a.domain (record { terms = a.terms; receiver = a.receiver }) a.unused → IsSoundAfter hs a (taking a d)
+pub sound-after : (pool : Pool) (hs : List RegisteredRegion) (a : Around) (d : Packet) → a.regions ≡ regions_of pool hs → AreKeyed hs → 0 < a.terms.mtu → Names d → IsSound hs a.domain (record { terms = a.terms; receiver = a.receiver }) a.unused → IsSoundAfter hs a (taking a d)
 sound-after pool hs a d e k some names s = by-rows a d (IsSoundAfter hs a) (record {
   quiet = λ reply no. sound-same hs a reply a.receiver s refl;
   nak = sound-same hs a SequenceNak (record a.receiver { nak_sent = true }) s refl;

@@ -10,7 +10,7 @@ use Rattle.rdma_types.specs.Lists.{first_that}
 use Rattle.rdma_types.specs.Memory.{LocalWrite, granted, grants, holds, is_granted, local_key}
 use Rattle.rdma_types.specs.Objects.{Region}
 use Rattle.page_pool.specs.Pool.{Pool}
-use Rattle.memory_keys.specs.declared.Held.{Held}
+use Rattle.memory_keys.specs.declared.RegisteredRegion.{RegisteredRegion}
 use Rattle.memory_keys.specs.Regions.{region_of, regions_of}
 use Rattle.protocol.specs.EndWords.{in_use_by}
 use Rattle.protocol.specs.State.{Progress, NoMessage, InSend, InWrite}
@@ -44,7 +44,7 @@ found-more test (z ∷ zs) ys x e = by_test (test z) refl (found-more test zs ys
 -- ---- places
 
 -- grants look at no bytes
-same-grant : (p q : Pool) (domain : Name) (key at count : ℕ) (hs : List Held) → is_some (granted local_key (regions_of p hs) domain key at count LocalWrite) ≡ is_some (granted local_key (regions_of q hs) domain key at count LocalWrite)
+same-grant : (p q : Pool) (domain : Name) (key at count : ℕ) (hs : List RegisteredRegion) → is_some (granted local_key (regions_of p hs) domain key at count LocalWrite) ≡ is_some (granted local_key (regions_of q hs) domain key at count LocalWrite)
 unfolding granted first_that grants holds
 same-grant p q domain key at count [] = refl
 same-grant p q domain key at count (h ∷ hs) = by_test (grants local_key domain key at count LocalWrite (region_of p h)) refl (same-grant p q domain key at count hs)
@@ -53,11 +53,11 @@ same-grant p q domain key at count (h ∷ hs) = by_test (grants local_key domain
     by_test true t rest = rw t refl
     by_test false t rest = rw t rest
 
-pub placed : (pool : Pool) (hs : List Held) (domain : Name) (r : Receive) → r.length ≤ most_bytes → is_granted local_key (regions_of pool hs) domain r.lkey r.local r.length LocalWrite ≡ true → IsPlace hs domain r
+pub placed : (pool : Pool) (hs : List RegisteredRegion) (domain : Name) (r : Receive) → r.length ≤ most_bytes → is_granted local_key (regions_of pool hs) domain r.lkey r.local r.length LocalWrite ≡ true → IsPlace hs domain r
 unfolding is_granted
 placed pool hs domain r few g = record { few = few; granted = λ q. ap (λ b. (r.length == 0) || b) (same-grant q pool domain r.lkey r.local r.length hs) ∙ g }
 
-regions-append : (pool : Pool) (hs more : List Held) → regions_of pool (hs ++ more) ≡ regions_of pool hs ++ regions_of pool more
+regions-append : (pool : Pool) (hs more : List RegisteredRegion) → regions_of pool (hs ++ more) ≡ regions_of pool hs ++ regions_of pool more
 regions-append pool [] more = refl
 regions-append pool (h ∷ hs) more = ap (λ rs. region_of pool h ∷ rs) (regions-append pool hs more)
 
@@ -70,13 +70,13 @@ granted-more rs more domain key at count g = by_case (count == 0) refl (first_th
     by_case false t (Some r) e = rw t (ap is_some (found-more (grants local_key domain key at count LocalWrite) rs more r e))
     by_case false t None e = absurd (let no_region : ((count == 0) || is_some (first_that (grants local_key domain key at count LocalWrite) rs)) ≡ false = rw t (ap is_some e) in cc (no_region, g))
 
-place-more : (hs more : List Held) (domain : Name) (r : Receive) → IsPlace hs domain r → IsPlace (hs ++ more) domain r
+place-more : (hs more : List RegisteredRegion) (domain : Name) (r : Receive) → IsPlace hs domain r → IsPlace (hs ++ more) domain r
 place-more hs more domain r p = record {
   few = p.few;
   granted = λ pool. subst (λ rs. is_granted local_key rs domain r.lkey r.local r.length LocalWrite ≡ true) (sym (regions-append pool hs more)) (granted-more (regions_of pool hs) (regions_of pool more) domain r.lkey r.local r.length (p.granted pool));
 }
 
-way-more : (hs more : List Held) (domain : Name) (mtu : ℕ) (p : Progress) → IsUnderWay hs domain mtu p → IsUnderWay (hs ++ more) domain mtu p
+way-more : (hs more : List RegisteredRegion) (domain : Name) (mtu : ℕ) (p : Progress) → IsUnderWay hs domain mtu p → IsUnderWay (hs ++ more) domain mtu p
 way-more hs more domain mtu NoMessage m = tt
 way-more hs more domain mtu (InSend done r) m = m
 way-more hs more domain mtu (InWrite region off count done) m = record {
@@ -92,22 +92,22 @@ way-more hs more domain mtu (InWrite region off count done) m = record {
 
 -- ---- the steps
 
-pub posted : (hs : List Held) (domain : Name) (v : Receiving) (unused : List Receive) (r : Receive) → IsPlace hs domain r → IsSound hs domain v unused → IsSound hs domain v (unused ++ r ∷ [])
+pub posted : (hs : List RegisteredRegion) (domain : Name) (v : Receiving) (unused : List Receive) (r : Receive) → IsPlace hs domain r → IsSound hs domain v unused → IsSound hs domain v (unused ++ r ∷ [])
 posted hs domain v unused r p s = record {
   receives = subst (All (IsPlace hs domain)) (append_assoc (in_use_by v.receiver.progress) unused (r ∷ [])) (All-append (IsPlace hs domain) (in_use_by v.receiver.progress ++ unused) (r ∷ []) s.receives (All-cons (IsPlace hs domain) r [] p (All-nil (IsPlace hs domain))));
   message = s.message;
 }
 
-pub flushed : (hs : List Held) (domain : Name) (v : Receiving) (unused : List Receive) (n : ℕ) → IsSound hs domain v unused → IsSound hs domain v (drop n unused)
+pub flushed : (hs : List RegisteredRegion) (domain : Name) (v : Receiving) (unused : List Receive) (n : ℕ) → IsSound hs domain v unused → IsSound hs domain v (drop n unused)
 flushed hs domain v unused n s = record {
   receives = All-append (IsPlace hs domain) (in_use_by v.receiver.progress) (drop n unused) (all-left (IsPlace hs domain) (in_use_by v.receiver.progress) unused s.receives) (All-drop (IsPlace hs domain) n unused (all-right (IsPlace hs domain) (in_use_by v.receiver.progress) unused s.receives));
   message = s.message;
 }
 
-pub cut-short : (hs : List Held) (domain : Name) (v : Receiving) (unused : List Receive) → IsSound hs domain v unused → IsSound hs domain (record v { receiver = idled v.receiver }) unused
+pub cut-short : (hs : List RegisteredRegion) (domain : Name) (v : Receiving) (unused : List Receive) → IsSound hs domain v unused → IsSound hs domain (record v { receiver = idled v.receiver }) unused
 cut-short hs domain v unused s = record { receives = all-right (IsPlace hs domain) (in_use_by v.receiver.progress) unused s.receives; message = tt }
 
-pub made : (hs more : List Held) (domain : Name) (v : Receiving) (unused : List Receive) → IsSound hs domain v unused → IsSound (hs ++ more) domain v unused
+pub made : (hs more : List RegisteredRegion) (domain : Name) (v : Receiving) (unused : List Receive) → IsSound hs domain v unused → IsSound (hs ++ more) domain v unused
 made hs more domain v unused s = record {
   receives = all-by (IsPlace hs domain) (IsPlace (hs ++ more) domain) (place-more hs more domain) (in_use_by v.receiver.progress ++ unused) s.receives;
   message = way-more hs more domain v.terms.mtu v.receiver.progress s.message;

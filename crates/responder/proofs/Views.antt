@@ -7,7 +7,7 @@ use Rattle.rdma_types.specs.declared.requests.Terms.{Terms}
 use Rattle.protocol.specs.declared.images.KeptReply.{KeptReply}
 use Rattle.protocol.specs.Responder.{keeping}
 use Rattle.protocol.specs.State.{Receiver}
-use Rattle.completion_queue.specs.Queue as completions
+use Rattle.end_queues.specs.Completions as completions
 use Rattle.responder.specs.Taking.{with_done}
 use Rattle.responder.specs.Receiving.{Receiving, receiver_of}
 use Rattle.responder.specs.declared.answers.ResponderParts.{ResponderParts}

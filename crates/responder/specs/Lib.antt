@@ -4,4 +4,3 @@ pub mod Taking
 pub mod Taken
 pub mod Steps
 pub mod Sound
-pub mod Changes

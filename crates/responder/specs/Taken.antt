@@ -5,11 +5,11 @@ use Rattle.rdma_types.specs.Objects.{Region}
 use Rattle.rdma_types.specs.declared.names.Name.{Name}
 use Rattle.rdma_types.specs.declared.requests.Receive.{Receive}
 use Rattle.page_pool.specs.Pool.{Pool, free_pages}
-use Rattle.memory_keys.specs.declared.Held.{Held}
-use Rattle.memory_keys.specs.declared.Spot.{Spot}
+use Rattle.memory_keys.specs.declared.RegisteredRegion.{RegisteredRegion}
+use Rattle.memory_keys.specs.declared.RegionRange.{RegionRange}
 use Rattle.memory_keys.specs.Regions.{AreHeld, IsSpot, KeepsOthers, place_in, regions_of}
-use Rattle.completion_queue.specs.Queue as completions
-use Rattle.work_queues.specs.Queue as work
+use Rattle.end_queues.specs.Completions as completions
+use Rattle.end_queues.specs.Postings as work
 use Rattle.protocol.specs.declared.wire.AtomicEth.{AtomicEth}
 use Rattle.protocol.specs.declared.wire.Reth.{Reth}
 use Rattle.protocol.specs.Responder as words
@@ -22,17 +22,17 @@ use Rattle.responder.specs.Receiving.{Receiving}
 use Rattle.responder.specs.Taking.{Taking, context_of, spot_of, with_done}
 
 -- a spot of no bytes
-abbrev pub no_spot : Spot
+abbrev pub no_spot : RegionRange
 no_spot = record { region = 0; off = 0; length = 0 }
 
 -- the place in a region of what an AtomicETH or else a RETH names
-abbrev pub spot_named : Option AtomicEth → Option Reth → Region → Spot
+abbrev pub spot_named : Option AtomicEth → Option Reth → Region → RegionRange
 spot_named (Some h) reth r = place_in h.address 8 r
 spot_named None (Some h) r = spot_of r h
 spot_named None None r = no_spot
 
 -- where a WRITE goes on, and how many bytes are there: at its message in progress, or else where its RETH begins
-abbrev pub place_next : Spot → Option Reth → Progress → Spot × ℕ
+abbrev pub place_next : RegionRange → Option Reth → Progress → RegionRange × ℕ
 place_next spot (Some h) p = (spot, 0)
 place_next spot None NoMessage = (spot, 0)
 place_next spot None (InSend done receive) = (spot, 0)
@@ -51,7 +51,7 @@ is_bytes DupAck = false
 is_bytes (Silent w) = false
 
 -- the bytes that an answer hands out lie in a region, and have a response for each piece
-abbrev pub IsRead : List Held → ℕ → Reply → Type 0
+abbrev pub IsRead : List RegisteredRegion → ℕ → Reply → Type 0
 IsRead held mtu (ReadBytes spot first count) = IsSpot held spot × (count ≡ pieces spot.length mtu)
 IsRead held mtu Acted = Unit {0}
 IsRead held mtu Ack = Unit {0}
@@ -91,16 +91,16 @@ abbrev pub target_in : List Region → Name → Packet → Option Region
 target_in regions domain d = words.target (context_of regions) (record no_end { domain = domain }) d
 
 -- the place that a packet's request is granted by these regions
-abbrev pub place_granted : List Region → Name → Packet → Option Spot
+abbrev pub place_granted : List Region → Name → Packet → Option RegionRange
 place_granted regions domain d = option_map (spot_named d.atomic d.reth) (target_in regions domain d)
 
 -- the spot is the place that the packet's request is granted, whatever bytes lie there
-pub record IsTarget (held : List Held) (domain : Name) (d : Packet) (spot : Spot) : Type 0 where
+pub record IsTarget (held : List RegisteredRegion) (domain : Name) (d : Packet) (spot : RegionRange) : Type 0 where
   pub granted : (pool : Pool) → Some spot ≡ place_granted (regions_of pool held) domain d
   pub inside : IsSpot held spot
 
 -- the regions are those that there were, but for their bytes, and nothing else is different in the pool
-pub record KeepsRegions (old new : Pool) (before after : List Held) : Type 0 where
+pub record KeepsRegions (old new : Pool) (before after : List RegisteredRegion) : Type 0 where
   pub same : after ≡ before
   pub held : AreHeld new after
   pub others : KeepsOthers old new before

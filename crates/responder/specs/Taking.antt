@@ -1,8 +1,8 @@
 -- What a request does to a responder and what it works on: the answer, and all that is different after it. One row of the
 -- protocol's tables is one definition here, by the protocol's own tests.
 use Rattle.std.specs.Prelude.{ℕ, ◌+◌, ◌-◌, ◌==◌, ◌||◌, ◌&&◌, Bool, true, List, [], ◌∷◌, ◌++◌, length, drop, Option, Some, None, is_some, nat_lt, nat_le, if◌then◌else◌}
-use Rattle.rdma_types.specs.declared.answers.SilentWhy.TheVariants as why
-use Rattle.rdma_types.specs.declared.answers.Why.TheVariants as refused
+use Rattle.rdma_types.specs.declared.answers.DropReason.TheVariants as why
+use Rattle.rdma_types.specs.declared.answers.RefusalReason.TheVariants as refused
 use Rattle.rdma_types.specs.declared.names.Name.{Name}
 use Rattle.rdma_types.specs.declared.requests.Completion.{Completion}
 use Rattle.rdma_types.specs.declared.requests.Receive.{Receive}
@@ -14,8 +14,8 @@ use Rattle.rdma_types.specs.Lists.{first_that}
 use Rattle.rdma_types.specs.Memory.{RemoteRead, word_bytes}
 use Rattle.rdma_types.specs.Objects.{Region, no_region}
 use Rattle.rdma_types.specs.Spans.{pieces}
-use Rattle.memory_keys.specs.declared.Spot.{Spot}
-use Rattle.completion_queue.specs.Queue.{Queue}
+use Rattle.memory_keys.specs.declared.RegionRange.{RegionRange}
+use Rattle.end_queues.specs.Completions.{Queue}
 use Rattle.protocol.specs.declared.images.KeptReply.{KeptReply}
 use Rattle.protocol.specs.declared.wire.AtomicEth.{AtomicEth}
 use Rattle.protocol.specs.declared.wire.Reth.{Reth}
@@ -105,7 +105,7 @@ ahead_taking a = if a.receiver.nak_sent then answers a (Silent why.NakSent) else
 -- ---- before the expected number: repeats
 
 -- the place of a READ or WRITE in its region; no bytes are in no region
-abbrev pub spot_of : Region → Reth → Spot
+abbrev pub spot_of : Region → Reth → RegionRange
 spot_of r h = if h.length == 0 then record { region = 0; off = 0; length = 0 } else record { region = r.keys.local; off = h.address - r.base; length = h.length }
 
 -- the responses of a READ: one for each piece
@@ -186,7 +186,7 @@ immediate_done qp count None r = []
 immediate_done qp count (Some imm) r = done_receive qp wc.RecvImm count (Some imm) r ∷ []
 
 -- where a WRITE goes on
-abbrev pub place_at : Spot → ℕ → Place
+abbrev pub place_at : RegionRange → ℕ → Place
 place_at spot done = record { region = spot.region; off = spot.off; length = spot.length; done = done }
 
 -- the bytes of a WRITE go to its place; its last packet ends it, and completes a receive where it has an immediate

@@ -22,15 +22,15 @@ ghost use Rattle.responder.specs.Taking.{acted, around_with, context_of, immedia
 
 use crate::kinds::{Part, is_read_request};
 use crate::places::{exchange, land, write};
-use crate::{Flow, Reply, Responder, ResponderParts, Why, checks};
-use completion_queue::Cq;
-use memory_keys::{Regions, Spot};
+use crate::{Flow, RefusalReason, Reply, Responder, ResponderParts, checks};
+use end_queues::completion_queue::Cq;
+use end_queues::work_queues::RecvQueue;
+use memory_keys::{RegionRange, Regions};
 use page_pool::PagePool;
-use psn_math::WIRE_NUMBERS;
 use rdma_types::{Completion, Name, Receive, WcKind, WcStatus};
 use roce_headers::{AtomicEth, Datagram};
-use segmenter::pieces_of;
-use work_queues::RecvQueue;
+use transport::psn_math::WIRE_NUMBERS;
+use transport::segmenter::pieces_of;
 
 /// The completion of a receive with success, as many bytes as its message has and the message's immediate.
 #[tactic(auto, unfolding(rdma_types::specs::Kinds::receive_done))]
@@ -75,7 +75,8 @@ fn acted(d: &Datagram<'_>) -> Reply
 
 /// How many messages a packet finishes: a First or Middle none.
 fn finished(part: Part) -> u32
-    ensures { result ≡ (if words.is_part (part_in part) && not (words.finishes (part_in part)) then 0 else 1) }
+    ensures { result ≡ (if words.is_part (part_in part)
+        && not (words.finishes (part_in part)) then 0 else 1) }
 {
     if part.is_part() && !part.finishes() {
         0
@@ -88,8 +89,12 @@ fn finished(part: Part) -> u32
 fn use_receive(recvs: &mut RecvQueue, cq: &mut Cq, qp: u32, size: u32, imm: Option<u32>)
     requires there { is_some imm ≡ true → 0 < length recvs.old.items }
     requires reserved { is_some imm ≡ true → 0 < cq.old.reserved }
-    ensures unused { recvs.new ≡ record recvs.old { items = if is_some imm then drop 1 recvs.old.items else recvs.old.items } }
-    ensures done { cq.new ≡ with_done cq.old (immediate_done qp size imm (words.front recvs.old.items)) }
+    ensures unused { recvs.new ≡ record recvs.old {
+      items = if is_some imm
+          then drop 1 recvs.old.items else recvs.old.items;
+    } }
+    ensures done { cq.new
+        ≡ with_done cq.old (immediate_done qp size imm (words.front recvs.old.items)) }
 {
     if imm.is_none() {
         return;
@@ -115,8 +120,12 @@ impl Responder {
     /// The parts once the packet is executed, with this message in progress.
     #[tactic(auto, unfolding(protocol::specs::Responder::executed, protocol::specs::EndWords::with_receiver))]
     fn executed(&self, d: &Datagram<'_>, flow: Flow) -> ResponderParts
-        requires { self.now.receiver.expected + words.span_of_packet (packet d.now) self.now.terms.mtu d.now.reth < number_limit }
-        ensures parts { (kept : List KeptReply) → receiver_of result kept ≡ record (words.executed (link_with self.now) (packet d.now)).receiver { progress = progress_of flow; kept = kept } }
+        requires { self.now.receiver.expected + words.span_of_packet
+            (packet d.now) self.now.terms.mtu d.now.reth < number_limit }
+        ensures parts { (kept : List KeptReply)
+            → receiver_of result kept ≡ record
+            (words.executed (link_with self.now) (packet d.now)).receiver
+            { progress = progress_of flow; kept = kept } }
         ensures held { IsHeld self.now.terms (receiver_of result self.now.receiver.kept) }
         ensures expected_grows { self.now.receiver.expected < result.expected }
     {
@@ -132,8 +141,14 @@ impl Responder {
     /// The packet is executed, and this message is in progress.
     #[tactic(auto, unfolding(protocol::specs::Responder::executed, protocol::specs::EndWords::with_receiver))]
     fn execute(&mut self, d: &Datagram<'_>, flow: Flow)
-        requires { self.old.receiver.expected + words.span_of_packet (packet d.now) self.old.terms.mtu d.now.reth < number_limit }
-        ensures { self.new ≡ record self.old { receiver = record (words.executed (link_with self.old) (packet d.now)).receiver { progress = progress_of flow } } }
+        requires { self.old.receiver.expected + words.span_of_packet
+            (packet d.now) self.old.terms.mtu d.now.reth < number_limit }
+        ensures { self.new
+            ≡ record self.old {
+              receiver = record
+                  (words.executed (link_with self.old) (packet d.now)).receiver
+                  { progress = progress_of flow };
+            } }
     {
         self.parts = self.executed(d, flow);
     }
@@ -141,8 +156,13 @@ impl Responder {
     /// The receive that a SEND uses, and how many bytes lie there: that in use, or the oldest unused one, which is used.
     fn receive(&self, recvs: &mut RecvQueue) -> Receive
         requires { 0 < length (in_use_by self.now.receiver.progress ++ recvs.old.items) }
-        ensures receive { result ≡ words.front (in_use_by self.now.receiver.progress ++ recvs.old.items) }
-        ensures unused { recvs.new ≡ record recvs.old { items = drop 1 (in_use_by self.now.receiver.progress ++ recvs.old.items) } }
+        ensures receive { result ≡ words.front
+            (in_use_by self.now.receiver.progress ++ recvs.old.items) }
+        ensures unused { recvs.new
+            ≡ record recvs.old {
+              items = drop 1
+                  (in_use_by self.now.receiver.progress ++ recvs.old.items);
+            } }
     {
         match self.parts.flow {
             Flow::Send { receive, .. } => receive,
@@ -162,12 +182,16 @@ impl Responder {
         qp: u32,
         d: &Datagram<'_>,
     ) -> Reply
-        requires limit { self.old.receiver.expected + words.span_of_packet (packet d.now) self.old.terms.mtu d.now.reth < number_limit }
+        requires limit { self.old.receiver.expected
+            + words.span_of_packet (packet d.now) self.old.terms.mtu d.now.reth < number_limit }
         requires held { AreHeld pool.old regions.old }
         requires there { 0 < length (in_use_by self.old.receiver.progress ++ recvs.old.items) }
-        requires place { IsPlace regions.old domain (words.front (in_use_by self.old.receiver.progress ++ recvs.old.items)) }
+        requires place { IsPlace regions.old domain
+            (words.front (in_use_by self.old.receiver.progress ++ recvs.old.items)) }
         requires reserved { 0 < cq.old.reserved }
-        ensures taken { IsTaken (sending (around_with self.old domain qp (regions_of pool.old regions.old) recvs.old.items) (packet d.now)) result self.old self.new (regions_of pool.new regions.new) recvs.old recvs.new cq.old cq.new }
+        ensures taken { IsTaken (sending (around_with self.old domain qp
+            (regions_of pool.old regions.old) recvs.old.items) (packet d.now)) result self.old
+            self.new (regions_of pool.new regions.new) recvs.old recvs.new cq.old cq.new }
         ensures kept { KeepsRegions pool.old pool.new regions.old regions.new }
     {
         let receive = self.receive(recvs);
@@ -176,7 +200,7 @@ impl Responder {
         if u64::from(receive.length) < size {
             cq.push(too_short(qp, &receive));
             self.parts.flow = Flow::Idle;
-            return Reply::Refused(Why::Length);
+            return Reply::Refused(RefusalReason::Length);
         }
         land(pool, regions, domain, &receive, before, d.payload);
         self.go_on(cq, qp, receive, size as u32, d);
@@ -186,10 +210,19 @@ impl Responder {
     /// So many bytes of a SEND are done; its last packet completes its receive.
     #[tactic(auto, unfolding(protocol::specs::Responder::executed, protocol::specs::EndWords::with_receiver))]
     fn go_on(&mut self, cq: &mut Cq, qp: u32, receive: Receive, size: u32, d: &Datagram<'_>)
-        requires limit { self.old.receiver.expected + words.span_of_packet (packet d.now) self.old.terms.mtu d.now.reth < number_limit }
+        requires limit { self.old.receiver.expected
+            + words.span_of_packet (packet d.now) self.old.terms.mtu d.now.reth < number_limit }
         requires reserved { 0 < cq.old.reserved }
-        ensures receiver { self.new ≡ record self.old { receiver = record (words.executed (link_with self.old) (packet d.now)).receiver { progress = if words.finishes (words.part_of d.now.opcode) then NoMessage else InSend size receive } } }
-        ensures done { cq.new ≡ with_done cq.old (if words.finishes (words.part_of d.now.opcode) then done_receive qp wc.Recv size d.now.imm receive ∷ [] else []) }
+        ensures receiver { self.new
+            ≡ record self.old {
+              receiver = record
+                  (words.executed (link_with self.old) (packet d.now)).receiver {
+                    progress = if words.finishes (words.part_of d.now.opcode) then NoMessage
+                        else InSend size receive;
+                  };
+            } }
+        ensures done { cq.new ≡ with_done cq.old (if words.finishes (words.part_of d.now.opcode)
+            then done_receive qp wc.Recv size d.now.imm receive ∷ [] else []) }
     {
         if !Part::of(d.opcode).finishes() {
             let done = size;
@@ -209,17 +242,22 @@ impl Responder {
         recvs: &mut RecvQueue,
         cq: &mut Cq,
         qp: u32,
-        spot: Spot,
+        spot: RegionRange,
         before: u32,
         d: &Datagram<'_>,
     ) -> Reply
-        requires limit { self.old.receiver.expected + words.span_of_packet (packet d.now) self.old.terms.mtu d.now.reth < number_limit }
+        requires limit { self.old.receiver.expected
+            + words.span_of_packet (packet d.now) self.old.terms.mtu d.now.reth < number_limit }
         requires held { AreHeld pool.old regions.old }
         requires place { IsSpot regions.old spot }
         requires fits { before + length d.now.payload.now ≤ spot.length }
         requires there { is_some d.now.imm ≡ true → 0 < length recvs.old.items }
         requires reserved { is_some d.now.imm ≡ true → 0 < cq.old.reserved }
-        ensures taken { (domain : Name) → IsTaken (write_taking (around_with self.old domain qp (regions_of pool.old regions.old) recvs.old.items) (packet d.now) (place_at spot before)) result self.old self.new (regions_of pool.new regions.new) recvs.old recvs.new cq.old cq.new }
+        ensures taken { (domain : Name)
+            → IsTaken (write_taking (around_with self.old domain qp
+            (regions_of pool.old regions.old) recvs.old.items) (packet d.now)
+            (place_at spot before)) result self.old self.new
+            (regions_of pool.new regions.new) recvs.old recvs.new cq.old cq.new }
         ensures kept { KeepsRegions pool.old pool.new regions.old regions.new }
     {
         write(pool, regions, spot, before, d.payload);
@@ -235,10 +273,16 @@ impl Responder {
 
     /// A READ of a granted place.
     #[tactic(auto, unfolding(protocol::specs::Responder::executed, protocol::specs::EndWords::with_receiver))]
-    pub(crate) fn take_read(&mut self, spot: Spot, d: &Datagram<'_>) -> Reply
-        requires { self.old.receiver.expected + words.span_of_packet (packet d.now) self.old.terms.mtu d.now.reth < number_limit }
-        ensures reply { result ≡ Reply.ReadBytes spot self.old.receiver.expected (pieces spot.length self.old.terms.mtu) }
-        ensures receiver { self.new ≡ record self.old { receiver = (words.executed (link_with self.old) (packet d.now)).receiver } }
+    pub(crate) fn take_read(&mut self, spot: RegionRange, d: &Datagram<'_>) -> Reply
+        requires { self.old.receiver.expected + words.span_of_packet
+            (packet d.now) self.old.terms.mtu d.now.reth < number_limit }
+        ensures reply { result ≡ Reply.ReadBytes spot self.old.receiver.expected
+            (pieces spot.length self.old.terms.mtu) }
+        ensures receiver { self.new
+            ≡ record self.old {
+              receiver = (words.executed (link_with self.old)
+                  (packet d.now)).receiver;
+            } }
     {
         let first = self.parts.expected;
         let pieces = pieces_of(spot.length, self.terms.mtu);
@@ -256,17 +300,30 @@ impl Responder {
         &mut self,
         pool: &mut PagePool,
         regions: &mut Regions,
-        spot: Spot,
+        spot: RegionRange,
         h: &AtomicEth,
         d: &Datagram<'_>,
     ) -> Reply
-        requires limit { self.old.receiver.expected + words.span_of_packet (packet d.now) self.old.terms.mtu d.now.reth < number_limit }
+        requires limit { self.old.receiver.expected
+            + words.span_of_packet (packet d.now) self.old.terms.mtu d.now.reth < number_limit }
         requires held { AreHeld pool.old regions.old }
         requires place { IsSpot regions.old spot }
         requires length { spot.length ≡ 8 }
-        ensures reply { let old = word_of (spot_bytes pool.old regions.old spot) in result ≡ Reply.AtomicOld self.old.receiver.expected old }
-        ensures receiver { let old = word_of (spot_bytes pool.old regions.old spot) in self.new ≡ record self.old { receiver = record (words.executed (link_with self.old) (packet d.now)).receiver { kept = words.keeping self.old.receiver.kept (record { number = self.old.receiver.expected; old = old }) } } }
-        ensures regions { let old = word_of (spot_bytes pool.old regions.old spot) in regions_of pool.new regions.new ≡ (written (context_of (regions_of pool.old regions.old)) spot.region spot.off (word_bytes (words.atomic_value d.now.opcode h.now old))).regions }
+        ensures reply { let old = word_of (spot_bytes pool.old regions.old spot)
+            in result ≡ Reply.AtomicOld self.old.receiver.expected old }
+        ensures receiver { let old = word_of (spot_bytes pool.old regions.old spot)
+            in self.new
+            ≡ record self.old {
+              receiver = record
+                  (words.executed (link_with self.old) (packet d.now)).receiver {
+                    kept = words.keeping self.old.receiver.kept
+                        (record { number = self.old.receiver.expected; old = old });
+                  };
+            } }
+        ensures regions { let old = word_of (spot_bytes pool.old regions.old spot)
+            in regions_of pool.new regions.new
+            ≡ (written (context_of (regions_of pool.old regions.old)) spot.region spot.off
+            (word_bytes (words.atomic_value d.now.opcode h.now old))).regions }
         ensures keyed { AreKeyed regions.old }
         ensures kept { KeepsRegions pool.old pool.new regions.old regions.new }
     {

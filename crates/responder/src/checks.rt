@@ -9,10 +9,8 @@ ghost use Rattle.roce_headers.specs.Packets.{packet};
 
 use crate::kinds::{Part, is_read_request, is_send, is_write};
 use crate::{Flow, Responder};
+use rdma_types::limits::MOST_BYTES;
 use roce_headers::{AtomicEth, Datagram, Reth};
-
-/// How many bytes a message has at most (this project's choice).
-const MOST_BYTES: u32 = 1_048_576;
 
 /// A message is in progress.
 fn in_message(flow: &Flow) -> bool

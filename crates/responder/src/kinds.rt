@@ -4,6 +4,11 @@ ghost use Rattle.std.specs.Prelude.{◌≡◌};
 ghost use Rattle.protocol.specs.Responder as words;
 ghost use Rattle.responder.specs.Kinds.{part_in};
 
+use roce_headers::opcodes::{
+    READ_REQUEST, SEND_FIRST, SEND_LAST, SEND_LAST_IMM, SEND_MIDDLE, SEND_ONLY, SEND_ONLY_IMM,
+    WRITE_FIRST, WRITE_LAST, WRITE_LAST_IMM, WRITE_MIDDLE, WRITE_ONLY, WRITE_ONLY_IMM,
+};
+
 /// Which packet of a message it is; READ requests and atomics are of none.
 #[derive(Clone, Copy)]
 pub enum Part {
@@ -21,10 +26,10 @@ impl Part {
         ensures { part_in result ≡ words.part_of opcode }
     {
         match opcode {
-            0x00 | 0x06 => Part::First,
-            0x01 | 0x07 => Part::Middle,
-            0x02 | 0x03 | 0x08 | 0x09 => Part::Last,
-            0x04 | 0x05 | 0x0A | 0x0B => Part::Only,
+            SEND_FIRST | WRITE_FIRST => Part::First,
+            SEND_MIDDLE | WRITE_MIDDLE => Part::Middle,
+            SEND_LAST | SEND_LAST_IMM | WRITE_LAST | WRITE_LAST_IMM => Part::Last,
+            SEND_ONLY | SEND_ONLY_IMM | WRITE_ONLY | WRITE_ONLY_IMM => Part::Only,
             _ => Part::NoPart,
         }
     }
@@ -55,19 +60,19 @@ impl Part {
 pub fn is_send(opcode: u8) -> bool
     ensures { result ≡ words.is_send opcode }
 {
-    opcode <= 0x05
+    opcode <= SEND_ONLY_IMM
 }
 
 /// A WRITE.
 pub fn is_write(opcode: u8) -> bool
     ensures { result ≡ words.is_write opcode }
 {
-    0x06 <= opcode && opcode <= 0x0B
+    WRITE_FIRST <= opcode && opcode <= WRITE_ONLY_IMM
 }
 
 /// A READ request.
 pub fn is_read_request(opcode: u8) -> bool
     ensures { result ≡ words.is_read_request opcode }
 {
-    opcode == 0x0C
+    opcode == READ_REQUEST
 }

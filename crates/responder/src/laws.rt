@@ -3,7 +3,7 @@
 ghost use Rattle.std.specs.Prelude.{ℕ, List, ◌≡◌, ◌≤◌, [], ◌∷◌, ◌++◌, All, Some, true, drop, nat_eq, map, slice_get};
 ghost use Rattle.std.specs.List.{IsDistinct};
 ghost use Rattle.page_pool.specs.Pool.{Pool};
-ghost use Rattle.memory_keys.specs.declared.Held.{Held};
+ghost use Rattle.memory_keys.specs.declared.RegisteredRegion.{RegisteredRegion};
 ghost use Rattle.memory_keys.specs.Regions.{AreHeld, AreKeyed, regions_of};
 ghost use Rattle.protocol.specs.Responder.{takes_request};
 ghost use Rattle.protocol.specs.State.{Context, End, Link, Receiver, fresh_receiver};
@@ -14,7 +14,7 @@ ghost use Rattle.rdma_types.specs.Objects.{Region};
 ghost use Rattle.rdma_types.specs.declared.names.Name.{Name};
 ghost use Rattle.rdma_types.specs.declared.requests.Receive.{Receive};
 ghost use Rattle.rdma_types.specs.declared.requests.Terms.{Terms};
-ghost use Rattle.responder.specs.Changes.{KeepsRestAt};
+ghost use Rattle.protocol.specs.Changes.{KeepsRestAt};
 ghost use Rattle.responder.specs.Receiving.{Receiving, idled};
 ghost use Rattle.responder.specs.Sound.{IsPlace, IsSound};
 ghost use Rattle.responder.specs.Steps.{step_of};
@@ -38,7 +38,7 @@ pub fn answers_leave_the_rest()
 /// Whatever request of the grammar arrives, a byte of a region changes only in the range that the packet is granted, in
 /// the range of the message in progress, or in the receive in use or the oldest unused one.
 pub fn requests_change_granted_bytes_alone()
-    ensures { (pool : Pool) (held : List Held) (domain : Name) (qp : ℕ) (v : Receiving) (unused : List Receive) (d : Packet) (i : ℕ) (old : Region)
+    ensures { (pool : Pool) (held : List RegisteredRegion) (domain : Name) (qp : ℕ) (v : Receiving) (unused : List Receive) (d : Packet) (i : ℕ) (old : Region)
         → Fits d → AreHeld pool held → AreKeyed held → IsSound held domain v unused → slice_get (regions_of pool held) i ≡ Some old
         → KeepsRestAt domain v.receiver unused d (regions_of pool held) (taken_request v.terms domain qp v.receiver (regions_of pool held) unused d).regions i old }
 {}
@@ -47,16 +47,16 @@ pub fn requests_change_granted_bytes_alone()
 /// posted or flushed, where its message is cut, and where a region is made. And a place that is granted over one pool of
 /// pages is granted whatever bytes lie there.
 pub fn soundness_stays()
-    ensures fresh { (held : List Held) (domain : Name) (terms : Terms) (unused : List Receive) → All (IsPlace held domain) unused
+    ensures fresh { (held : List RegisteredRegion) (domain : Name) (terms : Terms) (unused : List Receive) → All (IsPlace held domain) unused
         → IsSound held domain (record { terms = terms; receiver = fresh_receiver }) unused }
-    ensures posted { (held : List Held) (domain : Name) (v : Receiving) (unused : List Receive) (r : Receive) → IsPlace held domain r
+    ensures posted { (held : List RegisteredRegion) (domain : Name) (v : Receiving) (unused : List Receive) (r : Receive) → IsPlace held domain r
         → IsSound held domain v unused → IsSound held domain v (unused ++ r ∷ []) }
-    ensures flushed { (held : List Held) (domain : Name) (v : Receiving) (unused : List Receive) (n : ℕ)
+    ensures flushed { (held : List RegisteredRegion) (domain : Name) (v : Receiving) (unused : List Receive) (n : ℕ)
         → IsSound held domain v unused → IsSound held domain v (drop n unused) }
-    ensures cut { (held : List Held) (domain : Name) (v : Receiving) (unused : List Receive)
+    ensures cut { (held : List RegisteredRegion) (domain : Name) (v : Receiving) (unused : List Receive)
         → IsSound held domain v unused → IsSound held domain (record v { receiver = idled v.receiver }) unused }
-    ensures made { (held more : List Held) (domain : Name) (v : Receiving) (unused : List Receive)
+    ensures made { (held more : List RegisteredRegion) (domain : Name) (v : Receiving) (unused : List Receive)
         → IsSound held domain v unused → IsSound (held ++ more) domain v unused }
-    ensures placed { (pool : Pool) (held : List Held) (domain : Name) (r : Receive) → r.length ≤ most_bytes
+    ensures placed { (pool : Pool) (held : List RegisteredRegion) (domain : Name) (r : Receive) → r.length ≤ most_bytes
         → is_granted local_key (regions_of pool held) domain r.lkey r.local r.length LocalWrite ≡ true → IsPlace held domain r }
 {}

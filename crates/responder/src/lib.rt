@@ -12,14 +12,14 @@ mod places;
 mod taking;
 
 pub use answers::{Flow, Reply, ResponderParts};
-use atomic_replay::Kept;
 pub use laws::{
     answers_are_the_protocols_rows, answers_leave_the_rest, requests_change_granted_bytes_alone,
     soundness_stays,
 };
 use rdma_types::Terms;
-pub use rdma_types::{SilentWhy, Why};
+pub use rdma_types::{DropReason, RefusalReason};
 use std::marker::Model;
+use transport::atomic_replay::ReplyCache;
 
 /// The responder of a connected end: the message in progress, its numbers, and the last sixteen replies to atomics. No
 /// call takes memory, and each takes constant time or that of the bytes that it moves.
@@ -27,7 +27,7 @@ use std::marker::Model;
 pub struct Responder {
     terms: Terms,
     parts: ResponderParts,
-    kept: Kept,
+    kept: ReplyCache,
 }
 
 impl Model for Responder {

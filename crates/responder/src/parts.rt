@@ -6,8 +6,8 @@ ghost use Rattle.protocol.specs.State.{fresh_receiver};
 ghost use Rattle.responder.specs.Receiving.{IsHeld, idled, parts_of, receiver_of};
 
 use crate::{Flow, Responder, ResponderParts};
-use atomic_replay::Kept;
 use rdma_types::{Receive, Terms};
+use transport::atomic_replay::ReplyCache;
 
 impl Responder {
     /// The responder of a new connection: packet 0 is expected, and there is no message and no reply.
@@ -21,11 +21,11 @@ impl Responder {
             msn: 0,
             flow: Flow::Idle,
         };
-        Responder::from_parts(terms, Kept::make(), parts)
+        Responder::from_parts(terms, ReplyCache::make(), parts)
     }
 
     /// The responder with these parts, as an image says them.
-    pub fn from_parts(terms: &Terms, kept: Kept, parts: ResponderParts) -> Responder
+    pub fn from_parts(terms: &Terms, kept: ReplyCache, parts: ResponderParts) -> Responder
         requires { IsHeld terms.now (receiver_of parts kept) }
         ensures { result ≡ record { terms = terms.now; receiver = receiver_of parts kept } }
     {
@@ -48,7 +48,7 @@ impl Responder {
     }
 
     /// The replies to atomics that are kept.
-    pub fn kept(&self) -> &Kept
+    pub fn kept(&self) -> &ReplyCache
         ensures kept { result.now ≡ self.now.receiver.kept }
         ensures held { IsHeld self.now.terms self.now.receiver }
     {
@@ -66,7 +66,8 @@ impl Responder {
     /// Ends the message in progress, and hands out its receive; None exactly where no receive is in use.
     pub fn cut(&mut self) -> Option<Receive>
         ensures receive { result ≡ slice_get (in_use_by self.old.receiver.progress) 0 }
-        ensures idle { self.new ≡ record { terms = self.old.terms; receiver = idled self.old.receiver } }
+        ensures idle { self.new
+            ≡ record { terms = self.old.terms; receiver = idled self.old.receiver } }
     {
         let flow = self.parts.flow;
         self.parts.flow = Flow::Idle;

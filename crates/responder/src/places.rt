@@ -12,14 +12,16 @@ ghost use Rattle.responder.specs.Taken.{KeepsRegions, place_granted};
 ghost use Rattle.responder.specs.Taking.{context_of, landed_in};
 
 use crate::kinds::is_read_request;
-use memory_keys::{Regions, Spot};
+use memory_keys::{RegionRange, Regions};
 use page_pool::PagePool;
 use rdma_types::{Name, Receive, Rights};
+use roce_headers::opcodes::FETCH_ADD;
 use roce_headers::{AtomicEth, Datagram};
 
 /// The place that a packet's request is granted (check 2); one that names no place is granted one of no bytes.
-pub fn target(regions: &Regions, domain: Name, d: &Datagram<'_>) -> Option<Spot>
-    ensures granted { (pool : Pool) → result ≡ place_granted (regions_of pool regions.now) domain (packet d.now) }
+pub fn target(regions: &Regions, domain: Name, d: &Datagram<'_>) -> Option<RegionRange>
+    ensures granted { (pool : Pool)
+        → result ≡ place_granted (regions_of pool regions.now) domain (packet d.now) }
     ensures inside { IfSome result (λ spot. IsSpot regions.now spot) }
 {
     if let Some(h) = d.atomic {
@@ -27,7 +29,7 @@ pub fn target(regions: &Regions, domain: Name, d: &Datagram<'_>) -> Option<Spot>
     }
     let Some(h) = d.reth else {
         let (region, off, length) = (0, 0, 0);
-        return Some(Spot {
+        return Some(RegionRange {
             region,
             off,
             length,
@@ -53,7 +55,8 @@ pub fn land(
     requires held { AreHeld pool.old regions.old }
     requires place { IsPlace regions.old domain receive.now }
     requires fits { done + length bytes.now ≤ receive.now.length }
-    ensures landed { regions_of pool.new regions.new ≡ landed_in (regions_of pool.old regions.old) receive.now done bytes.now }
+    ensures landed { regions_of pool.new regions.new
+        ≡ landed_in (regions_of pool.old regions.old) receive.now done bytes.now }
     ensures kept { KeepsRegions pool.old pool.new regions.old regions.new }
 {
     let place = regions.check_local(domain, receive.lkey, receive.local, receive.length, true);
@@ -62,11 +65,13 @@ pub fn land(
 }
 
 /// Stores bytes of a WRITE in its place, behind those that lie there.
-pub fn write(pool: &mut PagePool, regions: &mut Regions, spot: Spot, done: u32, bytes: &[u8])
+pub fn write(pool: &mut PagePool, regions: &mut Regions, spot: RegionRange, done: u32, bytes: &[u8])
     requires held { AreHeld pool.old regions.old }
     requires place { IsSpot regions.old spot }
     requires fits { done + length bytes.now ≤ spot.length }
-    ensures written { regions_of pool.new regions.new ≡ (written (context_of (regions_of pool.old regions.old)) spot.region (spot.off + done) bytes.now).regions }
+    ensures written { regions_of pool.new regions.new
+        ≡ (written (context_of (regions_of pool.old regions.old)) spot.region
+        (spot.off + done) bytes.now).regions }
     ensures kept { KeepsRegions pool.old pool.new regions.old regions.new }
 {
     regions.are_keyed();
@@ -78,7 +83,7 @@ pub fn write(pool: &mut PagePool, regions: &mut Regions, spot: Spot, done: u32, 
 fn next_word(opcode: u8, h: &AtomicEth, old: u64) -> u64
     ensures { result ≡ words.atomic_value opcode h.now old }
 {
-    if opcode == 0x14 {
+    if opcode == FETCH_ADD {
         old.wrapping_add(h.swap_add)
     } else if old == h.compare {
         h.swap_add
@@ -91,7 +96,7 @@ fn next_word(opcode: u8, h: &AtomicEth, old: u64) -> u64
 pub fn exchange(
     pool: &mut PagePool,
     regions: &mut Regions,
-    spot: Spot,
+    spot: RegionRange,
     opcode: u8,
     h: &AtomicEth,
 ) -> u64
@@ -99,7 +104,9 @@ pub fn exchange(
     requires place { IsSpot regions.old spot }
     requires length { spot.length ≡ 8 }
     ensures old { result ≡ word_of (spot_bytes pool.old regions.old spot) }
-    ensures written { regions_of pool.new regions.new ≡ (written (context_of (regions_of pool.old regions.old)) spot.region spot.off (word_bytes (words.atomic_value opcode h.now result))).regions }
+    ensures written { regions_of pool.new regions.new
+        ≡ (written (context_of (regions_of pool.old regions.old)) spot.region spot.off
+        (word_bytes (words.atomic_value opcode h.now result))).regions }
     ensures keyed { AreKeyed regions.old }
     ensures kept { KeepsRegions pool.old pool.new regions.old regions.new }
 {

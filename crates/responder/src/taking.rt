@@ -16,18 +16,16 @@ ghost use Rattle.responder.specs.Taken.{IsRead, IsTaken, IsTarget, KeepsRegions,
 ghost use Rattle.responder.specs.Taking.{ahead_taking, answers, around_with, end_of, expected_taking, granted_taking, link_with, repeated_read_taking, repeated_taking, taken_request, taking, with_done};
 
 use crate::kinds::{Part, is_read_request, is_send, is_write};
-use crate::{Flow, Reply, Responder, SilentWhy, Why, places};
-use completion_queue::Cq;
-use memory_keys::{Regions, Spot};
+use crate::{DropReason, Flow, RefusalReason, Reply, Responder, places};
+use end_queues::completion_queue::Cq;
+use end_queues::work_queues::RecvQueue;
+use memory_keys::{RegionRange, Regions};
 use page_pool::PagePool;
-use psn_math::{PsnOrder, place, unwrap_near};
+use rdma_types::limits::NUMBER_LIMIT;
 use rdma_types::{Name, Rights};
 use roce_headers::{Datagram, Reth};
-use segmenter::pieces_of;
-use work_queues::RecvQueue;
-
-/// No packet number reaches this (this project's choice).
-const NUMBER_LIMIT: u64 = 1 << 62;
+use transport::psn_math::{PsnOrder, place, unwrap_near};
+use transport::segmenter::pieces_of;
 
 /// A SEND that begins a message, or the last packet of a WRITE with immediate.
 fn needs_receive(d: &Datagram<'_>) -> bool
@@ -62,11 +60,25 @@ impl Responder {
         requires held { AreHeld pool.old regions.old }
         requires sound { IsSound regions.old domain self.old recvs.old.items }
         requires reserved { waiting self.old.receiver recvs.old.items ≤ cq.old.reserved }
-        ensures reply { result ≡ (taken_request self.old.terms domain qp self.old.receiver (regions_of pool.old regions.old) recvs.old.items (packet d.now)).reply }
-        ensures receiver { self.new ≡ record self.old { receiver = (taken_request self.old.terms domain qp self.old.receiver (regions_of pool.old regions.old) recvs.old.items (packet d.now)).receiver } }
-        ensures regions { regions_of pool.new regions.new ≡ (taken_request self.old.terms domain qp self.old.receiver (regions_of pool.old regions.old) recvs.old.items (packet d.now)).regions }
-        ensures unused { recvs.new ≡ record recvs.old { items = (taken_request self.old.terms domain qp self.old.receiver (regions_of pool.old regions.old) recvs.old.items (packet d.now)).unused } }
-        ensures done { cq.new ≡ with_done cq.old (taken_request self.old.terms domain qp self.old.receiver (regions_of pool.old regions.old) recvs.old.items (packet d.now)).done }
+        ensures reply { result
+            ≡ (taken_request self.old.terms domain qp self.old.receiver
+            (regions_of pool.old regions.old) recvs.old.items (packet d.now)).reply }
+        ensures receiver { self.new
+            ≡ record self.old {
+              receiver = (taken_request self.old.terms domain qp self.old.receiver
+                  (regions_of pool.old regions.old) recvs.old.items (packet d.now)).receiver;
+            } }
+        ensures regions { regions_of pool.new regions.new
+            ≡ (taken_request self.old.terms domain qp self.old.receiver
+            (regions_of pool.old regions.old) recvs.old.items (packet d.now)).regions }
+        ensures unused { recvs.new
+            ≡ record recvs.old {
+              items = (taken_request self.old.terms domain qp self.old.receiver
+                  (regions_of pool.old regions.old) recvs.old.items (packet d.now)).unused;
+            } }
+        ensures done { cq.new ≡ with_done cq.old
+            (taken_request self.old.terms domain qp self.old.receiver
+            (regions_of pool.old regions.old) recvs.old.items (packet d.now)).done }
         ensures same { regions.new ≡ regions.old }
         ensures held { AreHeld pool.new regions.new }
         ensures others { KeepsOthers pool.old pool.new regions.old }
@@ -74,7 +86,8 @@ impl Responder {
         ensures keyed { AreKeyed regions.new }
         ensures read { IsRead regions.new self.old.terms.mtu result }
         ensures sound { IsSound regions.new domain self.new recvs.new.items }
-        ensures reserved { waiting self.new.receiver recvs.new.items + cq.old.reserved ≡ waiting self.old.receiver recvs.old.items + cq.new.reserved }
+        ensures reserved { waiting self.new.receiver recvs.new.items + cq.old.reserved
+            ≡ waiting self.old.receiver recvs.old.items + cq.new.reserved }
     {
         regions.are_keyed();
         self.take(pool, regions, domain, recvs, cq, qp, d)
@@ -96,13 +109,15 @@ impl Responder {
         requires held { AreHeld pool.old regions.old }
         requires sound { IsSound regions.old domain self.old recvs.old.items }
         requires reserved { waiting self.old.receiver recvs.old.items ≤ cq.old.reserved }
-        ensures taken { IsTaken (taking (around_with self.old domain qp (regions_of pool.old regions.old) recvs.old.items) (packet d.now)) result self.old self.new (regions_of pool.new regions.new) recvs.old recvs.new cq.old cq.new }
+        ensures taken { IsTaken (taking (around_with self.old domain qp
+            (regions_of pool.old regions.old) recvs.old.items) (packet d.now)) result self.old
+            self.new (regions_of pool.new regions.new) recvs.old recvs.new cq.old cq.new }
         ensures kept { KeepsRegions pool.old pool.new regions.old regions.new }
         ensures held { IsHeld self.old.terms self.old.receiver }
     {
         let expected = self.parts.expected;
         let Some(n) = unwrap_near(d.psn, self.terms.peer_start, expected) else {
-            return Reply::Silent(SilentWhy::NoRepeat);
+            return Reply::Silent(DropReason::NoRepeat);
         };
         match place(n, expected) {
             PsnOrder::Ahead => self.take_ahead(),
@@ -114,11 +129,17 @@ impl Responder {
     /// A request ahead of the expected one: one NAK until progress (IBA 9.7).
     #[tactic(auto, unfolding(crate::specs::Taking::ahead_taking))]
     fn take_ahead(&mut self) -> Reply
-        ensures reply { (domain : Name) (qp : ℕ) (regions : List Region) (unused : List Receive) → result ≡ (ahead_taking (around_with self.old domain qp regions unused)).reply }
-        ensures receiver { (domain : Name) (qp : ℕ) (regions : List Region) (unused : List Receive) → self.new ≡ record self.old { receiver = (ahead_taking (around_with self.old domain qp regions unused)).receiver } }
+        ensures reply { (domain : Name) (qp : ℕ) (regions : List Region) (unused : List Receive)
+            → result ≡ (ahead_taking (around_with self.old domain qp regions unused)).reply }
+        ensures receiver { (domain : Name) (qp : ℕ) (regions : List Region) (unused : List Receive)
+            → self.new
+            ≡ record self.old {
+              receiver = (ahead_taking
+                  (around_with self.old domain qp regions unused)).receiver;
+            } }
     {
         if self.parts.nak_sent {
-            return Reply::Silent(SilentWhy::NakSent);
+            return Reply::Silent(DropReason::NakSent);
         }
         self.parts.nak_sent = true;
         Reply::SequenceNak
@@ -128,7 +149,9 @@ impl Responder {
     #[tactic(auto, unfolding(crate::specs::Taking::repeated_taking))]
     fn take_repeat(&self, regions: &Regions, domain: Name, d: &Datagram<'_>, n: u64) -> Reply
         requires { n < self.now.receiver.expected }
-        ensures { (pool : Pool) (qp : ℕ) (unused : List Receive) → let a = around_with self.now domain qp (regions_of pool regions.now) unused in repeated_taking a (packet d.now) n ≡ answers a result }
+        ensures { (pool : Pool) (qp : ℕ) (unused : List Receive)
+            → let a = around_with self.now domain qp (regions_of pool regions.now) unused
+            in repeated_taking a (packet d.now) n ≡ answers a result }
     {
         if is_read_request(d.opcode) {
             return self.take_reread(regions, domain, d.reth, n);
@@ -138,7 +161,7 @@ impl Responder {
         }
         let (number, kept) = (n, self.kept.find(n));
         kept.map_or(
-            Reply::Silent(SilentWhy::NoRepeat),
+            Reply::Silent(DropReason::NoRepeat),
             |old| Reply::AtomicOld { number, old },
         )
     }
@@ -146,9 +169,11 @@ impl Responder {
     /// A repeated READ, where all its numbers are before the expected one and it is granted now.
     fn take_reread(&self, regions: &Regions, domain: Name, reth: Option<Reth>, n: u64) -> Reply
         requires { n < self.now.receiver.expected }
-        ensures { (pool : Pool) (qp : ℕ) (unused : List Receive) → let a = around_with self.now domain qp (regions_of pool regions.now) unused in repeated_read_taking a reth n ≡ answers a result }
+        ensures { (pool : Pool) (qp : ℕ) (unused : List Receive)
+            → let a = around_with self.now domain qp (regions_of pool regions.now) unused
+            in repeated_read_taking a reth n ≡ answers a result }
     {
-        let silent = Reply::Silent(SilentWhy::NoRepeat);
+        let silent = Reply::Silent(DropReason::NoRepeat);
         let Some(h) = reth else {
             return silent;
         };
@@ -183,17 +208,20 @@ impl Responder {
         requires held { AreHeld pool.old regions.old }
         requires sound { IsSound regions.old domain self.old recvs.old.items }
         requires reserved { waiting self.old.receiver recvs.old.items ≤ cq.old.reserved }
-        ensures taken { IsTaken (expected_taking (around_with self.old domain qp (regions_of pool.old regions.old) recvs.old.items) (packet d.now) self.old.receiver.expected) result self.old self.new (regions_of pool.new regions.new) recvs.old recvs.new cq.old cq.new }
+        ensures taken { IsTaken (expected_taking
+            (around_with self.old domain qp (regions_of pool.old regions.old) recvs.old.items)
+            (packet d.now) self.old.receiver.expected) result self.old self.new
+            (regions_of pool.new regions.new) recvs.old recvs.new cq.old cq.new }
         ensures kept { KeepsRegions pool.old pool.new regions.old regions.new }
     {
         if self.parts.expected + self.span(d) >= NUMBER_LIMIT {
-            return Reply::Silent(SilentWhy::NoRepeat);
+            return Reply::Silent(DropReason::NoRepeat);
         }
         if self.is_invalid(d) {
-            return Reply::Refused(Why::Invalid);
+            return Reply::Refused(RefusalReason::Invalid);
         }
         let Some(spot) = places::target(regions, domain, d) else {
-            return Reply::Refused(Why::Access);
+            return Reply::Refused(RefusalReason::Access);
         };
         if is_not_ready(recvs, d) {
             return Reply::NotReady;
@@ -210,12 +238,15 @@ impl Responder {
         recvs: &mut RecvQueue,
         cq: &mut Cq,
         qp: u32,
-        spot: Spot,
+        spot: RegionRange,
         d: &Datagram<'_>,
     ) -> Reply
-        requires limit { self.old.receiver.expected + words.span_of_packet (packet d.now) self.old.terms.mtu d.now.reth < number_limit }
+        requires limit { self.old.receiver.expected
+            + words.span_of_packet (packet d.now) self.old.terms.mtu d.now.reth < number_limit }
         requires valid { words.is_invalid (link_with self.old) (packet d.now) ≡ false }
-        requires ready { words.is_not_ready (end_of (around_with self.old domain qp (regions_of pool.old regions.old) recvs.old.items)) (packet d.now) ≡ false }
+        requires ready { words.is_not_ready (end_of
+            (around_with self.old domain qp (regions_of pool.old regions.old) recvs.old.items))
+            (packet d.now) ≡ false }
         requires target { IsTarget regions.old domain (packet d.now) spot }
         requires fits { Fits (packet d.now) }
         requires request { IsTrue (is_request d.now.opcode) }
@@ -240,7 +271,7 @@ impl Responder {
     }
 
     /// Where a WRITE goes on: where its message is, or else where its RETH begins.
-    fn write_place(&self, spot: Spot, reth: Option<Reth>) -> (Spot, u32)
+    fn write_place(&self, spot: RegionRange, reth: Option<Reth>) -> (RegionRange, u32)
         ensures { result ≡ place_next spot reth self.now.receiver.progress }
     {
         match (reth, self.parts.flow) {

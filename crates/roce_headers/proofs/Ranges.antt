@@ -5,7 +5,7 @@ use Rattle.std.specs.Bool.{OnTrue, OnFalse}
 use Rattle.std.proofs.lemmas.List.{get_or-drop}
 use Rattle.byteorder.specs.Numbers.{big_from-lt}
 use borrow.Author.Tests.{eqb-true}
-use Rattle.roce_headers.proofs.Grammar.{both, read_spelled}
+use Rattle.protocol.proofs.PacketGrammar.{both, read_spelled}
 use Rattle.roce_headers.specs.Packets.{packet}
 use Rattle.roce_headers.specs.declared.datagram.Datagram.{Datagram}
 use Rattle.protocol.specs.declared.wire.Malformed.{Malformed}

@@ -6,6 +6,42 @@ ghost use Rattle.protocol.specs.Wire as wire;
 
 use protocol::{Headers, Layout};
 
+/// The first of several packets of a SEND.
+pub const SEND_FIRST: u8 = 0x00;
+
+/// One between the first and the last packet of a SEND.
+pub const SEND_MIDDLE: u8 = 0x01;
+
+/// The last of several packets of a SEND.
+pub const SEND_LAST: u8 = 0x02;
+
+/// The last of several packets of a SEND with an immediate.
+pub const SEND_LAST_IMM: u8 = 0x03;
+
+/// The one packet of a SEND.
+pub const SEND_ONLY: u8 = 0x04;
+
+/// The one packet of a SEND with an immediate.
+pub const SEND_ONLY_IMM: u8 = 0x05;
+
+/// The first of several packets of a WRITE.
+pub const WRITE_FIRST: u8 = 0x06;
+
+/// One between the first and the last packet of a WRITE.
+pub const WRITE_MIDDLE: u8 = 0x07;
+
+/// The last of several packets of a WRITE.
+pub const WRITE_LAST: u8 = 0x08;
+
+/// The last of several packets of a WRITE with an immediate.
+pub const WRITE_LAST_IMM: u8 = 0x09;
+
+/// The one packet of a WRITE.
+pub const WRITE_ONLY: u8 = 0x0A;
+
+/// The one packet of a WRITE with an immediate.
+pub const WRITE_ONLY_IMM: u8 = 0x0B;
+
 /// A READ request.
 pub const READ_REQUEST: u8 = 0x0C;
 
@@ -27,6 +63,9 @@ pub const ACKNOWLEDGE: u8 = 0x11;
 /// The acknowledgement of an atomic, with the old value.
 pub const ATOMIC_ACKNOWLEDGE: u8 = 0x12;
 
+/// A COMPARE and SWAP.
+pub const COMPARE_SWAP: u8 = 0x13;
+
 /// A FETCH and ADD.
 pub const FETCH_ADD: u8 = 0x14;
 
@@ -41,7 +80,7 @@ pub const RESUME_ACK: u8 = 0x1F;
 pub fn is_request(opcode: u8) -> bool
     ensures { result ≡ wire.is_request opcode }
 {
-    opcode <= 0x0C || opcode == 0x13 || opcode == 0x14
+    opcode <= READ_REQUEST || opcode == COMPARE_SWAP || opcode == FETCH_ADD
 }
 
 /// Whether an opcode is of a READ response.

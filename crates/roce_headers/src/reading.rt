@@ -132,7 +132,8 @@ fn may_stand(opcode: u8, syndrome: u8) -> bool
 
 fn has_bad_syndrome(headers: Headers, bytes: &[u8]) -> bool
     requires { 16 + headers_len headers ≤ length bytes.now }
-    ensures { result ≡ (has_aeth headers && not (is_syndrome (byte_at 0 bytes.now) (byte_at 12 bytes.now))) }
+    ensures { result
+        ≡ (has_aeth headers && not (is_syndrome (byte_at 0 bytes.now) (byte_at 12 bytes.now))) }
 {
     match headers {
         Headers::Aeth | Headers::AethOld => !may_stand(bytes[0], bytes[12]),
@@ -146,7 +147,9 @@ fn check(layout: Layout, bytes: &[u8]) -> Result<&[u8], Malformed>
     requires { 16 ≤ length bytes.now }
     ensures kept { OnOk result (layout_offence layout bytes.now ≡ None) }
     ensures long { OnOk result (16 + headers_len layout.headers ≤ length bytes.now) }
-    ensures payload { IfOk result (λ payload. payload.now ≡ bytes_at (12 + headers_len layout.headers) (body_of layout.headers bytes.now - pad_of bytes.now) bytes.now) }
+    ensures payload { IfOk result (λ payload. payload.now
+        ≡ bytes_at (12 + headers_len layout.headers)
+        (body_of layout.headers bytes.now - pad_of bytes.now) bytes.now) }
     ensures refused { IfErr result (λ m. layout_offence layout bytes.now ≡ Some m) }
 {
     if bytes[1] % 16 != 0 {
@@ -173,7 +176,9 @@ fn check(layout: Layout, bytes: &[u8]) -> Result<&[u8], Malformed>
 // The base header and the payload.
 fn base<'a>(bytes: &[u8], payload: &'a [u8]) -> Datagram<'a>
     requires { 16 ≤ length bytes.now }
-    ensures { packet result ≡ record (plain (byte_at 0 bytes.now) (number_at 5 3 bytes.now) (number_at 9 3 bytes.now)) { ack_request = nat_le 128 (byte_at 8 bytes.now); payload = payload.now } }
+    ensures { packet result
+        ≡ record (plain (byte_at 0 bytes.now) (number_at 5 3 bytes.now) (number_at 9 3 bytes.now))
+        { ack_request = nat_le 128 (byte_at 8 bytes.now); payload = payload.now } }
 {
     Datagram {
         opcode: bytes[0],
@@ -194,7 +199,8 @@ fn base<'a>(bytes: &[u8], payload: &'a [u8]) -> Datagram<'a>
 #[tactic(auto, unfolding(protocol::specs::Wire::fields_of))]
 fn fields<'a>(headers: Headers, bytes: &[u8], payload: &'a [u8]) -> Datagram<'a>
     requires long { 16 + headers_len headers ≤ length bytes.now }
-    requires payload { payload.now ≡ bytes_at (12 + headers_len headers) (body_of headers bytes.now - pad_of bytes.now) bytes.now }
+    requires payload { payload.now ≡ bytes_at (12 + headers_len headers)
+        (body_of headers bytes.now - pad_of bytes.now) bytes.now }
     ensures { packet result ≡ fields_of headers bytes.now }
 {
     let mut d = base(bytes, payload);
@@ -223,7 +229,8 @@ fn fields<'a>(headers: Headers, bytes: &[u8], payload: &'a [u8]) -> Datagram<'a>
 #[tactic(auto, unfolding(protocol::specs::Wire::offence_of))]
 fn read(bytes: &[u8]) -> Result<Datagram<'_>, Malformed>
     ensures whole { OnOk result (offence_of bytes.now ≡ None) }
-    ensures read { IfOk result (λ d. read_by (layout_of (byte_at 0 bytes.now)) bytes.now ≡ Some (packet d)) }
+    ensures read { IfOk result (λ d. read_by (layout_of (byte_at 0 bytes.now)) bytes.now
+        ≡ Some (packet d)) }
     ensures refused { IfErr result (λ m. offence_of bytes.now ≡ Some m) }
 {
     if bytes.len() < 16 {
@@ -249,7 +256,8 @@ fn read(bytes: &[u8]) -> Result<Datagram<'_>, Malformed>
 /// Version, not 0; Short, the headers of the opcode and the CRC do not fit; Syndrome, none of the opcode; Length,
 /// bytes behind the headers where no payload may be, or not a multiple of four, or over 4,096; Pad, more padding
 /// than such bytes.
-#[tactic(auto, unfolding(protocol::specs::Wire::packet_of), using(crate::proofs::Grammar::reading))]
+#[tactic(auto, unfolding(protocol::specs::Wire::packet_of), using(protocol::proofs::PacketGrammar::reading))]
+#[inline(always)]
 pub fn decode(bytes: &[u8]) -> Result<Datagram<'_>, Malformed>
     ensures spelled { IfOk result (λ d. Spells (packet d) bytes.now) }
     ensures exact { IfOk result (λ d. packet_of bytes.now ≡ Some (packet d)) }

@@ -201,6 +201,7 @@ fn headers_len(d: &Datagram<'_>) -> usize
         + resume_len(d.resume)
 }
 
+#[inline(always)]
 fn write_headers(d: &Datagram<'_>, out: &mut [u8])
     requires fits { IfSome d.now.aeth (λ h. syndrome_byte h.syndrome < 256) }
     requires room { length out.old ≡ length (extension_bytes (packet d.now)) }
@@ -220,7 +221,7 @@ fn write_headers(d: &Datagram<'_>, out: &mut [u8])
 }
 
 /// How many bytes [`encode`] writes.
-#[tactic(auto, using(crate::proofs::Written::written_len))]
+#[tactic(auto, using(protocol::proofs::WrittenPackets::written_len))]
 pub fn encoded_len(d: &Datagram<'_>) -> usize
     requires { Fits (packet d.now) }
     ensures { result ≡ length (wire_of (packet d.now)) }
@@ -231,8 +232,11 @@ pub fn encoded_len(d: &Datagram<'_>) -> usize
 
 fn write_parts(d: &Datagram<'_>, out: &mut [u8])
     requires fits { IfSome d.now.aeth (λ h. syndrome_byte h.syndrome < 256) }
-    requires room { length out.old ≡ 16 + length (extension_bytes (packet d.now)) + (length d.now.payload.now + padding (length d.now.payload.now)) }
-    ensures { out.new ≡ base_bytes (packet d.now) ++ (extension_bytes (packet d.now) ++ (d.now.payload.now ++ replicate (padding (length d.now.payload.now) + 4) 0)) }
+    requires room { length out.old ≡ 16 + length (extension_bytes (packet d.now))
+        + (length d.now.payload.now + padding (length d.now.payload.now)) }
+    ensures { out.new ≡ base_bytes (packet d.now)
+        ++ (extension_bytes (packet d.now) ++ (d.now.payload.now
+        ++ replicate (padding (length d.now.payload.now) + 4) 0)) }
 {
     let (base, rest) = out.split_at_mut(12);
     write_base(d, base);
@@ -245,7 +249,7 @@ fn write_parts(d: &Datagram<'_>, out: &mut [u8])
 
 /// Writes the one spelling of a datagram into a buffer of [`encoded_len`] bytes: each ignored field is 0, and the
 /// P_Key is FFFF (this project's choice). It takes no memory.
-#[tactic(auto, using(crate::proofs::Written::written_len))]
+#[tactic(auto, using(protocol::proofs::WrittenPackets::written_len))]
 pub fn encode(d: &Datagram<'_>, out: &mut [u8])
     requires fits { Fits (packet d.now) }
     requires room { length out.old ≡ length (wire_of (packet d.now)) }
@@ -271,7 +275,7 @@ fn with_headers(d: &Datagram<'_>, mut memory: Vec<u8>) -> Vec<u8>
 }
 
 /// The one spelling of a datagram, as [`encode`] writes it, in memory that is taken before. It takes no other.
-#[tactic(auto, using(crate::proofs::Written::written_len))]
+#[tactic(auto, using(protocol::proofs::WrittenPackets::written_len))]
 pub fn encode_in(d: &Datagram<'_>, memory: Vec<u8>) -> Vec<u8>
     requires fits { Fits (packet d.now) }
     requires empty { memory.items ≡ [] }

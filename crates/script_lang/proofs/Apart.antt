@@ -2,18 +2,18 @@
 use Rattle.std.proofs.Common.{◌≡◌, ℕ, ◌==◌, List, refl, sym, ap, ◌∙◌, codes, if◌then◌else◌}
 use Rattle.std.specs.Str.{bytes_eq}
 use Rattle.std.specs.Fmt.{digits}
-use Rattle.rdma_types.specs.declared.answers.LeftWhy.{LeftWhy}
-use Rattle.rdma_types.specs.declared.answers.LeftWhy.TheVariants as left
-use Rattle.rdma_types.specs.declared.answers.NotWhy.{NotWhy}
-use Rattle.rdma_types.specs.declared.answers.NotWhy.TheVariants as not_why
+use Rattle.rdma_types.specs.declared.answers.UnfinishedReason.{UnfinishedReason}
+use Rattle.rdma_types.specs.declared.answers.UnfinishedReason.TheVariants as left
+use Rattle.rdma_types.specs.declared.answers.ExpiryIgnored.{ExpiryIgnored}
+use Rattle.rdma_types.specs.declared.answers.ExpiryIgnored.TheVariants as not_why
 use Rattle.rdma_types.specs.declared.answers.Refusal.{Refusal}
 use Rattle.rdma_types.specs.declared.answers.Refusal.TheVariants as refusal
-use Rattle.rdma_types.specs.declared.answers.SilentWhy.{SilentWhy}
-use Rattle.rdma_types.specs.declared.answers.SilentWhy.TheVariants as silent
-use Rattle.rdma_types.specs.declared.answers.Took.{Took}
-use Rattle.rdma_types.specs.declared.answers.Took.TheVariants as took
-use Rattle.rdma_types.specs.declared.answers.Why.{Why}
-use Rattle.rdma_types.specs.declared.answers.Why.TheVariants as why
+use Rattle.rdma_types.specs.declared.answers.DropReason.{DropReason}
+use Rattle.rdma_types.specs.declared.answers.DropReason.TheVariants as silent
+use Rattle.rdma_types.specs.declared.answers.ArrivalEffect.{ArrivalEffect}
+use Rattle.rdma_types.specs.declared.answers.ArrivalEffect.TheVariants as took
+use Rattle.rdma_types.specs.declared.answers.RefusalReason.{RefusalReason}
+use Rattle.rdma_types.specs.declared.answers.RefusalReason.TheVariants as why
 use Rattle.rdma_types.specs.declared.requests.WcKind.{WcKind}
 use Rattle.rdma_types.specs.declared.requests.WcKind.TheVariants as wc
 use Rattle.rdma_types.specs.declared.requests.WcStatus.{WcStatus}
@@ -61,7 +61,7 @@ refusal_back refusal.NoPage = refl
 pub refusal_apart : (x y : Refusal) → refusal_text x ≡ refusal_text y → x ≡ y
 refusal_apart x y e = apart refusal_text refusal_read refusal_back x y e
 
-abbrev not_why_read : List ℕ → NotWhy
+abbrev not_why_read : List ℕ → ExpiryIgnored
 not_why_read t =
     if bytes_eq t (codes "ended") then not_why.Ended
     else if bytes_eq t (codes "paused") then not_why.Paused
@@ -69,7 +69,7 @@ not_why_read t =
     else if bytes_eq t (codes "rnr") then not_why.Rnr
     else not_why.Nothing
 
-not_why_back : (x : NotWhy) → not_why_read (not_why_text x) ≡ x
+not_why_back : (x : ExpiryIgnored) → not_why_read (not_why_text x) ≡ x
 not_why_back not_why.Ended = refl
 not_why_back not_why.Paused = refl
 not_why_back not_why.Resuming = refl
@@ -77,42 +77,42 @@ not_why_back not_why.Rnr = refl
 not_why_back not_why.Nothing = refl
 
 -- each reason not to count has a word of its own
-pub not_why_apart : (x y : NotWhy) → not_why_text x ≡ not_why_text y → x ≡ y
+pub not_why_apart : (x y : ExpiryIgnored) → not_why_text x ≡ not_why_text y → x ≡ y
 not_why_apart x y e = apart not_why_text not_why_read not_why_back x y e
 
-abbrev left_read : List ℕ → LeftWhy
+abbrev left_read : List ℕ → UnfinishedReason
 left_read t =
     if bytes_eq t (codes "paused") then left.Paused
     else if bytes_eq t (codes "resuming") then left.Resuming
     else if bytes_eq t (codes "noreceive") then left.NoReceive
     else left.Carried
 
-left_back : (x : LeftWhy) → left_read (left_text x) ≡ x
+left_back : (x : UnfinishedReason) → left_read (left_text x) ≡ x
 left_back left.Paused = refl
 left_back left.Resuming = refl
 left_back left.NoReceive = refl
 left_back left.Carried = refl
 
 -- each reason to leave requests has a word of its own
-pub left_apart : (x y : LeftWhy) → left_text x ≡ left_text y → x ≡ y
+pub left_apart : (x y : UnfinishedReason) → left_text x ≡ left_text y → x ≡ y
 left_apart x y e = apart left_text left_read left_back x y e
 
-abbrev why_read : List ℕ → Why
+abbrev why_read : List ℕ → RefusalReason
 why_read t =
     if bytes_eq t (codes "invalid") then why.Invalid
     else if bytes_eq t (codes "access") then why.Access
     else why.Length
 
-why_back : (x : Why) → why_read (why_text x) ≡ x
+why_back : (x : RefusalReason) → why_read (why_text x) ≡ x
 why_back why.Invalid = refl
 why_back why.Access = refl
 why_back why.Length = refl
 
 -- each reason of a responder has a word of its own
-pub why_apart : (x y : Why) → why_text x ≡ why_text y → x ≡ y
+pub why_apart : (x y : RefusalReason) → why_text x ≡ why_text y → x ≡ y
 why_apart x y e = apart why_text why_read why_back x y e
 
-abbrev silent_read : List ℕ → SilentWhy
+abbrev silent_read : List ℕ → DropReason
 silent_read t =
     if bytes_eq t (codes "malformed") then silent.Malformed
     else if bytes_eq t (codes "unknown") then silent.Unknown
@@ -123,7 +123,7 @@ silent_read t =
     else if bytes_eq t (codes "useless") then silent.Useless
     else silent.Stale
 
-silent_back : (x : SilentWhy) → silent_read (silent_text x) ≡ x
+silent_back : (x : DropReason) → silent_read (silent_text x) ≡ x
 silent_back silent.Malformed = refl
 silent_back silent.Unknown = refl
 silent_back silent.Ended = refl
@@ -134,7 +134,7 @@ silent_back silent.Useless = refl
 silent_back silent.Stale = refl
 
 -- each reason of silence has a word of its own
-pub silent_apart : (x y : SilentWhy) → silent_text x ≡ silent_text y → x ≡ y
+pub silent_apart : (x y : DropReason) → silent_text x ≡ silent_text y → x ≡ y
 silent_apart x y e = apart silent_text silent_read silent_back x y e
 
 abbrev wc_read : List ℕ → WcKind
@@ -183,7 +183,7 @@ status_back status.RnrExceeded = refl
 pub status_apart : (x y : WcStatus) → status_number x ≡ status_number y → x ≡ y
 status_apart x y e = apart status_number status_read status_back x y e
 
-abbrev took_read : List ℕ → Took
+abbrev took_read : List ℕ → ArrivalEffect
 took_read t =
     if bytes_eq t (codes "acted") then took.Acted
     else if bytes_eq t (codes "ack") then took.Ack
@@ -220,7 +220,7 @@ took_read t =
     else if bytes_eq t (codes "silent useless") then (took.Silent silent.Useless)
     else (took.Silent silent.Stale)
 
-took_back : (x : Took) → took_read (took_text x) ≡ x
+took_back : (x : ArrivalEffect) → took_read (took_text x) ≡ x
 unfolding took_text digits
 took_back took.Acted = refl
 took_back took.Ack = refl
@@ -258,5 +258,5 @@ took_back (took.Silent silent.Useless) = refl
 took_back (took.Silent silent.Stale) = refl
 
 -- each thing that a datagram did has words of its own
-pub took_apart : (x y : Took) → took_text x ≡ took_text y → x ≡ y
+pub took_apart : (x y : ArrivalEffect) → took_text x ≡ took_text y → x ≡ y
 took_apart x y e = apart took_text took_read took_back x y e

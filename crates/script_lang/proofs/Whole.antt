@@ -5,7 +5,7 @@ use Rattle.std.proofs.lemmas.List.{append-nil}
 use Rattle.hex.specs.Hex.{encode_lower}
 use Rattle.rdma_types.specs.declared.answers.Answer.{Answer}
 use Rattle.rdma_types.specs.declared.answers.Answer.TheVariants as answer
-use Rattle.rdma_types.specs.declared.answers.LeftWhy.{LeftWhy}
+use Rattle.rdma_types.specs.declared.answers.UnfinishedReason.{UnfinishedReason}
 use Rattle.rdma_types.specs.declared.names.ObjName.{ObjName}
 use Rattle.rdma_types.specs.declared.requests.Completion.{Completion}
 use Rattle.script_lang.specs.Printed.{IsWhole, ended, line, completion_line, completion_lines, polled_lines, left_line, left_lines, key_text, qp_text, object_text, kind_text, status_number, left_text, imm_words, took_text, sent_words, not_why_text, shown_words, refusal_text, printed}
@@ -40,7 +40,7 @@ unfolding polled_lines
 polled_whole [] = line_whole (codes "none") []
 polled_whole (c ∷ cs) = completions_whole c cs
 
-left_whole : (lines : List ℕ) (ends : List (ObjName × LeftWhy)) → IsWhole lines → IsWhole (lines ++ left_lines ends)
+left_whole : (lines : List ℕ) (ends : List (ObjName × UnfinishedReason)) → IsWhole lines → IsWhole (lines ++ left_lines ends)
 unfolding left_lines
 left_whole lines [] w = and_nothing lines w
 left_whole lines (x ∷ xs) w =

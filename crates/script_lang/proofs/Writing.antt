@@ -3,7 +3,7 @@ use Rattle.std.proofs.Common.{◌≡◌, ℕ, ◌+◌, ◌<◌, List, [], ◌∷
 use Rattle.std.specs.Prelude.{OnOk, OnErr}
 use Rattle.std.proofs.lemmas.List.{take_more, take-append-drop, append-nil}
 use Rattle.std.proofs.Math.Seq.{take-append_seam}
-use Rattle.rdma_types.specs.declared.answers.LeftWhy.{LeftWhy}
+use Rattle.rdma_types.specs.declared.answers.UnfinishedReason.{UnfinishedReason}
 use Rattle.rdma_types.specs.declared.names.ObjName.{ObjName}
 use Rattle.rdma_types.specs.declared.requests.Completion.{Completion}
 use Rattle.hex.specs.Hex.{encode_with, encode_lower, lower_digits}
@@ -27,7 +27,7 @@ completion_lines-append [] ys = refl
 completion_lines-append (x ∷ xs) ys =
     rw (completion_lines-append xs ys) (sym (append_assoc (completion_line x) (completion_lines xs) (completion_lines ys)))
 
-left_lines-append : (xs ys : List (ObjName × LeftWhy)) → left_lines (xs ++ ys) ≡ left_lines xs ++ left_lines ys
+left_lines-append : (xs ys : List (ObjName × UnfinishedReason)) → left_lines (xs ++ ys) ≡ left_lines xs ++ left_lines ys
 unfolding left_lines
 left_lines-append [] ys = refl
 left_lines-append (x ∷ xs) ys =
@@ -37,7 +37,7 @@ one_completion : (x : Completion) → completion_lines (x ∷ []) ≡ completion
 unfolding completion_lines
 one_completion x = append-nil (completion_line x)
 
-one_left : (x : ObjName × LeftWhy) → left_lines (x ∷ []) ≡ left_line x
+one_left : (x : ObjName × UnfinishedReason) → left_lines (x ∷ []) ≡ left_line x
 unfolding left_lines
 one_left x = append-nil (left_line x)
 
@@ -60,14 +60,14 @@ completions_step xs i d start mid new h e n =
     ∙ ap completion_lines (sym (take_more xs i d h)))
 
 -- one more end that settling left
-pub left_step : (xs : List (ObjName × LeftWhy)) (i : ℕ) (x : ObjName × LeftWhy) (start mid new : List ℕ) → i < length xs → x ≡ get_or xs i x → mid ≡ start ++ left_lines (take i xs) → new ≡ mid ++ (left_line x) → new ≡ start ++ left_lines (take (i + 1) xs)
+pub left_step : (xs : List (ObjName × UnfinishedReason)) (i : ℕ) (x : ObjName × UnfinishedReason) (start mid new : List ℕ) → i < length xs → x ≡ get_or xs i x → mid ≡ start ++ left_lines (take i xs) → new ≡ mid ++ (left_line x) → new ≡ start ++ left_lines (take (i + 1) xs)
 left_step xs i x start mid new h is e n =
     n ∙ ap (λ (z : List ℕ). z ++ (left_line x)) e
     ∙ append_assoc start (left_lines (take i xs)) (left_line x)
     ∙ ap (λ (z : List ℕ). start ++ z)
     (ap (λ (z : List ℕ). left_lines (take i xs) ++ z) (sym (one_left x))
     ∙ sym (left_lines-append (take i xs) (x ∷ []))
-    ∙ ap left_lines (ap (λ (y : ObjName × LeftWhy). take i xs ++ y ∷ []) is ∙ sym (take_more xs i x h)))
+    ∙ ap left_lines (ap (λ (y : ObjName × UnfinishedReason). take i xs ++ y ∷ []) is ∙ sym (take_more xs i x h)))
 
 -- before the first byte
 pub hex_start : (start : List ℕ) → start ≡ start ++ encode_lower []

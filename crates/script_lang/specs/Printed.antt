@@ -6,18 +6,18 @@ use Rattle.std.specs.Int.{w32, to_be_bytes}
 use Rattle.hex.specs.Hex.{encode_lower}
 use Rattle.rdma_types.specs.declared.answers.Answer.{Answer}
 use Rattle.rdma_types.specs.declared.answers.Answer.TheVariants as answer
-use Rattle.rdma_types.specs.declared.answers.LeftWhy.{LeftWhy}
-use Rattle.rdma_types.specs.declared.answers.LeftWhy.TheVariants as left
-use Rattle.rdma_types.specs.declared.answers.NotWhy.{NotWhy}
-use Rattle.rdma_types.specs.declared.answers.NotWhy.TheVariants as not_why
+use Rattle.rdma_types.specs.declared.answers.UnfinishedReason.{UnfinishedReason}
+use Rattle.rdma_types.specs.declared.answers.UnfinishedReason.TheVariants as left
+use Rattle.rdma_types.specs.declared.answers.ExpiryIgnored.{ExpiryIgnored}
+use Rattle.rdma_types.specs.declared.answers.ExpiryIgnored.TheVariants as not_why
 use Rattle.rdma_types.specs.declared.answers.Refusal.{Refusal}
 use Rattle.rdma_types.specs.declared.answers.Refusal.TheVariants as refusal
-use Rattle.rdma_types.specs.declared.answers.SilentWhy.{SilentWhy}
-use Rattle.rdma_types.specs.declared.answers.SilentWhy.TheVariants as silent
-use Rattle.rdma_types.specs.declared.answers.Took.{Took}
-use Rattle.rdma_types.specs.declared.answers.Took.TheVariants as took
-use Rattle.rdma_types.specs.declared.answers.Why.{Why}
-use Rattle.rdma_types.specs.declared.answers.Why.TheVariants as why
+use Rattle.rdma_types.specs.declared.answers.DropReason.{DropReason}
+use Rattle.rdma_types.specs.declared.answers.DropReason.TheVariants as silent
+use Rattle.rdma_types.specs.declared.answers.ArrivalEffect.{ArrivalEffect}
+use Rattle.rdma_types.specs.declared.answers.ArrivalEffect.TheVariants as took
+use Rattle.rdma_types.specs.declared.answers.RefusalReason.{RefusalReason}
+use Rattle.rdma_types.specs.declared.answers.RefusalReason.TheVariants as why
 use Rattle.rdma_types.specs.declared.names.ObjName.{ObjName}
 use Rattle.rdma_types.specs.declared.requests.Completion.{Completion}
 use Rattle.rdma_types.specs.declared.requests.WcKind.{WcKind}
@@ -92,7 +92,7 @@ refusal_text refusal.Spent = codes "Spent"
 refusal_text refusal.NoPage = codes "NoPage"
 
 -- why an expiry is not counted
-abbrev pub not_why_text : NotWhy → List ℕ
+abbrev pub not_why_text : ExpiryIgnored → List ℕ
 not_why_text not_why.Ended = codes "ended"
 not_why_text not_why.Paused = codes "paused"
 not_why_text not_why.Resuming = codes "resuming"
@@ -100,13 +100,13 @@ not_why_text not_why.Rnr = codes "rnr"
 not_why_text not_why.Nothing = codes "nothing"
 
 -- why a request is refused
-abbrev pub why_text : Why → List ℕ
+abbrev pub why_text : RefusalReason → List ℕ
 why_text why.Invalid = codes "invalid"
 why_text why.Access = codes "access"
 why_text why.Length = codes "length"
 
 -- why a datagram has no effect
-abbrev pub silent_text : SilentWhy → List ℕ
+abbrev pub silent_text : DropReason → List ℕ
 silent_text silent.Malformed = codes "malformed"
 silent_text silent.Unknown = codes "unknown"
 silent_text silent.Ended = codes "ended"
@@ -117,14 +117,14 @@ silent_text silent.Useless = codes "useless"
 silent_text silent.Stale = codes "stale"
 
 -- why requests are left
-abbrev pub left_text : LeftWhy → List ℕ
+abbrev pub left_text : UnfinishedReason → List ℕ
 left_text left.Paused = codes "paused"
 left_text left.Resuming = codes "resuming"
 left_text left.NoReceive = codes "noreceive"
 left_text left.Carried = codes "carried"
 
 -- what a datagram did
-unfoldable pub took_text : Took → List ℕ
+unfoldable pub took_text : ArrivalEffect → List ℕ
 took_text took.Acted = codes "acted"
 took_text took.Ack = codes "ack"
 took_text took.Bytes = codes "bytes"
@@ -180,11 +180,11 @@ polled_lines [] = line (codes "none") []
 polled_lines (c ∷ cs) = completion_lines (c ∷ cs)
 
 -- an end that settling left, and why
-abbrev pub left_line : (ObjName × LeftWhy) → List ℕ
+abbrev pub left_line : (ObjName × UnfinishedReason) → List ℕ
 left_line x = line (codes "left") (object_text x.0 ∷ left_text x.1 ∷ [])
 
 -- a line for each end that settling left
-unfoldable pub left_lines : List (ObjName × LeftWhy) → List ℕ
+unfoldable pub left_lines : List (ObjName × UnfinishedReason) → List ℕ
 left_lines [] = []
 left_lines (x ∷ xs) = left_line x ++ left_lines xs
 

@@ -19,3 +19,13 @@ lines_in (piece ∷ next ∷ more) = without_return piece ∷ lines_in (next ∷
 -- the lines of a text, without their ends
 unfoldable pub lines_of : List ℕ → List (List ℕ)
 lines_of bs = lines_in (slice_split is_newline bs)
+
+-- the pieces but the last one
+unfoldable pub but_last : List (List ℕ) → List (List ℕ)
+but_last [] = []
+but_last (last ∷ []) = []
+but_last (piece ∷ next ∷ more) = piece ∷ but_last (next ∷ more)
+
+-- the lines of a text, each of which is ended by a newline
+abbrev pub ended_lines : List ℕ → List (List ℕ)
+ended_lines text = but_last (slice_split is_newline text)

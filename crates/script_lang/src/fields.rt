@@ -25,6 +25,7 @@ impl Words<'_> {
 
     /// An object, `context.name`. Errors: `Missing` where no word is left, or `Name` where the word is no object.
     #[tactic(auto, unfolding(crate::specs::Fields::an_object))]
+    #[inline(always)]
     pub fn object(&mut self) -> Result<ObjName, Offence>
         ensures { Gives result self.new (fields.an_object self.old) }
     {
@@ -45,6 +46,7 @@ impl Words<'_> {
     /// A number from `low` to `high`. Errors: `Missing` where no word is left, or `Number` where the word is no such
     /// number.
     #[tactic(auto, unfolding(crate::specs::Fields::a_number))]
+    #[inline(always)]
     pub fn number(&mut self, low: u64, high: u64) -> Result<u64, Offence>
         ensures value { Gives result self.new (fields.a_number low high self.old) }
         ensures within { IfOk result (λ n. (low ≤ n) × (n ≤ high)) }
@@ -89,6 +91,7 @@ impl Words<'_> {
     /// A key or an immediate, of eight hexadecimal digits. Errors: `Missing` where no word is left, or `Hex` where the
     /// word is none.
     #[tactic(auto, unfolding(crate::specs::Fields::a_key))]
+    #[inline(always)]
     pub fn key(&mut self) -> Result<u32, Offence>
         ensures { Gives result self.new (fields.a_key self.old) }
     {
@@ -155,7 +158,9 @@ impl Words<'_> {
 
     /// This word, and a number from `low` to `high` behind it.
     fn labeled(&mut self, label: &[u8], low: u64, high: u64) -> Result<u64, Offence>
-        ensures value { (more : ℕ → Reads Terms) → GivesThen result self.new more (fields.labeled_then label.now low high more self.old) }
+        ensures value { (more : ℕ → Reads Terms)
+            → GivesThen result self.new more (fields.labeled_then label.now low high more
+            self.old) }
         ensures within { IfOk result (λ n. (low ≤ n) × (n ≤ high)) }
     {
         self.fixed(label)?;

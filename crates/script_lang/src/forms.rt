@@ -59,6 +59,7 @@ pub enum NodeForm {
     Serve,
 }
 
+#[inline(always)]
 fn spells(word: &[u8], text: &[u8]) -> bool
     ensures { result ≡ bytes_eq word.now text.now }
 {
@@ -67,6 +68,7 @@ fn spells(word: &[u8], text: &[u8]) -> bool
 
 /// The verb that a first word names.
 #[tactic(auto, unfolding(crate::specs::Verbs::verb_form))]
+#[inline(always)]
 pub fn verb_form_of(word: &[u8]) -> Option<VerbForm>
     ensures { result ≡ verbs.verb_form word.now }
 {

@@ -124,9 +124,11 @@ fn whole_line(alloc: Global, form: NodeForm, words: &mut Words<'_>) -> Result<No
 
 /// What a line says that begins with this word.
 fn read_from(alloc: Global, first: Word<'_>, words: &mut Words<'_>) -> Result<NodeLine, LineFault>
-    ensures value { Says result (begun line_is.Blank lines.node_form_of lines.node_line_of (record { column = first.entry.column; text = first.entry.text.now }) words.old) }
+    ensures value { Says result (begun line_is.Blank lines.node_form_of lines.node_line_of
+        (record { column = first.entry.column; text = first.entry.text.now }) words.old) }
     ensures lawful { IfOk result IsLawfulNodeLine }
-    ensures memory { result ≡ Err fault.OutOfMemory → lines.node_form_of first.entry.text.now ≡ Some (form_is.Verb verb_is.Store) }
+    ensures memory { result ≡ Err fault.OutOfMemory
+        → lines.node_form_of first.entry.text.now ≡ Some (form_is.Verb verb_is.Store) }
 {
     if let [b'#', ..] = first.text {
         return Ok(NodeLine::Blank);
@@ -139,9 +141,11 @@ fn read_from(alloc: Global, first: Word<'_>, words: &mut Words<'_>) -> Result<No
 
 /// What a line with lawful bytes says.
 fn read_words(alloc: Global, line: &[u8]) -> Result<NodeLine, LineFault>
-    ensures value { Says result (reading_of_words line_is.Blank lines.node_form_of lines.node_line_of (words_from 1 line.now) (length line.now + 1)) }
+    ensures value { Says result (reading_of_words line_is.Blank lines.node_form_of
+        lines.node_line_of (words_from 1 line.now) (length line.now + 1)) }
     ensures lawful { IfOk result IsLawfulNodeLine }
-    ensures memory { result ≡ Err fault.OutOfMemory → Begins lines.node_form_of (form_is.Verb verb_is.Store) (words_from 1 line.now) }
+    ensures memory { result ≡ Err fault.OutOfMemory
+        → Begins lines.node_form_of (form_is.Verb verb_is.Store) (words_from 1 line.now) }
 {
     let mut words = Words::new(line);
     let Some(first) = words.next_word() else {
@@ -161,7 +165,8 @@ fn read_words(alloc: Global, line: &[u8]) -> Result<NodeLine, LineFault>
 pub fn parse_node_line(alloc: Global, line: &[u8]) -> Result<NodeLine, LineFault>
     ensures value { Says result (node_reading_of line.now) }
     ensures lawful { IfOk result IsLawfulNodeLine }
-    ensures memory { result ≡ Err fault.OutOfMemory → Begins lines.node_form_of (form_is.Verb verb_is.Store) (words_from 1 line.now) }
+    ensures memory { result ≡ Err fault.OutOfMemory
+        → Begins lines.node_form_of (form_is.Verb verb_is.Store) (words_from 1 line.now) }
 {
     check_bytes(line)?;
     read_words(alloc, line)

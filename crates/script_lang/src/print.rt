@@ -11,8 +11,8 @@ mod laws;
 
 pub use laws::{answers_are_whole_lines, each_has_a_word_of_its_own};
 use rdma_types::{
-    Answer, Completion, Keys, LeftWhy, NotWhy, ObjName, Refusal, SilentWhy, Took, WcKind, WcStatus,
-    Why,
+    Answer, ArrivalEffect, Completion, DropReason, ExpiryIgnored, Keys, ObjName, Refusal,
+    RefusalReason, UnfinishedReason, WcKind, WcStatus,
 };
 use std::alloc::AllocError;
 
@@ -65,79 +65,79 @@ fn refusal_text(refusal: Refusal) -> &'static [u8]
     }
 }
 
-fn not_why_text(why: NotWhy) -> &'static [u8]
+fn not_why_text(why: ExpiryIgnored) -> &'static [u8]
     ensures { result.now ≡ text.not_why_text why }
 {
     match why {
-        NotWhy::Ended => b"ended",
-        NotWhy::Paused => b"paused",
-        NotWhy::Resuming => b"resuming",
-        NotWhy::Rnr => b"rnr",
-        NotWhy::Nothing => b"nothing",
+        ExpiryIgnored::Ended => b"ended",
+        ExpiryIgnored::Paused => b"paused",
+        ExpiryIgnored::Resuming => b"resuming",
+        ExpiryIgnored::Rnr => b"rnr",
+        ExpiryIgnored::Nothing => b"nothing",
     }
 }
 
-fn why_text(why: Why) -> &'static [u8]
+fn why_text(why: RefusalReason) -> &'static [u8]
     ensures { result.now ≡ text.why_text why }
 {
     match why {
-        Why::Invalid => b"invalid",
-        Why::Access => b"access",
-        Why::Length => b"length",
+        RefusalReason::Invalid => b"invalid",
+        RefusalReason::Access => b"access",
+        RefusalReason::Length => b"length",
     }
 }
 
-fn silent_text(why: SilentWhy) -> &'static [u8]
+fn silent_text(why: DropReason) -> &'static [u8]
     ensures { result.now ≡ text.silent_text why }
 {
     match why {
-        SilentWhy::Malformed => b"malformed",
-        SilentWhy::Unknown => b"unknown",
-        SilentWhy::Ended => b"ended",
-        SilentWhy::Paused => b"paused",
-        SilentWhy::NakSent => b"naksent",
-        SilentWhy::NoRepeat => b"norepeat",
-        SilentWhy::Useless => b"useless",
-        SilentWhy::Stale => b"stale",
+        DropReason::Malformed => b"malformed",
+        DropReason::Unknown => b"unknown",
+        DropReason::Ended => b"ended",
+        DropReason::Paused => b"paused",
+        DropReason::NakSent => b"naksent",
+        DropReason::NoRepeat => b"norepeat",
+        DropReason::Useless => b"useless",
+        DropReason::Stale => b"stale",
     }
 }
 
-fn left_text(why: LeftWhy) -> &'static [u8]
+fn left_text(why: UnfinishedReason) -> &'static [u8]
     ensures { result.now ≡ text.left_text why }
 {
     match why {
-        LeftWhy::Paused => b"paused",
-        LeftWhy::Resuming => b"resuming",
-        LeftWhy::NoReceive => b"noreceive",
-        LeftWhy::Carried => b"carried",
+        UnfinishedReason::Paused => b"paused",
+        UnfinishedReason::Resuming => b"resuming",
+        UnfinishedReason::NoReceive => b"noreceive",
+        UnfinishedReason::Carried => b"carried",
     }
 }
 
 /// What an arrival did: `took` and a word, and what is told of it, possibly without bytes.
 #[tactic(auto, unfolding(crate::specs::Printed::took_text))]
-fn took_text(took: Took) -> (&'static [u8], &'static [u8])
+fn took_text(took: ArrivalEffect) -> (&'static [u8], &'static [u8])
     ensures { result.0.now ++ result.1.now ≡ codes "took " ++ text.took_text took }
 {
     match took {
-        Took::Acted => (b"took acted", b""),
-        Took::Ack => (b"took ack", b""),
-        Took::Bytes => (b"took bytes", b""),
-        Took::Old => (b"took old", b""),
-        Took::SeqNak => (b"took seqnak", b""),
-        Took::NotReady => (b"took notready", b""),
-        Took::DupAck => (b"took dupack", b""),
-        Took::Refused(why) => (b"took refused ", why_text(why)),
-        Took::Acked => (b"took acked", b""),
-        Took::Landed => (b"took landed", b""),
-        Took::Rewound => (b"took rewound", b""),
-        Took::Waits => (b"took waits", b""),
-        Took::Ended(status) => (b"took ended ", status_text(status)),
-        Took::Stopped => (b"took stopped", b""),
-        Took::Paused => (b"took paused", b""),
-        Took::Resumed => (b"took resumed", b""),
-        Took::ResumeAck => (b"took resumeack", b""),
-        Took::Running => (b"took running", b""),
-        Took::Silent(why) => (b"took silent ", silent_text(why)),
+        ArrivalEffect::Acted => (b"took acted", b""),
+        ArrivalEffect::Ack => (b"took ack", b""),
+        ArrivalEffect::Bytes => (b"took bytes", b""),
+        ArrivalEffect::Old => (b"took old", b""),
+        ArrivalEffect::SeqNak => (b"took seqnak", b""),
+        ArrivalEffect::NotReady => (b"took notready", b""),
+        ArrivalEffect::DupAck => (b"took dupack", b""),
+        ArrivalEffect::Refused(why) => (b"took refused ", why_text(why)),
+        ArrivalEffect::Acked => (b"took acked", b""),
+        ArrivalEffect::Landed => (b"took landed", b""),
+        ArrivalEffect::Rewound => (b"took rewound", b""),
+        ArrivalEffect::Waits => (b"took waits", b""),
+        ArrivalEffect::Ended(status) => (b"took ended ", status_text(status)),
+        ArrivalEffect::Stopped => (b"took stopped", b""),
+        ArrivalEffect::Paused => (b"took paused", b""),
+        ArrivalEffect::Resumed => (b"took resumed", b""),
+        ArrivalEffect::ResumeAck => (b"took resumeack", b""),
+        ArrivalEffect::Running => (b"took running", b""),
+        ArrivalEffect::Silent(why) => (b"took silent ", silent_text(why)),
     }
 }
 
@@ -148,6 +148,7 @@ fn put(out: &mut Vec<u8>, bytes: &[u8]) -> Result<(), AllocError>
     out.extend_from_slice(bytes)
 }
 
+#[inline(always)]
 fn put_pair(out: &mut Vec<u8>, first: &[u8], second: &[u8]) -> Result<(), AllocError>
     ensures ok { OnOk result (out.new.items ≡ out.old.items ++ (first.now ++ second.now)) }
     ensures err { OnErr result (Keeps out.old.items out.new.items) }
@@ -157,6 +158,7 @@ fn put_pair(out: &mut Vec<u8>, first: &[u8], second: &[u8]) -> Result<(), AllocE
 }
 
 /// A text and a number.
+#[inline(always)]
 fn put_number(out: &mut Vec<u8>, word: &[u8], n: u64) -> Result<(), AllocError>
     ensures ok { OnOk result (out.new.items ≡ out.old.items ++ (word.now ++ decimal n)) }
     ensures err { OnErr result (Keeps out.old.items out.new.items) }
@@ -175,7 +177,8 @@ fn hex_pair(b: u8) -> [u8; 2]
 
 /// A text and bytes in hexadecimal digits.
 fn put_hex(out: &mut Vec<u8>, word: &[u8], bytes: &[u8]) -> Result<(), AllocError>
-    ensures ok { OnOk result (out.new.items ≡ out.old.items ++ (word.now ++ encode_lower bytes.now)) }
+    ensures ok { OnOk result (out.new.items ≡ out.old.items
+        ++ (word.now ++ encode_lower bytes.now)) }
     ensures err { OnErr result (Keeps out.old.items out.new.items) }
 {
     put(out, word)?;
@@ -195,7 +198,8 @@ fn low_bytes(n: u32) -> [u8; 3]
 
 /// A line of a text and a word.
 fn put_told(out: &mut Vec<u8>, word: &[u8], what: &[u8]) -> Result<(), AllocError>
-    ensures ok { OnOk result (out.new.items ≡ out.old.items ++ (word.now ++ (what.now ++ 10 ∷ []))) }
+    ensures ok { OnOk result (out.new.items ≡ out.old.items
+        ++ (word.now ++ (what.now ++ 10 ∷ []))) }
     ensures err { OnErr result (Keeps out.old.items out.new.items) }
 {
     put_pair(out, word, what)?;
@@ -204,7 +208,8 @@ fn put_told(out: &mut Vec<u8>, word: &[u8], what: &[u8]) -> Result<(), AllocErro
 
 /// A line of a text and a number.
 fn put_count(out: &mut Vec<u8>, word: &[u8], n: u64) -> Result<(), AllocError>
-    ensures ok { OnOk result (out.new.items ≡ out.old.items ++ (word.now ++ (decimal n ++ 10 ∷ []))) }
+    ensures ok { OnOk result (out.new.items ≡ out.old.items
+        ++ (word.now ++ (decimal n ++ 10 ∷ []))) }
     ensures err { OnErr result (Keeps out.old.items out.new.items) }
 {
     put_number(out, word, n)?;
@@ -234,7 +239,8 @@ fn put_region(out: &mut Vec<u8>, keys: &Keys) -> Result<(), AllocError>
 /// The numbers of the datagrams that were sent.
 #[tactic(auto, using(crate::proofs::Writing::keeps_after, std::proofs::lemmas::List::append_assoc), unfolding(crate::specs::Printed::sent_words))]
 fn put_sent(out: &mut Vec<u8>, first: u64, count: u64) -> Result<(), AllocError>
-    ensures ok { OnOk result (out.new.items ≡ out.old.items ++ ended (text.sent_words first count)) }
+    ensures ok { OnOk result (out.new.items ≡ out.old.items
+        ++ ended (text.sent_words first count)) }
     ensures err { OnErr result (Keeps out.old.items out.new.items) }
 {
     if count == 0 {
@@ -250,7 +256,12 @@ fn put_sent(out: &mut Vec<u8>, first: u64, count: u64) -> Result<(), AllocError>
 }
 
 #[tactic(auto, using(crate::proofs::Writing::keeps_after, std::proofs::lemmas::List::append_assoc))]
-fn put_took(out: &mut Vec<u8>, took: Took, first: u64, count: u64) -> Result<(), AllocError>
+fn put_took(
+    out: &mut Vec<u8>,
+    took: ArrivalEffect,
+    first: u64,
+    count: u64,
+) -> Result<(), AllocError>
     ensures ok { OnOk result (out.new.items
         ≡ out.old.items ++ (codes "took " ++ (text.took_text took ++ ended (text.sent_words first count)))) }
     ensures err { OnErr result (Keeps out.old.items out.new.items) }
@@ -295,7 +306,8 @@ fn put_outcome(out: &mut Vec<u8>, completion: &Completion) -> Result<(), AllocEr
 
 #[tactic(auto, using(crate::proofs::Writing::keeps_after, std::proofs::lemmas::List::append_assoc), unfolding(crate::specs::Printed::completion_line))]
 fn put_completion(out: &mut Vec<u8>, completion: &Completion) -> Result<(), AllocError>
-    ensures ok { OnOk result (out.new.items ≡ out.old.items ++ text.completion_line completion.now) }
+    ensures ok { OnOk result (out.new.items ≡ out.old.items
+        ++ text.completion_line completion.now) }
     ensures err { OnErr result (Keeps out.old.items out.new.items) }
 {
     put_request(out, completion)?;
@@ -304,7 +316,8 @@ fn put_completion(out: &mut Vec<u8>, completion: &Completion) -> Result<(), Allo
 }
 
 fn put_completions(out: &mut Vec<u8>, completions: &[Completion]) -> Result<(), AllocError>
-    ensures ok { OnOk result (out.new.items ≡ out.old.items ++ text.completion_lines completions.now) }
+    ensures ok { OnOk result (out.new.items ≡ out.old.items
+        ++ text.completion_lines completions.now) }
     ensures err { OnErr result (Keeps out.old.items out.new.items) }
 {
     for completion in completions {
@@ -333,7 +346,7 @@ fn put_object(out: &mut Vec<u8>, object: &ObjName) -> Result<(), AllocError>
 }
 
 #[tactic(auto, using(crate::proofs::Writing::keeps_after, std::proofs::lemmas::List::append_assoc))]
-fn put_left(out: &mut Vec<u8>, end: &(ObjName, LeftWhy)) -> Result<(), AllocError>
+fn put_left(out: &mut Vec<u8>, end: &(ObjName, UnfinishedReason)) -> Result<(), AllocError>
     ensures ok { OnOk result (out.new.items ≡ out.old.items ++ text.left_line end.now) }
     ensures err { OnErr result (Keeps out.old.items out.new.items) }
 {
@@ -342,7 +355,7 @@ fn put_left(out: &mut Vec<u8>, end: &(ObjName, LeftWhy)) -> Result<(), AllocErro
     put_told(out, b" ", left_text(end.1))
 }
 
-fn put_left_lines(out: &mut Vec<u8>, ends: &[(ObjName, LeftWhy)]) -> Result<(), AllocError>
+fn put_left_lines(out: &mut Vec<u8>, ends: &[(ObjName, UnfinishedReason)]) -> Result<(), AllocError>
     ensures ok { OnOk result (out.new.items ≡ out.old.items ++ text.left_lines ends.now) }
     ensures err { OnErr result (Keeps out.old.items out.new.items) }
 {
@@ -353,7 +366,7 @@ fn put_left_lines(out: &mut Vec<u8>, ends: &[(ObjName, LeftWhy)]) -> Result<(), 
 }
 
 #[tactic(auto, using(crate::proofs::Writing::keeps_after, std::proofs::lemmas::List::append_assoc))]
-fn put_quiet(out: &mut Vec<u8>, ends: &[(ObjName, LeftWhy)]) -> Result<(), AllocError>
+fn put_quiet(out: &mut Vec<u8>, ends: &[(ObjName, UnfinishedReason)]) -> Result<(), AllocError>
     ensures ok { OnOk result (out.new.items
         ≡ out.old.items ++ (codes "quiet " ++ (decimal (length ends.now) ++ (10 ∷ text.left_lines ends.now)))) }
     ensures err { OnErr result (Keeps out.old.items out.new.items) }
@@ -424,6 +437,7 @@ fn put_answer(out: &mut Vec<u8>, answer: &Answer) -> Result<(), AllocError>
 /// # Errors
 ///
 /// `AllocError` when out of memory; `out` is then as it was.
+#[inline(always)]
 pub fn print_answer(answer: &Answer, out: &mut Vec<u8>) -> Result<(), AllocError>
     ensures ok { OnOk result (out.new.items ≡ out.old.items ++ text.printed answer.now) }
     ensures err { OnErr result (out.new.items ≡ out.old.items) }

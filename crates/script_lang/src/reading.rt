@@ -200,9 +200,11 @@ fn whole_line(alloc: Global, form: Form, words: &mut Words<'_>) -> Result<Line, 
 
 /// What a line says that begins with this word.
 fn read_from(alloc: Global, first: Word<'_>, words: &mut Words<'_>) -> Result<Line, LineFault>
-    ensures value { Says result (begun line_is.Blank lines.form_of lines.line_of (record { column = first.entry.column; text = first.entry.text.now }) words.old) }
+    ensures value { Says result (begun line_is.Blank lines.form_of lines.line_of
+        (record { column = first.entry.column; text = first.entry.text.now }) words.old) }
     ensures lawful { IfOk result IsLawfulLine }
-    ensures memory { result ≡ Err fault.OutOfMemory → lines.form_of first.entry.text.now ≡ Some (form_is.Verb verb_is.Store) }
+    ensures memory { result ≡ Err fault.OutOfMemory
+        → lines.form_of first.entry.text.now ≡ Some (form_is.Verb verb_is.Store) }
 {
     if let [b'#', ..] = first.text {
         return Ok(Line::Blank);
@@ -215,9 +217,11 @@ fn read_from(alloc: Global, first: Word<'_>, words: &mut Words<'_>) -> Result<Li
 
 /// What a line with lawful bytes says.
 fn read_words(alloc: Global, line: &[u8]) -> Result<Line, LineFault>
-    ensures value { Says result (reading_of_words line_is.Blank lines.form_of lines.line_of (words_from 1 line.now) (length line.now + 1)) }
+    ensures value { Says result (reading_of_words line_is.Blank lines.form_of lines.line_of
+        (words_from 1 line.now) (length line.now + 1)) }
     ensures lawful { IfOk result IsLawfulLine }
-    ensures memory { result ≡ Err fault.OutOfMemory → Begins lines.form_of (form_is.Verb verb_is.Store) (words_from 1 line.now) }
+    ensures memory { result ≡ Err fault.OutOfMemory
+        → Begins lines.form_of (form_is.Verb verb_is.Store) (words_from 1 line.now) }
 {
     let mut words = Words::new(line);
     let Some(first) = words.next_word() else {
@@ -235,10 +239,12 @@ fn read_words(alloc: Global, line: &[u8]) -> Result<Line, LineFault>
 /// byte outside 32 to 126; `Word`, no line begins so; then word by word `Missing`, `Name`, `Number`, `Hex`, `Rights`,
 /// `Address` or `BadOption`; last `Extra`. `OutOfMemory`, which only a `store` can meet.
 #[tactic(auto, unfolding(crate::specs::Lines::reading_of))]
+#[inline(always)]
 pub fn parse_line(alloc: Global, line: &[u8]) -> Result<Line, LineFault>
     ensures value { Says result (reading_of line.now) }
     ensures lawful { IfOk result IsLawfulLine }
-    ensures memory { result ≡ Err fault.OutOfMemory → Begins lines.form_of (form_is.Verb verb_is.Store) (words_from 1 line.now) }
+    ensures memory { result ≡ Err fault.OutOfMemory
+        → Begins lines.form_of (form_is.Verb verb_is.Store) (words_from 1 line.now) }
 {
     check_bytes(line)?;
     read_words(alloc, line)

@@ -19,7 +19,8 @@ fn all_digits(text: &[u8]) -> bool
 /// The number that at most 19 digits spell, which has at most 64 bits.
 fn short_value(text: &[u8]) -> Option<u64>
     requires { length text.now ≤ 19 }
-    ensures value { result ≡ (if list_all is_digit text.now then Some (digits_after 0 text.now) else None) }
+    ensures value { result ≡ (if list_all is_digit text.now then Some (digits_after 0 text.now)
+        else None) }
     ensures small { IfSome result (λ n. n < 2 ^ 64) }
 {
     let mut n: u64 = 0;
@@ -46,7 +47,8 @@ fn with_digit(n: u64, digit: u8) -> Option<u64>
 #[tactic(auto, using(crate::proofs::Digits::stays_over, crate::proofs::Digits::digit_passed, crate::proofs::Digits::refused_over, crate::proofs::Digits::told_below, crate::proofs::Digits::digits_done))]
 fn digits_value(text: &[u8]) -> Option<u64>
     requires { list_all is_digit text.now ≡ true }
-    ensures { result ≡ (if nat_lt (digits_after 0 text.now) (2 ^ 64) then Some (digits_after 0 text.now) else None) }
+    ensures { result ≡ (if nat_lt (digits_after 0 text.now) (2 ^ 64)
+        then Some (digits_after 0 text.now) else None) }
 {
     let mut n: u64 = 0;
     for b in text {
@@ -57,7 +59,9 @@ fn digits_value(text: &[u8]) -> Option<u64>
 
 /// The number that digits spell, where it has at most 64 bits; None too where a byte is no digit.
 fn value(text: &[u8]) -> Option<u64>
-    ensures { result ≡ (if list_all is_digit text.now && nat_lt (digits_after 0 text.now) (2 ^ 64) then Some (digits_after 0 text.now) else None) }
+    ensures { result ≡ (if list_all is_digit text.now
+        && nat_lt (digits_after 0 text.now) (2 ^ 64) then Some (digits_after 0 text.now)
+        else None) }
 {
     if text.len() <= 19 {
         return short_value(text);
@@ -192,7 +196,8 @@ pub fn object(text: &[u8]) -> Option<ObjName>
 #[tactic(auto, unfolding(crate::specs::Texts::with_letter))]
 fn letter(letter: u8, right: u8, sum: u8, rest: &[u8]) -> (u8, &[u8])
     requires { sum + right < 256 }
-    ensures rest { record { sum = result.0; rest = result.1.now } ≡ with_letter letter right (record { sum = sum; rest = rest.now }) }
+    ensures rest { record { sum = result.0; rest = result.1.now }
+        ≡ with_letter letter right (record { sum = sum; rest = rest.now }) }
     ensures most { result.0 ≤ sum + right }
 {
     match rest {
@@ -220,7 +225,8 @@ pub fn rights(text: &[u8]) -> Option<Rights>
 /// A number from 0 to 255 at the start of a text, and the text behind the point after it.
 #[tactic(auto, unfolding(crate::specs::Texts::part_of))]
 fn part(text: &[u8]) -> Option<(u32, &[u8])>
-    ensures value { option_map (λ p. record { number = p.0; rest = p.1.now }) result ≡ texts.part_of text.now }
+    ensures value { option_map (λ p. record { number = p.0; rest = p.1.now }) result
+        ≡ texts.part_of text.now }
     ensures small { IfSome result (λ p. p.0 ≤ 255) }
 {
     let (front, behind) = cut(text, b'.');

@@ -131,8 +131,10 @@ struct PostHead {
 
 /// O id lkey address
 #[tactic(auto, unfolding(crate::specs::Verbs::posting_then))]
+#[inline(always)]
 fn posting(words: &mut Words<'_>) -> Result<PostHead, Offence>
-    ensures { (more : PostHead → Reads Verb) → GivesThen result words.new more (verbs.posting_then more words.old) }
+    ensures { (more : PostHead → Reads Verb)
+        → GivesThen result words.new more (verbs.posting_then more words.old) }
 {
     let end = words.object()?;
     let id = words.long()?;
@@ -150,7 +152,8 @@ fn posting(words: &mut Words<'_>) -> Result<PostHead, Offence>
 #[tactic(auto, unfolding(crate::specs::Verbs::posted))]
 fn posted(words: &mut Words<'_>, at: &PostHead, shape: Shape) -> Result<Verb, Offence>
     requires { IsLawfulShape shape }
-    ensures value { Gives result words.new (verbs.posted at.now.end at.now.id at.now.lkey at.now.local shape words.old) }
+    ensures value { Gives result words.new (verbs.posted at.now.end at.now.id at.now.lkey
+        at.now.local shape words.old) }
     ensures lawful { IfOk result IsLawfulVerb }
     ensures shared { IfOk result IsOfNode }
 {
@@ -349,6 +352,7 @@ fn plain_verb(form: VerbForm, words: &mut Words<'_>) -> Result<Verb, Offence>
 /// # Errors
 ///
 /// The first offence, or `OutOfMemory`, which only a `store` can meet.
+#[inline(always)]
 pub fn read_verb(alloc: Global, form: VerbForm, words: &mut Words<'_>) -> Result<Verb, LineFault>
     ensures value { GivesOr result words.new (verbs.verb_line form words.old) }
     ensures lawful { IfOk result IsLawfulVerb }

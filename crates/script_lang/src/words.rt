@@ -36,7 +36,8 @@ impl<'a> Model for Words<'a> {
 /// Where the first byte stands that is no space, from a place of a line on.
 fn past_spaces(line: &[u8], at: usize) -> usize
     requires { at ≤ length line.now }
-    ensures words { words_from (result + 1) (drop result line.now) ≡ words_from (at + 1) (drop at line.now) }
+    ensures words { words_from (result + 1) (drop result line.now)
+        ≡ words_from (at + 1) (drop at line.now) }
     ensures within { result ≤ length line.now }
     ensures front { result < length line.now → is_space (slice_index line.now result) ≡ false }
 {
@@ -65,7 +66,9 @@ fn past_letters(line: &[u8], at: usize) -> usize
 /// The next word of a line from a place on, and where it ends.
 fn word_after(line: &[u8], at: usize) -> Option<(Word<'_>, usize)>
     requires { at ≤ length line.now }
-    ensures word { IfSome result (λ f. words_from (at + 1) (drop at line.now) ≡ record { column = f.0.column; text = f.0.text.now } ∷ words_from (f.1 + 1) (drop f.1 line.now)) }
+    ensures word { IfSome result (λ f. words_from (at + 1) (drop at line.now)
+        ≡ record { column = f.0.column; text = f.0.text.now }
+        ∷ words_from (f.1 + 1) (drop f.1 line.now)) }
     ensures within { IfSome result (λ f. f.1 ≤ length line.now) }
     ensures end { IfNone result (words_from (at + 1) (drop at line.now) ≡ []) }
 {
@@ -91,7 +94,8 @@ impl<'a> Words<'a> {
 
     /// The next word, if there is one.
     pub fn next_word(&mut self) -> Option<Word<'a>>
-        ensures word { IfSome result (λ w. self.old.words ≡ record { column = w.column; text = w.text.now } ∷ self.new.words) }
+        ensures word { IfSome result (λ w. self.old.words
+            ≡ record { column = w.column; text = w.text.now } ∷ self.new.words) }
         ensures end { IfNone result (self.old.words ≡ []) }
         ensures past { self.new.past ≡ self.old.past }
     {
@@ -103,7 +107,8 @@ impl<'a> Words<'a> {
     /// The next word. Errors: `Missing`, at the column past the line's end, where no word is left.
     #[tactic(auto, unfolding(crate::specs::Words::a_word))]
     pub fn word(&mut self) -> Result<Word<'a>, Offence>
-        ensures word { IfOk result (λ w. words.a_word self.old ≡ Ok (record { column = w.column; text = w.text.now }, self.new)) }
+        ensures word { IfOk result (λ w. words.a_word self.old
+            ≡ Ok (record { column = w.column; text = w.text.now }, self.new)) }
         ensures missing { IfErr result (λ e. words.a_word self.old ≡ Err e) }
     {
         let past = self.line.len() + 1;

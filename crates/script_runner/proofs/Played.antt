@@ -3,13 +3,13 @@ use Rattle.std.proofs.Common.{arith, ◌≡◌, ◌≤◌, ℕ, ◌+◌, ◌==�
 use Rattle.std.proofs.lemmas.List.Splits.{length-slice_split}
 use Rattle.std.proofs.lemmas.List.Sums.{count_by-le-length}
 use Rattle.std.specs.List.{slice_split}
-use Rattle.fabric.specs.Store.{forgetting}
+use Rattle.protocol.specs.Fabric.{forgetting}
 use Rattle.law_kept_datagrams.specs.Alike.{AreAlike, StepAlike, with_kept_datagrams}
 use Rattle.protocol.specs.Script.{Happening, Event, Dump, Settles, dumps, happens}
 use Rattle.protocol.specs.State.{World, empty_world}
-use Rattle.ideal_model.specs.Machine.{empty}
-use Rattle.mig_ports.specs.Streams.{Puts}
-use Rattle.mig_ports.proofs.Chains.{Puts-none, Puts-then}
+use Rattle.packetless_machine.specs.Machine.{empty}
+use Rattle.host_ports.specs.Streams.{Puts}
+use Rattle.host_ports.proofs.Chains.{Puts-none, Puts-then}
 use Rattle.script_lang.specs.declared.lines.Line.{Line}
 use Rattle.script_lang.specs.Lines.{reading_of}
 use Rattle.script_lang.specs.Scripts.{is_newline, lines_in, lines_of}

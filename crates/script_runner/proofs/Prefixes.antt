@@ -2,8 +2,8 @@
 use Rattle.std.proofs.Common.{◌≡◌, ◌<◌, ℕ, List, [], ◌++◌, length, take, drop, Option, refl, ap, subst, sym, ◌∙◌, append_assoc, Result, Ok, Err}
 use Rattle.std.proofs.lemmas.List.{take-append-drop}
 use Rattle.std.specs.Result.{IfErr, IsErrAnd, OnErr, OnOk}
-use Rattle.mig_ports.specs.Streams.{Puts}
-use Rattle.mig_ports.proofs.Chains.{Puts-none, Puts-then}
+use Rattle.host_ports.specs.Streams.{Puts}
+use Rattle.host_ports.proofs.Chains.{Puts-none, Puts-then}
 use Rattle.script_runner.specs.Playing.{PutsPrefix}
 
 -- nothing put is a prefix

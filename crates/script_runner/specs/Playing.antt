@@ -4,7 +4,7 @@ use Rattle.rdma_types.specs.declared.answers.Answer.{Answer}
 use Rattle.protocol.specs.Script.{Happening, Event, Dump, Settles, happens}
 use Rattle.protocol.specs.State.{World}
 use Rattle.law_kept_datagrams.specs.Alike.{with_kept_datagrams}
-use Rattle.mig_ports.specs.Streams.{Puts}
+use Rattle.host_ports.specs.Streams.{Puts}
 use Rattle.law_headline.specs.Does.{happenings_of}
 use Rattle.law_headline.specs.Left.{world_of}
 use Rattle.law_headline.specs.Playing.{IsPlayed}

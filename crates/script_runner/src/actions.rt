@@ -26,6 +26,7 @@ fn at(event: Event) -> WorldEvent
 }
 
 /// What a line asks for; a blank line asks for nothing.
+#[inline(always)]
 pub fn action_of(line: Line) -> Option<Action>
     ensures { happening_by result ≡ rules.happening_of line }
 {

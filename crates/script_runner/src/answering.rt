@@ -54,6 +54,7 @@ fn answer_dump(alloc: Global, world: &World, context: Name) -> Result<Answer, Al
 ///
 /// Where no memory is left.
 #[tactic(auto, unfolding(protocol::specs::Script::happens, protocol::specs::Script::dumps, protocol::specs::Script::settles))]
+#[inline(always)]
 pub(crate) fn act<T: Settler>(
     alloc: Global,
     world: &mut World,

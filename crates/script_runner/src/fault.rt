@@ -3,7 +3,7 @@
 ghost use Rattle.std.specs.Prelude.{◌≡◌};
 ghost use Rattle.script_runner.specs.declared.fault.PlayFault.TheVariants as fault;
 
-use mig_ports::WriteFault;
+use host_ports::WriteFault;
 use script_lang::LineWhy;
 use std::alloc::AllocError;
 use thiserror::Error;

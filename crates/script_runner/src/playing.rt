@@ -1,7 +1,7 @@
 //! The answers to the lines of a script.
 
 ghost use Rattle.std.specs.Prelude.{◌≡◌, ◌∷◌, ℕ, ◌+◌, ◌<◌, ◌≤◌, ◌^◌, ◌⊎◌, List, length, Option, None, Some, Err, OnOk, OnErr, IfOk, IfErr};
-ghost use Rattle.mig_ports.specs.Streams.{FaultsCounted, Puts};
+ghost use Rattle.host_ports.specs.Streams.{FaultsCounted, Puts};
 ghost use Rattle.law_headline.specs.Does.{MayBeAskedOf, happening_of};
 ghost use Rattle.law_headline.specs.Follows.{IsFollowed};
 ghost use Rattle.law_headline.specs.Left.{IsWorldAfter};
@@ -12,9 +12,9 @@ ghost use Rattle.script_runner.specs.Playing.{IfBadLine, IsOneLineFault, IsPlaye
 use crate::PlayFault;
 use crate::actions::action_of;
 use crate::answering::act;
+use host_ports::{Sink, WriteFault, write_all_of};
 use law_headline::{lines_are_in_range, scripts_are_followed, scripts_are_played_line_by_line};
 use law_kept_datagrams::alike_worlds_are_answered_alike;
-use mig_ports::{Sink, WriteFault, write_all_of};
 use script_lang::{Line, LineFault, Lines, parse_line, print_answer};
 use std::alloc::Global;
 use world_core::{Settler, World};
@@ -24,7 +24,8 @@ fn write_text<K: Sink>(text: &[u8], output: &mut K) -> Result<(), WriteFault>
     ensures whole { OnOk result (Puts (K.held output.old) (K.held output.new) text.now) }
     ensures part { OnErr result (PutsPrefix (K.held output.old) (K.held output.new) text.now) }
     ensures faults_unchanged { OnOk result (K.faults output.new ≡ K.faults output.old) }
-    ensures faults_counted { OnErr result (FaultsCounted (K.faults output.old) (K.faults output.new)) }
+    ensures faults_counted { OnErr result (FaultsCounted (K.faults output.old)
+        (K.faults output.new)) }
     ensures faults_monotone { K.faults output.old ≤ K.faults output.new }
 {
     write_all_of(output, text)
@@ -41,11 +42,15 @@ fn answer<T: Settler, K: Sink>(
 ) -> Result<(), PlayFault>
     requires { MayBeAskedOf (happening_of line) }
     ensures world { OnOk result (Leaves world.old (happening_of line) world.new) }
-    ensures whole { OnOk result (Puts (K.held output.old) (K.held output.new) (line_text world.old (happening_of line))) }
-    ensures part { OnErr result (PutsPrefix (K.held output.old) (K.held output.new) (line_text world.old (happening_of line))) }
+    ensures whole { OnOk result (Puts (K.held output.old) (K.held output.new)
+        (line_text world.old (happening_of line))) }
+    ensures part { OnErr result (PutsPrefix (K.held output.old) (K.held output.new)
+        (line_text world.old (happening_of line))) }
     ensures faults { IfErr result IsOneLineFault }
-    ensures faults_unchanged { (result ≡ Err PlayFault.WriteFault) ⊎ (K.faults output.new ≡ K.faults output.old) }
-    ensures faults_counted { result ≡ Err PlayFault.WriteFault → FaultsCounted (K.faults output.old) (K.faults output.new) }
+    ensures faults_unchanged { (result ≡ Err PlayFault.WriteFault)
+        ⊎ (K.faults output.new ≡ K.faults output.old) }
+    ensures faults_counted { result ≡ Err PlayFault.WriteFault
+        → FaultsCounted (K.faults output.old) (K.faults output.new) }
     ensures faults_monotone { K.faults output.old ≤ K.faults output.new }
 {
     let Some(action) = action_of(line) else {
@@ -77,8 +82,10 @@ fn play_line<T: Settler, K: Sink>(
     ensures part { (held : Option (List ℕ)) (script : List ℕ) (n : ℕ) (rest : List (List ℕ)) → n + 1 ≡ number
         → IsPlayedTo held (K.held output.old) script world.old n (line.now ∷ rest)
         → OnErr result (PutsPrefix held (K.held output.new) (answers_text script)) }
-    ensures faults_unchanged { (result ≡ Err PlayFault.WriteFault) ⊎ (K.faults output.new ≡ K.faults output.old) }
-    ensures faults_counted { result ≡ Err PlayFault.WriteFault → FaultsCounted (K.faults output.old) (K.faults output.new) }
+    ensures faults_unchanged { (result ≡ Err PlayFault.WriteFault)
+        ⊎ (K.faults output.new ≡ K.faults output.old) }
+    ensures faults_counted { result ≡ Err PlayFault.WriteFault
+        → FaultsCounted (K.faults output.old) (K.faults output.new) }
     ensures faults_monotone { K.faults output.old ≤ K.faults output.new }
 {
     alike_worlds_are_answered_alike();
@@ -109,14 +116,19 @@ pub fn play_world<T: Settler, K: Sink>(
 ) -> Result<World, PlayFault>
     ensures left { IfOk result (λ world. IsWorldAfter input.now world) }
     ensures good { OnOk result (bad_line input.now ≡ None) }
-    ensures whole { OnOk result (Puts (K.held output.old) (K.held output.new) (answers_text input.now)) }
-    ensures bad { IfErr result (IfBadLine (IsStoppedAt (K.held output.old) (K.held output.new) input.now)) }
-    ensures part { OnErr result (PutsPrefix (K.held output.old) (K.held output.new) (answers_text input.now)) }
+    ensures whole { OnOk result (Puts (K.held output.old) (K.held output.new)
+        (answers_text input.now)) }
+    ensures bad { IfErr result (IfBadLine (IsStoppedAt (K.held output.old)
+        (K.held output.new) input.now)) }
+    ensures part { OnErr result (PutsPrefix (K.held output.old) (K.held output.new)
+        (answers_text input.now)) }
     ensures followed { IsFollowed input.now }
 
     // The count of faults rises exactly at `WriteFault`.
-    ensures faults_unchanged { (result ≡ Err PlayFault.WriteFault) ⊎ (K.faults output.new ≡ K.faults output.old) }
-    ensures faults_counted { result ≡ Err PlayFault.WriteFault → FaultsCounted (K.faults output.old) (K.faults output.new) }
+    ensures faults_unchanged { (result ≡ Err PlayFault.WriteFault)
+        ⊎ (K.faults output.new ≡ K.faults output.old) }
+    ensures faults_counted { result ≡ Err PlayFault.WriteFault
+        → FaultsCounted (K.faults output.old) (K.faults output.new) }
     ensures faults_monotone { K.faults output.old ≤ K.faults output.new }
 {
     scripts_are_followed();
@@ -144,14 +156,19 @@ pub fn play<T: Settler, K: Sink>(
     output: &mut K,
 ) -> Result<(), PlayFault>
     ensures good { OnOk result (bad_line input.now ≡ None) }
-    ensures whole { OnOk result (Puts (K.held output.old) (K.held output.new) (answers_text input.now)) }
-    ensures bad { IfErr result (IfBadLine (IsStoppedAt (K.held output.old) (K.held output.new) input.now)) }
-    ensures part { OnErr result (PutsPrefix (K.held output.old) (K.held output.new) (answers_text input.now)) }
+    ensures whole { OnOk result (Puts (K.held output.old) (K.held output.new)
+        (answers_text input.now)) }
+    ensures bad { IfErr result (IfBadLine (IsStoppedAt (K.held output.old)
+        (K.held output.new) input.now)) }
+    ensures part { OnErr result (PutsPrefix (K.held output.old) (K.held output.new)
+        (answers_text input.now)) }
     ensures followed { IsFollowed input.now }
 
     // The count of faults rises exactly at `WriteFault`.
-    ensures faults_unchanged { (result ≡ Err PlayFault.WriteFault) ⊎ (K.faults output.new ≡ K.faults output.old) }
-    ensures faults_counted { result ≡ Err PlayFault.WriteFault → FaultsCounted (K.faults output.old) (K.faults output.new) }
+    ensures faults_unchanged { (result ≡ Err PlayFault.WriteFault)
+        ⊎ (K.faults output.new ≡ K.faults output.old) }
+    ensures faults_counted { result ≡ Err PlayFault.WriteFault
+        → FaultsCounted (K.faults output.old) (K.faults output.new) }
     ensures faults_monotone { K.faults output.old ≤ K.faults output.new }
 {
     play_world(alloc, input, settler, output)?;

@@ -3,7 +3,7 @@ use Rattle.std.proofs.Common.{◌≡◌, ◌≤◌, ◌<◌, ◌+◌, ℕ, List,
 use Rattle.std.specs.Prelude.{flat_map}
 use Rattle.std.proofs.lemmas.Grind.{flat_map-append}
 use Rattle.std.proofs.lemmas.List.{append-nil, take_all, take_more}
-use Rattle.rdma_types.specs.declared.answers.LeftWhy.{LeftWhy}
+use Rattle.rdma_types.specs.declared.answers.UnfinishedReason.{UnfinishedReason}
 use Rattle.rdma_types.specs.declared.names.ObjName.{ObjName}
 use Rattle.protocol.specs.declared.images.ContextImage.{ContextImage}
 use Rattle.protocol.specs.State.{World}
@@ -28,7 +28,7 @@ left-more f xs i x start mid new h is e n =
 pub left-all : {A B : Type 0} (f : A → List B) (xs : List A) (i : ℕ) (start mid : List B) → length xs ≤ i → mid ≡ start ++ flat_map f (take i xs) → mid ≡ start ++ flat_map f xs
 left-all f xs i start mid h e = e ∙ ap (λ z. start ++ flat_map f z) (take_all i xs h)
 
-pub unfinished_is : (w : World) (ends : List LiveEnd) (images : List ContextImage) (none live all : List (ObjName × LeftWhy)) → none ≡ [] → ends ≡ live_list w → images ≡ w.carried →
+pub unfinished_is : (w : World) (ends : List LiveEnd) (images : List ContextImage) (none live all : List (ObjName × UnfinishedReason)) → none ≡ [] → ends ≡ live_list w → images ≡ w.carried →
     live ≡ none ++ flat_map left_view ends → all ≡ live ++ flat_map left_image_of images → all ≡ unfinished w
 unfinished_is w ends images none live all begun lives carried first second =
     second

@@ -4,7 +4,7 @@ use Rattle.std.specs.Prelude.{flat_map, option_map, sum_by, fold, ◌==◌}
 use Rattle.std.proofs.lemmas.List.{map-append, length-map}
 use Rattle.std.proofs.lemmas.Grind.{flat_map-append}
 use Rattle.std.proofs.lemmas.List.Folds.{flat_map-map}
-use Rattle.rdma_types.specs.declared.answers.LeftWhy.TheVariants as why
+use Rattle.rdma_types.specs.declared.answers.UnfinishedReason.TheVariants as why
 use Rattle.rdma_types.specs.declared.names.ObjName.{ObjName}
 use Rattle.protocol.specs.State.{Context, Device, End, Link, Paused, Phase, Resuming, Running, World}
 use Rattle.protocol.specs.EndWords.{is_paused, is_resuming}

@@ -1,7 +1,7 @@
 -- A settled world is quiet, also where its old datagrams are blank.
 use Rattle.std.proofs.Common.{◌≡◌, List, [], ◌∷◌, refl, sym, ap, ◌∙◌, subst}
 use Rattle.std.specs.Prelude.{All}
-use Rattle.rdma_types.specs.declared.answers.LeftWhy.{LeftWhy}
+use Rattle.rdma_types.specs.declared.answers.UnfinishedReason.{UnfinishedReason}
 use Rattle.rdma_types.specs.declared.names.ObjName.{ObjName}
 use Rattle.protocol.specs.Lawful.{IsLawful}
 use Rattle.protocol.specs.Script as script
@@ -9,10 +9,10 @@ use Rattle.protocol.specs.Script.{happens, settles}
 use Rattle.protocol.specs.State.{World}
 use Rattle.protocol.specs.Settle as settle
 use Rattle.protocol.specs.Settle.{settled}
-use Rattle.ideal_model.specs.Machine.{Machine}
+use Rattle.packetless_machine.specs.Machine.{Machine}
 use Rattle.law_simulation.specs.Quiet.{AreReasons, IsQuiet, reason_of, unfinished}
 use Rattle.law_simulation.specs.Views.{context_of, contexts_of, end_of}
-use Rattle.fabric.proofs.Histories.{pending-forgetting}
+use Rattle.protocol.proofs.Histories.{pending-forgetting}
 use Rattle.law_kept_datagrams.specs.Alike.{AreAlike, with_kept_datagrams}
 use Rattle.law_kept_datagrams.proofs.Rounds.{line_alike}
 use Rattle.law_settling.specs.Settling.{SettlingFollowsByName, SettlingHasEvents}
@@ -28,13 +28,13 @@ same_reason : (w : World) (m : Machine) (o : ObjName) → reason_of w m o ≡ re
 unfolding reason_of end_of context_of contexts_of
 same_reason w m o = refl
 
-same_reasons : (w : World) (m : Machine) (os : List ObjName) (xs : List (ObjName × LeftWhy)) → AreReasons w m os xs → AreReasons (with_kept_datagrams w) m os xs
+same_reasons : (w : World) (m : Machine) (os : List ObjName) (xs : List (ObjName × UnfinishedReason)) → AreReasons w m os xs → AreReasons (with_kept_datagrams w) m os xs
 same_reasons w m [] [] h = tt
 same_reasons w m [] (x ∷ xs) h = absurd h
 same_reasons w m (o ∷ os) [] h = absurd h
 same_reasons w m (o ∷ os) (x ∷ xs) h = (h.0, sym (same_reason w m o) ∙ h.1, same_reasons w m os xs h.2)
 
-still_quiet : (w : World) (m : Machine) (xs : List (ObjName × LeftWhy)) → IsQuiet w m xs → IsQuiet (with_kept_datagrams w) m xs
+still_quiet : (w : World) (m : Machine) (xs : List (ObjName × UnfinishedReason)) → IsQuiet w m xs → IsQuiet (with_kept_datagrams w) m xs
 unfolding unfinished
 still_quiet w m xs h = record { nothing_pending = pending-forgetting w.sent ∙ h.nothing_pending; reasons = same_reasons w m (unfinished w) xs h.reasons }
 

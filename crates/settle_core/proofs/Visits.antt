@@ -12,7 +12,7 @@ use Rattle.protocol.specs.Fabric.{first_of, pending}
 use Rattle.protocol.specs.State.{Link, World}
 use Rattle.protocol.specs.WorldStep.{home, live_context, world_after, world_step}
 use Rattle.protocol.specs.Settle.{Settling, drained, is_sent, link_at, pass, sending_all, sending_fuel, sends_all, sends_if_running, settle_step, transmit, visited, visiting}
-use Rattle.fabric.proofs.Histories.{forgetting-forgetting, kept_flight-forgetting, length-forgetting}
+use Rattle.protocol.proofs.Histories.{forgetting-forgetting, kept_flight-forgetting, length-forgetting}
 use Rattle.law_kept_datagrams.specs.Alike.{with_kept_datagrams}
 use Rattle.law_kept_datagrams.proofs.Stores.{pending_alike}
 use Rattle.law_settling.specs.Events.{send_events, sending_events}

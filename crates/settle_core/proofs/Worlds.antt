@@ -8,7 +8,7 @@ use Rattle.protocol.specs.declared.events.WorldEvent.{WorldEvent}
 use Rattle.protocol.specs.State.{World}
 use Rattle.protocol.specs.WorldStep.{world_after, world_step}
 use Rattle.protocol.specs.Settle.{Settling, begun, last_wait, live_ends, marks, same_marks, settle_step, stepped_to}
-use Rattle.fabric.proofs.Histories.{forgetting-forgetting}
+use Rattle.protocol.proofs.Histories.{forgetting-forgetting}
 use Rattle.law_kept_datagrams.specs.Alike.{AreAlike, StepAlike, with_kept_datagrams}
 use Rattle.law_kept_datagrams.proofs.Steps.{step_alike}
 use Rattle.world_core.specs.Kept.{Makes}

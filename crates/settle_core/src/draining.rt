@@ -13,7 +13,8 @@ use world_core::{World, WorldEvent};
 impl Notes {
     /// Delivers datagram `k` where it is pending. It may be gone since the pass began.
     fn deliver(&mut self, alloc: Global, world: &mut World, k: u64) -> Result<(), AllocError>
-        ensures ok { OnOk result (Settles (λ s. delivered_at s k) world.old self.old world.new self.new) }
+        ensures ok { OnOk result (Settles (λ s. delivered_at s k) world.old self.old world.new
+            self.new) }
         ensures cut { OnErr result (Cuts (λ s. deliver_events s k) world.old self.old world.new) }
     {
         if !world.is_pending(k) {
@@ -30,8 +31,10 @@ impl Notes {
         first: u64,
         end: u64,
     ) -> Result<(), AllocError>
-        ensures ok { OnOk result (Settles (λ s. sweeping s first (end - first)) world.old self.old world.new self.new) }
-        ensures cut { OnErr result (Cuts (λ s. sweep_events s first (end - first)) world.old self.old world.new) }
+        ensures ok { OnOk result (Settles (λ s. sweeping s first (end - first)) world.old self.old
+            world.new self.new) }
+        ensures cut { OnErr result (Cuts (λ s. sweep_events s first (end - first)) world.old
+            self.old world.new) }
     {
         for k in first..end {
             self.deliver(alloc, world, k)?;

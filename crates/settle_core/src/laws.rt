@@ -14,7 +14,8 @@ use law_settling::unfinished::settling_leaves;
 /// the settling of each whole world whose last datagrams the old one keeps, event by event and by exactly the steps that are named; nothing is pending; and each end with untold
 /// requests is listed once, in order, with the first reason that holds.
 pub fn settled_worlds_are_quiet()
-    ensures { (old new : World) (q : Quiet) → All IsLawful old.carried → IsSettled old new q → IsQuieted old new q.unfinished }
+    ensures { (old new : World) (q : Quiet) → All IsLawful old.carried → IsSettled old new q
+        → IsQuieted old new q.unfinished }
 {
     settling_leaves();
     settling_is_named();

@@ -7,28 +7,28 @@ ghost use Rattle.settle_core.specs.Left.{left_image_of, left_view, view_why};
 
 use crate::notes::known_ends;
 use protocol::EndImage;
-use rdma_types::{Items, LeftWhy, Name, ObjName};
+use rdma_types::{Items, Name, ObjName, UnfinishedReason};
 use std::alloc::{AllocError, Global};
 use world_core::{ContextImage, LinkView, LiveEnd, World};
 
 /// Why the untold requests of a connected end are left; None where it has none.
-fn left_why(link: &LinkView) -> Option<LeftWhy>
+fn left_why(link: &LinkView) -> Option<UnfinishedReason>
     ensures { result ≡ view_why link.now }
 {
     if link.untold == 0 {
         return None;
     }
     if link.paused {
-        return Some(LeftWhy::Paused);
+        return Some(UnfinishedReason::Paused);
     }
     if link.resuming {
-        return Some(LeftWhy::Resuming);
+        return Some(UnfinishedReason::Resuming);
     }
-    Some(LeftWhy::NoReceive)
+    Some(UnfinishedReason::NoReceive)
 }
 
 /// A live end with its reason, behind others, where it has untold requests.
-fn push_end(left: &mut Vec<(ObjName, LeftWhy)>, end: &LiveEnd) -> Result<(), AllocError>
+fn push_end(left: &mut Vec<(ObjName, UnfinishedReason)>, end: &LiveEnd) -> Result<(), AllocError>
     ensures { OnOk result (left.new.items ≡ left.old.items ++ left_view end.now) }
 {
     let Some(link) = &end.link else {
@@ -42,7 +42,10 @@ fn push_end(left: &mut Vec<(ObjName, LeftWhy)>, end: &LiveEnd) -> Result<(), All
 }
 
 /// The live ends with untold requests, with their reasons, behind others.
-fn push_live(left: &mut Vec<(ObjName, LeftWhy)>, ends: &[LiveEnd]) -> Result<(), AllocError>
+fn push_live(
+    left: &mut Vec<(ObjName, UnfinishedReason)>,
+    ends: &[LiveEnd],
+) -> Result<(), AllocError>
     ensures { OnOk result (left.new.items ≡ left.old.items ++ flat_map left_view ends.now) }
 {
     for end in ends {
@@ -53,7 +56,7 @@ fn push_live(left: &mut Vec<(ObjName, LeftWhy)>, ends: &[LiveEnd]) -> Result<(),
 
 /// An end of a carried context, behind others, where it has untold requests.
 fn push_carried(
-    left: &mut Vec<(ObjName, LeftWhy)>,
+    left: &mut Vec<(ObjName, UnfinishedReason)>,
     context: Name,
     end: &EndImage,
 ) -> Result<(), AllocError>
@@ -66,12 +69,15 @@ fn push_carried(
         context,
         name: end.name,
     };
-    left.push((name, LeftWhy::Carried))?;
+    left.push((name, UnfinishedReason::Carried))?;
     Ok(())
 }
 
 /// The ends of a carried context with untold requests, behind others.
-fn push_image(left: &mut Vec<(ObjName, LeftWhy)>, image: &ContextImage) -> Result<(), AllocError>
+fn push_image(
+    left: &mut Vec<(ObjName, UnfinishedReason)>,
+    image: &ContextImage,
+) -> Result<(), AllocError>
     ensures { OnOk result (left.new.items ≡ left.old.items ++ left_image_of image.now) }
 {
     let ends = image.ends.as_slice();
@@ -83,7 +89,7 @@ fn push_image(left: &mut Vec<(ObjName, LeftWhy)>, image: &ContextImage) -> Resul
 
 /// The ends of carried contexts with untold requests, behind others.
 fn push_images(
-    left: &mut Vec<(ObjName, LeftWhy)>,
+    left: &mut Vec<(ObjName, UnfinishedReason)>,
     images: &[ContextImage],
 ) -> Result<(), AllocError>
     ensures { OnOk result (left.new.items ≡ left.old.items ++ flat_map left_image_of images.now) }
@@ -100,7 +106,7 @@ pub(crate) fn unfinished(
     alloc: Global,
     world: &World,
     listed: Option<Items<LiveEnd>>,
-) -> Result<Items<(ObjName, LeftWhy)>, AllocError>
+) -> Result<Items<(ObjName, UnfinishedReason)>, AllocError>
     requires { IfSome listed (λ ends. ends ≡ live_list world.now) }
     ensures { IfOk result (λ left. left ≡ unfinished world.now) }
 {

@@ -39,6 +39,7 @@ pub(crate) struct Notes {
 impl Notes {
     /// One step of the world, with a note of changes. As long as the round has no change, the marks of all live ends
     /// are compared with those that were seen last.
+    #[inline(always)]
     pub(crate) fn step(
         &mut self,
         alloc: Global,
@@ -46,7 +47,8 @@ impl Notes {
         event: &WorldEvent,
     ) -> Result<(), AllocError>
         requires { IsLawfulWorldEvent event.now }
-        ensures ok { OnOk result (Settles (λ s. settle_step s event.now) world.old self.old world.new self.new) }
+        ensures ok { OnOk result (Settles (λ s. settle_step s event.now) world.old self.old
+            world.new self.new) }
         ensures cut { OnErr result (Cuts (λ s. event.now ∷ []) world.old self.old world.new) }
     {
         if self.changed {
@@ -68,8 +70,10 @@ pub(crate) fn transmit(
     world: &mut World,
     end: &ObjName,
 ) -> Result<Answer, AllocError>
-    ensures ok { OnOk result ((n : Notes) → Settles (λ s. settle_step s (transmit end.now)) world.old n world.new n) }
-    ensures answer { IfOk result (λ answer. (n : Notes) (s : Settling) → Shows world.old n s → answer ≡ (world_step s.world (transmit end.now)).answer) }
+    ensures ok { OnOk result ((n : Notes)
+        → Settles (λ s. settle_step s (transmit end.now)) world.old n world.new n) }
+    ensures answer { IfOk result (λ answer. (n : Notes) (s : Settling) → Shows world.old n s
+        → answer ≡ (world_step s.world (transmit end.now)).answer) }
     ensures ids { HaveOwnIds world.old.devices }
     ensures err { OnErr result (world.new ≡ world.old) }
 {
@@ -83,8 +87,10 @@ pub(crate) fn known_ends(
     world: &World,
     listed: Option<Items<LiveEnd>>,
 ) -> Result<Items<LiveEnd>, AllocError>
-    ensures live { IfOk result (λ ends. IfSome listed (λ s. s ≡ live_list world.now) → ends ≡ live_list world.now) }
-    ensures marked { IfOk result (λ ends. IfSome listed (λ s. map view_mark s ≡ marks world.now) → map view_mark ends ≡ marks world.now) }
+    ensures live { IfOk result (λ ends. IfSome listed (λ s. s ≡ live_list world.now)
+        → ends ≡ live_list world.now) }
+    ensures marked { IfOk result (λ ends. IfSome listed (λ s. map view_mark s ≡ marks world.now)
+        → map view_mark ends ≡ marks world.now) }
 {
     match listed {
         Some(ends) => Ok(ends),

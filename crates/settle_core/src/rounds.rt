@@ -111,7 +111,8 @@ impl Notes {
 
     /// A new round.
     fn begin(&mut self)
-        ensures { (w : state.World) (s : Settling) → Shows w self.old s → Shows w self.new (begun s) }
+        ensures { (w : state.World) (s : Settling) → Shows w self.old s
+            → Shows w self.new (begun s) }
     {
         self.changed = false;
         self.stepped = false;
@@ -128,7 +129,8 @@ impl Notes {
         listed: &mut Option<Items<LiveEnd>>,
     ) -> Result<u64, AllocError>
         requires { IfSome listed.old (λ ends. ends ≡ live_list world.old) }
-        ensures ok { IfOk result (λ rounds. (s : Settling) → Shows world.old self.old s → Ends (rounds_of most 0 s) world.new rounds) }
+        ensures ok { IfOk result (λ rounds. (s : Settling) → Shows world.old self.old s
+            → Ends (rounds_of most 0 s) world.new rounds) }
         ensures bounded { IfOk result (λ rounds. rounds ≤ most) }
         ensures listed { OnOk result (IfSome listed.new (λ ends. ends ≡ live_list world.new)) }
         ensures cut { OnErr result (Cuts (λ s. rounds_events most s) world.old self.old world.new) }
@@ -157,7 +159,8 @@ impl Settler for Rounds {
     fn settle(&self, alloc: Global, world: &mut World) -> Result<Quiet, AllocError>
         ensures settled { IfOk result (λ quiet. IsSettled world.old world.new quiet) }
         ensures bounded { IfOk result (λ quiet. quiet.rounds ≤ 32 * load_of world.old) }
-        ensures quiet { IfOk result (λ quiet. All IsLawful world.old.carried → IsQuieted world.old world.new quiet.unfinished) }
+        ensures quiet { IfOk result (λ quiet. All IsLawful world.old.carried
+            → IsQuieted world.old world.new quiet.unfinished) }
         ensures left { OnErr result (IsLeft world.old world.new) }
     {
         settled_worlds_are_quiet();

@@ -43,8 +43,11 @@ fn is_sent(answer: &Answer) -> bool
 impl Notes {
     /// An end transmits once, and what it sent is drained; and whether it sent anything. Otherwise nothing is changed.
     fn send(&mut self, alloc: Global, world: &mut World, end: &ObjName) -> Result<bool, AllocError>
-        ensures ok { IfOk result (λ sent. (s : Settling) → Shows world.old self.old s → (sent ≡ is_sent (world_step s.world (transmit end.now)).answer) × Shows world.new self.new (sent_once sent s end.now)) }
-        ensures cut { OnErr result (Cuts (λ s. once_events s end.now) world.old self.old world.new) }
+        ensures ok { IfOk result (λ sent. (s : Settling) → Shows world.old self.old s
+            → (sent ≡ is_sent (world_step s.world (transmit end.now)).answer)
+            × Shows world.new self.new (sent_once sent s end.now)) }
+        ensures cut { OnErr result (Cuts (λ s. once_events s end.now) world.old self.old
+            world.new) }
     {
         let answer = transmit(alloc, world, end)?;
         if !is_sent(&answer) {
@@ -64,8 +67,10 @@ impl Notes {
     ) -> Result<(), AllocError>
         requires link { IsLinkAt world.old end.now link.now }
         requires bounded { link.now.last < 2 ^ 62 }
-        ensures ok { OnOk result (Settles (λ s. sends_all s end.now) world.old self.old world.new self.new) }
-        ensures cut { OnErr result (Cuts (λ s. send_all_events s end.now) world.old self.old world.new) }
+        ensures ok { OnOk result (Settles (λ s. sends_all s end.now) world.old self.old world.new
+            self.new) }
+        ensures cut { OnErr result (Cuts (λ s. send_all_events s end.now) world.old self.old
+            world.new) }
     {
         let most = 2 * link.last.saturating_sub(link.una) + 2;
         for turn in 0..most {
@@ -86,8 +91,10 @@ impl Notes {
     ) -> Result<(), AllocError>
         requires link { IsLinkAt world.old end.now link.now }
         requires bounded { link.now.last < 2 ^ 62 }
-        ensures ok { OnOk result (Settles (λ s. sends_if_running s end.now) world.old self.old world.new self.new) }
-        ensures cut { OnErr result (Cuts (λ s. running_events s end.now) world.old self.old world.new) }
+        ensures ok { OnOk result (Settles (λ s. sends_if_running s end.now) world.old self.old
+            world.new self.new) }
+        ensures cut { OnErr result (Cuts (λ s. running_events s end.now) world.old self.old
+            world.new) }
     {
         if is_running(link) && may_send(link) {
             return self.send_all(alloc, world, end, link);
@@ -102,8 +109,11 @@ impl Notes {
         world: &mut World,
         end: &ObjName,
     ) -> Result<(), AllocError>
-        ensures ok { OnOk result (Settles (λ s. sends_if_running (drained (settle_step s (transmit end.now))) end.now) world.old self.old world.new self.new) }
-        ensures cut { OnErr result (Cuts (λ s. announce_events s end.now) world.old self.old world.new) }
+        ensures ok { OnOk result (Settles (λ s. sends_if_running
+            (drained (settle_step s (transmit end.now))) end.now) world.old self.old world.new
+            self.new) }
+        ensures cut { OnErr result (Cuts (λ s. announce_events s end.now) world.old self.old
+            world.new) }
     {
         let _answer = transmit(alloc, world, end)?;
         self.drain(alloc, world)?;
@@ -115,8 +125,10 @@ impl Notes {
 
     /// One end sends what it can.
     fn visit(&mut self, alloc: Global, world: &mut World, end: &ObjName) -> Result<(), AllocError>
-        ensures ok { OnOk result (Settles (λ s. visited s end.now) world.old self.old world.new self.new) }
-        ensures cut { OnErr result (Cuts (λ s. visit_events s end.now) world.old self.old world.new) }
+        ensures ok { OnOk result (Settles (λ s. visited s end.now) world.old self.old world.new
+            self.new) }
+        ensures cut { OnErr result (Cuts (λ s. visit_events s end.now) world.old self.old
+            world.new) }
     {
         let Some(link) = world.link_at(end) else {
             return Ok(());
@@ -134,8 +146,10 @@ impl Notes {
         world: &mut World,
         ends: &[ObjName],
     ) -> Result<(), AllocError>
-        ensures ok { OnOk result (Settles (λ s. visiting visited s ends.now) world.old self.old world.new self.new) }
-        ensures cut { OnErr result (Cuts (λ s. visiting_events visited visit_events s ends.now) world.old self.old world.new) }
+        ensures ok { OnOk result (Settles (λ s. visiting visited s ends.now) world.old self.old
+            world.new self.new) }
+        ensures cut { OnErr result (Cuts (λ s. visiting_events visited visit_events s ends.now)
+            world.old self.old world.new) }
     {
         for end in ends {
             self.visit(alloc, world, end)?;

@@ -28,7 +28,8 @@ impl Notes {
     /// Whether the RNR timer of an end may be stepped: with rnr 7 only where it had no such step in this settling, its
     /// oldest unacknowledged number changed since, or its partner went to Error since.
     fn may_step(&self, end: &ObjName, link: &LinkView, partner_ended: bool) -> bool
-        ensures { result ≡ may_wait link.now partner_ended (get same_object self.now.waited end.now) }
+        ensures { result ≡ may_wait link.now partner_ended
+            (get same_object self.now.waited end.now) }
     {
         match self.waited.get(end) {
             None => true,
@@ -42,7 +43,9 @@ impl Notes {
 
     /// Notes the step of an end's RNR timer.
     fn note(&mut self, end: &ObjName, wait: Wait) -> Result<(), AllocError>
-        ensures waited { OnOk result ((o : ObjName) → get same_object self.new.waited o ≡ (if same_object end.now o then Some wait else get same_object self.old.waited o)) }
+        ensures waited { OnOk result ((o : ObjName)
+            → get same_object self.new.waited o
+            ≡ (if same_object end.now o then Some wait else get same_object self.old.waited o)) }
         ensures changed { self.new.changed ≡ self.old.changed }
         ensures seen { self.new.seen ≡ self.old.seen }
         ensures stepped { OnOk result (self.new.stepped ≡ true) }
@@ -59,7 +62,8 @@ impl Notes {
         world: &mut World,
         end: &ObjName,
     ) -> Result<(), AllocError>
-        ensures ok { OnOk result (Settles (λ s. rnr_visit s end.now) world.old self.old world.new self.new) }
+        ensures ok { OnOk result (Settles (λ s. rnr_visit s end.now) world.old self.old world.new
+            self.new) }
         ensures cut { OnErr result (Cuts (λ s. rnr_events s end.now) world.old self.old world.new) }
     {
         let Some(link) = world.link_at(end) else {
@@ -80,8 +84,10 @@ impl Notes {
 
     /// The retransmission timeout of one end.
     fn expire(&mut self, alloc: Global, world: &mut World, end: &ObjName) -> Result<(), AllocError>
-        ensures ok { OnOk result (Settles (λ s. expire_visit s end.now) world.old self.old world.new self.new) }
-        ensures cut { OnErr result (Cuts (λ s. expire_events s end.now) world.old self.old world.new) }
+        ensures ok { OnOk result (Settles (λ s. expire_visit s end.now) world.old self.old world.new
+            self.new) }
+        ensures cut { OnErr result (Cuts (λ s. expire_events s end.now) world.old self.old
+            world.new) }
     {
         let Some(link) = world.link_at(end) else {
             return Ok(());
@@ -102,8 +108,10 @@ impl Notes {
         world: &mut World,
         ends: &[ObjName],
     ) -> Result<(), AllocError>
-        ensures ok { OnOk result (Settles (λ s. visiting rnr_visit s ends.now) world.old self.old world.new self.new) }
-        ensures cut { OnErr result (Cuts (λ s. visiting_events rnr_visit rnr_events s ends.now) world.old self.old world.new) }
+        ensures ok { OnOk result (Settles (λ s. visiting rnr_visit s ends.now) world.old self.old
+            world.new self.new) }
+        ensures cut { OnErr result (Cuts (λ s. visiting_events rnr_visit rnr_events s ends.now)
+            world.old self.old world.new) }
     {
         for end in ends {
             self.step_timer(alloc, world, end)?;
@@ -118,8 +126,11 @@ impl Notes {
         world: &mut World,
         ends: &[ObjName],
     ) -> Result<(), AllocError>
-        ensures ok { OnOk result (Settles (λ s. visiting expire_visit s ends.now) world.old self.old world.new self.new) }
-        ensures cut { OnErr result (Cuts (λ s. visiting_events expire_visit expire_events s ends.now) world.old self.old world.new) }
+        ensures ok { OnOk result (Settles (λ s. visiting expire_visit s ends.now) world.old self.old
+            world.new self.new) }
+        ensures cut { OnErr result
+            (Cuts (λ s. visiting_events expire_visit expire_events s ends.now) world.old self.old
+            world.new) }
     {
         for end in ends {
             self.expire(alloc, world, end)?;
@@ -134,8 +145,10 @@ impl Notes {
         world: &mut World,
         ends: &[ObjName],
     ) -> Result<(), AllocError>
-        ensures ok { OnOk result (Settles (λ s. timers s ends.now) world.old self.old world.new self.new) }
-        ensures cut { OnErr result (Cuts (λ s. timer_events s ends.now) world.old self.old world.new) }
+        ensures ok { OnOk result (Settles (λ s. timers s ends.now) world.old self.old world.new
+            self.new) }
+        ensures cut { OnErr result (Cuts (λ s. timer_events s ends.now) world.old self.old
+            world.new) }
     {
         self.step_timers(alloc, world, ends)?;
         if self.stepped {

@@ -4,7 +4,7 @@ ghost use Rattle.std.specs.Prelude.{◌≡◌, ◌↔◌, IsTrue};
 
 use byte_run::ByteRun;
 use protocol::KeptReply;
-use rdma_types::{Completion, LeftWhy, Name, ObjName, Receive};
+use rdma_types::{Completion, Name, ObjName, Receive, UnfinishedReason};
 
 /// Equal names.
 fn same_name(a: &Name, b: &Name) -> bool
@@ -74,14 +74,14 @@ pub fn same_replies(a: &[KeptReply], b: &[KeptReply]) -> bool
 }
 
 /// Equal ends with equal reasons.
-fn same_one(a: &(ObjName, LeftWhy), b: &(ObjName, LeftWhy)) -> bool
+fn same_one(a: &(ObjName, UnfinishedReason), b: &(ObjName, UnfinishedReason)) -> bool
     ensures { IsTrue result ↔ (a.now ≡ b.now) }
 {
     a.0 == b.0 && a.1 == b.1
 }
 
 /// Equal lists of ends with their reasons.
-pub fn same_left(a: &[(ObjName, LeftWhy)], b: &[(ObjName, LeftWhy)]) -> bool
+pub fn same_left(a: &[(ObjName, UnfinishedReason)], b: &[(ObjName, UnfinishedReason)]) -> bool
     ensures { IsTrue result ↔ (a.now ≡ b.now) }
 {
     if a.len() != b.len() {

@@ -2,8 +2,8 @@
 use Rattle.std.proofs.Common.{arith, ◌≡◌, ℕ, zero, suc, ◌+◌, Bool, true, false, if◌then◌else◌, List, [], ◌∷◌, ◌++◌, map, refl, ap, sym, ◌∙◌}
 use Rattle.std.specs.Prelude.{count_by, filter}
 use Rattle.protocol.specs.declared.events.Event.{Event}
-use Rattle.law_world_orders.specs.declared.Receipt.{Receipt}
-use Rattle.law_world_orders.specs.Openings.{adds}
+use Rattle.order_rules.specs.declared.Receipt.{Receipt}
+use Rattle.order_rules.specs.Openings.{adds}
 use Rattle.thread_plan.specs.Planned.{accepted_in, additions, is_accepted, tally}
 use Rattle.thread_plan.specs.Tables.{IsNextMade}
 

@@ -2,8 +2,8 @@
 use Rattle.std.proofs.Common.{arith, ◌≡◌, ◌⊎◌, inl, inr, ℕ, zero, suc, ◌+◌, ◌-◌, ◌<◌, ◌≤◌, List, [], ◌∷◌, length, map, slice_get, Some, refl, ap, sym, ◌∙◌}
 use Rattle.std.proofs.lemmas.Option.{slice_get_within}
 use Rattle.protocol.specs.State.{Device}
-use Rattle.law_world_orders.proofs.Lists.{some_is}
-use Rattle.station.specs.Books.{AreApart, BookView, opened_with, openings_of}
+use Rattle.order_rules.proofs.Lists.{some_is}
+use Rattle.shared_device.specs.Books.{AreApart, BookView, opened_with, openings_of}
 
 pub opened_so : (ds : List Device) → openings_of (map opened_with ds) ≡ ds
 opened_so [] = refl

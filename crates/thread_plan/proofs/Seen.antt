@@ -4,9 +4,9 @@ use Rattle.std.specs.Prelude.{count_by}
 use Rattle.std.proofs.lemmas.List.{append-nil, length-take-le, take_more}
 use Rattle.std.proofs.lemmas.List.Sums.{sum_by-append}
 use Rattle.std.proofs.Math.Seq.{take-length}
-use Rattle.law_world_orders.specs.declared.Receipt.{Receipt}
-use Rattle.law_world_orders.proofs.Lists.{get_push}
-use Rattle.thread_run.specs.Gathered.{drained_by, polled}
+use Rattle.order_rules.specs.declared.Receipt.{Receipt}
+use Rattle.order_rules.proofs.Lists.{get_push}
+use Rattle.run_check.specs.Gathered.{drained_by, polled}
 use Rattle.thread_plan.specs.declared.findings.Findings.{Findings}
 use Rattle.thread_plan.specs.declared.plan.ThreadPlan.{ThreadPlan}
 use Rattle.thread_plan.specs.declared.tallies.Tallies.{Tallies}

@@ -5,18 +5,18 @@ use Rattle.std.proofs.lemmas.Bool.Decides.{nat_tests, eqb_tells}
 use Rattle.std.proofs.lemmas.Option.{slice_get-get_or}
 use Rattle.protocol.specs.State.{Device}
 use Rattle.protocol.specs.Replay.{replay}
-use Rattle.law_world_orders.specs.declared.Receipt.{Receipt}
-use Rattle.law_world_orders.specs.declared.OrderEntry.{OrderEntry}
-use Rattle.law_world_orders.specs.Bridge.{FairOrdersAreLegal, IsFair, IsWork, WorkIsFair}
-use Rattle.law_world_orders.specs.Lines.{Line, device_after, events_on, held_by}
-use Rattle.law_world_orders.specs.Openings.{openings}
-use Rattle.law_world_orders.specs.Order.{IsWorldOrder}
-use Rattle.law_world_orders.specs.Work.{accepts, lines_with}
-use Rattle.law_world_orders.proofs.Lists.{some_is}
-use Rattle.station.specs.Books.{AreApart, BookView, device_of, openings_of}
-use Rattle.thread_run.specs.declared.run.Run.{Run}
-use Rattle.thread_run.specs.Gathered.{AreHeld, IsGatheredRun, completions_in, word_in}
-use Rattle.thread_run.proofs.Books.{found_at}
+use Rattle.order_rules.specs.declared.Receipt.{Receipt}
+use Rattle.order_rules.specs.declared.OrderEntry.{OrderEntry}
+use Rattle.order_rules.specs.Bridge.{FairOrdersAreLegal, IsFair, IsWork, WorkIsFair}
+use Rattle.order_rules.specs.Lines.{Line, device_after, events_on, held_by}
+use Rattle.order_rules.specs.Openings.{openings}
+use Rattle.order_rules.specs.Order.{IsWorldOrder}
+use Rattle.order_rules.specs.Work.{accepts, lines_with}
+use Rattle.order_rules.proofs.Lists.{some_is}
+use Rattle.shared_device.specs.Books.{AreApart, BookView, device_of, openings_of}
+use Rattle.run_check.specs.declared.run.Run.{Run}
+use Rattle.run_check.specs.Gathered.{AreHeld, IsGatheredRun, completions_in, word_in}
+use Rattle.run_check.proofs.Books.{found_at}
 use Rattle.thread_plan.specs.declared.plan.ThreadPlan.{ThreadPlan}
 use Rattle.thread_plan.proofs.Tables.{count_cons}
 use Rattle.thread_plan.specs.Planned.{AreWorking, IsDone, IsPlan, IsPlanned, IsWorking, all_adds, is_accepted, tally}

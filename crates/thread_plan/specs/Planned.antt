@@ -8,17 +8,17 @@ use Rattle.rdma_types.specs.declared.requests.WcStatus.TheVariants as status
 use Rattle.protocol.specs.declared.events.Event.{Event}
 use Rattle.protocol.specs.declared.events.Event.TheVariants as event
 use Rattle.protocol.specs.WorldStep.{is_done}
-use Rattle.law_world_orders.specs.declared.Receipt.{Receipt}
-use Rattle.law_world_orders.specs.Lines.{Line, entry_of, device_after}
-use Rattle.law_world_orders.specs.Sides.{IsOneSided, is_stopped}
-use Rattle.law_world_orders.specs.Hears.{IsLegalOrder}
-use Rattle.law_world_orders.specs.Openings.{adds, end_number, openings}
-use Rattle.law_world_orders.specs.Work.{accepts, is_addition, lines_with}
-use Rattle.law_world_orders.specs.Bridge.{IsAskable, IsWork, is_work}
-use Rattle.thread_run.specs.declared.run.Run.{Run}
-use Rattle.thread_run.specs.declared.run.RunFault.{RunFault}
-use Rattle.thread_run.specs.declared.run.RunFault.TheVariants as run_fault
-use Rattle.thread_run.specs.Gathered.{AreHeld, completions_in, drained_by, word_in}
+use Rattle.order_rules.specs.declared.Receipt.{Receipt}
+use Rattle.order_rules.specs.Lines.{Line, entry_of, device_after}
+use Rattle.order_rules.specs.Sides.{IsOneSided, is_stopped}
+use Rattle.order_rules.specs.Hears.{IsLegalOrder}
+use Rattle.order_rules.specs.Openings.{adds, end_number, openings}
+use Rattle.order_rules.specs.Work.{accepts, is_addition, lines_with}
+use Rattle.order_rules.specs.Bridge.{IsAskable, IsWork, is_work}
+use Rattle.run_check.specs.declared.run.Run.{Run}
+use Rattle.run_check.specs.declared.run.RunFault.{RunFault}
+use Rattle.run_check.specs.declared.run.RunFault.TheVariants as run_fault
+use Rattle.run_check.specs.Gathered.{AreHeld, completions_in, drained_by, word_in}
 use Rattle.thread_plan.specs.declared.plan.PlanFault.{PlanFault}
 use Rattle.thread_plan.specs.declared.plan.PlanFault.TheVariants as plan_fault
 use Rattle.thread_plan.specs.declared.plan.ThreadPlan.{ThreadPlan}

@@ -1,7 +1,7 @@
 -- What a pass over the receipts finds (this project's choice).
 use Rattle.std.specs.Prelude.{◌≡◌, ℕ, ◌+◌, Bool, List, [], ◌∷◌, count_by, replicate, slice_get, Some}
-use Rattle.law_world_orders.specs.declared.Receipt.{Receipt}
-use Rattle.thread_run.specs.Gathered.{drained_by, polled}
+use Rattle.order_rules.specs.declared.Receipt.{Receipt}
+use Rattle.run_check.specs.Gathered.{drained_by, polled}
 use Rattle.thread_plan.specs.declared.findings.Findings.{Findings}
 use Rattle.thread_plan.specs.declared.plan.ThreadPlan.{ThreadPlan}
 use Rattle.thread_plan.specs.declared.tallies.Tallies.{Tallies}

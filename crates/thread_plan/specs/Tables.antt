@@ -2,8 +2,8 @@
 use Rattle.std.specs.Prelude.{◌≡◌, ℕ, ◌+◌, ◌<◌, true, false, List, Option, Some, None, slice_get}
 use Rattle.std.specs.Option.{option_and_then}
 use Rattle.rdma_types.specs.declared.requests.Completion.{Completion}
-use Rattle.law_world_orders.specs.declared.Receipt.{Receipt}
-use Rattle.law_world_orders.specs.Openings.{adds}
+use Rattle.order_rules.specs.declared.Receipt.{Receipt}
+use Rattle.order_rules.specs.Openings.{adds}
 use Rattle.thread_plan.specs.Planned.{is_accepted, is_success_of}
 
 -- after a receipt so many additions of a worker are accepted: one more, if the receipt is of its next one, or as many, if it

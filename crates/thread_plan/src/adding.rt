@@ -1,14 +1,14 @@
 //! Additions of a worker, accepted in their order.
 
 ghost use Rattle.std.specs.Prelude.{◌≡◌, ◌≤◌, ◌<◌, IfSome, IsTrue};
-ghost use Rattle.law_world_orders.specs.Openings.{adds as adds_here};
+ghost use Rattle.order_rules.specs.Openings.{adds as adds_here};
 ghost use Rattle.thread_plan.specs.Planned.{IsPlan, adds_of as planned_adds, all_adds as all_planned};
 ghost use Rattle.thread_plan.specs.Tables.{IsNextMade};
 
 use crate::additions::addition;
 use crate::plan::ThreadPlan;
 use crate::tallies::accepts;
-use station::Receipt;
+use shared_device::Receipt;
 use step_differences::event_difference;
 
 /// How many additions all workers make.

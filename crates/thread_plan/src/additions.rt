@@ -1,8 +1,8 @@
 //! The additions that workers make.
 
 ghost use Rattle.std.specs.Prelude.{◌≡◌, ◌≤◌};
-ghost use Rattle.law_world_orders.specs.Openings.{adds, addition as planned_addition, in_a};
-ghost use Rattle.law_world_orders.specs.Openings as opening;
+ghost use Rattle.order_rules.specs.Openings.{adds, addition as planned_addition, in_a};
+ghost use Rattle.order_rules.specs.Openings as opening;
 ghost use Rattle.protocol.specs.Events.{IsLawfulEvent};
 
 use protocol::Event;

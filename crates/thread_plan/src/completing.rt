@@ -1,7 +1,7 @@
 //! Tables of the additions that were completed.
 
 ghost use Rattle.std.specs.Prelude.{◌≡◌, ◌==◌, ◌∷◌, [], ℕ, Some, cond, count_by, replicate, slice_get, IfOk, IsTrue};
-ghost use Rattle.thread_run.specs.Gathered.{polled};
+ghost use Rattle.run_check.specs.Gathered.{polled};
 ghost use Rattle.thread_plan.specs.Planned.{completes};
 ghost use Rattle.thread_plan.specs.Tables.{AreOnes, AreRaised, IsRaised, TellsTable};
 
@@ -65,7 +65,8 @@ impl Table {
 
 /// A table for each worker, from worker 1 on. Errors: out of memory.
 pub fn make_tables(alloc: Global, plan: &ThreadPlan) -> Result<Vec<Table>, AllocError>
-    ensures { IfOk result (λ tables. tables.items ≡ replicate plan.now.workers (replicate plan.now.adds 0)) }
+    ensures { IfOk result (λ tables. tables.items
+        ≡ replicate plan.now.workers (replicate plan.now.adds 0)) }
 {
     let mut tables = Vec::new(alloc);
     for _ in 0..plan.workers {
@@ -89,7 +90,9 @@ fn table_of(completion: &Completion, count: usize) -> Option<usize>
 /// Notes a completion in the table of its worker, and says whether its place was free; one that has no table is passed
 /// over.
 fn note(tables: &mut Vec<Table>, completion: &Completion) -> bool
-    ensures { IsTrue result → AreRaised (λ i j. count_by (completes i j) (completion.now ∷ [])) tables.old.items tables.new.items }
+    ensures { IsTrue result
+        → AreRaised (λ i j. count_by (completes i j) (completion.now ∷ [])) tables.old.items
+        tables.new.items }
 {
     match table_of(completion, tables.len()) {
         Some(place) => tables[place].note(completion.id),
@@ -99,7 +102,9 @@ fn note(tables: &mut Vec<Table>, completion: &Completion) -> bool
 
 /// Notes completions, and says whether their places were free.
 fn note_all(tables: &mut Vec<Table>, completions: &[Completion]) -> bool
-    ensures { IsTrue result → AreRaised (λ i j. count_by (completes i j) completions.now) tables.old.items tables.new.items }
+    ensures { IsTrue result
+        → AreRaised (λ i j. count_by (completes i j) completions.now) tables.old.items
+        tables.new.items }
 {
     for k in 0..completions.len() {
         if !note(tables, &completions[k]) {
@@ -111,7 +116,9 @@ fn note_all(tables: &mut Vec<Table>, completions: &[Completion]) -> bool
 
 /// The same of those that an answer polls.
 pub fn note_polled(tables: &mut Vec<Table>, answer: &Answer) -> bool
-    ensures { IsTrue result → AreRaised (λ i j. count_by (completes i j) (polled answer.now)) tables.old.items tables.new.items }
+    ensures { IsTrue result
+        → AreRaised (λ i j. count_by (completes i j) (polled answer.now)) tables.old.items
+        tables.new.items }
 {
     match answer {
         Answer::Polled(completions) => note_all(tables, completions.as_slice()),

@@ -10,7 +10,7 @@ use crate::plan::ThreadPlan;
 use crate::tallies::Tallies;
 use crate::working::is_asked;
 use rdma_types::Items;
-use station::Receipt;
+use shared_device::Receipt;
 use std::alloc::{AllocError, Global};
 
 /// What was found in the receipts that were gone through.
@@ -37,7 +37,8 @@ impl Findings {
     fn see(&mut self, receipt: &Receipt, worker: u32, made: u32, adds: u32) -> Option<u32>
         requires worker { 0 < adds → (1 ≤ worker) × (worker ≤ 8) }
         requires made { made ≤ adds }
-        ensures seen { IfSome result (λ next. IsSeen worker made receipt.now next self.old self.new) }
+        ensures seen { IfSome result (λ next. IsSeen worker made receipt.now next self.old
+            self.new) }
         ensures most { IfSome result (λ next. next ≤ adds) }
     {
         if !is_asked(receipt.device(), receipt.event()) {

@@ -1,12 +1,12 @@
 //! Books that open as planned.
 
 ghost use Rattle.std.specs.Prelude.{◌≡◌, ◌≤◌, IfOk, IsTrue};
-ghost use Rattle.law_world_orders.specs.Openings.{openings};
-ghost use Rattle.station.specs.Books.{AreApart, openings_of};
+ghost use Rattle.order_rules.specs.Openings.{openings};
+ghost use Rattle.shared_device.specs.Books.{AreApart, openings_of};
 
-use opening_books::open_books;
-use station::Book;
+use shared_device::Book;
 use std::alloc::{AllocError, Global};
+use thread_openings::open_books;
 
 /// Whether two books open with equal devices.
 fn same_opening(a: &Book, b: &Book) -> bool
@@ -47,7 +47,8 @@ fn are_rising(books: &[Book]) -> bool
 /// Whether these are books of the devices with which that many workers open.
 pub fn open_so(alloc: Global, workers: u32, books: &[Book]) -> Result<bool, AllocError>
     requires { (1 ≤ workers) × (workers ≤ 8) }
-    ensures { IfOk result (λ b. IsTrue b → (openings_of books.now ≡ openings workers) × AreApart books.now) }
+    ensures { IfOk result (λ b. IsTrue b → (openings_of books.now ≡ openings workers)
+        × AreApart books.now) }
 {
     let opened = open_books(alloc, workers)?;
     if !are_rising(books) {

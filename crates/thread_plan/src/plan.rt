@@ -1,8 +1,8 @@
 //! A plan, and why there is no run of it.
 
+use run_check::RunFault;
 use std::alloc::AllocError;
 use thiserror::Error;
-use thread_run::RunFault;
 
 /// What threads are to do: 1 to 8 workers make 1 to 10,000 additions each, while one context is moved at most 8 times.
 #[derive(Clone, Copy, Debug, PartialEq, Eq)]

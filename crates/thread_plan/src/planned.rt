@@ -7,11 +7,11 @@ use crate::adding::all_adds;
 use crate::findings::are_done;
 use crate::opening::open_so;
 use crate::plan::{PlanFault, ThreadPlan};
-use law_fair_orders::{fair_orders_are_legal, work_is_fair};
+use law_orders::{fair_orders_are_legal, work_is_fair};
 use rdma_types::Items;
-use station::{Book, OrderBook, Receipt};
+use run_check::{Run, gather};
+use shared_device::{Book, OrderBook, Receipt};
 use std::alloc::Global;
-use thread_run::{Run, gather};
 
 /// The run that books, the order of their steps and the receipts of the numbers from 0 to `last` tell of, where it is as
 /// planned; `alone` says whose run it is.

@@ -1,7 +1,7 @@
 //! How many receipts tell of an accepted addition, of a stop or of a restore.
 
 ghost use Rattle.std.specs.Prelude.{◌≡◌, ◌+◌, ◌∷◌, [], cond, count_by, IfSome, IsTrue};
-ghost use Rattle.law_world_orders.specs.Work.{is_addition as adds_here};
+ghost use Rattle.order_rules.specs.Work.{is_addition as adds_here};
 ghost use Rattle.thread_plan.specs.Planned.{IsPlan, all_adds as planned_adds, is_accepted, restores_b, stops_b};
 ghost use Rattle.thread_plan.specs.Seen.{AreTallied};
 
@@ -10,7 +10,7 @@ use crate::plan::ThreadPlan;
 use crate::working::name_b;
 use protocol::Event;
 use rdma_types::{Answer, Kind};
-use station::Receipt;
+use shared_device::Receipt;
 
 /// Whether an event posts an addition.
 fn is_addition(event: &Event) -> bool
@@ -94,7 +94,8 @@ impl Tallies {
     /// Whether there are as many as planned.
     pub fn are_as_many(self, plan: &ThreadPlan) -> bool
         requires { IsPlan plan.now }
-        ensures { IsTrue result → (self.accepted ≡ planned_adds plan.now) × (self.stopped ≡ plan.now.moves) × (self.restored ≡ plan.now.moves) }
+        ensures { IsTrue result → (self.accepted ≡ planned_adds plan.now)
+            × (self.stopped ≡ plan.now.moves) × (self.restored ≡ plan.now.moves) }
     {
         let moves = u64::from(plan.moves);
         self.accepted == all_adds(plan) && self.stopped == moves && self.restored == moves

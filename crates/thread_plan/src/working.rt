@@ -2,8 +2,8 @@
 
 ghost use Rattle.std.specs.Prelude.{◌≡◌, IsTrue, true, codes};
 ghost use Rattle.law_simulation.specs.Law.{IsRequestInRange};
-ghost use Rattle.law_world_orders.specs.Bridge.{IsAskable, is_work};
-ghost use Rattle.law_world_orders.specs.Work.{is_fetch_add};
+ghost use Rattle.order_rules.specs.Bridge.{IsAskable, is_work};
+ghost use Rattle.order_rules.specs.Work.{is_fetch_add};
 
 use protocol::Event;
 use rdma_types::{Kind, Name, Request};

@@ -2,28 +2,28 @@
 use Rattle.std.proofs.Common.{◌≡◌, ◌-◌, ◌*◌, ◌++◌, ℕ, List, [], ◌∷◌, length, true, false, Bool, refl, sym, ap, ◌∙◌}
 use Rattle.std.specs.Prelude.{Option, Some, None, if◌then◌else◌, slice_get}
 use Rattle.rdma_types.specs.declared.answers.EndView.{EndView}
-use Rattle.rdma_types.specs.declared.answers.Took.{Took}
+use Rattle.rdma_types.specs.declared.answers.ArrivalEffect.{ArrivalEffect}
 use Rattle.rdma_types.specs.declared.names.ObjName.{ObjName}
 use Rattle.protocol.specs.Fabric.{is_kept, kept_flight}
 use Rattle.protocol.specs.State.{Flight, World}
 use Rattle.protocol.specs.Wire.{Packet, packet_of}
-use Rattle.fabric.proofs.Histories.{kept_flight-forgetting}
-use Rattle.ideal_model.specs.declared.steps.IdealStep.{IdealStep}
-use Rattle.ideal_model.specs.declared.steps.IdealStep.TheVariants as steps
-use Rattle.ideal_model.specs.Machine as machine
-use Rattle.ideal_model.specs.Machine.{Machine}
-use Rattle.ideal_model.specs.Reading.{is_offer_of}
-use Rattle.ideal_model.specs.Tables.{place_where}
+use Rattle.protocol.proofs.Histories.{kept_flight-forgetting}
+use Rattle.packetless_machine.specs.declared.steps.MachineStep.{MachineStep}
+use Rattle.packetless_machine.specs.declared.steps.MachineStep.TheVariants as steps
+use Rattle.packetless_machine.specs.Machine as machine
+use Rattle.packetless_machine.specs.Machine.{Machine}
+use Rattle.packetless_machine.specs.Reading.{is_offer_of}
+use Rattle.packetless_machine.specs.Tables.{place_where}
 use Rattle.law_kept_datagrams.specs.Alike.{with_kept_datagrams}
 use Rattle.law_simulation.specs.Carries.{finds_end, land_steps, piece_at, request_at, tell_steps}
 use Rattle.law_simulation.specs.Named.{flight_steps, is_landed, learning, numbered_steps, offer_place, packet_steps, read_steps}
 use Rattle.law_simulation.specs.Packets.{class_of}
 use Rattle.law_simulation.specs.Views.{name_of}
-use Rattle.trace_steps.specs.Steps.{HasDue, HasNumbers}
+use Rattle.trace_record.specs.Steps.{HasDue, HasNumbers}
 use Rattle.world_core.specs.Reached.{view_reached}
-use Rattle.trace_record.specs.declared.arrivals.Arrival.{Arrival}
-use Rattle.trace_record.specs.declared.arrivals.Arrival.TheVariants as arrival
-use Rattle.trace_record.specs.declared.arrivals.Sort.TheVariants as sort
+use Rattle.trace_record.specs.declared.recorder.arrivals.Arrival.{Arrival}
+use Rattle.trace_record.specs.declared.recorder.arrivals.Arrival.TheVariants as arrival
+use Rattle.trace_record.specs.declared.recorder.arrivals.DatagramKind.TheVariants as sort
 use Rattle.trace_record.specs.Arrivals.{IsArrival, IsArrivalAt, IsBeside, is_live_state, is_paused_state, sort_of}
 use Rattle.trace_record.proofs.Reached.{none_named, none_there, named_there, numbers_there, viewed}
 
@@ -58,10 +58,10 @@ kept_there kept w k r e h = sym (ap (λ (x : World). kept_flight x.sent k) e ∙
 pub gone : (kept : World) (m : Machine) (k : ℕ) → kept_flight kept.sent k ≡ None → IsArrival kept m k arrival.Nothing
 gone kept m k none = λ w t e s. ap (λ r. flight_steps w m r t) (kept_there kept w k None e none)
 
-abbrev no_steps : List IdealStep
+abbrev no_steps : List MachineStep
 no_steps = []
 
-unnumbered : (w : World) (m : Machine) (f : Flight) (p : Option Packet) (t : Took) → f.number ≡ None → packet_steps w m f p t ≡ []
+unnumbered : (w : World) (m : Machine) (f : Flight) (p : Option Packet) (t : ArrivalEffect) → f.number ≡ None → packet_steps w m f p t ≡ []
 unnumbered w m f None t none = refl
 unnumbered w m f (Some d) t none = ap (λ z. if finds_end w m f d then numbered_steps w m (name_of m d.dest) z d.payload (class_of d) t else []) none ∙ by (finds_end w m f d)
   where
@@ -70,7 +70,7 @@ unnumbered w m f (Some d) t none = ap (λ z. if finds_end w m f d then numbered_
     by false = refl
 
 module _ (kept : World) (m : Machine) (k : ℕ) (f : Flight) (is : kept_flight kept.sent k ≡ Some f) where
-  flies : (w : World) (t : Took) → kept ≡ with_kept_datagrams w → flight_steps w m (kept_flight w.sent k) t ≡ packet_steps w m f (packet_of f.bytes) t
+  flies : (w : World) (t : ArrivalEffect) → kept ≡ with_kept_datagrams w → flight_steps w m (kept_flight w.sent k) t ≡ packet_steps w m f (packet_of f.bytes) t
   flies w t e = ap (λ r. flight_steps w m r t) (kept_there kept w k (Some f) e is)
 
   pub no_number : f.number ≡ None → IsArrival kept m k arrival.Nothing
@@ -86,7 +86,7 @@ module _ (kept : World) (m : Machine) (k : ℕ) (f : Flight) (is : kept_flight k
     seen : (w : World) (r : Option EndView) → kept ≡ with_kept_datagrams w → view_reached kept f.to d.dest ≡ r → view_reached w f.to d.dest ≡ r
     seen w r e h = sym (ap (λ (x : World). view_reached x f.to d.dest) e) ∙ h
 
-    says : (w : World) (t : Took) → kept ≡ with_kept_datagrams w → flight_steps w m (kept_flight w.sent k) t ≡ packet_steps w m f (Some d) t
+    says : (w : World) (t : ArrivalEffect) → kept ≡ with_kept_datagrams w → flight_steps w m (kept_flight w.sent k) t ≡ packet_steps w m f (Some d) t
     says w t e = flies w t e ∙ ap (λ p. packet_steps w m f p t) read
 
     pub no_end : view_reached kept f.to d.dest ≡ None → IsArrival kept m k arrival.Nothing

@@ -5,7 +5,7 @@ use Rattle.std.specs.List.{All}
 use Rattle.std.specs.Prelude.{Some, None, if◌then◌else◌, slice_get}
 use Rattle.rdma_types.specs.declared.answers.Answer.{Answer}
 use Rattle.rdma_types.specs.declared.answers.Answer.TheVariants as answers
-use Rattle.rdma_types.specs.declared.answers.Took.{Took}
+use Rattle.rdma_types.specs.declared.answers.ArrivalEffect.{ArrivalEffect}
 use Rattle.rdma_types.specs.declared.verbs.Verb.{Verb}
 use Rattle.protocol.specs.declared.events.Event.{Event}
 use Rattle.protocol.specs.declared.events.Event.TheVariants as events
@@ -15,37 +15,37 @@ use Rattle.protocol.specs.Fabric.{is_kept, kept_flight, look}
 use Rattle.protocol.specs.State.{World}
 use Rattle.protocol.specs.WorldStep.{delivers, delivers_by, now_of, world_step}
 use Rattle.protocol.specs.Fabric as fabric
-use Rattle.ideal_model.specs.declared.steps.IdealStep.{IdealStep}
-use Rattle.ideal_model.specs.declared.steps.IdealStep.TheVariants as steps
-use Rattle.ideal_model.specs.Legal.{IsRun, after, effect}
-use Rattle.ideal_model.specs.Machine.{Machine}
+use Rattle.packetless_machine.specs.declared.steps.MachineStep.{MachineStep}
+use Rattle.packetless_machine.specs.declared.steps.MachineStep.TheVariants as steps
+use Rattle.packetless_machine.specs.Legal.{IsRun, after, effect}
+use Rattle.packetless_machine.specs.Machine.{Machine}
 use Rattle.law_kept_datagrams.specs.Alike.{AreAlike, StepAlike, with_kept_datagrams}
-use Rattle.law_records.specs.Said.{IsShort}
+use Rattle.law_traces.specs.Said.{IsShort}
 use Rattle.law_simulation.specs.Kept as kept
 use Rattle.law_simulation.specs.Kept.{is_unmade, kept_of, kept_verb}
 use Rattle.law_simulation.specs.Named.{delivery_steps, flight_steps, given_in, inner_by, spoken_steps, steps_by}
 use Rattle.law_simulation.specs.Stands.{Stands}
 use Rattle.law_simulation.proofs.runs.Runs.{after_on}
-use Rattle.law_traces.specs.Recording.{spoken_text}
-use Rattle.trace_writer.specs.Written.{answer_lines, answer_text, step_text, steps_text, verb_text}
+use Rattle.trace_rules.specs.Recording.{spoken_text}
+use Rattle.run_traces.specs.Written.{answer_lines, answer_text, step_text, steps_text, verb_text}
 use Rattle.world_core.specs.Followed.{Follows}
-use Rattle.trace_record.specs.declared.arrivals.Arrival.{Arrival}
-use Rattle.trace_record.specs.declared.arrivals.Arrival.TheVariants as arrival
+use Rattle.trace_record.specs.declared.recorder.arrivals.Arrival.{Arrival}
+use Rattle.trace_record.specs.declared.recorder.arrivals.Arrival.TheVariants as arrival
 use Rattle.trace_record.specs.Arrivals.{IsArrival, arrival_steps}
 use Rattle.trace_record.specs.Events.{IsEventRecorded, IsForeseen, foreseen_steps, taken_steps}
 
 -- ---- what was foreseen is what is named
 
 -- a datagram that was taken is kept
-kept_if : (w : World) (k : ℕ) (b : Bool) (t : Took) (first count : ℕ) → (delivers_by w k (fabric.look_at (if b then slice_get w.sent (k - 1) else None) (now_of w (if b then slice_get w.sent (k - 1) else None)))).answer ≡ answers.Took t first count → (if b then slice_get w.sent (k - 1) else None) ≡ slice_get w.sent (k - 1)
+kept_if : (w : World) (k : ℕ) (b : Bool) (t : ArrivalEffect) (first count : ℕ) → (delivers_by w k (fabric.look_at (if b then slice_get w.sent (k - 1) else None) (now_of w (if b then slice_get w.sent (k - 1) else None)))).answer ≡ answers.Took t first count → (if b then slice_get w.sent (k - 1) else None) ≡ slice_get w.sent (k - 1)
 kept_if w k true t first count h = refl
 kept_if w k false t first count h = absurd (cc)
 
-taken_kept : (w : World) (k : ℕ) (t : Took) (first count : ℕ) → (world_step w (world_events.Deliver k)).answer ≡ answers.Took t first count → kept_flight w.sent k ≡ slice_get w.sent (k - 1)
+taken_kept : (w : World) (k : ℕ) (t : ArrivalEffect) (first count : ℕ) → (world_step w (world_events.Deliver k)).answer ≡ answers.Took t first count → kept_flight w.sent k ≡ slice_get w.sent (k - 1)
 unfolding world_step delivers look kept_flight
 taken_kept w k t first count h = kept_if w k (is_kept (length w.sent) k) t first count h
 
-by_answer : (w : World) (m : Machine) (k : ℕ) (a : Arrival) (x : Answer) → ((t : Took) (first count : ℕ) → x ≡ answers.Took t first count → flight_steps w m (slice_get w.sent (k - 1)) t ≡ arrival_steps m a t) → delivery_steps w m k x ≡ taken_steps m a x
+by_answer : (w : World) (m : Machine) (k : ℕ) (a : Arrival) (x : Answer) → ((t : ArrivalEffect) (first count : ℕ) → x ≡ answers.Took t first count → flight_steps w m (slice_get w.sent (k - 1)) t ≡ arrival_steps m a t) → delivery_steps w m k x ≡ taken_steps m a x
 by_answer w m k a (answers.Took t first count) h = h t first count refl
 by_answer w m k a other h = refl
 
@@ -76,7 +76,7 @@ answered_whole kept w e x forgets law left is = is ∙ (law kept w e (subst (λ 
 
 -- ---- the whole event
 
-pub recorded : (w : World) (m m1 m2 : Machine) (line : List ℕ) (e : WorldEvent) (a : Arrival) (x : Answer) (new : World) (ss : List IdealStep) (old t1 t2 : List ℕ) → x ≡ (world_step w e).answer → Follows w m e x new → inner_by w m e (world_step w e).answer ≡ foreseen_steps m e a (world_step w e).answer →
+pub recorded : (w : World) (m m1 m2 : Machine) (line : List ℕ) (e : WorldEvent) (a : Arrival) (x : Answer) (new : World) (ss : List MachineStep) (old t1 t2 : List ℕ) → x ≡ (world_step w e).answer → Follows w m e x new → inner_by w m e (world_step w e).answer ≡ foreseen_steps m e a (world_step w e).answer →
     ss ≡ foreseen_steps m e a x → m1 ≡ after m (spoken_steps (kept_of w e x)) → t1 ≡ old ++ spoken_text line (kept_of w e x) → m2 ≡ after m1 ss → t2 ≡ t1 ++ steps_text ss → All IsShort ss → IsEventRecorded w m line e new m2 old t2
 recorded w m m1 m2 line e a x new ss old t1 t2 is follows named added spoken said made text short =
     let y : Answer = (world_step w e).answer in
@@ -97,27 +97,27 @@ recorded w m m1 m2 line e a x new ss old t1 t2 is follows named added spoken sai
 
 -- ---- steps, one after another
 
-pub after_one : (m : Machine) (ss : List IdealStep) (s : IdealStep) → after m (ss ++ s ∷ []) ≡ effect (after m ss) s
+pub after_one : (m : Machine) (ss : List MachineStep) (s : MachineStep) → after m (ss ++ s ∷ []) ≡ effect (after m ss) s
 after_one m ss s = after_on m ss (s ∷ [])
 
-pub text_one : (ss : List IdealStep) (s : IdealStep) → steps_text (ss ++ s ∷ []) ≡ steps_text ss ++ step_text s
+pub text_one : (ss : List MachineStep) (s : MachineStep) → steps_text (ss ++ s ∷ []) ≡ steps_text ss ++ step_text s
 unfolding steps_text
 text_one [] s = append-nil (step_text s)
 text_one (x ∷ xs) s = ap (λ z. step_text x ++ z) (text_one xs s) ∙ sym (append_assoc (step_text x) (steps_text xs) (step_text s))
 
 -- one more step is made and written
-pub made_more : (m now next : Machine) (ss : List IdealStep) (i : ℕ) (s : IdealStep) → i < length ss → s ≡ get_or ss i s → now ≡ after m (take i ss) → next ≡ effect now s → next ≡ after m (take (i + 1) ss)
+pub made_more : (m now next : Machine) (ss : List MachineStep) (i : ℕ) (s : MachineStep) → i < length ss → s ≡ get_or ss i s → now ≡ after m (take i ss) → next ≡ effect now s → next ≡ after m (take (i + 1) ss)
 made_more m now next ss i s lt is made e =
     e ∙ (ap (λ z. effect z s) made ∙ (sym (after_one m (take i ss) s) ∙ ap (after m) (sym (take_more ss i s lt ∙ ap (λ x. take i ss ++ x ∷ []) (sym is)))))
 
-pub text_more : (old now next : List ℕ) (ss : List IdealStep) (i : ℕ) (s : IdealStep) → i < length ss → s ≡ get_or ss i s → now ≡ old ++ steps_text (take i ss) → next ≡ now ++ step_text s → next ≡ old ++ steps_text (take (i + 1) ss)
+pub text_more : (old now next : List ℕ) (ss : List MachineStep) (i : ℕ) (s : MachineStep) → i < length ss → s ≡ get_or ss i s → now ≡ old ++ steps_text (take i ss) → next ≡ now ++ step_text s → next ≡ old ++ steps_text (take (i + 1) ss)
 text_more old now next ss i s lt is text e =
     e ∙ (ap (λ z. z ++ step_text s) text
     ∙ (append_assoc old (steps_text (take i ss)) (step_text s)
     ∙ ap (λ z. old ++ z) (sym (text_one (take i ss) s) ∙ ap steps_text (sym (take_more ss i s lt ∙ ap (λ x. take i ss ++ x ∷ []) (sym is))))))
 
 -- none is
-pub text_none : (old : List ℕ) (ss : List IdealStep) → old ≡ old ++ steps_text (take 0 ss)
+pub text_none : (old : List ℕ) (ss : List MachineStep) → old ≡ old ++ steps_text (take 0 ss)
 unfolding steps_text
 text_none old ss = sym (append-nil old)
 
@@ -154,6 +154,6 @@ no_more m (world_events.Deliver k) a x deliver at = absurd (deliver k refl)
 no_more m (world_events.At event) a x deliver at = absurd (at event refl)
 no_more m e a x deliver at = refl
 
-pub not_taken : (m : Machine) (a : Arrival) (x : Answer) → ((t : Took) (first count : ℕ) → x ≡ answers.Took t first count → ⊥) → taken_steps m a x ≡ []
+pub not_taken : (m : Machine) (a : Arrival) (x : Answer) → ((t : ArrivalEffect) (first count : ℕ) → x ≡ answers.Took t first count → ⊥) → taken_steps m a x ≡ []
 not_taken m a (answers.Took t first count) other = absurd (other t first count refl)
 not_taken m a x other = refl

@@ -5,3 +5,8 @@ pub mod Happened
 pub mod Said
 pub mod Short
 pub mod Played
+pub mod Learns
+pub mod Due
+pub mod Offers
+pub mod Repeats
+pub mod Numbered

@@ -1,28 +1,28 @@
 -- A script is recorded line by line, beside a world that keeps the last datagrams.
 use Rattle.std.proofs.Common.{arith, ◌≡◌, ◌≤◌, ◌+◌, ◌++◌, ℕ, List, [], ◌∷◌, length, refl, sym, ap, ◌∙◌, subst, append-nil}
 use Rattle.std.specs.Prelude.{Option, Some, None, OnOk, Result, Ok, Err}
-use Rattle.fabric.proofs.Histories.{forgetting-nil}
+use Rattle.protocol.proofs.Histories.{forgetting-nil}
 use Rattle.protocol.specs.Script.{Dump, Event, Happening, dumps, happens}
 use Rattle.protocol.specs.declared.events.WorldEvent.{WorldEvent}
 use Rattle.protocol.specs.State.{World, empty_world}
 use Rattle.protocol.specs.WorldStep.{world_step}
-use Rattle.ideal_model.specs.Machine.{Machine, empty}
+use Rattle.packetless_machine.specs.Machine.{Machine, empty}
 use Rattle.law_kept_datagrams.specs.Alike.{with_kept_datagrams}
-use Rattle.law_records.specs.Said.{RecordsAreSaid}
-use Rattle.law_records.specs.Records.{RecordsAreLegal}
+use Rattle.law_traces.specs.Said.{RecordsAreSaid}
+use Rattle.law_traces.specs.Records.{RecordsAreLegal}
 use Rattle.law_simulation.specs.Kept.{kept_of}
 use Rattle.law_simulation.specs.Named.{inner_steps}
 use Rattle.law_simulation.specs.Stands.{Stands}
 use Rattle.law_headline.specs.Does.{happening_of}
-use Rattle.law_traces.specs.Playing.{IsRecorded, RecordingBegins, RecordingEnds, RecordingGoesOn, RecordingStops}
-use Rattle.law_traces.specs.Recording.{IsTraceOf, last_line, machine_past, recorded_of, recorded_reading, traced_of, world_past}
+use Rattle.trace_rules.specs.Playing.{IsRecorded, RecordingBegins, RecordingEnds, RecordingGoesOn, RecordingStops}
+use Rattle.trace_rules.specs.Recording.{IsTraceOf, last_line, machine_past, recorded_of, recorded_reading, traced_of, world_past}
 use Rattle.script_lang.specs.declared.lines.Line.{Line}
 use Rattle.script_lang.specs.declared.lines.Offence.{Offence}
 use Rattle.script_lang.specs.Scripts.{lines_of}
 use Rattle.script_runner.proofs.Played.{length-lines_of}
-use Rattle.trace_audit.specs.Traces.{trace_of}
-use Rattle.trace_audit.specs.Verdicts.{inner_in, verbs_in}
-use Rattle.trace_writer.specs.Written.{steps_text}
+use Rattle.run_traces.specs.Traces.{trace_of}
+use Rattle.run_traces.specs.Verdicts.{inner_in, verbs_in}
+use Rattle.run_traces.specs.Written.{steps_text}
 use Rattle.trace_record.specs.Arrivals.{IsBeside}
 use Rattle.trace_record.specs.Events.{IsEventRecorded}
 use Rattle.trace_record.specs.Recorded.{AreShortBefore, IsLegalText, IsLineRecorded, IsRecordedTo}

@@ -5,7 +5,7 @@ use Rattle.rdma_types.proofs.Numbers.{landing_before_end}
 use Rattle.rdma_types.specs.Spans.{end_number}
 use Rattle.rdma_types.specs.declared.answers.EndState.TheVariants as state
 use Rattle.rdma_types.specs.declared.answers.EndView.{EndView}
-use Rattle.rdma_types.specs.declared.answers.Took.{Took}
+use Rattle.rdma_types.specs.declared.answers.ArrivalEffect.{ArrivalEffect}
 use Rattle.rdma_types.specs.declared.names.ObjName.{ObjName}
 use Rattle.rdma_types.specs.declared.requests.Address.{Address}
 use Rattle.protocol.specs.DeviceStep.{Found, found_in}
@@ -14,9 +14,9 @@ use Rattle.protocol.specs.Readers.{linked_view, view_by, view_of}
 use Rattle.protocol.specs.State.{Device, Flight, Link, Paused, Phase, Resuming, Running, World, context_at, end_at, no_context, no_end}
 use Rattle.protocol.specs.Wire.{Packet, packet_of}
 use Rattle.protocol.specs.WorldStep.{device_with, home, same_address}
-use Rattle.ideal_model.specs.Machine as machine
-use Rattle.ideal_model.specs.Machine.{Machine, has_end}
-use Rattle.ideal_model.specs.Numbers.{barrier, due, oldest}
+use Rattle.packetless_machine.specs.Machine as machine
+use Rattle.packetless_machine.specs.Machine.{Machine, has_end}
+use Rattle.packetless_machine.specs.Numbers.{barrier, due, oldest}
 use Rattle.law_simulation.specs.Carries.{finds_end, is_at}
 use Rattle.law_simulation.specs.Facts.{BytesFact, PacketFact}
 use Rattle.law_simulation.specs.Named.{numbered_steps, packet_steps}
@@ -33,7 +33,7 @@ use Rattle.law_simulation.proofs.relation.InUse.{owned_of}
 use Rattle.law_simulation.proofs.relation.Tables.{name-named_there}
 use Rattle.law_simulation.proofs.relation.Worlds.{home_holds}
 use Rattle.law_simulation.proofs.sending.GoNumbers.{mtu_positive}
-use Rattle.trace_steps.specs.Steps.{HasDue, HasNumbers}
+use Rattle.trace_record.specs.Steps.{HasDue, HasNumbers}
 use Rattle.world_core.specs.Reached.{view_on, view_reached}
 use Rattle.device_core.specs.Numbered.{first_view}
 use Rattle.trace_record.specs.Arrivals.{is_live_state, is_paused_state, sort_of, sorted_steps}
@@ -217,7 +217,7 @@ module _ (w : World) (m : Machine) (s : Stands w m) (k : ℕ) (f : Flight) (d : 
       (has_numbers w m o s connected rts, has_due w m (machine.end_of m o).peer s (s.joined o connected).connected)
 
   -- the steps that are named
-  pub named_there : (v : EndView) (n : ℕ) (t : Took) → IsView w m f d v → f.number ≡ Some n → is_live_state v.state ≡ true → packet_steps w m f (Some d) t ≡ sorted_steps m (is_paused_state v.state) v.name n d.payload (sort_of (class_of d)) t
+  pub named_there : (v : EndView) (n : ℕ) (t : ArrivalEffect) → IsView w m f d v → f.number ≡ Some n → is_live_state v.state ≡ true → packet_steps w m f (Some d) t ≡ sorted_steps m (is_paused_state v.state) v.name n d.payload (sort_of (class_of d)) t
   named_there v n t is number live =
       ap (λ b. if b then numbered_steps w m o f.number d.payload (class_of d) t else []) (is.live ∙ live)
       ∙ (ap (λ z. numbered_steps w m o z d.payload (class_of d) t) number
@@ -225,5 +225,5 @@ module _ (w : World) (m : Machine) (s : Stands w m) (k : ℕ) (f : Flight) (d : 
       ∙ λ i. sorted_steps m (is.paused live i) (sym is.name i) n d.payload (sort_of (class_of d)) t))
 
   -- .. where there is no such end in Rts
-  pub none_named : (t : Took) → finds_end w m f d ≡ false → packet_steps w m f (Some d) t ≡ []
+  pub none_named : (t : ArrivalEffect) → finds_end w m f d ≡ false → packet_steps w m f (Some d) t ≡ []
   none_named t none = ap (λ b. if b then numbered_steps w m o f.number d.payload (class_of d) t else []) none

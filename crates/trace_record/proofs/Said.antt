@@ -20,7 +20,7 @@ use Rattle.script_lang.specs.Fields.{a_device, a_name, an_address, an_object, so
 use Rattle.script_lang.specs.Verbs.{verb_form}
 use Rattle.script_lang.specs.Words.{◌>>=◌, Input, Read, Reads, Word, done, offence, then_read, the_end, words_from}
 use Rattle.law_headline.specs.Does.{event_happens, event_of, happening_of}
-use Rattle.law_traces.specs.Recording.{recorded_form, recorded_reading, without_settle}
+use Rattle.trace_rules.specs.Recording.{recorded_form, recorded_reading, without_settle}
 use Rattle.trace_record.specs.Lines.{IsNoSettling, settle_offence}
 
 -- ---- the first word

@@ -6,20 +6,20 @@ use Rattle.std.specs.Prelude.{Ok, map}
 use Rattle.rdma_types.specs.declared.answers.Answer.{Answer}
 use Rattle.rdma_types.specs.declared.verbs.Verb.{Verb}
 use Rattle.protocol.specs.State.{World, empty_world}
-use Rattle.ideal_model.specs.declared.steps.IdealStep.{IdealStep}
-use Rattle.ideal_model.specs.Machine.{Machine, empty}
+use Rattle.packetless_machine.specs.declared.steps.MachineStep.{MachineStep}
+use Rattle.packetless_machine.specs.Machine.{Machine, empty}
 use Rattle.law_headline.specs.Does.{happening_of}
-use Rattle.law_records.specs.Said.{AreShort, IsShort}
-use Rattle.law_traces.specs.Recording.{Written, begins_with, line_steps, machine_past, recorded_from, recorded_of, recorded_reading, spoken_of, traced_from, traced_of, world_past}
+use Rattle.law_traces.specs.Said.{AreShort, IsShort}
+use Rattle.trace_rules.specs.Recording.{Written, begins_with, line_steps, machine_past, recorded_from, recorded_of, recorded_reading, spoken_of, traced_from, traced_of, world_past}
 use Rattle.script_lang.specs.declared.lines.Line.{Line}
 use Rattle.script_lang.specs.Scripts.{lines_of}
-use Rattle.trace_audit.specs.Traces.{Traced, Spoken, Made}
+use Rattle.run_traces.specs.Traces.{Traced, Spoken, Made}
 use Rattle.trace_record.specs.Recorded.{AreShortBefore}
 
 -- ---- steps
 
 -- the inner steps of an event
-pub inner_short : (xs : List (Verb × Answer)) (ss : List IdealStep) → All IsShort ss → AreShort (spoken_of xs ++ map Made ss)
+pub inner_short : (xs : List (Verb × Answer)) (ss : List MachineStep) → All IsShort ss → AreShort (spoken_of xs ++ map Made ss)
 inner_short (x ∷ xs) ss short = inner_short xs ss short
 inner_short [] [] short = tt
 inner_short [] (s ∷ ss) short = (All-head IsShort s ss short, inner_short [] ss (All-tail IsShort s ss short))

@@ -2,17 +2,17 @@
 use Rattle.std.proofs.Common.{arith, ◌≡◌, ◌<◌, ◌≤◌, ◌==◌, ℕ, Bool, true, false, List, refl, sym, ap, ◌∙◌, if◌then◌else◌}
 use Rattle.std.specs.Prelude.{◌||◌, Option, Some, None}
 use Rattle.std.proofs.lemmas.Bool.Decides.{nat_tests}
-use Rattle.rdma_types.specs.declared.answers.Took.{Took}
+use Rattle.rdma_types.specs.declared.answers.ArrivalEffect.{ArrivalEffect}
 use Rattle.rdma_types.specs.declared.names.ObjName.{ObjName}
 use Rattle.protocol.specs.declared.wire.ResumeBody.{ResumeBody}
 use Rattle.protocol.specs.EndWords.{is_paused}
 use Rattle.protocol.specs.State.{World}
 use Rattle.protocol.specs.Wire.{Packet, is_read_response, is_request}
-use Rattle.ideal_model.specs.Machine.{Machine}
+use Rattle.packetless_machine.specs.Machine.{Machine}
 use Rattle.law_simulation.specs.Named.{class_steps}
 use Rattle.law_simulation.specs.Packets.{Class, IsRequest, IsReadResponse, IsAtomicResponse, IsAck, IsSequenceNak, IsRefusal, IsReceiverNotReady, IsStopped, IsResume, IsResumeAck, IsNothing, aeth_class, class_of, nak_class, resume_class}
 use Rattle.law_simulation.specs.Views.{link_of}
-use Rattle.trace_record.specs.declared.arrivals.Sort.TheVariants as sort
+use Rattle.trace_record.specs.declared.recorder.arrivals.DatagramKind.TheVariants as sort
 use Rattle.trace_record.specs.Arrivals.{sort_of, sorted_steps}
 
 -- ---- NAKs
@@ -72,7 +72,7 @@ module _ (d : Packet) where
 
 -- ---- the steps of a sort are those of each class of it
 
-pub class_sorted : (w : World) (m : Machine) (p : ObjName) (n : ℕ) (bytes : List ℕ) (c : Class) (t : Took) → class_steps w m p n bytes c t ≡ sorted_steps m (is_paused (link_of w p).moving.phase) p n bytes (sort_of c) t
+pub class_sorted : (w : World) (m : Machine) (p : ObjName) (n : ℕ) (bytes : List ℕ) (c : Class) (t : ArrivalEffect) → class_steps w m p n bytes c t ≡ sorted_steps m (is_paused (link_of w p).moving.phase) p n bytes (sort_of c) t
 class_sorted w m p n bytes IsRequest t = refl
 class_sorted w m p n bytes IsReadResponse t = refl
 class_sorted w m p n bytes IsAtomicResponse t = refl

@@ -8,17 +8,17 @@ use Rattle.protocol.specs.declared.events.WorldEvent.{WorldEvent}
 use Rattle.protocol.specs.declared.events.WorldEvent.TheVariants as world_event
 use Rattle.protocol.specs.State.{World}
 use Rattle.protocol.specs.WorldStep.{world_step}
-use Rattle.ideal_model.specs.declared.steps.IdealStep.{IdealStep}
-use Rattle.ideal_model.specs.Legal.{after}
-use Rattle.ideal_model.specs.Machine.{Machine}
+use Rattle.packetless_machine.specs.declared.steps.MachineStep.{MachineStep}
+use Rattle.packetless_machine.specs.Legal.{after}
+use Rattle.packetless_machine.specs.Machine.{Machine}
 use Rattle.law_kept_datagrams.specs.Alike.{with_kept_datagrams}
-use Rattle.law_records.specs.Said.{IsShort}
+use Rattle.law_traces.specs.Said.{IsShort}
 use Rattle.law_simulation.specs.Kept.{kept_of}
 use Rattle.law_simulation.specs.Named.{event_steps, inner_steps, turn_steps}
 use Rattle.law_simulation.specs.Stands.{Stands}
-use Rattle.law_traces.specs.Recording.{spoken_text}
-use Rattle.trace_writer.specs.Written.{steps_text}
-use Rattle.trace_record.specs.declared.arrivals.Arrival.{Arrival}
+use Rattle.trace_rules.specs.Recording.{spoken_text}
+use Rattle.run_traces.specs.Written.{steps_text}
+use Rattle.trace_record.specs.declared.recorder.arrivals.Arrival.{Arrival}
 use Rattle.trace_record.specs.Arrivals.{IsArrival, arrival_steps}
 
 -- the device of a new context is there
@@ -32,11 +32,11 @@ IsForeseen kept m (world_event.Deliver k) a = IsArrival kept m k a
 IsForeseen kept m other a = Unit {0}
 
 -- the inner steps at an event that was answered so, by what was foreseen
-abbrev pub taken_steps : Machine → Arrival → Answer → List IdealStep
+abbrev pub taken_steps : Machine → Arrival → Answer → List MachineStep
 taken_steps m a (answers.Took t first count) = arrival_steps m a t
 taken_steps m a other = []
 
-abbrev pub foreseen_steps : Machine → WorldEvent → Arrival → Answer → List IdealStep
+abbrev pub foreseen_steps : Machine → WorldEvent → Arrival → Answer → List MachineStep
 foreseen_steps m (world_event.Deliver k) a answer = taken_steps m a answer
 foreseen_steps m (world_event.At event) a answer = turn_steps event answer
 foreseen_steps m other a answer = []

@@ -2,15 +2,15 @@
 use Rattle.std.specs.Prelude.{ℕ, ◌≡◌, ◌+◌, ◌++◌, List, Option, Ok}
 use Rattle.protocol.specs.Script.{Happening}
 use Rattle.protocol.specs.State.{World}
-use Rattle.ideal_model.specs.Machine.{Machine}
+use Rattle.packetless_machine.specs.Machine.{Machine}
 use Rattle.law_kept_datagrams.specs.Alike.{with_kept_datagrams}
-use Rattle.law_records.specs.Said.{AreShort}
+use Rattle.law_traces.specs.Said.{AreShort}
 use Rattle.law_simulation.specs.Stands.{Stands}
-use Rattle.law_traces.specs.Playing.{IsRecorded}
-use Rattle.law_traces.specs.Recording.{Written, line_steps, machine_past, recorded_from, recorded_of, recorded_text, traced_from, traced_of, world_past}
-use Rattle.trace_audit.specs.declared.verdicts.Verdict.TheVariants.{Legal}
-use Rattle.trace_audit.specs.Traces.{Traced, trace_of}
-use Rattle.trace_audit.specs.Verdicts.{verdict_of}
+use Rattle.trace_rules.specs.Playing.{IsRecorded}
+use Rattle.trace_rules.specs.Recording.{Written, line_steps, machine_past, recorded_from, recorded_of, recorded_text, traced_from, traced_of, world_past}
+use Rattle.run_traces.specs.declared.trace_audit.verdicts.Verdict.TheVariants.{Legal}
+use Rattle.run_traces.specs.Traces.{Traced, trace_of}
+use Rattle.run_traces.specs.Verdicts.{verdict_of}
 
 -- the whole world and the machine come to where a line leads, what is kept of that world is left, and what is recorded of the
 -- line stands behind what was written; the numbers of its inner steps have 32 bits

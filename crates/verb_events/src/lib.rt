@@ -11,6 +11,7 @@ use protocol::{Event, WorldEvent};
 use rdma_types::Verb;
 
 /// The event of a world that a verb is. A new context has none, since its verb names no device.
+#[inline(always)]
 pub fn event_of(verb: Verb) -> Option<WorldEvent>
     ensures event { result ≡ rules.event_of verb }
     ensures lawful { IsLawfulVerb verb → IfSome result IsLawfulWorldEvent }

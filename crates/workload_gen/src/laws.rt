@@ -16,7 +16,8 @@ pub fn moves_stand_in_order()
 pub fn messages_lie_in_their_regions()
     ensures connection { (c j w : ℕ) → 0 < c
         → (0 < (message_of c j w).connection) × ((message_of c j w).connection ≤ c) }
-    ensures length { (c j w : ℕ) → (0 < (message_of c j w).length) × ((message_of c j w).length ≤ 4096) }
+    ensures length { (c j w : ℕ) → (0 < (message_of c j w).length)
+        × ((message_of c j w).length ≤ 4096) }
     ensures inside { (c j w : ℕ) → (65536 ≤ (message_of c j w).address)
         × ((message_of c j w).address + (message_of c j w).length ≤ 65536 + 65536) }
     ensures room { (c j w : ℕ) → (message_of c j w).address + 4096 ≤ 65536 + 65536 }

@@ -30,7 +30,8 @@ fn things() -> &'static [u8]
 /// The queue pairs of connection `i`.
 #[tactic(auto, using(std::proofs::lemmas::List::append_assoc))]
 fn put_pairs(out: &mut Vec<u8>, i: u64) -> Result<(), AllocError>
-    ensures { OnOk result (out.new.items ≡ out.old.items ++ (plan.qp_a_line i ++ plan.qp_b_line i)) }
+    ensures { OnOk result (out.new.items ≡ out.old.items
+        ++ (plan.qp_a_line i ++ plan.qp_b_line i)) }
 {
     put_number(out, b"qp a.q", i)?;
     put_number(out, b" a.p a.c a.c 64 64\nqp b.q", i)?;

@@ -33,7 +33,8 @@ fn put_message(
     word: u32,
 ) -> Result<(), AllocError>
     requires { 0 < connections }
-    ensures { OnOk result (out.new.items ≡ out.old.items ++ spec.message_lines connections number word) }
+    ensures { OnOk result (out.new.items ≡ out.old.items
+        ++ spec.message_lines connections number word) }
 {
     let message = Message::of(connections, number, word);
     put_posting(out, word / 8 % 4, &message)?;

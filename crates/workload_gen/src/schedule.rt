@@ -49,7 +49,8 @@ pub fn put_sending(
     bits: u32,
 ) -> Result<(), AllocError>
     requires { bits < 4 }
-    ensures { OnOk result (out.new.items ≡ out.old.items ++ plan.sending_lines number connection bits) }
+    ensures { OnOk result (out.new.items ≡ out.old.items
+        ++ plan.sending_lines number connection bits) }
 {
     if number % 16 == 1 {
         return put_expiry(out, connection);
@@ -102,7 +103,8 @@ fn put_move_at(out: &mut Vec<u8>, mix: &Mix, number: u32, k: u64) -> Result<(), 
 /// memory; what `out` then holds is not said.
 #[tactic(auto, using(crate::proofs::Growth::moves_start, crate::proofs::Growth::moves_more))]
 pub fn put_moves(out: &mut Vec<u8>, mix: &Mix, number: u32) -> Result<(), AllocError>
-    ensures { OnOk result (out.new.items ≡ out.old.items ++ plan.moves_at mix.now number mix.now.moves) }
+    ensures { OnOk result (out.new.items ≡ out.old.items
+        ++ plan.moves_at mix.now number mix.now.moves) }
 {
     for k in 0..mix.moves {
         put_move_at(out, mix, number, u64::from(k) + 1)?;

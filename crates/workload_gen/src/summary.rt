@@ -86,7 +86,8 @@ struct Tally<'a> {
 
 #[tactic(auto, using(crate::proofs::Lines::count_more, crate::proofs::Lines::left_more, crate::proofs::Lines::lines_none))]
 fn told_by(text: &[u8]) -> Tally<'_>
-    ensures completions { result.completions ≡ count_by spec.is_completion (spec.lines_of text.now) }
+    ensures completions { result.completions ≡ count_by spec.is_completion
+        (spec.lines_of text.now) }
     ensures success { result.success ≡ count_by spec.is_success (spec.lines_of text.now) }
     ensures left { result.left.now ≡ spec.left_in (codes "0") (spec.lines_of text.now) }
 {

@@ -16,12 +16,11 @@ use Rattle.protocol.specs.declared.events.Event.TheVariants as event
 use Rattle.protocol.specs.DeviceStep as device
 use Rattle.protocol.specs.DeviceStep.{connects, device_step, with_context}
 use Rattle.protocol.specs.EndWords.{linked, with_end, with_link}
-use Rattle.protocol.specs.Fabric.{flight_of, sending}
+use Rattle.protocol.specs.Fabric.{flight_of, forgetting, sending}
 use Rattle.protocol.specs.Refusals.{has_context, has_end, refusal_of}
 use Rattle.protocol.specs.State.{Context, Device, End, Link, World, context_at, end_at, fresh_link, no_context, no_end}
 use Rattle.protocol.specs.WorldStep as rules
 use Rattle.protocol.specs.WorldStep.{Step, answers, connect_causes, connects_one, end_of, exchanged, has_live_end, home, live_context, ran, runs, with_device, with_image, with_sent}
-use Rattle.fabric.specs.Store.{forgetting}
 use Rattle.law_simulation.proofs.relation.Tables.{has_name-map, map-store, name-named_there}
 use Rattle.law_kept_datagrams.specs.Alike.{with_kept_datagrams}
 use Rattle.world_core.specs.declared.making.EndAddress.{EndAddress}

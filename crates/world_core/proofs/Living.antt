@@ -2,7 +2,7 @@
 use Rattle.std.proofs.Common.{◌≡◌, ℕ, ◌==◌, ◌||◌, List, [], ◌∷◌, Bool, true, false, Option, Some, None, refl, sym, ap, ◌∙◌, bytes_eq, if◌then◌else◌}
 use Rattle.std.specs.Prelude.{All}
 use Rattle.std.proofs.lemmas.List.Elements.{All-append, All-cons, All-head, All-nil}
-use Rattle.rdma_types.specs.declared.answers.NotWhy.{NotWhy}
+use Rattle.rdma_types.specs.declared.answers.ExpiryIgnored.{ExpiryIgnored}
 use Rattle.rdma_types.specs.declared.answers.Refusal.{Refusal}
 use Rattle.rdma_types.specs.declared.names.Name.{Name}
 use Rattle.rdma_types.specs.declared.requests.Address.{Address}
@@ -125,7 +125,7 @@ module _ (d : Device) (m : Name) where
   either_device true s t h k = h
   either_device false s t h k = k
 
-  expired : (n : Name) (e : End) (l : Link) (o : Option NotWhy) → has_context d n ≡ true → has_context (device.expires_by d (context_at d n) e l o).device m ≡ has_context d m
+  expired : (n : Name) (e : End) (l : Link) (o : Option ExpiryIgnored) → has_context d n ≡ true → has_context (device.expires_by d (context_at d n) e l o).device m ≡ has_context d m
   unfolding device.counts
   expired n e l (Some w) is = refl
   expired n e l None is =

@@ -6,17 +6,15 @@ use Rattle.std.specs.List.{position}
 use Rattle.std.proofs.lemmas.Option.{slice_get-get_or}
 use Rattle.rdma_types.specs.declared.answers.Answer.{Answer}
 use Rattle.rdma_types.specs.declared.answers.Answer.TheVariants as answer
-use Rattle.rdma_types.specs.declared.answers.SilentWhy.TheVariants as why
-use Rattle.rdma_types.specs.declared.answers.Took.TheVariants as took
+use Rattle.rdma_types.specs.declared.answers.DropReason.TheVariants as why
+use Rattle.rdma_types.specs.declared.answers.ArrivalEffect.TheVariants as took
 use Rattle.rdma_types.specs.Lists.{at}
 use Rattle.protocol.specs.Bytes.{number_at}
-use Rattle.protocol.specs.Fabric.{Here, IsAged, IsGone, IsLost, Look, changed_at, is_kept, is_late, kept_flight, look, look_at, losing, marked_lost, sending}
+use Rattle.protocol.specs.Fabric.{Here, IsAged, IsGone, IsLost, Look, blank, changed_at, forgetting, is_kept, is_late, kept_flight, look, look_at, losing, marked_lost, sending}
 use Rattle.protocol.specs.Fabric as fabric
 use Rattle.protocol.specs.State.{Device, Flight, World}
 use Rattle.protocol.specs.WorldStep.{answers, delivers, delivers_by, device_with, loses, now_at, now_of, reaches, same_address, wires, wires_by, with_taken}
-use Rattle.fabric.specs.Store.{blank, forgetting}
-use Rattle.fabric.proofs.Stores.{kept_means}
-use Rattle.fabric.proofs.Histories.{took-forgetting, losing-forgetting}
+use Rattle.protocol.proofs.Histories.{kept_means, losing-forgetting, took-forgetting}
 use Rattle.world_core.specs.Kept.{Makes}
 use Rattle.device_core.specs.declared.finding.FoundEnd.{FoundEnd}
 use Rattle.device_core.specs.Finding.{IsFound}

@@ -17,11 +17,10 @@ use Rattle.protocol.specs.declared.images.ContextImage.{ContextImage}
 use Rattle.protocol.specs.declared.images.Outcome.{Outcome}
 use Rattle.protocol.specs.DeviceStep as device
 use Rattle.protocol.specs.DeviceStep.{device_step}
-use Rattle.protocol.specs.Fabric.{sending}
+use Rattle.protocol.specs.Fabric.{forgetting, sending}
 use Rattle.protocol.specs.State.{Device, Flight, World}
 use Rattle.protocol.specs.WorldStep.{has_device, is_done, numbered, ran, runs, same_address, with_device, with_image}
 use Rattle.protocol.specs.Lawful.{IsLawful}
-use Rattle.fabric.specs.Store.{forgetting}
 use Rattle.law_kept_datagrams.specs.Alike.{with_kept_datagrams}
 use Rattle.world_core.specs.Kept.{Makes}
 use Rattle.world_core.specs.Places.{AreParts, HaveOwnIds, images_of, names_of, port_eq}

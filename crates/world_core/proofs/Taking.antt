@@ -1,8 +1,8 @@
 -- An end that takes a packet leaves the name of its context.
 use Rattle.std.proofs.Common.{◌≡◌, ℕ, ◌+◌, ◌-◌, ◌==◌, List, [], ◌∷◌, Bool, true, false, Option, Some, None, refl, ◌∙◌, is_some, if◌then◌else◌}
-use Rattle.rdma_types.specs.declared.answers.Took.TheVariants as took
-use Rattle.rdma_types.specs.declared.answers.Why.{Why}
-use Rattle.rdma_types.specs.declared.answers.Why.TheVariants as refused
+use Rattle.rdma_types.specs.declared.answers.ArrivalEffect.TheVariants as took
+use Rattle.rdma_types.specs.declared.answers.RefusalReason.{RefusalReason}
+use Rattle.rdma_types.specs.declared.answers.RefusalReason.TheVariants as refused
 use Rattle.rdma_types.specs.declared.names.Name.{Name}
 use Rattle.rdma_types.specs.declared.requests.Completion.{Completion}
 use Rattle.rdma_types.specs.declared.requests.Receive.{Receive}
@@ -150,7 +150,7 @@ wrote-named : (c : Context) (e : End) (l : Link) (d : Packet) (p : Place) (done 
 unfolding write_done
 wrote-named c e l d p done = either_one c.name _ _ _ (immediate-named c e _ p.length d.imm) (linked-named c e _)
 
-refuses-named : (c : Context) (e : End) (l : Link) (n : ℕ) (w : Why) → (refuses c e l n w).context.name ≡ c.name
+refuses-named : (c : Context) (e : End) (l : Link) (n : ℕ) (w : RefusalReason) → (refuses c e l n w).context.name ≡ c.name
 refuses-named c e l n w = ended-named c e l _
 
 module _ (c : Context) (e : End) (l : Link) where

@@ -13,7 +13,7 @@ use Rattle.protocol.specs.declared.events.Event.{Event}
 use Rattle.protocol.specs.Refusals.{has_context}
 use Rattle.protocol.specs.State.{Device, World, no_device, device_at}
 use Rattle.protocol.specs.WorldStep.{Step, answers, by_refusal, has_device, home, is_carried, is_live, or_none, runs}
-use Rattle.fabric.specs.Store.{forgetting}
+use Rattle.protocol.specs.Fabric.{forgetting}
 use Rattle.law_kept_datagrams.specs.Alike.{AreAlike, with_kept_datagrams}
 use Rattle.world_core.specs.Kept.{Makes}
 use Rattle.world_core.proofs.Places.{IsFirstPlace, spot, at-first, has-some, has_name-some, is_some-position}

@@ -4,7 +4,7 @@ use Rattle.rdma_types.specs.declared.answers.Answer.{Answer}
 use Rattle.protocol.specs.declared.events.WorldEvent.{WorldEvent}
 use Rattle.protocol.specs.State.{World}
 use Rattle.protocol.specs.WorldStep.{world_step}
-use Rattle.ideal_model.specs.Machine.{Machine}
+use Rattle.packetless_machine.specs.Machine.{Machine}
 use Rattle.law_simulation.specs.Law.{IsInRange}
 use Rattle.law_simulation.specs.Named.{ReachesByName}
 use Rattle.law_simulation.specs.Stands.{Stands}

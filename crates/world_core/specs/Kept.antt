@@ -6,7 +6,7 @@ use Rattle.protocol.specs.declared.events.WorldEvent.TheVariants as event
 use Rattle.protocol.specs.State.{World}
 use Rattle.protocol.specs.WorldStep.{Step}
 use Rattle.law_kept_datagrams.specs.Alike.{with_kept_datagrams}
-use Rattle.fabric.specs.Store.{forgetting}
+use Rattle.protocol.specs.Fabric.{forgetting}
 
 -- those datagrams are blank that are not kept, and there are numbers left for those of one more step
 pub record IsReady (w : World) : Type 0 where

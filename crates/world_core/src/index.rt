@@ -15,7 +15,8 @@ use std::hash::Hash;
 /// Notes the place of a key. There must be room for it.
 pub(crate) fn put_place<K: Eq + Hash + Drop>(index: &mut IndexMap<K, usize>, key: K, place: usize)
     requires { 0 < spare index.old }
-    ensures { (k : K) → get K.eq index.new k ≡ (if K.eq key k then Some place else get K.eq index.old k) }
+    ensures { (k : K)
+        → get K.eq index.new k ≡ (if K.eq key k then Some place else get K.eq index.old k) }
 {
     let _ = index.insert(key, place).unwrap();
 }
@@ -42,7 +43,8 @@ fn home_among(devices: &[Device], name: Name) -> Option<usize>
 /// Notes the place of the device where a context lives, or that it lives nowhere. There must be room for it.
 fn put_home(homes: &mut IndexMap<Name, usize>, name: Name, place: Option<usize>)
     requires { 0 < spare homes.old }
-    ensures { (m : name_of.Name) → get bytes_eq homes.new m ≡ (if bytes_eq name m then place else get bytes_eq homes.old m) }
+    ensures { (m : name_of.Name) → get bytes_eq homes.new m
+        ≡ (if bytes_eq name m then place else get bytes_eq homes.old m) }
 {
     match place {
         Some(place) => put_place(homes, name, place),
@@ -55,7 +57,8 @@ fn put_home(homes: &mut IndexMap<Name, usize>, name: Name, place: Option<usize>)
 /// Notes where the context lives that was made, stopped or restored, if there is one.
 pub(crate) fn note_home(homes: &mut IndexMap<Name, usize>, devices: &[Device], moved: Option<Name>)
     requires { 0 < spare homes.old }
-    ensures { (m : name_of.Name) → get bytes_eq homes.new m ≡ looked_up moved devices.now (λ k. get bytes_eq homes.old k) m }
+    ensures { (m : name_of.Name) → get bytes_eq homes.new m
+        ≡ looked_up moved devices.now (λ k. get bytes_eq homes.old k) m }
 {
     if let Some(name) = moved {
         put_home(homes, name, home_among(devices, name));

@@ -13,7 +13,8 @@ use law_simulation::runs::steps_are_named;
 /// A call that makes the rules' step of a world makes it of each whole world whose last datagrams this one keeps, and the
 /// packetless machine follows it by exactly the steps that are named.
 pub fn steps_are_followed()
-    ensures { (old new : World) (e : WorldEvent) (answer : Answer) → Makes (world_step old e) answer new → IsFollowed old e answer new }
+    ensures { (old new : World) (e : WorldEvent) (answer : Answer)
+        → Makes (world_step old e) answer new → IsFollowed old e answer new }
 {
     alike_worlds_are_answered_alike();
     steps_are_named();

@@ -62,6 +62,7 @@ impl World {
     }
 
     /// The link of a live end; None where it is in Init or not there.
+    #[inline(always)]
     pub fn link_at(&self, end: &ObjName) -> Option<LinkView>
         ensures link { result ≡ option_map link_view (link_at self.now end.now) }
         ensures bounded { IfSome result (λ link. link.last < 2 ^ 62) }
@@ -79,7 +80,9 @@ impl World {
 
     /// Whether a carried end with a number is in Error.
     fn has_ended_carried(&self, number: u32) -> bool
-        ensures { result ≡ some (λ c. some (λ e. e.number == number && is_ended_image e) c.ends) self.now.carried }
+        ensures { result
+            ≡ some (λ c. some (λ e. e.number == number && is_ended_image e) c.ends)
+            self.now.carried }
     {
         self.carried
             .iter()

@@ -77,7 +77,8 @@ fn context_of(event: &Event) -> Option<Name>
 impl World {
     /// Whether a device has the id or the address.
     fn is_taken(&self, id: u8, address: Address) -> bool
-        ensures { result ≡ (rules.has_device self.now id || some (λ d. rules.same_address d.address address) self.now.devices) }
+        ensures { result ≡ (rules.has_device self.now id
+            || some (λ d. rules.same_address d.address address) self.now.devices) }
     {
         self.place_of(id).is_some() || self.place_with(address).is_some()
     }
@@ -104,7 +105,8 @@ impl World {
     ) -> Result<Answer, AllocError>
         requires id { 1 ≤ id }
         requires ready { IsReady self.old }
-        ensures ok { IfOk result (λ answer. Makes (rules.adds_device self.old id address) answer self.new) }
+        ensures ok { IfOk result (λ answer. Makes
+            (rules.adds_device self.old id address) answer self.new) }
         ensures err { OnErr result (self.new ≡ self.old) }
     {
         if let Some(refusal) = self.device_refusal(id, address) {
@@ -129,7 +131,8 @@ impl World {
         device: u8,
     ) -> Result<Answer, AllocError>
         requires ready { IsReady self.old }
-        ensures ok { IfOk result (λ answer. Makes (rules.makes_context self.old name device) answer self.new) }
+        ensures ok { IfOk result (λ answer. Makes
+            (rules.makes_context self.old name device) answer self.new) }
         ensures err { OnErr result (self.new ≡ self.old) }
     {
         let Some(place) = self.place_of(device) else {
@@ -142,9 +145,12 @@ impl World {
     }
 
     /// The place of the device where a context lives, or why there is none: nothing has the name, or it is carried.
+    #[inline(always)]
     pub(crate) fn home(&self, name: Name) -> Result<usize, Refusal>
-        ensures home { IfOk result (λ place. position (λ d. has_context d name) self.now.devices ≡ Some place) }
-        ensures refusal { IfErr result (λ refusal. (more : List Cause) → first_cause (rules.context_causes self.now name more) ≡ Some refusal) }
+        ensures home { IfOk result (λ place. position (λ d. has_context d name) self.now.devices
+            ≡ Some place) }
+        ensures refusal { IfErr result (λ refusal. (more : List Cause)
+            → first_cause (rules.context_causes self.now name more) ≡ Some refusal) }
     {
         match self.home_of(name) {
             Some(place) => Ok(place),
@@ -158,7 +164,9 @@ impl World {
         requires handed { IsHandedOn event.now }
         requires lawful { IsLawfulEvent event.now }
         requires ready { IsReady self.old }
-        ensures ok { IfOk result (λ answer. Makes (rules.steps_at self.old (rules.context_of_event event.now) event.now) answer self.new) }
+        ensures ok { IfOk result (λ answer. Makes
+            (rules.steps_at self.old (rules.context_of_event event.now) event.now) answer
+            self.new) }
         ensures err { OnErr result (self.new ≡ self.old) }
     {
         if let Event::Transmit { end } = event {
@@ -172,9 +180,11 @@ impl World {
     }
 
     /// One transmission of an end on the device where its context lives.
+    #[inline(always)]
     pub(crate) fn transmit_at(&mut self, alloc: Global, end: &ObjName) -> Result<Answer, AllocError>
         requires ready { IsReady self.old }
-        ensures ok { IfOk result (λ answer. Makes (rules.steps_at self.old end.now.context (event.Transmit end.now)) answer self.new) }
+        ensures ok { IfOk result (λ answer. Makes
+            (rules.steps_at self.old end.now.context (event.Transmit end.now)) answer self.new) }
         ensures err { OnErr result (self.new ≡ self.old) }
     {
         match self.home(end.context) {
@@ -192,8 +202,10 @@ impl World {
 
     /// The two ends of a connection to be, or why they are not connected.
     fn pair(&self, one: &ObjName, two: &ObjName) -> Result<(EndAddress, EndAddress), Refusal>
-        ensures refusal { IfErr result (λ refusal. first_cause (rules.connect_causes self.now one.now two.now) ≡ Some refusal) }
-        ensures free { OnOk result (first_cause (rules.connect_causes self.now one.now two.now) ≡ None) }
+        ensures refusal { IfErr result (λ refusal. first_cause
+            (rules.connect_causes self.now one.now two.now) ≡ Some refusal) }
+        ensures free { OnOk result (first_cause (rules.connect_causes self.now one.now two.now)
+            ≡ None) }
         ensures one { IfOk result (λ sites. IsEndAddress self.now one.now sites.0) }
         ensures two { IfOk result (λ sites. IsEndAddress self.now two.now sites.1) }
     {
@@ -218,7 +230,8 @@ impl World {
         requires { position (λ d. has_context d end.now.context) self.now.devices ≡ Some place }
         ensures there { IfSome result (λ site. IsEndAddress self.now end.now site) }
         ensures none { is_some result ≡ rules.has_live_end self.now end.now }
-        ensures init { IfSome result (λ site. site.is_init ≡ is_init (rules.end_of self.now end.now).link) }
+        ensures init { IfSome result (λ site. site.is_init
+            ≡ is_init (rules.end_of self.now end.now).link) }
     {
         let device = &self.devices[place];
         let view = device.end_named(end)?;
@@ -243,7 +256,9 @@ impl World {
         requires there { there.now.number < 2 ^ 24 }
         requires terms { AreTerms terms.now }
         ensures ids { HaveOwnIds self.old.devices }
-        ensures joined { (d : state.Device) → slice_get self.old.devices here.now.place ≡ Some d → self.new ≡ joined_at self.old here.now.place d (event.Connect end.now there.now.number there.now.address terms.now) }
+        ensures joined { (d : state.Device) → slice_get self.old.devices here.now.place ≡ Some d
+            → self.new ≡ joined_at self.old here.now.place d
+            (event.Connect end.now there.now.number there.now.address terms.now) }
     {
         let event = Event::Connect {
             end: *end,

@@ -40,7 +40,8 @@ fn is_linked(end: &EndImage, number: u32) -> bool
 
 /// Whether an image has an end in Rts with a number.
 fn has_linked_end(image: &ContextImage, number: u32) -> bool
-    ensures { result ≡ some (λ e. e.number == number && rules.is_linked_image e.linked) image.now.ends }
+    ensures { result ≡ some (λ e. e.number == number
+        && rules.is_linked_image e.linked) image.now.ends }
 {
     image
         .ends
@@ -77,7 +78,8 @@ impl World {
 
     /// Whether the partner of an end of a context of a device moves.
     fn some_partner_moves(&self, home: &Device, context: Name) -> bool
-        ensures { result ≡ some (λ e. rules.partner_moves self.now e.link) (context_at home.now context).ends }
+        ensures { result ≡ some (λ e. rules.partner_moves self.now e.link)
+            (context_at home.now context).ends }
     {
         for i in 0..home.end_count(context) {
             let end = home.end_at(context, i).unwrap();
@@ -91,7 +93,8 @@ impl World {
     /// Whether the partner of an end of a live context moves.
     fn is_held(&self, place: usize, context: Name) -> bool
         requires { place < length self.now.devices }
-        ensures { (d : state.Device) → slice_get self.now.devices place ≡ Some d → result ≡ some (λ e. rules.partner_moves self.now e.link) (context_at d context).ends }
+        ensures { (d : state.Device) → slice_get self.now.devices place ≡ Some d
+            → result ≡ some (λ e. rules.partner_moves self.now e.link) (context_at d context).ends }
     {
         self.some_partner_moves(&self.devices[place], context)
     }
@@ -121,7 +124,8 @@ impl World {
         device: u8,
     ) -> Result<Answer, AllocError>
         requires ready { IsReady self.old }
-        ensures ok { IfOk result (λ answer. Makes (rules.restores self.old context device) answer self.new) }
+        ensures ok { IfOk result (λ answer. Makes
+            (rules.restores self.old context device) answer self.new) }
         ensures err { OnErr result (self.new ≡ self.old) }
     {
         let Some(place) = self.place_of(device) else {
@@ -141,7 +145,9 @@ impl World {
         requires place { place < length self.old.devices }
         requires spot { spot < length self.old.carried }
         requires ready { IsReady self.old }
-        ensures ok { IfOk result (λ answer. (d : state.Device) → (x : image.ContextImage) → slice_get self.old.devices place ≡ Some d → slice_get self.old.carried spot ≡ Some x → Makes (put_back (rules.runs self.old d (event.Restore x)) spot) answer self.new) }
+        ensures ok { IfOk result (λ answer. (d : state.Device) → (x : image.ContextImage)
+            → slice_get self.old.devices place ≡ Some d → slice_get self.old.carried spot ≡ Some x
+            → Makes (put_back (rules.runs self.old d (event.Restore x)) spot) answer self.new) }
         ensures err { OnErr result (self.new ≡ self.old) }
     {
         self.homes.reserve(1)?;
@@ -177,7 +183,8 @@ impl World {
         device: u8,
     ) -> Result<Answer, AllocError>
         requires ready { IsReady self.old }
-        ensures ok { IfOk result (λ answer. Makes (rules.releases self.old context device) answer self.new) }
+        ensures ok { IfOk result (λ answer. Makes
+            (rules.releases self.old context device) answer self.new) }
         ensures err { OnErr result (self.new ≡ self.old) }
     {
         match self.place_of(device) {

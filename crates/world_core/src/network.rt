@@ -17,8 +17,8 @@ ghost use Rattle.world_core.specs.Sites.{IsDelivery, IsFoundOn};
 use crate::World;
 use crate::running::{SendingDevice, send_outcome};
 use device_core::{Answered, Device, FoundEnd, destination};
-use fabric::{Fabric, Flight, Look};
-use rdma_types::{Answer, Items, SilentWhy, Took};
+use fabric::{DatagramState, Fabric, Flight};
+use rdma_types::{Answer, ArrivalEffect, DropReason, Items};
 use roce_headers::opcodes::is_request;
 use std::alloc::{AllocError, Global};
 
@@ -44,7 +44,8 @@ fn opcode(bytes: &[u8]) -> u8
 /// What the end that bytes are for keeps, which was found before: its expected number for a request and its `top` for a
 /// response; 0 where there is no such end.
 fn mark_of(found: Option<FoundEnd>, bytes: &[u8]) -> u64
-    ensures { (o : Option state.Device) → IsFoundOn o bytes.now found → result ≡ rules.now_at o bytes.now }
+    ensures { (o : Option state.Device) → IsFoundOn o bytes.now found
+        → result ≡ rules.now_at o bytes.now }
 {
     match found {
         Some(end) if is_request(opcode(bytes)) => end.expected,
@@ -62,10 +63,18 @@ fn reach(
     found: Option<FoundEnd>,
 ) -> Result<Answered, AllocError>
     requires kept { is_some (kept_flight fabric.now k) ≡ true }
-    requires found { (f : state.Flight) → kept_flight fabric.now k ≡ Some f → IsFound device.old (number_at 5 3 f.bytes) found }
-    ensures ok { IfOk result (λ a. (f : state.Flight) → kept_flight fabric.now k ≡ Some f → device_step device.old (event.Arrive f.from f.bytes) ≡ record { device = device.new; outcome = record { answer = a.answer; sent = a.sent; image = None } }) }
+    requires found { (f : state.Flight) → kept_flight fabric.now k ≡ Some f
+        → IsFound device.old (number_at 5 3 f.bytes) found }
+    ensures ok { IfOk result (λ a. (f : state.Flight) → kept_flight fabric.now k ≡ Some f
+        → device_step device.old (event.Arrive f.from f.bytes)
+        ≡ record {
+          device = device.new;
+          outcome = record
+              { answer = a.answer; sent = a.sent; image = None };
+        }) }
     ensures bounded { IfOk result (λ a. length a.sent ≤ 2 ^ 32) }
-    ensures touched { (f : state.Flight) → kept_flight fabric.now k ≡ Some f → ChangesOnly (is_touched device.old f.bytes) device.old device.new }
+    ensures touched { (f : state.Flight) → kept_flight fabric.now k ≡ Some f
+        → ChangesOnly (is_touched device.old f.bytes) device.old device.new }
     ensures same { (device.new.id ≡ device.old.id) × (device.new.address ≡ device.old.address) }
     ensures err { OnErr result (device.new ≡ device.old) }
 {
@@ -77,7 +86,8 @@ impl World {
     /// The connected queue pair that a datagram is for, where the device with its address is at a place; None where there
     /// is no such device or queue pair.
     fn end_for(&self, place: Option<usize>, flight: &Flight) -> Option<FoundEnd>
-        requires { place ≡ position (λ d. rules.same_address d.address flight.now.to) self.now.devices }
+        requires { place
+            ≡ position (λ d. rules.same_address d.address flight.now.to) self.now.devices }
         ensures { IsFoundOn (rules.device_with self.now flight.now.to) flight.now.bytes result }
     {
         match place {
@@ -99,10 +109,10 @@ impl World {
         let place = self.place_with(flight.sent.to);
         let found = self.end_for(place, flight);
         match flight.look(mark_of(found, flight.sent.bytes.as_slice())) {
-            Look::Gone => Delivery::Gone,
-            Look::Lost => Delivery::Lost,
-            Look::Aged => Delivery::Aged,
-            Look::Here(_) => match place {
+            DatagramState::Gone => Delivery::Gone,
+            DatagramState::Lost => Delivery::Lost,
+            DatagramState::Aged => Delivery::Aged,
+            DatagramState::Here(_) => match place {
                 Some(place) => Delivery::Comes(place, found),
                 None => Delivery::Nowhere,
             },
@@ -113,7 +123,8 @@ impl World {
     pub(crate) fn deliver(&mut self, alloc: Global, k: u64) -> Result<Answer, AllocError>
         requires ready { IsReady self.old }
         ensures ok { IfOk result (λ answer. Makes (rules.delivers self.old k) answer self.new) }
-        ensures touched { IfOk result (λ answer. ChangesWorldOnly (is_delivered self.old k) self.old self.new) }
+        ensures touched { IfOk result (λ answer. ChangesWorldOnly
+            (is_delivered self.old k) self.old self.new) }
         ensures err { OnErr result (self.new ≡ self.old) }
     {
         match self.delivery(k) {
@@ -126,7 +137,7 @@ impl World {
             Delivery::Nowhere => {
                 self.fabric.took(k);
                 Ok(Answer::Took {
-                    took: Took::Silent(SilentWhy::Unknown),
+                    took: ArrivalEffect::Silent(DropReason::Unknown),
                     first: 0,
                     count: 0,
                 })
@@ -146,10 +157,16 @@ impl World {
     ) -> Result<Answer, AllocError>
         requires place { place < length self.old.devices }
         requires kept { is_some (kept_flight self.old.sent k) ≡ true }
-        requires found { (f : state.Flight) → (d : state.Device) → kept_flight self.old.sent k ≡ Some f → slice_get self.old.devices place ≡ Some d → IsFound d (number_at 5 3 f.bytes) found }
+        requires found { (f : state.Flight) → (d : state.Device)
+            → kept_flight self.old.sent k ≡ Some f → slice_get self.old.devices place ≡ Some d
+            → IsFound d (number_at 5 3 f.bytes) found }
         requires ready { IsReady self.old }
-        ensures ok { IfOk result (λ answer. (f : state.Flight) → (d : state.Device) → kept_flight self.old.sent k ≡ Some f → slice_get self.old.devices place ≡ Some d → Makes (rules.reaches (rules.with_taken self.old k) f (Some d)) answer self.new) }
-        ensures touched { IfOk result (λ answer. (f : state.Flight) → (d : state.Device) → kept_flight self.old.sent k ≡ Some f → slice_get self.old.devices place ≡ Some d → ChangesWorldOnly (is_touched_on d f) self.old self.new) }
+        ensures ok { IfOk result (λ answer. (f : state.Flight) → (d : state.Device)
+            → kept_flight self.old.sent k ≡ Some f → slice_get self.old.devices place ≡ Some d
+            → Makes (rules.reaches (rules.with_taken self.old k) f (Some d)) answer self.new) }
+        ensures touched { IfOk result (λ answer. (f : state.Flight) → (d : state.Device)
+            → kept_flight self.old.sent k ≡ Some f → slice_get self.old.devices place ≡ Some d
+            → ChangesWorldOnly (is_touched_on d f) self.old self.new) }
         ensures err { OnErr result (self.new ≡ self.old) }
     {
         match reach(&self.fabric, &mut self.devices[place], alloc, k, found) {

@@ -3,11 +3,10 @@
 ghost use Rattle.std.specs.Prelude.{◌≡◌, ℕ, ◌+◌, ◌≤◌, ◌<◌, ◌^◌, ◌++◌, ◌∷◌, [], length, slice_get, IfOk, OnErr, Option, Some, None};
 ghost use Rattle.std.specs.Vec.{vec_capacity};
 ghost use Rattle.protocol.specs.Events.{IsLawfulEvent};
-ghost use Rattle.protocol.specs.Fabric.{sending};
+ghost use Rattle.protocol.specs.Fabric.{forgetting, sending};
 ghost use Rattle.protocol.specs.State.{Device};
 ghost use Rattle.protocol.specs.declared.events.Event.TheVariants as event;
 ghost use Rattle.protocol.specs.WorldStep.{numbered, runs};
-ghost use Rattle.fabric.specs.Store.{forgetting};
 ghost use Rattle.world_core.specs.Kept.{IsReady, Makes};
 ghost use Rattle.world_core.specs.Places.{images_of, names_of};
 
@@ -106,6 +105,7 @@ fn number(answer: Answer, next: u64) -> Answer
 }
 
 /// Sends the datagrams of a step of a device, and gives its answer with the number of the first.
+#[inline(always)]
 pub(crate) fn send_outcome(
     fabric: &mut Fabric,
     devices: &mut Vec<Device>,
@@ -140,6 +140,7 @@ fn carry(carried: &mut Vec<ContextImage>, stopped: &mut Vec<Name>, image: Option
 impl World {
     /// The device at a place makes a step, and what it did is done to the world: its datagrams are sent, and the image of
     /// a stopped context is carried.
+    #[inline(always)]
     pub(crate) fn run(
         &mut self,
         alloc: Global,
@@ -149,7 +150,8 @@ impl World {
         requires place { place < length self.old.devices }
         requires event { IsLawfulEvent event.now }
         requires ready { IsReady self.old }
-        ensures ok { IfOk result (λ answer. (d : Device) → slice_get self.old.devices place ≡ Some d → Makes (runs self.old d event.now) answer self.new) }
+        ensures ok { IfOk result (λ answer. (d : Device) → slice_get self.old.devices place ≡ Some d
+            → Makes (runs self.old d event.now) answer self.new) }
         ensures err { OnErr result (self.new ≡ self.old) }
     {
         self.homes.reserve(1)?;
@@ -193,7 +195,8 @@ impl World {
     ) -> Result<Answer, AllocError>
         requires place { place < length self.old.devices }
         requires ready { IsReady self.old }
-        ensures ok { IfOk result (λ answer. (d : Device) → slice_get self.old.devices place ≡ Some d → Makes (runs self.old d (event.Transmit end.now)) answer self.new) }
+        ensures ok { IfOk result (λ answer. (d : Device) → slice_get self.old.devices place ≡ Some d
+            → Makes (runs self.old d (event.Transmit end.now)) answer self.new) }
         ensures err { OnErr result (self.new ≡ self.old) }
     {
         match self.devices[place].transmit(alloc, end) {

@@ -4,14 +4,14 @@ ghost use Rattle.std.specs.Prelude.{IfOk, OnErr};
 ghost use Rattle.world_core.specs.Settled.{IsLeft, IsSettled};
 
 use crate::World;
-use rdma_types::{Items, LeftWhy, ObjName};
+use rdma_types::{Items, ObjName, UnfinishedReason};
 use std::alloc::{AllocError, Global};
 
 /// A settled world: the rounds that it took, and each end with untold requests and the reason, live ends first.
 #[derive(Drop)]
 pub struct Quiet {
     pub rounds: u64,
-    pub unfinished: Items<(ObjName, LeftWhy)>,
+    pub unfinished: Items<(ObjName, UnfinishedReason)>,
 }
 
 /// Settles worlds by the rules of settling.

@@ -85,7 +85,8 @@ impl World {
         ensures touched { IfOk result (λ answer. DeliversWithin event.now self.old self.new) }
         ensures kept { with_kept_datagrams self.old ≡ self.old }
         ensures ids { HaveOwnIds self.old.devices }
-        ensures never_out_of_memory { TakesNoMemory event.now → length self.old.sent < 2 ^ 62 → IsOk result }
+        ensures never_out_of_memory { TakesNoMemory event.now → length self.old.sent < 2 ^ 62
+            → IsOk result }
         ensures err { OnErr result (self.new ≡ self.old) }
     {
         steps_are_followed();
@@ -101,7 +102,8 @@ impl World {
     ///
     /// `AllocError` when out of memory, or where 2^62 datagrams were sent; nothing has changed.
     pub fn transmit(&mut self, alloc: Global, end: &ObjName) -> Result<Answer, AllocError>
-        ensures ok { IfOk result (λ answer. Makes (world_step self.old (world_event.At (event.Transmit end.now))) answer self.new) }
+        ensures ok { IfOk result (λ answer. Makes
+            (world_step self.old (world_event.At (event.Transmit end.now))) answer self.new) }
         ensures kept { with_kept_datagrams self.old ≡ self.old }
         ensures ids { HaveOwnIds self.old.devices }
         ensures err { OnErr result (self.new ≡ self.old) }

@@ -1,4 +1,4 @@
-use Rattle.ideal_model.specs.Machine.{empty}
+use Rattle.packetless_machine.specs.Machine.{empty}
 use Rattle.protocol.specs.State.{empty_world}
 use Rattle.law_headline.specs.Does.{happenings_of}
 use Rattle.law_headline.proofs.Following.{all_followed, all_legal, all_within, laws_of}

@@ -3,7 +3,7 @@ use Rattle.std.proofs.lemmas.List.Elements.{All-nil}
 use Rattle.law_headline.specs.Does.{IsLineInRange}
 use Rattle.protocol.specs.State.{empty_world}
 use Rattle.protocol.specs.Script.{Happening}
-use Rattle.ideal_model.specs.Machine.{empty}
+use Rattle.packetless_machine.specs.Machine.{empty}
 use Rattle.script_lang.specs.Scripts.{lines_of}
 use Rattle.law_headline.specs.Follows.{FollowsAll}
 use Rattle.law_headline.specs.Script.{happenings, script_of}

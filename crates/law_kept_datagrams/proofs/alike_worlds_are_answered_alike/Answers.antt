@@ -1,6 +1,6 @@
 use Rattle.std.proofs.Common.{refl}
 use Rattle.protocol.specs.State.{World}
-use Rattle.fabric.proofs.Histories.{forgetting-forgetting}
+use Rattle.protocol.proofs.Histories.{forgetting-forgetting}
 use Rattle.law_kept_datagrams.specs.Alike.{AreAlike, with_kept_datagrams}
 use Rattle.law_kept_datagrams.proofs.Rounds.{answers_alike, line_alike}
 use Rattle.law_kept_datagrams.proofs.Steps.{step_alike}

@@ -13,8 +13,8 @@ use Rattle.protocol.specs.Fabric.{pending}
 use Rattle.protocol.specs.State.{World, Context, End, Link, no_context, no_end}
 use Rattle.protocol.specs.WorldStep.{world_step}
 use Rattle.protocol.specs.Settle.{Settling, settle_step, drained, is_sent, transmit, sending_all, sending_fuel, link_at, sends_all, sends_if_running, visited, visiting, live_names, named_ends, may_step, Waited, last_wait, noting, rnr_by, rnr_visit, has_stepped, expire_by, expire_visit, timers, round, settled}
-use Rattle.ideal_model.specs.Machine.{Machine}
-use Rattle.ideal_model.specs.Legal.{after}
+use Rattle.packetless_machine.specs.Machine.{Machine}
+use Rattle.packetless_machine.specs.Legal.{after}
 use Rattle.protocol.specs.declared.events.WorldEvent.{WorldEvent}
 use Rattle.law_simulation.specs.Law.{AlwaysFollows, joined_steps}
 use Rattle.law_settling.specs.Weights.{TakingLightens}

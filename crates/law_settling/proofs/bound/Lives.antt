@@ -9,7 +9,7 @@ use Rattle.protocol.specs.State.{World, Device, Context, End, Link, no_context, 
 use Rattle.protocol.specs.DeviceStep as device
 use Rattle.protocol.specs.WorldStep.{home, is_live, live_context, or_none}
 use Rattle.protocol.specs.Settle.{link_at, live_ends, live_names, named_ends}
-use Rattle.ideal_model.specs.Machine.{Machine}
+use Rattle.packetless_machine.specs.Machine.{Machine}
 use Rattle.law_simulation.specs.Stands.{IsPlaced}
 use Rattle.law_simulation.proofs.relation.Tables.{flat-store_found, flat_map-store, map-store, map-store_found, name_or_not, named-append_has, named-append_lacks, named-absent, named-store_same, named-store_other, name-named_there}
 use Rattle.law_simulation.proofs.relation.Worlds.{holds_it, home_found, ids_once}

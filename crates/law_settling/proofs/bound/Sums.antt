@@ -11,8 +11,8 @@ use Rattle.protocol.specs.Images as images
 use Rattle.protocol.specs.State.{World, Context, End, Link, no_context, no_end}
 use Rattle.protocol.specs.WorldStep.{is_live, live_context}
 use Rattle.protocol.specs.Settle.{Mark, mark_of, marks, same_marks, live_ends, live_names, named_ends, unacknowledged}
-use Rattle.ideal_model.specs.Machine as machine
-use Rattle.ideal_model.specs.Machine.{Machine}
+use Rattle.packetless_machine.specs.Machine as machine
+use Rattle.packetless_machine.specs.Machine.{Machine}
 use Rattle.law_simulation.specs.Views.{contexts_of, owned, owned_there}
 use Rattle.law_simulation.specs.Stands.{Stands, AreSame}
 use Rattle.law_simulation.proofs.relation.Ends.{names_there, names_here}

@@ -37,8 +37,8 @@ use Rattle.protocol.specs.DeviceStep.{gives}
 use Rattle.protocol.specs.WorldStep as step
 use Rattle.protocol.specs.WorldStep.{world_step, is_live, home, live_context, ran, runs, context_of_event, context_causes}
 use Rattle.protocol.specs.Settle.{Waited, may_step, partner_ended}
-use Rattle.ideal_model.specs.Machine as machine
-use Rattle.ideal_model.specs.Machine.{Machine}
+use Rattle.packetless_machine.specs.Machine as machine
+use Rattle.packetless_machine.specs.Machine.{Machine}
 use Rattle.law_simulation.specs.Packets as packets
 use Rattle.law_simulation.specs.Packets.{class_of, IsRequest}
 use Rattle.law_simulation.specs.Views.{side_of}

@@ -16,12 +16,12 @@ use Rattle.protocol.specs.Requester.{not_counted}
 use Rattle.protocol.specs.State.{World, Link, Flight, context_at, end_at}
 use Rattle.protocol.specs.WorldStep.{home, live_context, world_step}
 use Rattle.protocol.specs.Settle.{Settling, Waited, settle_step, stepped_to, delivering, pass, drained, is_sent, transmit, sending_all, sending_fuel, link_at, sends_all, sends_if_running, visited, visiting, live_names, may_step, last_wait, noting, rnr_by, rnr_visit, has_stepped, expire_by, expire_visit, timers, timers_if_still, round, mark_of, marks, same_marks, partner_ended, unacknowledged}
-use Rattle.ideal_model.specs.Machine.{Machine}
-use Rattle.ideal_model.specs.Legal.{after}
+use Rattle.packetless_machine.specs.Machine.{Machine}
+use Rattle.packetless_machine.specs.Legal.{after}
 use Rattle.law_simulation.specs.Law.{AlwaysFollows, Follows}
 use Rattle.law_simulation.specs.Stands.{Stands}
 use Rattle.law_simulation.proofs.relation.Tables.{same_name, name_tells}
-use Rattle.rdma_types.specs.declared.answers.NotWhy.TheVariants as not_why
+use Rattle.rdma_types.specs.declared.answers.ExpiryIgnored.TheVariants as not_why
 use Rattle.law_settling.proofs.draining.Pending.{IsPending, contains_here, contains_later, get_append_cases, kept_is, kept_when, numbers_pend}
 use Rattle.law_settling.proofs.draining.Replies.{IsReply}
 use Rattle.law_settling.proofs.draining.Arrivals.{IsDelivered, delivered, grows, bytes_back, still_pending}

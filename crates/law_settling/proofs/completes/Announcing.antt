@@ -3,8 +3,8 @@ use Rattle.std.proofs.Common.{arith, ◌≡◌, ◌≢◌, ◌<◌, ◌+◌, ◌
 use Rattle.std.specs.Prelude.{Some, None, not, nat_le, nat_lt, if◌then◌else◌, ◌==◌, ◌&&◌}
 use Rattle.rdma_types.specs.declared.answers.Answer.TheVariants as answers
 use Rattle.rdma_types.specs.declared.answers.Sent.{Sent}
-use Rattle.rdma_types.specs.declared.answers.SilentWhy.TheVariants as why
-use Rattle.rdma_types.specs.declared.answers.Took.TheVariants as took
+use Rattle.rdma_types.specs.declared.answers.DropReason.TheVariants as why
+use Rattle.rdma_types.specs.declared.answers.ArrivalEffect.TheVariants as took
 use Rattle.rdma_types.specs.declared.names.ObjName.{ObjName}
 use Rattle.rdma_types.specs.declared.requests.Address.{Address}
 use Rattle.rdma_types.specs.Limits.{most_moves}
@@ -23,8 +23,8 @@ use Rattle.rdma_types.specs.Lists.{named}
 use Rattle.protocol.specs.Wire.{FitsResume, Packet, is_nak_stopped, packet_of, wire_of}
 use Rattle.protocol.specs.WorldStep.{home, ran, world_step}
 use Rattle.protocol.specs.Settle.{Settling, delivering, pass, settle_step, stepped_to, transmit}
-use Rattle.ideal_model.specs.Machine as machine
-use Rattle.ideal_model.specs.Machine.{Machine}
+use Rattle.packetless_machine.specs.Machine as machine
+use Rattle.packetless_machine.specs.Machine.{Machine}
 use Rattle.law_simulation.specs.Law.{AlwaysFollows}
 use Rattle.law_simulation.specs.Stands.{Stands}
 use Rattle.law_simulation.specs.Views.{name_of}

@@ -4,8 +4,8 @@ use Rattle.std.specs.Prelude.{Contains, Some, None, is_some, not, if◌then◌el
 use Rattle.std.proofs.lemmas.Bool.Decides.{eqb_tells}
 use Rattle.std.proofs.lemmas.List.{append-nil}
 use Rattle.std.proofs.lemmas.List.Elements.{All-nil}
-use Rattle.rdma_types.specs.declared.answers.Took.TheVariants as took_words
-use Rattle.rdma_types.specs.declared.answers.SilentWhy.TheVariants as why
+use Rattle.rdma_types.specs.declared.answers.ArrivalEffect.TheVariants as took_words
+use Rattle.rdma_types.specs.declared.answers.DropReason.TheVariants as why
 use Rattle.rdma_types.specs.declared.names.ObjName.{ObjName}
 use Rattle.rdma_types.specs.declared.requests.Address.{Address}
 use Rattle.rdma_types.specs.Lists.{named}
@@ -20,7 +20,7 @@ use Rattle.protocol.specs.State.{World, Context, End, Flight, Link, Running, no_
 use Rattle.protocol.specs.Wire.{Packet, packet_of, wire_of}
 use Rattle.protocol.specs.WorldStep.{device_with, live_context, same_address, with_taken, world_step}
 use Rattle.protocol.specs.Settle.{Settling}
-use Rattle.ideal_model.specs.Machine.{Machine}
+use Rattle.packetless_machine.specs.Machine.{Machine}
 use Rattle.law_simulation.specs.Law.{AlwaysFollows}
 use Rattle.law_simulation.specs.Stands.{Stands}
 use Rattle.law_simulation.specs.Views.{end_of, name_of, place_of}

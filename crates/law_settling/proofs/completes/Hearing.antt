@@ -14,7 +14,7 @@ use Rattle.protocol.specs.State.{World, Flight, Link}
 use Rattle.protocol.specs.Wire.{Packet, packet_of}
 use Rattle.protocol.specs.WorldStep.{world_step}
 use Rattle.protocol.specs.Settle.{Settling, delivering, drained, pass, settle_step, stepped_to}
-use Rattle.ideal_model.specs.Machine.{Machine}
+use Rattle.packetless_machine.specs.Machine.{Machine}
 use Rattle.law_simulation.specs.Law.{AlwaysFollows}
 use Rattle.law_simulation.specs.Views.{name_of}
 use Rattle.law_simulation.specs.Stands.{Stands}

@@ -12,7 +12,7 @@ use Rattle.protocol.specs.Requester.{IsIdle, Sends, SendsResume, Transmission, W
 use Rattle.protocol.specs.State.{World, Link, Phase, Running, Paused, Resuming, Sender}
 use Rattle.protocol.specs.WorldStep.{world_step}
 use Rattle.protocol.specs.Settle.{Settling, drained, is_sent, link_at, phase_code, settle_step, transmit}
-use Rattle.ideal_model.specs.Machine.{Machine}
+use Rattle.packetless_machine.specs.Machine.{Machine}
 use Rattle.law_simulation.specs.Law.{AlwaysFollows}
 use Rattle.law_simulation.specs.Stands.{Stands}
 use Rattle.law_settling.specs.Weights.{TakingLightens}

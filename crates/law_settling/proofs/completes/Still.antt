@@ -11,8 +11,8 @@ use Rattle.protocol.specs.Fabric.{pending_numbers}
 use Rattle.protocol.specs.State.{World, Link}
 use Rattle.protocol.specs.WorldStep.{world_step}
 use Rattle.protocol.specs.Settle.{Mark, Settling, begun, delivering, drained, expire_by, expire_visit, has_stepped, is_sent, last_wait, link_at, live_names, mark_of, marks, may_step, noting, pass, rnr_by, rnr_visit, round, same_marks, sending_all, sending_fuel, sends_all, sends_if_running, settle_step, stepped_to, timers, transmit, visited, visiting}
-use Rattle.ideal_model.specs.Machine.{Machine}
-use Rattle.ideal_model.specs.Legal.{after}
+use Rattle.packetless_machine.specs.Machine.{Machine}
+use Rattle.packetless_machine.specs.Legal.{after}
 use Rattle.law_simulation.specs.Law.{AlwaysFollows, Follows, IsInRange}
 use Rattle.law_simulation.specs.Stands.{Stands}
 use Rattle.law_settling.proofs.draining.Pending.{contains_cases}

@@ -7,7 +7,7 @@ use Rattle.protocol.specs.EndWords.{is_running}
 use Rattle.protocol.specs.State.{World, Link}
 use Rattle.protocol.specs.WorldStep.{world_step}
 use Rattle.protocol.specs.Settle.{Settling, drained, is_sent, link_at, live_names, round, settled, timers, transmit}
-use Rattle.ideal_model.specs.Machine.{Machine}
+use Rattle.packetless_machine.specs.Machine.{Machine}
 use Rattle.law_simulation.specs.Law.{AlwaysFollows}
 use Rattle.law_simulation.specs.Stands.{Stands}
 use Rattle.law_settling.specs.Drained.{DrainingDrains}

@@ -12,7 +12,7 @@ use Rattle.protocol.specs.State.{World, Link, context_at, end_at}
 use Rattle.protocol.specs.WorldStep as step
 use Rattle.protocol.specs.WorldStep.{home, ran, world_step}
 use Rattle.protocol.specs.Settle.{Settling, drained, is_sent, link_at, sending_all, sending_fuel, sends_all, sends_if_running, settle_step, transmit, visited, visiting}
-use Rattle.ideal_model.specs.Machine.{Machine}
+use Rattle.packetless_machine.specs.Machine.{Machine}
 use Rattle.law_simulation.specs.Law.{AlwaysFollows}
 use Rattle.law_simulation.specs.Stands.{Stands}
 use Rattle.law_simulation.proofs.relation.Grows.{object_or_not}

@@ -6,8 +6,8 @@ use Rattle.std.proofs.lemmas.Option.{slice_get_within}
 use Rattle.std.proofs.lemmas.List.Elements.{All-nil, All-cons, All-map}
 use Rattle.rdma_types.specs.declared.answers.Answer.TheVariants as answer
 use Rattle.rdma_types.specs.declared.answers.Sent.{Sent}
-use Rattle.rdma_types.specs.declared.answers.SilentWhy.TheVariants as why
-use Rattle.rdma_types.specs.declared.answers.Took.TheVariants as took_word
+use Rattle.rdma_types.specs.declared.answers.DropReason.TheVariants as why
+use Rattle.rdma_types.specs.declared.answers.ArrivalEffect.TheVariants as took_word
 use Rattle.rdma_types.specs.declared.requests.Address.{Address}
 use Rattle.protocol.specs.declared.events.Event.TheVariants as events
 use Rattle.protocol.specs.declared.events.WorldEvent.TheVariants as world_events
@@ -27,7 +27,7 @@ use Rattle.protocol.specs.DeviceStep as device
 use Rattle.protocol.specs.DeviceStep.{Found, found_in, husk_entries}
 use Rattle.protocol.specs.WorldStep.{world_step, delivers, delivers_by, device_with, now_of, ran, reaches, with_device, with_image, with_taken}
 use Rattle.law_settling.proofs.draining.Pending.{IsPending, number_or_not, get_append_left, get_append_cases, changed_length, changed_same, changed_other, kept_is, kept_when}
-use Rattle.law_replies.proofs.Silent.{reply_silent}
+use Rattle.law_devices.proofs.Silent.{reply_silent}
 use Rattle.law_settling.proofs.draining.Replies.{IsReply, IsStop, takes_replies}
 
 -- ---- what is read

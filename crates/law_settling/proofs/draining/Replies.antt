@@ -3,9 +3,9 @@ use Rattle.std.proofs.Common.{◌≡◌, ◌-◌, ◌+◌, ℕ, zero, suc, List,
 use Rattle.std.specs.Prelude.{All, Option, Some, None, is_some, if◌then◌else◌, ◌==◌, ◌||◌, not, nat_le, nat_lt}
 use Rattle.std.proofs.lemmas.List.Elements.{All-nil, All-cons}
 use Rattle.rdma_types.specs.declared.answers.Sent.{Sent}
-use Rattle.rdma_types.specs.declared.answers.Took.{Took}
-use Rattle.rdma_types.specs.declared.answers.Why.{Why}
-use Rattle.rdma_types.specs.declared.answers.Why.TheVariants as refused
+use Rattle.rdma_types.specs.declared.answers.ArrivalEffect.{ArrivalEffect}
+use Rattle.rdma_types.specs.declared.answers.RefusalReason.{RefusalReason}
+use Rattle.rdma_types.specs.declared.answers.RefusalReason.TheVariants as refused
 use Rattle.rdma_types.specs.Limits.{number_limit}
 use Rattle.rdma_types.specs.Objects.{Region}
 use Rattle.rdma_types.specs.Spans.{pieces}
@@ -23,8 +23,8 @@ use Rattle.protocol.specs.Requester as requester
 use Rattle.protocol.specs.Responder as responder
 use Rattle.protocol.specs.Moves.{Control, Stopped, Resume, ResumeAck, MoveTook, GoesPaused, Resumed, Again, GoesRunning, Stale, control_of, moves_by, takes_control}
 use Rattle.protocol.specs.EndStep.{takes, takes_kind, takes_other}
-use Rattle.law_replies.specs.Silent.{IsSilent}
-use Rattle.law_replies.proofs.Silent.{response_silent}
+use Rattle.law_devices.specs.Silent.{IsSilent}
+use Rattle.law_devices.proofs.Silent.{response_silent}
 
 -- bytes that are neither a request nor a RESUME
 pub record IsReply (bs : List ℕ) : Type 0 where
@@ -52,10 +52,10 @@ opcode_first d = refl
 written : (d : Packet) → is_request d.opcode ≡ false → (d.opcode == 0x1E) ≡ false → IsReply (wire_of d)
 written d a b = record { no_request = ap is_request (opcode_first d) ∙ a; no_resume = ap (λ n. n == 0x1E) (opcode_first d) ∙ b }
 
-none : (c : Context) (t : Took) → Replies (stays c t)
+none : (c : Context) (t : ArrivalEffect) → Replies (stays c t)
 none c t = record { each = All-nil (λ z. IsReply z.bytes) }
 
-one : (c : Context) (t : Took) (z : Sent) → IsReply z.bytes → Replies (record { context = c; took = t; sent = z ∷ [] })
+one : (c : Context) (t : ArrivalEffect) (z : Sent) → IsReply z.bytes → Replies (record { context = c; took = t; sent = z ∷ [] })
 one c t z h = record { each = All-cons (λ z. IsReply z.bytes) z [] h (All-nil (λ z. IsReply z.bytes)) }
 
 acknowledged : (l : Link) (n : ℕ) (s : Syndrome) → IsReply (responder.acknowledge l n s).bytes
@@ -109,7 +109,7 @@ module _ (c : Context) (e : End) (l : Link) (d : Packet) where
   unfolding responder.repeated
   repeated_replies n = if_replies (responder.is_read_request d.opcode) _ _ (reread_replies d.reth n) (if_replies (is_some d.atomic) _ _ (old_replies n _) (one _ _ _ (acknowledged l (l.receiver.expected - 1) Ack)))
 
-  refused_replies : (c' : Context) (e' : End) (l' : Link) (n : ℕ) (w : Why) → Replies (responder.refuses c' e' l' n w)
+  refused_replies : (c' : Context) (e' : End) (l' : Link) (n : ℕ) (w : RefusalReason) → Replies (responder.refuses c' e' l' n w)
   refused_replies c' e' l' n w = one _ _ _ (acknowledged l' n (Nak (responder.nak_code w)))
 
   acts_replies : (c' : Context) (l' : Link) (n : ℕ) → Replies (responder.acts c' l' d n)

@@ -4,9 +4,9 @@ use Rattle.std.specs.Prelude.{All, Option, Some, None, is_some, if◌then◌else
 use Rattle.std.proofs.lemmas.Bool.Decides.{nat_tests, leb_tells, eqb_tells}
 use Rattle.std.proofs.lemmas.List.Elements.{All-nil, All-cons}
 use Rattle.rdma_types.specs.declared.answers.Sent.{Sent}
-use Rattle.rdma_types.specs.declared.answers.Why.{Why}
-use Rattle.rdma_types.specs.declared.answers.Why.TheVariants as refused
-use Rattle.rdma_types.specs.declared.answers.SilentWhy.TheVariants as why
+use Rattle.rdma_types.specs.declared.answers.RefusalReason.{RefusalReason}
+use Rattle.rdma_types.specs.declared.answers.RefusalReason.TheVariants as refused
+use Rattle.rdma_types.specs.declared.answers.DropReason.TheVariants as why
 use Rattle.rdma_types.specs.Limits.{number_limit}
 use Rattle.rdma_types.specs.Objects.{Region}
 use Rattle.rdma_types.specs.Spans.{pieces}
@@ -118,7 +118,7 @@ module _ (c : Context) (e : End) (l : Link) (d : Packet) (n : ℕ) where
       if_says (responder.is_read_request d.opcode) _ _ (reread d.reth)
       (if_says (is_some d.atomic) _ _ (old_again _) (inr (one _ (ack_written l (l.receiver.expected - 1)))))
 
-  refuses_says : (c0 : Context) (e0 : End) (l0 : Link) (w : Why) → Says (responder.refuses c0 e0 l0 n w)
+  refuses_says : (c0 : Context) (e0 : End) (l0 : Link) (w : RefusalReason) → Says (responder.refuses c0 e0 l0 n w)
   refuses_says c0 e0 l0 w = inr (one _ (nak_written l0 n (responder.nak_code w)))
 
   length_says : Says (responder.refuses_length c e l n)

@@ -21,8 +21,8 @@ use Rattle.protocol.specs.Requester.{Sends, transmission, transmitted, end_of_qu
 use Rattle.protocol.specs.Responder as responder
 use Rattle.protocol.specs.Settle.{Settling, delivering, drained, pass, settle_step, stepped_to, transmit}
 use Rattle.protocol.proofs.NearNumbers.{known}
-use Rattle.ideal_model.specs.Machine.{Machine}
-use Rattle.ideal_model.specs.Legal.{after}
+use Rattle.packetless_machine.specs.Machine.{Machine}
+use Rattle.packetless_machine.specs.Legal.{after}
 use Rattle.law_simulation.specs.Law.{AlwaysFollows, Follows}
 use Rattle.law_simulation.specs.Stands.{Stands}
 use Rattle.law_simulation.specs.Views.{name_of}

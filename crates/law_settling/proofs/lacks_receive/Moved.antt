@@ -2,7 +2,7 @@
 use Rattle.std.proofs.Common.{◌≡◌, ◌⊎◌, ℕ, List, [], ◌∷◌, true, false, Bool, refl, sym, ap, ◌∙◌, subst, inl, inr}
 use Rattle.std.specs.Prelude.{All, Option, Some, None, ◌==◌, if◌then◌else◌}
 use Rattle.std.proofs.lemmas.List.Elements.{All-nil, All-cons}
-use Rattle.rdma_types.specs.declared.answers.SilentWhy.TheVariants as why
+use Rattle.rdma_types.specs.declared.answers.DropReason.TheVariants as why
 use Rattle.rdma_types.specs.declared.answers.Sent.{Sent}
 use Rattle.protocol.specs.declared.wire.Aeth.{Aeth}
 use Rattle.protocol.specs.declared.wire.Headers.TheVariants as headers
@@ -14,7 +14,7 @@ use Rattle.protocol.specs.EndWords.{EndStep, silent, linked, with_moving}
 use Rattle.protocol.specs.EndStep.{takes, takes_kind}
 use Rattle.protocol.specs.Moves.{Control, Stopped, Resume, ResumeAck, MoveTook, GoesPaused, Resumed, Again, GoesRunning, control_of, in_phase, move_row, moves_by, resume_packet, resumed_link, resuming_of, stopped_of, takes_control}
 use Rattle.protocol.specs.Wire.{Packet, has_aeth, has_resume, is_nak_stopped, layout_of, packet_of, read_aeth, read_resume, unloaded, when}
-use Rattle.roce_headers.proofs.Grammar.{read_spelled}
+use Rattle.protocol.proofs.PacketGrammar.{read_spelled}
 use Rattle.law_settling.proofs.draining.Replies.{IsStop, opcode_first}
 use Rattle.law_settling.proofs.sending_stops.Reading.{stop_says}
 use Rattle.law_settling.proofs.lacks_receive.Kept.{IsLinkMoved}

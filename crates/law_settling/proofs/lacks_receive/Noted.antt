@@ -5,8 +5,8 @@ use Rattle.rdma_types.specs.declared.names.ObjName.{ObjName}
 use Rattle.rdma_types.specs.Spans.{piece_at}
 use Rattle.protocol.specs.State.{World, End, Link}
 use Rattle.protocol.specs.Settle.{Waited}
-use Rattle.ideal_model.specs.Machine as machine
-use Rattle.ideal_model.specs.Machine.{Machine}
+use Rattle.packetless_machine.specs.Machine as machine
+use Rattle.packetless_machine.specs.Machine.{Machine}
 use Rattle.law_simulation.specs.Stands.{Stands}
 use Rattle.law_simulation.specs.Views.{name_of}
 use Rattle.law_simulation.proofs.relation.Grows.{object_or_not}

@@ -11,8 +11,8 @@ use Rattle.protocol.specs.EndWords.{is_in_error}
 use Rattle.protocol.specs.Images as images
 use Rattle.protocol.specs.State.{World, Context, End, Link, no_context, no_end}
 use Rattle.protocol.specs.Settle.{is_ended_image, live_ends, partner_ended}
-use Rattle.ideal_model.specs.Machine as machine
-use Rattle.ideal_model.specs.Machine.{Machine}
+use Rattle.packetless_machine.specs.Machine as machine
+use Rattle.packetless_machine.specs.Machine.{Machine}
 use Rattle.law_simulation.specs.Stands.{Stands}
 use Rattle.law_simulation.specs.Views.{contexts_of, context_of, name_of, owned, owned_there}
 use Rattle.law_simulation.proofs.relation.Tables.{named-absent}

@@ -18,8 +18,8 @@ use Rattle.protocol.specs.EndStep.{takes}
 use Rattle.protocol.specs.Moves.{Control, control_of}
 use Rattle.protocol.specs.WorldStep.{world_step}
 use Rattle.protocol.specs.Settle.{Settling, delivering, drained, pass, settle_step, stepped_to}
-use Rattle.ideal_model.specs.Machine.{Machine}
-use Rattle.ideal_model.specs.Legal.{after}
+use Rattle.packetless_machine.specs.Machine.{Machine}
+use Rattle.packetless_machine.specs.Legal.{after}
 use Rattle.law_simulation.specs.Law.{AlwaysFollows, Follows}
 use Rattle.law_simulation.specs.Stands.{Stands}
 use Rattle.law_simulation.specs.Views.{name_of}
@@ -27,7 +27,7 @@ use Rattle.law_simulation.proofs.relation.Grows.{object_or_not}
 use Rattle.law_simulation.proofs.relation.Tables.{named-store_same}
 use Rattle.law_simulation.proofs.delivery.Arriving.{stored_again}
 use Rattle.law_settling.proofs.draining.Pending.{IsPending, contains_cases, contains_here, contains_later, numbers_pend}
-use Rattle.law_replies.proofs.Silent.{reply_silent}
+use Rattle.law_devices.proofs.Silent.{reply_silent}
 use Rattle.law_settling.proofs.draining.Arrivals.{IsDelivered, delivered, grows, bytes_kept, still_pending}
 use Rattle.law_settling.specs.Weights.{TakingLightens}
 use Rattle.law_settling.proofs.bound.Lives.{lives, at_end, context_in, name_is}

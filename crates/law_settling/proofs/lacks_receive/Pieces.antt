@@ -18,7 +18,7 @@ use Rattle.protocol.specs.Responder.{begins, is_send, is_write, needs_receive, p
 use Rattle.protocol.specs.Segments.{atomic_packet, is_first_piece, is_last_piece, message_packet, opcode_of, packet_of_piece, read_packet}
 use Rattle.protocol.specs.State.{Link}
 use Rattle.protocol.specs.Wire.{Packet, has_aeth, has_resume, layout_of, loaded, packet_of, read_aeth, read_syndrome, unloaded, when, wire_of}
-use Rattle.roce_headers.proofs.Grammar.{read_spelled}
+use Rattle.protocol.proofs.PacketGrammar.{read_spelled}
 use Rattle.law_simulation.proofs.sending.GoWritten.{wire_number_bits}
 use Rattle.law_settling.proofs.sending_stops.Turns.{IsCalm, IsNak}
 use Rattle.law_settling.proofs.lacks_receive.Answered.{NotRnr}

@@ -14,8 +14,8 @@ use Rattle.protocol.specs.Settle.{Settling, drained, settle_step, stepped_to, tr
 use Rattle.protocol.specs.State.{World, End, Link, Flight}
 use Rattle.protocol.specs.Wire.{Packet}
 use Rattle.protocol.specs.WorldStep.{home, world_step}
-use Rattle.ideal_model.specs.Machine.{Machine}
-use Rattle.ideal_model.specs.Legal.{after}
+use Rattle.packetless_machine.specs.Machine.{Machine}
+use Rattle.packetless_machine.specs.Legal.{after}
 use Rattle.law_simulation.specs.Law.{AlwaysFollows, Follows}
 use Rattle.law_simulation.specs.Stands.{Stands}
 use Rattle.law_simulation.proofs.relation.Grows.{object_or_not}

@@ -22,7 +22,7 @@ use Rattle.protocol.specs.DeviceStep as device
 use Rattle.protocol.specs.DeviceStep.{gives}
 use Rattle.protocol.specs.WorldStep.{world_step, home, live_context, ran}
 use Rattle.protocol.specs.Settle.{transmit}
-use Rattle.ideal_model.specs.Machine.{Machine}
+use Rattle.packetless_machine.specs.Machine.{Machine}
 use Rattle.law_simulation.specs.Stands.{Stands}
 use Rattle.law_simulation.proofs.relation.Grows.{object_or_not}
 use Rattle.law_simulation.proofs.relation.Worlds.{holds_it, home_found}

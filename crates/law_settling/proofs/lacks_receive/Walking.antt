@@ -2,7 +2,7 @@
 use Rattle.std.proofs.Common.{arith, ◌≡◌, ◌⊎◌, ℕ, zero, suc, List, [], ◌∷◌, true, false, Bool, refl, sym, ap, ◌∙◌, subst, inl, inr}
 use Rattle.std.specs.Prelude.{Option, Some, None, bytes_eq, if◌then◌else◌, ◌==◌, ◌&&◌, not, nat_lt}
 use Rattle.std.proofs.lemmas.Bool.Decides.{nat_tests, eqb_tells}
-use Rattle.rdma_types.specs.declared.answers.NotWhy.TheVariants as not_why
+use Rattle.rdma_types.specs.declared.answers.ExpiryIgnored.TheVariants as not_why
 use Rattle.rdma_types.specs.declared.names.ObjName.{ObjName}
 use Rattle.rdma_types.specs.Lists.{first_that, same_object}
 use Rattle.rdma_types.specs.Spans.{Piece}
@@ -15,8 +15,8 @@ use Rattle.protocol.specs.Requester.{Sends, SendsResume, not_counted, transmissi
 use Rattle.protocol.specs.State.{World, Link}
 use Rattle.protocol.specs.WorldStep.{world_step}
 use Rattle.protocol.specs.Settle.{Settling, Waited, begun, delivering, drained, expire_by, expire_visit, has_stepped, is_sent, last_wait, link_at, live_names, may_step, noting, partner_ended, pass, rnr_by, rnr_visit, round, same_end, sending_all, sending_fuel, sends_all, sends_if_running, settle_step, stepped_to, timers, timers_if_still, transmit, visited, visiting}
-use Rattle.ideal_model.specs.Machine.{Machine}
-use Rattle.ideal_model.specs.Legal.{after}
+use Rattle.packetless_machine.specs.Machine.{Machine}
+use Rattle.packetless_machine.specs.Legal.{after}
 use Rattle.law_simulation.specs.Law.{AlwaysFollows, Follows}
 use Rattle.law_simulation.specs.Stands.{Stands}
 use Rattle.law_simulation.proofs.relation.Tables.{name_tells}

@@ -12,11 +12,11 @@ use Rattle.rdma_types.specs.Objects.{Posted}
 use Rattle.rdma_types.specs.Spans.{Piece, first_number, piece_at, span_of}
 use Rattle.protocol.specs.State.{World, Link}
 use Rattle.protocol.specs.WorldStep.{live_context}
-use Rattle.ideal_model.specs.Machine as machine
-use Rattle.ideal_model.specs.Machine.{Machine, End, posted_at}
-use Rattle.ideal_model.specs.Numbers.{due, oldest}
-use Rattle.ideal_model.specs.Sound.{IsSound}
-use Rattle.ideal_model.specs.Steps.{current, front, has_current, has_peer, has_turn, has_unused, lands_before, peer_of}
+use Rattle.packetless_machine.specs.Machine as machine
+use Rattle.packetless_machine.specs.Machine.{Machine, End, posted_at}
+use Rattle.packetless_machine.specs.Numbers.{due, oldest}
+use Rattle.packetless_machine.specs.Sound.{IsSound}
+use Rattle.packetless_machine.specs.Steps.{current, front, has_current, has_peer, has_turn, has_unused, lands_before, peer_of}
 use Rattle.law_simulation.specs.Joined.{IsJoined}
 use Rattle.law_simulation.specs.Quiet.{lacks_receive, needs_receive}
 use Rattle.law_simulation.specs.Stands.{Stands}

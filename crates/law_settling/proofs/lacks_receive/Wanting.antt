@@ -7,7 +7,7 @@ use Rattle.protocol.specs.declared.events.WorldEvent.{WorldEvent}
 use Rattle.protocol.specs.EndWords.{is_paused, is_resuming, is_running}
 use Rattle.protocol.specs.State.{World, Link}
 use Rattle.protocol.specs.Settle.{Settling, Waited, last_wait, link_at, live_names, may_step, partner_ended, settled}
-use Rattle.ideal_model.specs.Machine.{Machine}
+use Rattle.packetless_machine.specs.Machine.{Machine}
 use Rattle.law_simulation.specs.Law.{AlwaysFollows}
 use Rattle.law_simulation.specs.Quiet.{lacks_receive}
 use Rattle.law_simulation.specs.Stands.{Stands}

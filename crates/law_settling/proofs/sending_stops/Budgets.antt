@@ -14,7 +14,7 @@ use Rattle.protocol.specs.Wire.{Packet}
 use Rattle.protocol.specs.EndWords.{is_paused, is_resuming}
 use Rattle.protocol.specs.Requester.{end_of_queue}
 use Rattle.protocol.specs.Responder.{is_bad_read, is_bad_write, is_empty, is_invalid, is_missized, is_out_of_place, is_read_request, is_unaligned, is_write, needs_receive, part_of, reth_target, target, target_of}
-use Rattle.ideal_model.specs.Machine.{Machine}
+use Rattle.packetless_machine.specs.Machine.{Machine}
 use Rattle.law_simulation.specs.Stands.{Stands}
 use Rattle.law_simulation.specs.Views.{place_of}
 use Rattle.law_settling.proofs.bound.Lives.{lives, at_end, context_in}

@@ -19,8 +19,8 @@ use Rattle.protocol.specs.Moves.{control_of, in_phase}
 use Rattle.protocol.specs.WorldStep.{with_taken, world_step}
 use Rattle.protocol.specs.Fabric.{pending_numbers}
 use Rattle.protocol.specs.Settle.{Settling, delivering, pass, settle_step, stepped_to}
-use Rattle.ideal_model.specs.Machine.{Machine}
-use Rattle.ideal_model.specs.Legal.{after}
+use Rattle.packetless_machine.specs.Machine.{Machine}
+use Rattle.packetless_machine.specs.Legal.{after}
 use Rattle.law_simulation.specs.Law.{AlwaysFollows, Follows}
 use Rattle.law_simulation.specs.Stands.{Stands}
 use Rattle.law_simulation.specs.Views.{name_of}
@@ -29,7 +29,7 @@ use Rattle.law_simulation.proofs.relation.Tables.{name_or_not}
 use Rattle.law_simulation.proofs.relation.Worlds.{shapes_of}
 use Rattle.law_simulation.proofs.delivery.Arriving.{stored_again, taken_stands}
 use Rattle.law_settling.proofs.draining.Pending.{IsPending, contains_here, contains_later, numbers_pend}
-use Rattle.law_replies.proofs.Silent.{reply_silent}
+use Rattle.law_devices.proofs.Silent.{reply_silent}
 use Rattle.law_settling.proofs.draining.Replies.{IsReply, IsStop}
 use Rattle.law_settling.proofs.draining.Arrivals.{IsDelivered, delivered, grows, bytes_kept, still_pending}
 use Rattle.law_settling.specs.Weights.{BringsNews, EndGoesOn, TakingLightens}

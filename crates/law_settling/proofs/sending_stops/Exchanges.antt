@@ -15,9 +15,9 @@ use Rattle.protocol.specs.EndWords as words
 use Rattle.protocol.specs.EndWords.{EndStep, is_paused, is_resuming, linked, with_link, with_receiver, with_sender}
 use Rattle.protocol.specs.Requester.{Sends, transmission, transmitted}
 use Rattle.protocol.specs.Settle.{Settling, delivering, drained, pass, settle_step, stepped_to, transmit}
-use Rattle.ideal_model.specs.Machine as machine
-use Rattle.ideal_model.specs.Machine.{Machine}
-use Rattle.ideal_model.specs.Legal.{after}
+use Rattle.packetless_machine.specs.Machine as machine
+use Rattle.packetless_machine.specs.Machine.{Machine}
+use Rattle.packetless_machine.specs.Legal.{after}
 use Rattle.law_simulation.specs.Law.{AlwaysFollows, Follows}
 use Rattle.law_simulation.specs.Stands.{Stands}
 use Rattle.law_simulation.specs.Views.{name_of}

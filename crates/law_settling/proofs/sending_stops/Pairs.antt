@@ -9,11 +9,11 @@ use Rattle.rdma_types.specs.Spans.{Piece, piece_at, end_number, first_number, re
 use Rattle.protocol.specs.State.{World, Link}
 use Rattle.protocol.specs.Requester.{Sends, end_of_queue, transmission}
 use Rattle.protocol.specs.WorldStep.{exchanged}
-use Rattle.ideal_model.specs.Machine as machine
-use Rattle.ideal_model.specs.Machine.{Machine, End, untold_count, posted_at}
-use Rattle.ideal_model.specs.Numbers.{due, oldest}
-use Rattle.ideal_model.specs.Sound.{IsSound}
-use Rattle.ideal_model.specs.Steps.{in_place, front}
+use Rattle.packetless_machine.specs.Machine as machine
+use Rattle.packetless_machine.specs.Machine.{Machine, End, untold_count, posted_at}
+use Rattle.packetless_machine.specs.Numbers.{due, oldest}
+use Rattle.packetless_machine.specs.Sound.{IsSound}
+use Rattle.packetless_machine.specs.Steps.{in_place, front}
 use Rattle.law_simulation.specs.Joined.{AreWholePieces, IsJoined}
 use Rattle.law_simulation.specs.Stands.{Stands}
 use Rattle.law_simulation.specs.Views.{name_of, requests_of, side_of}

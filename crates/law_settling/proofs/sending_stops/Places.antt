@@ -4,15 +4,15 @@ use Rattle.std.specs.Prelude.{Option, Some, None, not, ◌==◌, ◌&&◌, if◌
 use Rattle.rdma_types.specs.declared.names.Name.{Name}
 use Rattle.rdma_types.specs.declared.names.ObjName.{ObjName}
 use Rattle.rdma_types.specs.Lists.{named, store_named}
-use Rattle.rdma_types.specs.declared.answers.SilentWhy.TheVariants as why
+use Rattle.rdma_types.specs.declared.answers.DropReason.TheVariants as why
 use Rattle.protocol.specs.State.{World, Context, End, Link, Paused, no_context, no_end}
 use Rattle.protocol.specs.Wire.{Packet}
 use Rattle.protocol.specs.EndWords.{is_paused, linked, silent, with_moving}
 use Rattle.protocol.specs.EndStep.{takes, takes_kind}
 use Rattle.protocol.specs.Moves.{Stopped, GoesPaused, Stale, control_of, in_phase, move_row, moves_by, takes_control}
 use Rattle.protocol.specs.WorldStep.{live_context}
-use Rattle.ideal_model.specs.Machine as machine
-use Rattle.ideal_model.specs.Machine.{Machine}
+use Rattle.packetless_machine.specs.Machine as machine
+use Rattle.packetless_machine.specs.Machine.{Machine}
 use Rattle.law_simulation.specs.Stands.{Stands}
 use Rattle.law_simulation.specs.Views.{name_of, owned, owned_there}
 use Rattle.law_simulation.proofs.relation.Tables.{name_or_not, named-store_same, named-store_other}

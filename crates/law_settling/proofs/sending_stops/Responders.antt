@@ -4,10 +4,10 @@ use Rattle.std.specs.Prelude.{All, Option, Some, None, is_some, if◌then◌else
 use Rattle.std.proofs.lemmas.Bool.Decides.{nat_tests, leb_tells}
 use Rattle.std.proofs.lemmas.List.Elements.{All-nil, All-cons}
 use Rattle.rdma_types.specs.declared.requests.Receive.{Receive}
-use Rattle.rdma_types.specs.declared.answers.SilentWhy.TheVariants as why
+use Rattle.rdma_types.specs.declared.answers.DropReason.TheVariants as why
 use Rattle.rdma_types.specs.declared.answers.Sent.{Sent}
-use Rattle.rdma_types.specs.declared.answers.Why.{Why}
-use Rattle.rdma_types.specs.declared.answers.Why.TheVariants as refused
+use Rattle.rdma_types.specs.declared.answers.RefusalReason.{RefusalReason}
+use Rattle.rdma_types.specs.declared.answers.RefusalReason.TheVariants as refused
 use Rattle.rdma_types.specs.Limits.{number_limit}
 use Rattle.rdma_types.specs.Lists.{named, store_named}
 use Rattle.rdma_types.specs.Objects.{Region}
@@ -141,7 +141,7 @@ module _ (c : Context) (e : End) (l : Link) (d : Packet) (n : ℕ) where
       unfolding with_end with_link
       looked c0 e0 l' name = ap (λ k. (named (λ y. y.name) no_end e.name (store_named (λ y. y.name) k (with_link e0 l') c0.ends)).link) name ∙ ap (λ z. z.link) (named-store_same (λ y. y.name) no_end e.name (with_link e0 l') c0.ends name)
 
-      fails : (c0 : Context) (e0 : End) (l0 : Link) (w : Why) → e0.name ≡ e.name → (l0.peer ≡ l.peer) → (IsDryFor c e l d → ⊥) → AnswersOf (Unit {0}) (responder.refuses c0 e0 l0 n w) → Outcome (responder.refuses c0 e0 l0 n w)
+      fails : (c0 : Context) (e0 : End) (l0 : Link) (w : RefusalReason) → e0.name ≡ e.name → (l0.peer ≡ l.peer) → (IsDryFor c e l d → ⊥) → AnswersOf (Unit {0}) (responder.refuses c0 e0 l0 n w) → Outcome (responder.refuses c0 e0 l0 n w)
       unfolding ended_with ended_link with_unused completing with_queue with_end with_link
       fails c0 e0 l0 w name peer not_dry answers = inr (inr (inl (record {
         at = at;
@@ -152,12 +152,12 @@ module _ (c : Context) (e : End) (l : Link) (d : Packet) (n : ℕ) where
         answers = answers;
       })))
 
-      code_small : (w : Why) → (responder.nak_code w ≡ 0) ⊎ (responder.nak_code w ≡ 1) ⊎ (responder.nak_code w ≡ 2)
+      code_small : (w : RefusalReason) → (responder.nak_code w ≡ 0) ⊎ (responder.nak_code w ≡ 1) ⊎ (responder.nak_code w ≡ 2)
       code_small refused.Invalid = inr (inl refl)
       code_small refused.Access = inr (inr refl)
       code_small refused.Length = inr (inl refl)
 
-      refused_outcome : (w : Why) → (IsDryFor c e l d → ⊥) → Outcome (responder.refuses c e l n w)
+      refused_outcome : (w : RefusalReason) → (IsDryFor c e l d → ⊥) → Outcome (responder.refuses c e l n w)
       refused_outcome w not_dry = fails c e l w refl refl not_dry (one (Unit {0}) _ (nak_written l small (Unit {0}) n (responder.nak_code w) tt (code_small w)))
 
       length_outcome : (IsDryFor c e l d → ⊥) → Outcome (responder.refuses_length c e l n)

@@ -27,10 +27,10 @@ use Rattle.protocol.specs.DeviceStep as device
 use Rattle.protocol.specs.DeviceStep.{gives}
 use Rattle.protocol.specs.WorldStep.{world_step, home, live_context, ran}
 use Rattle.protocol.specs.Settle.{transmit}
-use Rattle.ideal_model.specs.Machine as machine
-use Rattle.ideal_model.specs.Machine.{Machine}
-use Rattle.ideal_model.specs.Legal.{after}
-use Rattle.ideal_model.specs.Numbers.{oldest}
+use Rattle.packetless_machine.specs.Machine as machine
+use Rattle.packetless_machine.specs.Machine.{Machine}
+use Rattle.packetless_machine.specs.Legal.{after}
+use Rattle.packetless_machine.specs.Numbers.{oldest}
 use Rattle.law_simulation.specs.Joined.{IsSayable}
 use Rattle.law_simulation.specs.Law.{AlwaysFollows, Follows}
 use Rattle.law_simulation.specs.Stands.{Stands}

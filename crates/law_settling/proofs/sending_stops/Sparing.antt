@@ -11,7 +11,7 @@ use Rattle.protocol.specs.Requester.{Sends, transmission, transmitted}
 use Rattle.protocol.specs.State.{World, Link, no_end}
 use Rattle.protocol.specs.WorldStep.{world_step}
 use Rattle.protocol.specs.Settle.{Settling, drained, is_sent, link_at, settle_step, transmit}
-use Rattle.ideal_model.specs.Machine.{Machine}
+use Rattle.packetless_machine.specs.Machine.{Machine}
 use Rattle.law_simulation.specs.Law.{AlwaysFollows}
 use Rattle.law_simulation.specs.Stands.{Stands}
 use Rattle.law_simulation.proofs.relation.Grows.{object_or_not}

@@ -17,7 +17,7 @@ use Rattle.rdma_types.specs.declared.requests.Terms.{Terms}
 use Rattle.protocol.specs.Numbers.{wire_number}
 use Rattle.protocol.specs.Segments.{packet_of_piece}
 use Rattle.protocol.specs.Wire.{Packet}
-use Rattle.ideal_model.specs.Machine.{Machine}
+use Rattle.packetless_machine.specs.Machine.{Machine}
 use Rattle.law_simulation.specs.Law.{AlwaysFollows}
 use Rattle.law_simulation.specs.Stands.{Stands}
 use Rattle.law_simulation.specs.Views.{name_of, place_of}

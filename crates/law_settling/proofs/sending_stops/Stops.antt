@@ -10,7 +10,7 @@ use Rattle.protocol.specs.Requester.{Sends, SendsResume, transmission}
 use Rattle.protocol.specs.State.{World, Link, Moving}
 use Rattle.protocol.specs.WorldStep.{world_step}
 use Rattle.protocol.specs.Settle.{Settling, drained, is_sent, link_at, sending_all, sending_fuel, sends_all, settle_step, transmit}
-use Rattle.ideal_model.specs.Machine.{Machine}
+use Rattle.packetless_machine.specs.Machine.{Machine}
 use Rattle.law_simulation.specs.Law.{AlwaysFollows}
 use Rattle.law_simulation.specs.Stands.{Stands}
 use Rattle.law_simulation.proofs.sending.GoTransmit.{resumes_is}

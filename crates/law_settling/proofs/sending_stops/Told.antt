@@ -16,10 +16,10 @@ use Rattle.protocol.specs.DeviceStep as device
 use Rattle.protocol.specs.WorldStep as step
 use Rattle.protocol.specs.WorldStep.{world_step, home, ran}
 use Rattle.protocol.specs.Settle.{is_sent, transmit}
-use Rattle.ideal_model.specs.Machine as machine
-use Rattle.ideal_model.specs.Machine.{Machine, End}
-use Rattle.ideal_model.specs.Numbers.{oldest}
-use Rattle.ideal_model.specs.Sound.{IsSound}
+use Rattle.packetless_machine.specs.Machine as machine
+use Rattle.packetless_machine.specs.Machine.{Machine, End}
+use Rattle.packetless_machine.specs.Numbers.{oldest}
+use Rattle.packetless_machine.specs.Sound.{IsSound}
 use Rattle.law_simulation.specs.Stands.{Stands}
 use Rattle.law_simulation.specs.Views.{requests_of}
 use Rattle.law_simulation.proofs.relation.PostedNet.{requests_sound}

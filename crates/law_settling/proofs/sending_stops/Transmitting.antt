@@ -12,7 +12,7 @@ use Rattle.protocol.specs.DeviceStep as device
 use Rattle.protocol.specs.WorldStep as step
 use Rattle.protocol.specs.WorldStep.{world_step, home, ran}
 use Rattle.protocol.specs.Settle.{is_sent, transmit}
-use Rattle.ideal_model.specs.Machine.{Machine}
+use Rattle.packetless_machine.specs.Machine.{Machine}
 use Rattle.law_simulation.proofs.sending.GoLive.{LiveEnd}
 use Rattle.law_settling.proofs.bound.Turns.{connected_none, stepped_done}
 

@@ -1,7 +1,7 @@
 -- A step of a device hands out no image, unless it is a stop.
 use Rattle.std.proofs.Common.{◌≡◌, List, [], ◌∷◌, true, false, Bool, refl}
 use Rattle.std.specs.Prelude.{◌==◌, Option, Some, None, if◌then◌else◌}
-use Rattle.rdma_types.specs.declared.answers.NotWhy.{NotWhy}
+use Rattle.rdma_types.specs.declared.answers.ExpiryIgnored.{ExpiryIgnored}
 use Rattle.rdma_types.specs.declared.answers.Refusal.{Refusal}
 use Rattle.rdma_types.specs.declared.requests.Address.{Address}
 use Rattle.rdma_types.specs.declared.requests.Request.{Request}
@@ -35,7 +35,7 @@ row_bare d c e l ReadsAreFull = refl
 row_bare d c e l IsFenced = refl
 row_bare d c e l (Sends x) = refl
 
-expires_bare : (d : Device) (c : Context) (e : End) (l : Link) (o : Option NotWhy) → IsBare (device.expires_by d c e l o)
+expires_bare : (d : Device) (c : Context) (e : End) (l : Link) (o : Option ExpiryIgnored) → IsBare (device.expires_by d c e l o)
 unfolding device.counts
 expires_bare d c e l (Some o) = refl
 expires_bare d c e l None = if_bare (l.sender.spent == l.terms.retry) _ _ refl refl

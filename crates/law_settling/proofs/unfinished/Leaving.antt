@@ -2,7 +2,7 @@
 use Rattle.std.proofs.Common.{◌≡◌, List, [], true, false, sym, subst}
 use Rattle.std.specs.Prelude.{All, Contains, Some, flat_map}
 use Rattle.std.proofs.lemmas.List.Elements.{All-contains, All-contains_itself, All-weaker}
-use Rattle.rdma_types.specs.declared.answers.LeftWhy.{LeftWhy}
+use Rattle.rdma_types.specs.declared.answers.UnfinishedReason.{UnfinishedReason}
 use Rattle.rdma_types.specs.declared.names.ObjName.{ObjName}
 use Rattle.protocol.specs.declared.images.ContextImage.{ContextImage}
 use Rattle.protocol.specs.EndWords.{is_running}
@@ -11,7 +11,7 @@ use Rattle.protocol.specs.Lawful.{IsLawful}
 use Rattle.protocol.specs.State.{World, Device, Context, Link}
 use Rattle.protocol.specs.Settle as settle
 use Rattle.protocol.specs.Settle.{left_image, left_link, link_at, settled}
-use Rattle.ideal_model.specs.Machine.{Machine}
+use Rattle.packetless_machine.specs.Machine.{Machine}
 use Rattle.law_simulation.specs.Quiet as quiet
 use Rattle.law_simulation.specs.Quiet.{AreReasons, lacks_receive, left_in}
 use Rattle.law_simulation.specs.Stands.{Stands}
@@ -25,10 +25,10 @@ use Rattle.law_settling.proofs.unfinished.Listed.{both, each, flat_flat}
 use Rattle.law_settling.proofs.unfinished.Reasons.{carried_named, live_named}
 
 -- the live ends of a context with their reasons, and those of an image
-abbrev left_live : Context → List (ObjName × LeftWhy)
+abbrev left_live : Context → List (ObjName × UnfinishedReason)
 left_live c = flat_map (λ e. left_link (record { context = c.name; name = e.name }) e.link) c.ends
 
-abbrev left_carried : ContextImage → List (ObjName × LeftWhy)
+abbrev left_carried : ContextImage → List (ObjName × UnfinishedReason)
 left_carried i = flat_map (left_image i.name) i.ends
 
 module _ (w : World) (m : Machine) (s : Stands w m) (lawful : All IsLawful w.carried)

@@ -5,8 +5,8 @@ use Rattle.std.specs.List.{count_by}
 use Rattle.std.proofs.lemmas.Bool.Decides.{nat_tests, leb_tells}
 use Rattle.std.proofs.lemmas.List.{length-drop}
 use Rattle.std.proofs.lemmas.List.Elements.{All-contains_itself, All-weaker}
-use Rattle.rdma_types.specs.declared.answers.LeftWhy.{LeftWhy}
-use Rattle.rdma_types.specs.declared.answers.LeftWhy.TheVariants as left
+use Rattle.rdma_types.specs.declared.answers.UnfinishedReason.{UnfinishedReason}
+use Rattle.rdma_types.specs.declared.answers.UnfinishedReason.TheVariants as left
 use Rattle.rdma_types.specs.declared.names.Name.{Name}
 use Rattle.rdma_types.specs.declared.names.ObjName.{ObjName}
 use Rattle.rdma_types.specs.Lists.{named}
@@ -20,8 +20,8 @@ use Rattle.protocol.specs.Lawful.{IsLawful, IsLawfulEnd, IsLawfulState}
 use Rattle.protocol.specs.State.{World, Context, End, Link, Phase, Paused, Resuming, Running, no_context, no_end}
 use Rattle.protocol.specs.WorldStep.{is_live, live_context}
 use Rattle.protocol.specs.Settle.{left_image, left_link, left_phase, link_at}
-use Rattle.ideal_model.specs.Machine as machine
-use Rattle.ideal_model.specs.Machine.{Machine}
+use Rattle.packetless_machine.specs.Machine as machine
+use Rattle.packetless_machine.specs.Machine.{Machine}
 use Rattle.law_simulation.specs.Quiet.{AreReasons, lacks_receive, left_in, reason_of}
 use Rattle.law_simulation.specs.Stands.{Stands, AreSame}
 use Rattle.law_simulation.specs.Views.{contexts_of, is_carried, link_of, link_or_none, owned, owned_there}
@@ -45,7 +45,7 @@ has_untold e = nat_lt 0 (length (link_or_none e.link).sender.untold)
 
 -- ---- the reason of a live end
 
-reason_by : Bool → Phase → Bool → Option LeftWhy
+reason_by : Bool → Phase → Bool → Option UnfinishedReason
 reason_by carried p lacks = if carried then Some left.Carried else if is_paused p then Some left.Paused else if is_resuming p then Some left.Resuming else if lacks then Some left.NoReceive else None
 
 by_phase : (carried : Bool) (p : Phase) (lacks : Bool) → carried ≡ false → (p ≡ Running → lacks ≡ true) → reason_by carried p lacks ≡ Some (left_phase p)

@@ -6,10 +6,10 @@ use Rattle.rdma_types.specs.declared.requests.Completion.{Completion}
 use Rattle.rdma_types.specs.declared.requests.Receive.{Receive}
 use Rattle.rdma_types.specs.declared.requests.WcStatus.{WcStatus}
 use Rattle.rdma_types.specs.declared.requests.WcStatus.TheVariants as status
-use Rattle.rdma_types.specs.declared.answers.SilentWhy.TheVariants as why
-use Rattle.rdma_types.specs.declared.answers.Took.TheVariants as took
-use Rattle.rdma_types.specs.declared.answers.Why.{Why}
-use Rattle.rdma_types.specs.declared.answers.Why.TheVariants as refused
+use Rattle.rdma_types.specs.declared.answers.DropReason.TheVariants as why
+use Rattle.rdma_types.specs.declared.answers.ArrivalEffect.TheVariants as took
+use Rattle.rdma_types.specs.declared.answers.RefusalReason.{RefusalReason}
+use Rattle.rdma_types.specs.declared.answers.RefusalReason.TheVariants as refused
 use Rattle.rdma_types.specs.declared.names.Name.{Name}
 use Rattle.rdma_types.specs.Limits.{number_limit, most_moves}
 use Rattle.rdma_types.specs.Lists.{store_named}
@@ -158,7 +158,7 @@ module _ (k : ℕ) (N : Type 0) (c : Context) (e : End) (l : Link) (self : c.end
     unfolding responder.repeated
     repeated_good n = if_good (responder.is_read_request d.opcode) _ _ (reread_good d.reth n) (if_good (is_some d.atomic) _ _ (old_good n _) (still _ refl))
 
-    refused_good : (n : ℕ) (w : Why) → Good (responder.refuses c e l n w)
+    refused_good : (n : ℕ) (w : RefusalReason) → Good (responder.refuses c e l n w)
     refused_good n w = record { goes = ended_shape c e l _ alive refl refl refl refl refl refl refl }
 
     length_good : (n : ℕ) → Good (responder.refuses_length c e l n)

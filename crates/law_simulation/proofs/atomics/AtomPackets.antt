@@ -11,8 +11,8 @@ use Rattle.protocol.specs.declared.wire.AtomicEth.{AtomicEth}
 use Rattle.protocol.specs.Segments.{atomic_packet, opcode_of}
 use Rattle.protocol.specs.Wire.{Packet}
 use Rattle.protocol.specs.Responder.{atomic_value, is_read_request, is_send, is_write}
-use Rattle.ideal_model.specs.Bytes.{sum_of, swapped}
-use Rattle.ideal_model.specs.Steps.{changed_by, changed_word, right_for}
+use Rattle.packetless_machine.specs.Bytes.{sum_of, swapped}
+use Rattle.packetless_machine.specs.Steps.{changed_by, changed_word, right_for}
 
 -- the header of an atomic
 abbrev pub header_of : Posted → AtomicEth

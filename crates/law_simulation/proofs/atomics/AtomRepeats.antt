@@ -5,8 +5,8 @@ use Rattle.std.proofs.lemmas.Bool.Decides.{nat_tests, eqb_tells}
 use Rattle.std.proofs.lemmas.List.{take-append-drop}
 use Rattle.std.proofs.lemmas.List.Elements.{All-nil, All-cons, All-head, All-tail, Contains-append_right}
 use Rattle.rdma_types.specs.declared.names.ObjName.{ObjName}
-use Rattle.rdma_types.specs.declared.answers.Took.TheVariants as took
-use Rattle.rdma_types.specs.declared.answers.SilentWhy.TheVariants as why
+use Rattle.rdma_types.specs.declared.answers.ArrivalEffect.TheVariants as took
+use Rattle.rdma_types.specs.declared.answers.DropReason.TheVariants as why
 use Rattle.rdma_types.specs.Kinds as kinds
 use Rattle.rdma_types.specs.Kinds.{kind_of}
 use Rattle.rdma_types.specs.Limits.{most_kept}
@@ -23,10 +23,10 @@ use Rattle.protocol.specs.EndWords.{is_paused}
 use Rattle.protocol.specs.Responder.{repeated, answers_old, old_answer}
 use Rattle.protocol.specs.DeviceStep.{ended_step}
 use Rattle.protocol.specs.WorldStep.{home, ran}
-use Rattle.ideal_model.specs.declared.reply.Reply.{Reply}
-use Rattle.ideal_model.specs.declared.reply.Reply.TheVariants.{Finished, OldValue, Denied}
-use Rattle.ideal_model.specs.Machine as machine
-use Rattle.ideal_model.specs.Machine.{Machine, End, posted_at}
+use Rattle.packetless_machine.specs.declared.reply.Reply.{Reply}
+use Rattle.packetless_machine.specs.declared.reply.Reply.TheVariants.{Finished, OldValue, Denied}
+use Rattle.packetless_machine.specs.Machine as machine
+use Rattle.packetless_machine.specs.Machine.{Machine, End, posted_at}
 use Rattle.law_simulation.specs.Packets.{class_of, IsRequest}
 use Rattle.law_simulation.specs.Carries.{repeat_steps}
 use Rattle.law_simulation.specs.Facts.{Fact, IsOld}

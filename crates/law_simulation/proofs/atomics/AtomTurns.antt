@@ -4,8 +4,8 @@ use Rattle.std.specs.Prelude.{Option, Some, None, if◌then◌else◌, is_some, 
 use Rattle.std.proofs.lemmas.List.{length-take, length-drop}
 use Rattle.std.proofs.lemmas.List.Elements.{All-nil, All-cons, All-weaker, All-take, All-drop, All-contains}
 use Rattle.rdma_types.specs.declared.names.ObjName.{ObjName}
-use Rattle.rdma_types.specs.declared.answers.Took.TheVariants as took
-use Rattle.rdma_types.specs.declared.answers.Why.TheVariants as whys
+use Rattle.rdma_types.specs.declared.answers.ArrivalEffect.TheVariants as took
+use Rattle.rdma_types.specs.declared.answers.RefusalReason.TheVariants as whys
 use Rattle.rdma_types.specs.Kinds as kinds
 use Rattle.rdma_types.specs.Kinds.{kind_of, size_of}
 use Rattle.rdma_types.specs.Limits.{is_mtu, most_kept}
@@ -23,13 +23,13 @@ use Rattle.protocol.specs.EndStep.{takes}
 use Rattle.protocol.specs.Responder.{Place, atomic_acts, atomic_done, begins, bytes_before, executed, granted_packet, is_empty, is_invalid, is_send, is_write, keeping, keeps, not_ready, old_answer, packet_acts, part_of, place_of, read_acts, receive_of, refuses, refuses_length, send_acts, span_of_packet, target, target_of, write_acts}
 use Rattle.protocol.specs.DeviceStep.{ended_step}
 use Rattle.protocol.specs.WorldStep.{home, ran}
-use Rattle.ideal_model.specs.declared.reply.Reply.TheVariants.{OldValue}
-use Rattle.ideal_model.specs.declared.reply.Reply.{Reply}
-use Rattle.ideal_model.specs.declared.steps.IdealStep.TheVariants as steps
-use Rattle.ideal_model.specs.Machine as machine
-use Rattle.ideal_model.specs.Machine.{Machine, End, has_context, nobody, put_at, regions_of}
-use Rattle.ideal_model.specs.Numbers.{due}
-use Rattle.ideal_model.specs.Steps.{acted_with, atom, atom_on, changed_word, current, has_current, is_current_granted, is_misaligned, may_add, may_atom, may_run, may_run_kind, right_for, word_there}
+use Rattle.packetless_machine.specs.declared.reply.Reply.TheVariants.{OldValue}
+use Rattle.packetless_machine.specs.declared.reply.Reply.{Reply}
+use Rattle.packetless_machine.specs.declared.steps.MachineStep.TheVariants as steps
+use Rattle.packetless_machine.specs.Machine as machine
+use Rattle.packetless_machine.specs.Machine.{Machine, End, has_context, nobody, put_at, regions_of}
+use Rattle.packetless_machine.specs.Numbers.{due}
+use Rattle.packetless_machine.specs.Steps.{acted_with, atom, atom_on, changed_word, current, has_current, is_current_granted, is_misaligned, may_add, may_atom, may_run, may_run_kind, right_for, word_there}
 use Rattle.law_simulation.specs.Packets.{class_of, IsRequest}
 use Rattle.law_simulation.specs.Carries.{due_steps}
 use Rattle.law_simulation.specs.Facts.{IsOld}

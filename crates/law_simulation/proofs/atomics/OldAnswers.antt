@@ -6,8 +6,8 @@ use Rattle.protocol.specs.Numbers.{wire_number}
 use Rattle.protocol.specs.State.{Link}
 use Rattle.protocol.specs.Wire.{Packet, Fits, plain, layout_of, is_request}
 use Rattle.protocol.specs.Responder.{old_answer}
-use Rattle.roce_headers.proofs.Fitting.{fits}
-use Rattle.ideal_model.specs.Machine.{End}
+use Rattle.protocol.proofs.FittingPackets.{fits}
+use Rattle.packetless_machine.specs.Machine.{End}
 use Rattle.law_simulation.specs.Packets.{class_of, IsAtomicResponse}
 use Rattle.law_simulation.specs.Views.{Side}
 use Rattle.law_simulation.specs.Facts.{NumberedFact, IsOld}

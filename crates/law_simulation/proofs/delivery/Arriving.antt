@@ -7,9 +7,9 @@ use Rattle.rdma_types.specs.declared.names.ObjName.{ObjName}
 use Rattle.rdma_types.specs.declared.requests.Address.{Address}
 use Rattle.rdma_types.specs.declared.answers.Answer.{Answer}
 use Rattle.rdma_types.specs.declared.answers.Answer.TheVariants as answers
-use Rattle.rdma_types.specs.declared.answers.SilentWhy.TheVariants as why
-use Rattle.rdma_types.specs.declared.answers.Took.{Took}
-use Rattle.rdma_types.specs.declared.answers.Took.TheVariants as took
+use Rattle.rdma_types.specs.declared.answers.DropReason.TheVariants as why
+use Rattle.rdma_types.specs.declared.answers.ArrivalEffect.{ArrivalEffect}
+use Rattle.rdma_types.specs.declared.answers.ArrivalEffect.TheVariants as took
 use Rattle.std.proofs.lemmas.List.{append-nil, map-id}
 use Rattle.rdma_types.specs.Lists.{named, has_name, store, store_named, first_that}
 use Rattle.rdma_types.specs.Causes.{first_cause}
@@ -29,11 +29,11 @@ use Rattle.protocol.specs.DeviceStep as device
 use Rattle.protocol.specs.DeviceStep.{Found, found_in, husk_entries, at_husk, at_found, ended_step}
 use Rattle.protocol.specs.WorldStep as step
 use Rattle.protocol.specs.WorldStep.{world_step, is_live, home, ran, runs, with_taken, reaches, delivers, delivers_by, device_with, mark_of, now_at, now_of, same_address}
-use Rattle.ideal_model.specs.declared.steps.IdealStep.{IdealStep}
-use Rattle.ideal_model.specs.declared.steps.IdealStep.TheVariants as steps
-use Rattle.ideal_model.specs.Machine as machine
-use Rattle.ideal_model.specs.Machine.{Machine, has_end}
-use Rattle.ideal_model.specs.Legal.{IsRun, after, seen, effect}
+use Rattle.packetless_machine.specs.declared.steps.MachineStep.{MachineStep}
+use Rattle.packetless_machine.specs.declared.steps.MachineStep.TheVariants as steps
+use Rattle.packetless_machine.specs.Machine as machine
+use Rattle.packetless_machine.specs.Machine.{Machine, has_end}
+use Rattle.packetless_machine.specs.Legal.{IsRun, after, seen, effect}
 use Rattle.law_simulation.specs.Packets.{Class, class_of, IsRequest, IsReadResponse, IsAtomicResponse, IsAck, IsSequenceNak, IsRefusal, IsReceiverNotReady, IsStopped, IsResume, IsResumeAck, IsNothing}
 use Rattle.law_simulation.specs.Views as views
 use Rattle.law_simulation.specs.Views.{Net, Side, net_of, name_of, peer, place_of, end_of, in_rts, link_or_none, owned, owned_there}
@@ -86,7 +86,7 @@ finds_same : (w : World) (m : Machine) (t : List Flight) (f : Flight) (d : Packe
 unfolding views.contexts_of views.context_of views.end_of views.in_rts views.place_of
 finds_same w m t f d = refl
 
-carried_same : (w : World) (m : Machine) (t : List Flight) (o : ObjName) (number : Option ℕ) (bytes : List ℕ) (c : Class) (ss : List IdealStep) → CarriesNumbered (record w { sent = t }) m o number bytes c ss → CarriesNumbered w m o number bytes c ss
+carried_same : (w : World) (m : Machine) (t : List Flight) (o : ObjName) (number : Option ℕ) (bytes : List ℕ) (c : Class) (ss : List MachineStep) → CarriesNumbered (record w { sent = t }) m o number bytes c ss → CarriesNumbered w m o number bytes c ss
 unfolding views.contexts_of views.context_of views.end_of
 carried_same w m t o None bytes c ss h = h
 carried_same w m t o (Some n) bytes IsRequest ss h = h
@@ -101,7 +101,7 @@ carried_same w m t o (Some n) bytes (IsResume body) ss h = h
 carried_same w m t o (Some n) bytes (IsResumeAck body) ss h = h
 carried_same w m t o (Some n) bytes IsNothing ss h = h
 
-named_same : (w : World) (m : Machine) (t : List Flight) (o : ObjName) (number : Option ℕ) (bytes : List ℕ) (c : Class) (took : Took) → numbered_steps w m o number bytes c took ≡ numbered_steps (record w { sent = t }) m o number bytes c took
+named_same : (w : World) (m : Machine) (t : List Flight) (o : ObjName) (number : Option ℕ) (bytes : List ℕ) (c : Class) (took : ArrivalEffect) → numbered_steps w m o number bytes c took ≡ numbered_steps (record w { sent = t }) m o number bytes c took
 unfolding views.contexts_of views.context_of views.end_of
 named_same w m t o None bytes c took = refl
 named_same w m t o (Some n) bytes IsRequest took = refl
@@ -118,7 +118,7 @@ named_same w m t o (Some n) bytes IsNothing took = refl
 
 -- ---- how a delivery is followed
 
-unseen : (m : Machine) (ss : List IdealStep) → AreInner ss → seen m ss ≡ []
+unseen : (m : Machine) (ss : List MachineStep) → AreInner ss → seen m ss ≡ []
 unseen m [] h = refl
 unseen m (steps.Verb verb given ∷ ss) h = absurd h
 unseen m (steps.Run q n ∷ ss) h = unseen (effect m (steps.Run q n)) ss h
@@ -135,11 +135,11 @@ unseen m (steps.Wait q ∷ ss) h = unseen (effect m (steps.Wait q)) ss h
 unseen m (steps.Bounce q ∷ ss) h = unseen (effect m (steps.Bounce q)) ss h
 
 -- the steps of a delivery that took the datagram f, which says d, for t
-named_so : (w : World) (m : Machine) (k : ℕ) (f : Flight) (d : Packet) (a : Answer) (t : Took) → slice_get w.sent (k - 1) ≡ Some f → packet_of f.bytes ≡ Some d → delivery_steps w m k a ≡ flight_steps w m (slice_get w.sent (k - 1)) t → delivery_steps w m k a ≡ packet_steps w m f (Some d) t
+named_so : (w : World) (m : Machine) (k : ℕ) (f : Flight) (d : Packet) (a : Answer) (t : ArrivalEffect) → slice_get w.sent (k - 1) ≡ Some f → packet_of f.bytes ≡ Some d → delivery_steps w m k a ≡ flight_steps w m (slice_get w.sent (k - 1)) t → delivery_steps w m k a ≡ packet_steps w m f (Some d) t
 named_so w m k f d a t sent read took = took ∙ (ap (λ z. flight_steps w m z t) sent ∙ ap (λ z. packet_steps w m f z t) read)
 
 -- .. by which it is followed
-taken_reached : (w : World) (m : Machine) (k : ℕ) (f : Flight) (d : Packet) (w' : World) (a : Answer) (ss : List IdealStep) → slice_get w.sent (k - 1) ≡ Some f → packet_of f.bytes ≡ Some d → is_taken a ≡ true → AreInner ss → IsRun m ss → CarriesPacket w m f (Some d) ss → delivery_steps w m k a ≡ ss → Stands w' (after m ss) → ReachesByName w m (world_events.Deliver k) w' a
+taken_reached : (w : World) (m : Machine) (k : ℕ) (f : Flight) (d : Packet) (w' : World) (a : Answer) (ss : List MachineStep) → slice_get w.sent (k - 1) ≡ Some f → packet_of f.bytes ≡ Some d → is_taken a ≡ true → AreInner ss → IsRun m ss → CarriesPacket w m f (Some d) ss → delivery_steps w m k a ≡ ss → Stands w' (after m ss) → ReachesByName w m (world_events.Deliver k) w' a
 unfolding kept.verb_of kept.kept_verb
 taken_reached w m k f d w' a ss sent read took inner run carried named stands = record {
   is_run = subst (IsRun m) (sym named) run;
@@ -204,18 +204,18 @@ unfolding device.with_context
 same_device d c there = ap (λ cs. record d { contexts = cs }) (ap (λ n. store_named (λ x. x.name) n (context_at d c) d.contexts) (name-named_there (λ x. x.name) no_context c d.contexts there) ∙ stored_again (λ x. x.name) no_context c d.contexts there)
 
 -- a step of an end that changes and sends nothing
-pub unchanged : (w : World) (m : Machine) (c : Name) (t : Took) → Stands w m → is_live w c ≡ true → (ran w (ended_step (home w c) (words.stays (context_at (home w c) c) t))).world ≡ w
+pub unchanged : (w : World) (m : Machine) (c : Name) (t : ArrivalEffect) → Stands w m → is_live w c ≡ true → (ran w (ended_step (home w c) (words.stays (context_at (home w c) c) t))).world ≡ w
 unchanged w m c t s live = ap (λ d. (ran w (device.answers d (answers.Took t 0 0))).world) (same_device (home w c) c (home_holds w c live)) ∙ ran_same w m c (answers.Took t 0 0) s.placed live
 
 -- the machine makes no step where nothing changes
-pub unchanged_stands : (w : World) (m : Machine) (c : Name) (t : Took) → Stands w m → is_live w c ≡ true → Stands (ran w (ended_step (home w c) (words.stays (context_at (home w c) c) t))).world m
+pub unchanged_stands : (w : World) (m : Machine) (c : Name) (t : ArrivalEffect) → Stands w m → is_live w c ≡ true → Stands (ran w (ended_step (home w c) (words.stays (context_at (home w c) c) t))).world m
 unchanged_stands w m c t s live = subst (λ z. Stands z m) (sym (unchanged w m c t s live)) s
 
-answered : (w : World) (d : Device) (t : Took) (first count : ℕ) (sent : List _) → is_taken (ran w (device.gives d (answers.Took t first count) sent)).answer ≡ true
+answered : (w : World) (d : Device) (t : ArrivalEffect) (first count : ℕ) (sent : List _) → is_taken (ran w (device.gives d (answers.Took t first count) sent)).answer ≡ true
 unfolding ran step.numbered is_taken
 answered w d t first count sent = refl
 
-steps_answered : (w v : World) (m : Machine) (k : ℕ) (d : Device) (t : Took) (first count : ℕ) (sent : List _) → delivery_steps w m k (ran v (device.gives d (answers.Took t first count) sent)).answer ≡ flight_steps w m (slice_get w.sent (k - 1)) t
+steps_answered : (w v : World) (m : Machine) (k : ℕ) (d : Device) (t : ArrivalEffect) (first count : ℕ) (sent : List _) → delivery_steps w m k (ran v (device.gives d (answers.Took t first count) sent)).answer ≡ flight_steps w m (slice_get w.sent (k - 1)) t
 unfolding ran step.numbered
 steps_answered w v m k d t first count sent = refl
 
@@ -241,7 +241,7 @@ read_opcode bytes p h = by_offence (is_some (offence_of bytes)) (layout_of (byte
     by_offence false None e = absurd (cc)
     by_offence false (Some l) e = let is : fields_of l.headers bytes ≡ p = cc in (ap (λ z. z.opcode) (sym is), ap (λ z. z.dest) (sym is))
 
-abbrev no_steps : List IdealStep
+abbrev no_steps : List MachineStep
 no_steps = []
 
 took_it : (w : World) (d : Device) (s : words.EndStep) → is_taken (ran w (ended_step d s)).answer ≡ true
@@ -274,7 +274,7 @@ module _ (w : World) (m : Machine) (k : ℕ) (f : Flight) (p : Packet) (s : Stan
   s' = taken_stands w m k s
 
   -- where nothing is found, nothing happens
-  lost_on : (w' : World) (a : Answer) (t : Took) → finds_end w m f p ≡ false → is_taken a ≡ true → delivery_steps w m k a ≡ flight_steps w m (slice_get w.sent (k - 1)) t → Stands w' m → ReachesByName w m (world_events.Deliver k) w' a
+  lost_on : (w' : World) (a : Answer) (t : ArrivalEffect) → finds_end w m f p ≡ false → is_taken a ≡ true → delivery_steps w m k a ≡ flight_steps w m (slice_get w.sent (k - 1)) t → Stands w' m → ReachesByName w m (world_events.Deliver k) w' a
   lost_on w' a t none took by stands =
       taken_reached w m k f p w' a no_steps sent read took tt tt (subst (λ b. Either b (CarriesNumbered w m o f.number p.payload (class_of p) no_steps) (no_steps ≡ [])) (sym none) refl)
       (named_so w m k f p a t sent read by ∙ ap (λ b. if b then numbered_steps w m o f.number p.payload (class_of p) t else []) none) stands

@@ -5,7 +5,7 @@ use Rattle.rdma_types.specs.declared.names.ObjName.{ObjName}
 use Rattle.protocol.specs.declared.events.WorldEvent.TheVariants as world_events
 use Rattle.protocol.specs.State.{World, Link}
 use Rattle.protocol.specs.Wire.{Packet}
-use Rattle.ideal_model.specs.Machine.{Machine, End}
+use Rattle.packetless_machine.specs.Machine.{Machine, End}
 use Rattle.law_simulation.specs.Packets.{Class, class_of, IsRequest, IsReadResponse, IsAtomicResponse, IsAck, IsSequenceNak, IsRefusal, IsReceiverNotReady, IsStopped, IsResume, IsResumeAck, IsNothing}
 use Rattle.law_simulation.specs.Views.{Side, net_of, peer}
 use Rattle.law_simulation.specs.Facts.{ClassFact, NumberedFact, MoveFact}

@@ -12,8 +12,8 @@ use Rattle.protocol.specs.Images as images
 use Rattle.protocol.specs.State.{World, Device, Context, End, Link, no_end, no_context, context_at, end_at}
 use Rattle.protocol.specs.DeviceStep.{Found, found_link, ends_with, found_in}
 use Rattle.protocol.specs.WorldStep.{is_live, home, or_none, same_address, device_with}
-use Rattle.ideal_model.specs.Machine as machine
-use Rattle.ideal_model.specs.Machine.{Machine, has_end}
+use Rattle.packetless_machine.specs.Machine as machine
+use Rattle.packetless_machine.specs.Machine.{Machine, has_end}
 use Rattle.law_simulation.specs.Views.{owned, owned_there, contexts_of, context_of, end_of, home_in, address_or_none, place_of, name_of}
 use Rattle.law_simulation.specs.Stands.{Stands, IsPlaced, AreSame}
 use Rattle.law_simulation.proofs.relation.Tables.{named-there, named-absent}

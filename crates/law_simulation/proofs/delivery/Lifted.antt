@@ -8,7 +8,7 @@ use Rattle.rdma_types.specs.declared.names.ObjName.{ObjName}
 use Rattle.rdma_types.specs.declared.requests.Address.{Address}
 use Rattle.rdma_types.specs.declared.answers.Answer.{Answer}
 use Rattle.rdma_types.specs.declared.answers.Sent.{Sent}
-use Rattle.rdma_types.specs.declared.answers.Took.{Took}
+use Rattle.rdma_types.specs.declared.answers.ArrivalEffect.{ArrivalEffect}
 use Rattle.rdma_types.specs.Lists.{named, has_name, has_word, store_named}
 use Rattle.protocol.specs.State as state
 use Rattle.protocol.specs.State.{World, Flight, Link, Progress, no_end, end_at}
@@ -18,8 +18,8 @@ use Rattle.protocol.specs.DeviceStep as device
 use Rattle.protocol.specs.DeviceStep.{ended_step}
 use Rattle.protocol.specs.WorldStep as step
 use Rattle.protocol.specs.WorldStep.{is_live, home, ran}
-use Rattle.ideal_model.specs.Machine as machine
-use Rattle.ideal_model.specs.Machine.{Machine, End, has_end, has_context, regions_of, nobody}
+use Rattle.packetless_machine.specs.Machine as machine
+use Rattle.packetless_machine.specs.Machine.{Machine, End, has_end, has_context, regions_of, nobody}
 use Rattle.law_simulation.specs.Views.{Side, Net, net_of, peer, context_of, end_of, in_rts, is_connected, link_or_none, owned, name_at, numbered, numbered_ends, requests_of, side_of}
 use Rattle.law_simulation.specs.Joined.{IsProgress}
 use Rattle.law_simulation.specs.Facts.{Fact, BytesFact, PacketFact}
@@ -103,7 +103,7 @@ unfolding ran step.with_device
 sent_world w d a sent = refl
 
 -- an end that changes nothing, where the machine makes no step, and sends datagrams whose facts hold
-pub unchanged_sent : (w : World) (m : Machine) (o : ObjName) (t : Took) (sent : List Sent) → Stands w m → is_live w o.context ≡ true → All (λ z. Fact (net_of w m) (flight_of (home w o.context).address z)) sent →
+pub unchanged_sent : (w : World) (m : Machine) (o : ObjName) (t : ArrivalEffect) (sent : List Sent) → Stands w m → is_live w o.context ≡ true → All (λ z. Fact (net_of w m) (flight_of (home w o.context).address z)) sent →
     Stands (ran w (ended_step (home w o.context) (record { context = delivered.context_there w o; took = t; sent = sent }))).world m
 unfolding sending
 unchanged_sent w m o t sent s live facts =

@@ -6,7 +6,7 @@ use Rattle.rdma_types.specs.declared.names.ObjName.{ObjName}
 use Rattle.rdma_types.specs.Objects.{Region}
 use Rattle.protocol.specs.Wire.{Packet, packet_of}
 use Rattle.protocol.specs.State.{Flight, HuskEntry, Progress}
-use Rattle.ideal_model.specs.Machine.{End}
+use Rattle.packetless_machine.specs.Machine.{End}
 use Rattle.law_simulation.specs.Views.{Net, Side, peer}
 use Rattle.law_simulation.specs.Joined.{IsJoined, IsProgress}
 use Rattle.law_simulation.specs.Facts.{IsLeft, BytesFact, PacketFact}

@@ -10,8 +10,8 @@ use Rattle.rdma_types.specs.Lists.{has_word, first_that}
 use Rattle.rdma_types.specs.Memory.{Right, put, grants, granted, holds, is_granted, local_key, remote_key}
 use Rattle.rdma_types.specs.Objects.{IsWhole, Region}
 use Rattle.protocol.specs.State.{Progress, NoMessage, InSend, InWrite}
-use Rattle.ideal_model.specs.Machine as machine
-use Rattle.ideal_model.specs.Machine.{End, put_at, is_at}
+use Rattle.packetless_machine.specs.Machine as machine
+use Rattle.packetless_machine.specs.Machine.{End, put_at, is_at}
 use Rattle.law_simulation.specs.Joined.{IsProgress, is_granted_in}
 use Rattle.law_simulation.specs.Stands.{IsContextSound}
 use Rattle.law_simulation.proofs.relation.Grants.{SamePlace, contains_cases, contains_here, contains_later}

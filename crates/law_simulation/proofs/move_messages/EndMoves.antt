@@ -11,8 +11,8 @@ use Rattle.protocol.specs.State as state
 use Rattle.protocol.specs.State.{World, Link, Moving, no_end}
 use Rattle.protocol.specs.DeviceStep as device
 use Rattle.protocol.specs.WorldStep.{is_live, is_carried, home, ran}
-use Rattle.ideal_model.specs.Machine as machine
-use Rattle.ideal_model.specs.Machine.{Machine, has_end, regions_of}
+use Rattle.packetless_machine.specs.Machine as machine
+use Rattle.packetless_machine.specs.Machine.{Machine, has_end, regions_of}
 use Rattle.law_simulation.specs.Views.{Net, context_of, end_of, link_or_none, is_connected, net_of, owned_there, peer, place_of, side_of}
 use Rattle.law_simulation.specs.Joined.{IsHeardOf}
 use Rattle.law_simulation.specs.Stands.{Stands, AreSame, AreLeft, AreSent, husks_of}

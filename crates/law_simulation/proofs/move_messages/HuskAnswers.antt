@@ -8,7 +8,7 @@ use Rattle.rdma_types.specs.declared.names.ObjName.{ObjName}
 use Rattle.rdma_types.specs.declared.answers.Answer.{Answer}
 use Rattle.rdma_types.specs.declared.answers.Answer.TheVariants as answers
 use Rattle.rdma_types.specs.declared.answers.Sent.{Sent}
-use Rattle.rdma_types.specs.declared.answers.Took.TheVariants as took
+use Rattle.rdma_types.specs.declared.answers.ArrivalEffect.TheVariants as took
 use Rattle.rdma_types.specs.Limits.{most_moves}
 use Rattle.rdma_types.specs.Lists.{first_that, store}
 use Rattle.protocol.specs.Fabric.{flight_of, sending}
@@ -18,8 +18,8 @@ use Rattle.protocol.specs.DeviceStep as device
 use Rattle.protocol.specs.DeviceStep.{gives, husk_entries, found_in}
 use Rattle.protocol.specs.Wire.{Packet, packet_of, wire_of}
 use Rattle.protocol.specs.WorldStep.{with_device, ran, device_with, same_address}
-use Rattle.ideal_model.specs.Machine as machine
-use Rattle.ideal_model.specs.Machine.{Machine}
+use Rattle.packetless_machine.specs.Machine as machine
+use Rattle.packetless_machine.specs.Machine.{Machine}
 use Rattle.law_simulation.specs.Views.{Net, Side, net_of, name_of, peer, side_of, requests_of}
 use Rattle.law_simulation.specs.Facts.{Fact, HuskFact, BytesFact, MoveFact}
 use Rattle.law_simulation.specs.Stands.{Stands, IsPlaced, husks_of}

@@ -7,8 +7,8 @@ use Rattle.std.proofs.lemmas.List.Elements.{All-nil, All-cons}
 use Rattle.rdma_types.specs.declared.names.ObjName.{ObjName}
 use Rattle.rdma_types.specs.declared.answers.Answer.TheVariants as answers
 use Rattle.rdma_types.specs.declared.answers.Sent.{Sent}
-use Rattle.rdma_types.specs.declared.answers.SilentWhy.TheVariants as why
-use Rattle.rdma_types.specs.declared.answers.Took.TheVariants as took
+use Rattle.rdma_types.specs.declared.answers.DropReason.TheVariants as why
+use Rattle.rdma_types.specs.declared.answers.ArrivalEffect.TheVariants as took
 use Rattle.rdma_types.specs.declared.requests.Address.{Address}
 use Rattle.rdma_types.specs.Limits.{most_moves}
 use Rattle.protocol.specs.declared.wire.ResumeBody.{ResumeBody}
@@ -23,9 +23,9 @@ use Rattle.protocol.specs.State as state
 use Rattle.protocol.specs.State.{World, Link, Phase, Running, Paused, Resuming}
 use Rattle.protocol.specs.Wire.{Packet, FitsResume}
 use Rattle.protocol.specs.WorldStep.{is_live, home, with_device, ran}
-use Rattle.ideal_model.specs.Machine as machine
-use Rattle.ideal_model.specs.Machine.{Machine, End, has_end}
-use Rattle.roce_headers.proofs.Grammar.{read_spelled}
+use Rattle.packetless_machine.specs.Machine as machine
+use Rattle.packetless_machine.specs.Machine.{Machine, End, has_end}
+use Rattle.protocol.proofs.PacketGrammar.{read_spelled}
 use Rattle.law_simulation.specs.Packets.{Class, class_of, IsStopped, IsResume, IsResumeAck}
 use Rattle.law_simulation.specs.Views.{Net, Side, is_connected, net_of, peer, side_of}
 use Rattle.law_simulation.specs.Joined.{IsHeardOf}

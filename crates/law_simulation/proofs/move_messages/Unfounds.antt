@@ -6,7 +6,7 @@ use Rattle.protocol.specs.Wire.{Packet, packet_of}
 use Rattle.protocol.specs.State.{World, Device, Flight}
 use Rattle.protocol.specs.DeviceStep.{found_in, husk_entries, at_found}
 use Rattle.protocol.specs.WorldStep.{device_with, ran, with_taken}
-use Rattle.ideal_model.specs.Machine.{Machine}
+use Rattle.packetless_machine.specs.Machine.{Machine}
 use Rattle.law_simulation.specs.Views.{net_of, name_of, peer}
 use Rattle.law_simulation.specs.Facts.{PacketFact}
 use Rattle.law_simulation.specs.Stands.{Stands}

@@ -11,9 +11,9 @@ use Rattle.protocol.specs.Bytes.{big_bytes, number_at}
 use Rattle.protocol.specs.Moves.{Control, Stopped, Resume, ResumeAck, control_of, stopped_of, resuming_of, nak_stopped, resume_packet}
 use Rattle.protocol.specs.State.{HuskEntry}
 use Rattle.protocol.specs.Wire.{Packet, Spells, Fits, FitsResume, packet_of, wire_of, layout_of, has_resume, has_reth, has_imm, has_aeth, has_atomic, has_old, imm_place, when, read_aeth, read_reth, read_atomic, read_resume, is_request, is_read_response, is_nak_stopped}
-use Rattle.roce_headers.proofs.Fitting.{fits, resume-fits}
-use Rattle.roce_headers.proofs.Grammar.{read_spelled, spelled_read}
-use Rattle.roce_headers.proofs.Written.{written_spelled}
+use Rattle.protocol.proofs.FittingPackets.{fits, resume-fits}
+use Rattle.protocol.proofs.PacketGrammar.{read_spelled, spelled_read}
+use Rattle.protocol.proofs.WrittenPackets.{written_spelled}
 use Rattle.law_simulation.specs.Packets.{Class, class_of, nak_class, syndrome_class, aeth_class, resume_class, IsRequest, IsReadResponse, IsAtomicResponse, IsSequenceNak, IsRefusal, IsStopped, IsResume, IsResumeAck, IsNothing}
 
 -- what is written is read as what it was written from

@@ -13,9 +13,9 @@ use Rattle.protocol.specs.State.{World, Link, Progress, NoMessage, InSend, InWri
 use Rattle.protocol.specs.Wire.{Packet}
 use Rattle.protocol.specs.EndWords.{is_paused}
 use Rattle.protocol.specs.Responder.{is_invalid, is_not_ready, is_too_long, target}
-use Rattle.ideal_model.specs.Machine as machine
-use Rattle.ideal_model.specs.Machine.{Machine, End}
-use Rattle.ideal_model.specs.Steps.{current, fills, fits, first_receive, has_current, has_imm, has_unused, is_current_granted, is_misaligned, may_add, may_atom, may_read, may_run, may_run_kind, overflows, peer_of, receive_for}
+use Rattle.packetless_machine.specs.Machine as machine
+use Rattle.packetless_machine.specs.Machine.{Machine, End}
+use Rattle.packetless_machine.specs.Steps.{current, fills, fits, first_receive, has_current, has_imm, has_unused, is_current_granted, is_misaligned, may_add, may_atom, may_read, may_run, may_run_kind, overflows, peer_of, receive_for}
 use Rattle.law_simulation.specs.Packets.{class_of, IsRequest}
 use Rattle.law_simulation.specs.Joined.{IsProgress}
 use Rattle.law_simulation.specs.Views.{receive_in}

@@ -6,8 +6,8 @@ use Rattle.std.proofs.lemmas.List.Elements.{All-nil, All-cons, Contains-push}
 use Rattle.rdma_types.specs.declared.requests.Kind.{Kind}
 use Rattle.rdma_types.specs.declared.requests.Kind.TheVariants as kinds'
 use Rattle.rdma_types.specs.declared.names.ObjName.{ObjName}
-use Rattle.rdma_types.specs.declared.answers.Took.TheVariants as took
-use Rattle.rdma_types.specs.declared.answers.Why.TheVariants as refused
+use Rattle.rdma_types.specs.declared.answers.ArrivalEffect.TheVariants as took
+use Rattle.rdma_types.specs.declared.answers.RefusalReason.TheVariants as refused
 use Rattle.rdma_types.specs.Kinds as kinds
 use Rattle.rdma_types.specs.Kinds.{kind_of}
 use Rattle.rdma_types.specs.Objects.{Region}
@@ -19,13 +19,13 @@ use Rattle.protocol.specs.EndWords.{is_paused}
 use Rattle.protocol.specs.Responder.{acknowledge, expected_packet, granted_packet, is_invalid, is_not_ready, is_too_long, not_ready, packet_acts, executed, refuses, refuses_length, target}
 use Rattle.protocol.specs.DeviceStep.{ended_step}
 use Rattle.protocol.specs.WorldStep.{home, ran}
-use Rattle.ideal_model.specs.declared.steps.IdealStep.{IdealStep}
-use Rattle.ideal_model.specs.declared.steps.IdealStep.TheVariants as steps
-use Rattle.ideal_model.specs.Legal.{after}
-use Rattle.ideal_model.specs.Machine as machine
-use Rattle.ideal_model.specs.Machine.{Machine, End, has_end}
-use Rattle.ideal_model.specs.Numbers.{due}
-use Rattle.ideal_model.specs.Steps.{dried, dried_at, has_imm, has_unused, fills, is_current_granted, peer_of}
+use Rattle.packetless_machine.specs.declared.steps.MachineStep.{MachineStep}
+use Rattle.packetless_machine.specs.declared.steps.MachineStep.TheVariants as steps
+use Rattle.packetless_machine.specs.Legal.{after}
+use Rattle.packetless_machine.specs.Machine as machine
+use Rattle.packetless_machine.specs.Machine.{Machine, End, has_end}
+use Rattle.packetless_machine.specs.Numbers.{due}
+use Rattle.packetless_machine.specs.Steps.{dried, dried_at, has_imm, has_unused, fills, is_current_granted, peer_of}
 use Rattle.law_simulation.specs.Packets.{class_of, IsRequest}
 use Rattle.law_simulation.specs.Joined.{IsProgress}
 use Rattle.law_simulation.specs.Stands.{Stands}
@@ -79,7 +79,7 @@ module _ (w : World) (m : Machine) (o : ObjName) (l : Link) (number : Option ℕ
   -- ---- the steps
 
   -- a step is due, and is made
-  pub takes_step : (s : IdealStep) (z : words.EndStep) → Picks m q (length d.payload) s → delivered.AreInner (s ∷ []) → expected_packet c e l d n ≡ z → Stands (ran w (ended_step (home w o.context) z)).world (after m (s ∷ [])) → Takes w m o l number d
+  pub takes_step : (s : MachineStep) (z : words.EndStep) → Picks m q (length d.payload) s → delivered.AreInner (s ∷ []) → expected_packet c e l d n ≡ z → Stands (ran w (ended_step (home w o.context) z)).world (after m (s ∷ [])) → Takes w m o l number d
   takes_step s z p inner same stands =
       takes_so w m o l number d n (s ∷ []) z (request_at_end w m o l number bytes d a is).1 it.link is inner (p.enabled, tt)
       (sym (carries_now w m o l number bytes d a is paused now ∙ p.only)) (step_now w m o l number bytes d a is paused now ∙ same) stands

@@ -5,7 +5,7 @@ use Rattle.std.specs.List.{list_any}
 use Rattle.std.proofs.Math.Nat.{zero-mod}
 use Rattle.std.proofs.lemmas.List.{drop_all}
 use Rattle.rdma_types.specs.declared.names.ObjName.{ObjName}
-use Rattle.rdma_types.specs.declared.answers.Why.{Why}
+use Rattle.rdma_types.specs.declared.answers.RefusalReason.{RefusalReason}
 use Rattle.rdma_types.specs.Kinds.{is_atomic, kind_of, lands, size_of}
 use Rattle.rdma_types.specs.Limits.{is_mtu, most_bytes}
 use Rattle.rdma_types.specs.Objects.{Posted, no_posted}
@@ -13,11 +13,11 @@ use Rattle.rdma_types.specs.Spans.{pieces, span, span_of, first_number, end_numb
 use Rattle.protocol.specs.State.{Link, HuskEntry, Running, NoMessage}
 use Rattle.protocol.specs.Requester.{emptied_at}
 use Rattle.protocol.specs.Wire.{Packet}
-use Rattle.ideal_model.specs.declared.reply.Reply.TheVariants.{OldValue, Denied}
-use Rattle.ideal_model.specs.Machine.{End, untold_count}
-use Rattle.ideal_model.specs.Numbers.{due, oldest}
-use Rattle.ideal_model.specs.Sound.{IsSound}
-use Rattle.ideal_model.specs.Steps.{closed}
+use Rattle.packetless_machine.specs.declared.reply.Reply.TheVariants.{OldValue, Denied}
+use Rattle.packetless_machine.specs.Machine.{End, untold_count}
+use Rattle.packetless_machine.specs.Numbers.{due, oldest}
+use Rattle.packetless_machine.specs.Sound.{IsSound}
+use Rattle.packetless_machine.specs.Steps.{closed}
 use Rattle.law_simulation.specs.Packets.{Class, class_of, IsRequest, IsReadResponse, IsAtomicResponse, IsAck, IsSequenceNak, IsRefusal, IsReceiverNotReady, IsStopped, IsResume, IsResumeAck, IsNothing}
 use Rattle.law_simulation.specs.Facts.{IsCarriedWith, IsLeft, IsRequestOf, IsRefused, NumberedFact, MoveFact, ClassFact}
 use Rattle.law_simulation.specs.Views.{Side}
@@ -93,10 +93,10 @@ abbrev pub over_link : Link → ℕ → Link
 over_link l n = record l { ended = true; moving = record l.moving { phase = Running }; sender = emptied_at n; receiver = record l.receiver { progress = NoMessage } }
 
 -- the requests once the current one is refused
-abbrev pub denying : End → Why → End
+abbrev pub denying : End → RefusalReason → End
 denying g why = noted g (g.answers ++ Denied why ∷ []) g.dry
 
-module _ (o q : ObjName) (x y : Side) (e g : End) (n : ℕ) (why : Why) (rts : x.rts ≡ true) (here : x.carried ≡ false) (j : IsJoined o x y e g) (k : IsJoined q y x g e) (ends : n ≡ end_number e.posted e.mtu) (reach : end_number e.posted e.mtu ≤ due e + 2 ^ 20) where
+module _ (o q : ObjName) (x y : Side) (e g : End) (n : ℕ) (why : RefusalReason) (rts : x.rts ≡ true) (here : x.carried ≡ false) (j : IsJoined o x y e g) (k : IsJoined q y x g e) (ends : n ≡ end_number e.posted e.mtu) (reach : end_number e.posted e.mtu ≤ due e + 2 ^ 20) where
   abbrev x' : Side
   x' = side_now x (over_link x.link n)
 

@@ -4,15 +4,15 @@ use Rattle.std.specs.Prelude.{Some, slice_get}
 use Rattle.std.proofs.lemmas.List.{length_push}
 use Rattle.std.proofs.lemmas.List.Elements.{Contains-append_left}
 use Rattle.rdma_types.specs.declared.names.Name.{Name}
-use Rattle.rdma_types.specs.declared.answers.Why.{Why}
+use Rattle.rdma_types.specs.declared.answers.RefusalReason.{RefusalReason}
 use Rattle.rdma_types.specs.Objects.{Region}
 use Rattle.protocol.specs.State.{Progress, NoMessage, InSend, InWrite, Receiver}
-use Rattle.ideal_model.specs.declared.reply.Reply.{Reply}
-use Rattle.ideal_model.specs.declared.reply.Reply.TheVariants.{Denied}
-use Rattle.ideal_model.specs.Machine.{End, posted_at, untold_count}
-use Rattle.ideal_model.specs.Numbers.{due}
-use Rattle.ideal_model.specs.Sound.{IsReplyTo, IsDenial}
-use Rattle.ideal_model.specs.Steps.{in_place, untold}
+use Rattle.packetless_machine.specs.declared.reply.Reply.{Reply}
+use Rattle.packetless_machine.specs.declared.reply.Reply.TheVariants.{Denied}
+use Rattle.packetless_machine.specs.Machine.{End, posted_at, untold_count}
+use Rattle.packetless_machine.specs.Numbers.{due}
+use Rattle.packetless_machine.specs.Sound.{IsReplyTo, IsDenial}
+use Rattle.packetless_machine.specs.Steps.{in_place, untold}
 use Rattle.law_simulation.specs.Joined.{IsInPieces, IsProgress, Receives}
 use Rattle.law_simulation.specs.Stands.{IsEndSound}
 use Rattle.law_simulation.proofs.relation.SoundEnds.{answered_sound}
@@ -50,13 +50,13 @@ pub dry_sound : (regions : List Region) (names : List Name) (g : End) (dry : Lis
 dry_sound regions names g dry connected s = noted_sound regions names g g.answers dry connected s.sound.replies s.sound.answered s
 
 -- a refusal
-pub denied_sound : (regions : List Region) (names : List Name) (g : End) (why : Why) → g.connected ≡ true → length g.answers ≡ g.acted → IsEndSound regions names g → IsEndSound regions names (noted g (g.answers ++ Denied why ∷ []) g.dry)
+pub denied_sound : (regions : List Region) (names : List Name) (g : End) (why : RefusalReason) → g.connected ≡ true → length g.answers ≡ g.acted → IsEndSound regions names g → IsEndSound regions names (noted g (g.answers ++ Denied why ∷ []) g.dry)
 denied_sound regions names g why connected answered s =
     noted_sound regions names g (g.answers ++ Denied why ∷ []) g.dry connected
     (λ i h. subst (IsReplyTo (posted_at g.posted i)) (sym (got_other g.answers (Denied why) i (omega (arith, h, answered)))) (s.sound.replies i h))
     (inr (omega (arith, length_push g.answers (Denied why), answered), subst IsDenial (sym (denied_last g why answered)) tt)) s
   where
-    denied_last : (g : End) (why : Why) → length g.answers ≡ g.acted → slice_get (g.answers ++ Denied why ∷ []) g.acted ≡ Some (Denied why)
+    denied_last : (g : End) (why : RefusalReason) → length g.answers ≡ g.acted → slice_get (g.answers ++ Denied why ∷ []) g.acted ≡ Some (Denied why)
     denied_last g why h = ap (slice_get (g.answers ++ Denied why ∷ [])) (sym h) ∙ got_last g.answers (Denied why)
 
 -- the message in progress is the same

@@ -3,24 +3,24 @@ use Rattle.std.proofs.Common.{arith, ◌≡◌, ◌≤◌, ◌+◌, ℕ, suc, Li
 use Rattle.std.specs.Prelude.{Option, Some, None, not, nat_lt, ◌==◌, ◌&&◌, ◌||◌}
 use Rattle.std.proofs.lemmas.Bool.Decides.{nat_tests, leb_tells}
 use Rattle.rdma_types.specs.declared.names.ObjName.{ObjName}
-use Rattle.rdma_types.specs.declared.answers.Why.TheVariants as whys
+use Rattle.rdma_types.specs.declared.answers.RefusalReason.TheVariants as whys
 use Rattle.rdma_types.specs.declared.requests.Kind.{Kind}
 use Rattle.rdma_types.specs.declared.requests.Kind.TheVariants as kinds'
 use Rattle.rdma_types.specs.declared.requests.Receive.{Receive}
 use Rattle.rdma_types.specs.Kinds as kinds
 use Rattle.rdma_types.specs.Kinds.{kind_of, size_of}
 use Rattle.rdma_types.specs.Objects.{Posted}
-use Rattle.ideal_model.specs.declared.steps.IdealStep.{IdealStep}
-use Rattle.ideal_model.specs.declared.steps.IdealStep.TheVariants as steps
-use Rattle.ideal_model.specs.Machine as machine
-use Rattle.ideal_model.specs.Machine.{Machine, End}
-use Rattle.ideal_model.specs.Legal.{is_enabled}
-use Rattle.ideal_model.specs.Steps.{current, fills, has_current, has_imm, has_unused, is_current_granted, is_misaligned, fits, first_receive, may_add, may_atom, may_dry, may_dry_kind, may_read, may_refuse, may_refuse_for, may_run, may_run_kind, overflows, peer_of, receive_for}
+use Rattle.packetless_machine.specs.declared.steps.MachineStep.{MachineStep}
+use Rattle.packetless_machine.specs.declared.steps.MachineStep.TheVariants as steps
+use Rattle.packetless_machine.specs.Machine as machine
+use Rattle.packetless_machine.specs.Machine.{Machine, End}
+use Rattle.packetless_machine.specs.Legal.{is_enabled}
+use Rattle.packetless_machine.specs.Steps.{current, fills, has_current, has_imm, has_unused, is_current_granted, is_misaligned, fits, first_receive, may_add, may_atom, may_dry, may_dry_kind, may_read, may_refuse, may_refuse_for, may_run, may_run_kind, overflows, peer_of, receive_for}
 use Rattle.law_simulation.specs.Carries.{due_steps}
 use Rattle.law_simulation.proofs.requests.Checks.{Sort, sort_of}
 
 -- one step is due, and it may be made
-pub record Picks (m : Machine) (q : ObjName) (bytes : ℕ) (s : IdealStep) : Type 0 where
+pub record Picks (m : Machine) (q : ObjName) (bytes : ℕ) (s : MachineStep) : Type 0 where
   pub only : due_steps m q bytes ≡ s ∷ []
   pub enabled : is_enabled m s ≡ true
 

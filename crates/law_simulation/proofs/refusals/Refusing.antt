@@ -4,8 +4,8 @@ use Rattle.std.specs.Prelude.{Option, is_some, slice_get, drop}
 use Rattle.rdma_types.specs.declared.names.Name.{Name}
 use Rattle.rdma_types.specs.declared.names.ObjName.{ObjName}
 use Rattle.rdma_types.specs.declared.answers.Sent.{Sent}
-use Rattle.rdma_types.specs.declared.answers.Took.{Took}
-use Rattle.rdma_types.specs.declared.answers.Why.{Why}
+use Rattle.rdma_types.specs.declared.answers.ArrivalEffect.{ArrivalEffect}
+use Rattle.rdma_types.specs.declared.answers.RefusalReason.{RefusalReason}
 use Rattle.rdma_types.specs.declared.requests.Completion.{Completion}
 use Rattle.rdma_types.specs.declared.requests.Receive.{Receive}
 use Rattle.rdma_types.specs.declared.requests.WcStatus.TheVariants as statuses
@@ -23,11 +23,11 @@ use Rattle.protocol.specs.Responder.{acknowledge, nak_code}
 use Rattle.protocol.specs.DeviceStep as device
 use Rattle.protocol.specs.DeviceStep.{ended_step}
 use Rattle.protocol.specs.WorldStep.{home, ran}
-use Rattle.ideal_model.specs.declared.reply.Reply.TheVariants.{Denied}
-use Rattle.ideal_model.specs.Machine as machine
-use Rattle.ideal_model.specs.Machine.{Machine, End, has_context, has_end, nobody, regions_of}
-use Rattle.ideal_model.specs.Numbers.{due}
-use Rattle.ideal_model.specs.Steps.{closed, denied, failed_receives, failed_requests, refuse, refuse_at, refused_entries, refused_queues, refused_receives, untold}
+use Rattle.packetless_machine.specs.declared.reply.Reply.TheVariants.{Denied}
+use Rattle.packetless_machine.specs.Machine as machine
+use Rattle.packetless_machine.specs.Machine.{Machine, End, has_context, has_end, nobody, regions_of}
+use Rattle.packetless_machine.specs.Numbers.{due}
+use Rattle.packetless_machine.specs.Steps.{closed, denied, failed_receives, failed_requests, refuse, refuse_at, refused_entries, refused_queues, refused_receives, untold}
 use Rattle.law_simulation.specs.Packets.{class_of, IsRequest}
 use Rattle.law_simulation.specs.Facts.{IsRefused, is_access_denied}
 use Rattle.law_simulation.specs.Joined.{IsProgress}
@@ -97,7 +97,7 @@ progress_closed f domain regions (InWrite region off count done) h = h
 
 -- ---- the step
 
-module _ (w : World) (m : Machine) (o : ObjName) (l : Link) (number : Option ℕ) (bytes : List ℕ) (d : Packet) (a : Arrives w m o l number bytes d) (is : class_of d ≡ IsRequest) (paused : is_paused l.moving.phase ≡ false) (now : (request_at_end w m o l number bytes d a is).0 ≡ l.receiver.expected) (why : Why) where
+module _ (w : World) (m : Machine) (o : ObjName) (l : Link) (number : Option ℕ) (bytes : List ℕ) (d : Packet) (a : Arrives w m o l number bytes d) (is : class_of d ≡ IsRequest) (paused : is_paused l.moving.phase ≡ false) (now : (request_at_end w m o l number bytes d a is).0 ≡ l.receiver.expected) (why : RefusalReason) where
   abbrev n : ℕ
   n = (request_at_end w m o l number bytes d a is).0
 
@@ -314,7 +314,7 @@ module _ (w : World) (m : Machine) (o : ObjName) (l : Link) (number : Option ℕ
   IsNak = IsAnswer (side_of w q) (side_now (side_of w o) (ended_link l)) (requests_of g') (requests_of (closed x)) nak
 
   -- the next world stands for the next machine, once the NAK is on its way
-  pub refused_stands : (t : Took) → IsNak → Stands (ran w (ended_step (home w o.context) (record { context = there; took = t; sent = nak ∷ [] }))).world (refuse m q why)
+  pub refused_stands : (t : ArrivalEffect) → IsNak → Stands (ran w (ended_step (home w o.context) (record { context = there; took = t; sent = nak ∷ [] }))).world (refuse m q why)
   refused_stands t answer =
       sent_stands w m (refuse m q why) o (ended_link l) there here (closed x) g' (device.took_answer t (nak ∷ [])) a.stands a.live it.live pair_step (nak ∷ [])
       (one (IsAnswer (side_of w q) (side_now (side_of w o) (ended_link l)) (requests_of g') (requests_of (closed x))) nak answer)

@@ -14,9 +14,9 @@ use Rattle.protocol.specs.State.{Link, Progress, NoMessage, InSend, InWrite}
 use Rattle.protocol.specs.EndWords as words
 use Rattle.protocol.specs.Requester.{ended_link, ended_with, failing}
 use Rattle.protocol.specs.Responder as responder
-use Rattle.ideal_model.specs.Machine as machine
-use Rattle.ideal_model.specs.Machine.{End, completed, nobody}
-use Rattle.ideal_model.specs.Steps.{closed, failed_queues, failed_receives, failed_requests, first_receive, receive_for, receives_of, too_long, unused_after, untold}
+use Rattle.packetless_machine.specs.Machine as machine
+use Rattle.packetless_machine.specs.Machine.{End, completed, nobody}
+use Rattle.packetless_machine.specs.Steps.{closed, failed_queues, failed_receives, failed_requests, first_receive, receive_for, receives_of, too_long, unused_after, untold}
 use Rattle.law_simulation.specs.Views.{Owned, owned, owned_there, link_or_none, receive_in}
 use Rattle.law_simulation.specs.Stands.{AreSame, IsContextSound, IsEndSound}
 use Rattle.law_simulation.proofs.relation.Tables.{replaced-stored, has_name-store, name-named_there}

@@ -17,10 +17,10 @@ use Rattle.protocol.specs.Images as images
 use Rattle.protocol.specs.State as state
 use Rattle.protocol.specs.State.{World, Device, Link, Phase, Running, Resuming, fresh_link, no_end}
 use Rattle.protocol.specs.WorldStep.{is_live, is_carried, home, exchanged}
-use Rattle.ideal_model.specs.Machine.{Machine, End, new_end, untold_count}
-use Rattle.ideal_model.specs.Numbers.{due, oldest}
-use Rattle.ideal_model.specs.Steps.{in_place, untold}
-use Rattle.ideal_model.specs.Verbs as verbing
+use Rattle.packetless_machine.specs.Machine.{Machine, End, new_end, untold_count}
+use Rattle.packetless_machine.specs.Numbers.{due, oldest}
+use Rattle.packetless_machine.specs.Steps.{in_place, untold}
+use Rattle.packetless_machine.specs.Verbs as verbing
 use Rattle.law_simulation.specs.Views.{Side, contexts_of, context_of, end_of, home_in, address_or_none, place_of, side_of, in_rts, link_or_none}
 use Rattle.law_simulation.specs.Joined.{IsJoined, old_values, last_of}
 use Rattle.law_simulation.specs.Stands.{IsEndSound, IsPlaced}

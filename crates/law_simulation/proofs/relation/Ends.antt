@@ -12,8 +12,8 @@ use Rattle.protocol.specs.State.{Link, no_end, NoMessage, InSend, InWrite}
 use Rattle.protocol.specs.Refusals as refusing
 use Rattle.protocol.specs.EndWords as words
 use Rattle.protocol.specs.Memory.{untold_of}
-use Rattle.ideal_model.specs.Machine as machine
-use Rattle.ideal_model.specs.Steps.{untold}
+use Rattle.packetless_machine.specs.Machine as machine
+use Rattle.packetless_machine.specs.Steps.{untold}
 use Rattle.law_simulation.specs.Views.{Owned, owned, owned_there, link_or_none, receive_in, requests_of}
 use Rattle.law_simulation.specs.Stands.{AreSame}
 use Rattle.law_simulation.proofs.relation.Tables.{has_name-map, has_name-store, named-map, named-there, name-named_there, map-store, map-store_named, named-store_part}

@@ -19,9 +19,9 @@ use Rattle.protocol.specs.State.{World, Device, Link, fresh_link, no_end, device
 use Rattle.protocol.specs.Refusals as refusing
 use Rattle.protocol.specs.WorldStep as step
 use Rattle.protocol.specs.WorldStep.{world_step, is_live, is_carried, home, ran, exchanged}
-use Rattle.ideal_model.specs.Machine as machine
-use Rattle.ideal_model.specs.Machine.{Machine, End, has_context, has_end, nobody, regions_of}
-use Rattle.ideal_model.specs.Verbs as verbing
+use Rattle.packetless_machine.specs.Machine as machine
+use Rattle.packetless_machine.specs.Machine.{Machine, End, has_context, has_end, nobody, regions_of}
+use Rattle.packetless_machine.specs.Verbs as verbing
 use Rattle.law_simulation.specs.Kept as kept
 use Rattle.law_simulation.specs.Views.{Net, owned, owned_there, context_of, end_of, net_of, numbered_ends, name_at, peer, place_of, requests_of, side_of}
 use Rattle.law_simulation.specs.Joined.{IsProgress}

@@ -28,9 +28,9 @@ use Rattle.protocol.specs.Refusals as refusing
 use Rattle.protocol.specs.DeviceStep as device
 use Rattle.protocol.specs.WorldStep as step
 use Rattle.protocol.specs.WorldStep.{world_step, is_live, is_carried, with_device, ran, has_device}
-use Rattle.ideal_model.specs.Machine as machine
-use Rattle.ideal_model.specs.Machine.{Machine, has_context, has_end, nobody}
-use Rattle.ideal_model.specs.Verbs as verbing
+use Rattle.packetless_machine.specs.Machine as machine
+use Rattle.packetless_machine.specs.Machine.{Machine, has_context, has_end, nobody}
+use Rattle.packetless_machine.specs.Verbs as verbing
 use Rattle.law_simulation.specs.Kept as kept
 use Rattle.law_simulation.specs.Views.{contexts_of, context_of, end_of, in_rts, link_or_none, home_in, address_or_none, place_of, side_of, net_of, numbered, numbered_ends, name_at, requests_of}
 use Rattle.law_simulation.specs.Stands.{Stands, AreSame, IsContextSound, IsPlaced, IsCounted, AreNumbered, names_of, husks_of}

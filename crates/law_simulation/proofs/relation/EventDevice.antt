@@ -20,8 +20,8 @@ use Rattle.protocol.specs.State as state
 use Rattle.protocol.specs.State.{World, Device, device_at, no_device, no_end}
 use Rattle.protocol.specs.WorldStep as step
 use Rattle.protocol.specs.WorldStep.{world_step, same_address}
-use Rattle.ideal_model.specs.Machine as machine
-use Rattle.ideal_model.specs.Machine.{Machine}
+use Rattle.packetless_machine.specs.Machine as machine
+use Rattle.packetless_machine.specs.Machine.{Machine}
 use Rattle.law_simulation.specs.Kept as kept
 use Rattle.law_simulation.specs.Views.{contexts_of, context_of, end_of, in_rts, link_or_none, home_in, address_or_none, place_of, side_of, net_of, numbered_ends}
 use Rattle.law_simulation.specs.Stands.{Stands, AreSame, IsPlaced, IsCounted, AreNumbered, AreJoined, AreLeft, AreProgressing, AreSent, husks_of}

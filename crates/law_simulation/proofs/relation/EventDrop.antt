@@ -10,8 +10,8 @@ use Rattle.rdma_types.specs.Lists.{some, without}
 use Rattle.rdma_types.specs.Memory.{LocalWrite, is_granted, landing_right, local_key, remote_key}
 use Rattle.rdma_types.specs.Objects.{IsWhole}
 use Rattle.protocol.specs.State.{Link, Progress, NoMessage, InSend, InWrite}
-use Rattle.ideal_model.specs.Machine.{End, regions_of, has_end}
-use Rattle.ideal_model.specs.Steps.{untold, receives_of}
+use Rattle.packetless_machine.specs.Machine.{End, regions_of, has_end}
+use Rattle.packetless_machine.specs.Steps.{untold, receives_of}
 use Rattle.law_simulation.specs.Views.{Net, net_of, peer, end_of, link_or_none}
 use Rattle.law_simulation.specs.Joined.{IsProgress, is_granted_in}
 use Rattle.law_simulation.specs.Stands.{IsContextSound, IsEndSound, AreProgressing}
@@ -37,9 +37,9 @@ use Rattle.protocol.specs.Refusals as refusing
 use Rattle.protocol.specs.DeviceStep as device
 use Rattle.protocol.specs.WorldStep as step
 use Rattle.protocol.specs.WorldStep.{is_live, home, ran}
-use Rattle.ideal_model.specs.Machine as machine
-use Rattle.ideal_model.specs.Machine.{Machine, has_context}
-use Rattle.ideal_model.specs.Verbs as verbing
+use Rattle.packetless_machine.specs.Machine as machine
+use Rattle.packetless_machine.specs.Machine.{Machine, has_context}
+use Rattle.packetless_machine.specs.Verbs as verbing
 use Rattle.law_simulation.specs.Kept as kept
 use Rattle.law_simulation.specs.Stands.{Stands}
 use Rattle.law_simulation.specs.Law.{Follows}

@@ -8,8 +8,8 @@ use Rattle.std.proofs.lemmas.List.Elements.{All-push, All-weaker, All-contains, 
 use Rattle.std.proofs.lemmas.List.Folds.{list_any_none}
 use Rattle.rdma_types.specs.Limits.{most_depth}
 use Rattle.protocol.specs.State.{Device, device_at, no_end}
-use Rattle.ideal_model.specs.Machine.{new_end, nobody, has_end}
-use Rattle.ideal_model.specs.Steps.{untold}
+use Rattle.packetless_machine.specs.Machine.{new_end, nobody, has_end}
+use Rattle.packetless_machine.specs.Steps.{untold}
 use Rattle.law_simulation.specs.Views.{owned, owned_there, link_or_none, receive_in, numbered, numbered_ends, name_at, net_of, requests_of, side_of}
 use Rattle.law_simulation.specs.Stands.{AreNumbered, AreSame, IsContextSound, IsCounted, IsEndSound, IsPlaced}
 use Rattle.law_simulation.proofs.relation.Tables.{name_or_not, name_tells, named-store_same, named-store_other, replaced-stored, store_named-new, once_push, has_name-push, has_name-map}
@@ -39,9 +39,9 @@ use Rattle.protocol.specs.Refusals as refusing
 use Rattle.protocol.specs.DeviceStep as device
 use Rattle.protocol.specs.WorldStep as step
 use Rattle.protocol.specs.WorldStep.{is_live, home, ran}
-use Rattle.ideal_model.specs.Machine as machine
-use Rattle.ideal_model.specs.Machine.{Machine, has_context}
-use Rattle.ideal_model.specs.Verbs as verbing
+use Rattle.packetless_machine.specs.Machine as machine
+use Rattle.packetless_machine.specs.Machine.{Machine, has_context}
+use Rattle.packetless_machine.specs.Verbs as verbing
 use Rattle.law_simulation.specs.Kept as kept
 use Rattle.law_simulation.specs.Stands.{Stands}
 use Rattle.law_simulation.specs.Law.{Follows}

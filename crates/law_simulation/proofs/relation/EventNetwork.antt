@@ -7,7 +7,7 @@ use Rattle.protocol.specs.State.{World, Flight}
 use Rattle.protocol.specs.Fabric.{kept_flight, losing, changed_at, marked_lost, is_kept}
 use Rattle.protocol.specs.WorldStep as step
 use Rattle.protocol.specs.WorldStep.{world_step, loses, wires, wires_by}
-use Rattle.ideal_model.specs.Machine.{Machine}
+use Rattle.packetless_machine.specs.Machine.{Machine}
 use Rattle.law_simulation.specs.Views as views
 use Rattle.law_simulation.specs.Views.{Net, net_of}
 use Rattle.law_simulation.specs.Kept as kept

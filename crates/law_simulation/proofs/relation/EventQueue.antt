@@ -16,9 +16,9 @@ use Rattle.protocol.specs.Refusals as refusing
 use Rattle.protocol.specs.DeviceStep as device
 use Rattle.protocol.specs.WorldStep as step
 use Rattle.protocol.specs.WorldStep.{is_live, home, ran}
-use Rattle.ideal_model.specs.Machine as machine
-use Rattle.ideal_model.specs.Machine.{Machine, has_context}
-use Rattle.ideal_model.specs.Verbs as verbing
+use Rattle.packetless_machine.specs.Machine as machine
+use Rattle.packetless_machine.specs.Machine.{Machine, has_context}
+use Rattle.packetless_machine.specs.Verbs as verbing
 use Rattle.law_simulation.specs.Kept as kept
 use Rattle.law_simulation.specs.Stands.{Stands}
 use Rattle.law_simulation.specs.Law.{Follows}

@@ -11,7 +11,7 @@ use Rattle.rdma_types.specs.Memory.{LocalWrite, is_granted, local_key}
 use Rattle.protocol.specs.State.{Link, no_end}
 use Rattle.protocol.specs.EndWords as words
 use Rattle.law_simulation.specs.Views.{Owned, owned, owned_there, link_or_none}
-use Rattle.ideal_model.specs.Steps.{untold}
+use Rattle.packetless_machine.specs.Steps.{untold}
 use Rattle.law_simulation.specs.Stands.{IsEndSound}
 use Rattle.law_simulation.proofs.relation.Tables.{All-store, All-named, once_store, name-named_there}
 use Rattle.law_simulation.proofs.relation.Ends.{end_there, end_owned, ends_store, stored_quiet, queue_in, full_same, with_more, completing_there, with_more_names}
@@ -29,9 +29,9 @@ use Rattle.protocol.specs.Refusals as refusing
 use Rattle.protocol.specs.DeviceStep as device
 use Rattle.protocol.specs.WorldStep as step
 use Rattle.protocol.specs.WorldStep.{is_live, home, ran}
-use Rattle.ideal_model.specs.Machine as machine
-use Rattle.ideal_model.specs.Machine.{Machine, has_context}
-use Rattle.ideal_model.specs.Verbs as verbing
+use Rattle.packetless_machine.specs.Machine as machine
+use Rattle.packetless_machine.specs.Machine.{Machine, has_context}
+use Rattle.packetless_machine.specs.Verbs as verbing
 use Rattle.law_simulation.specs.Kept as kept
 use Rattle.law_simulation.specs.Stands.{Stands}
 use Rattle.law_simulation.specs.Law.{Follows}

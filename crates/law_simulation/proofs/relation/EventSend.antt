@@ -16,8 +16,8 @@ use Rattle.protocol.specs.State.{Link, no_end}
 use Rattle.protocol.specs.Memory.{untold_of}
 use Rattle.protocol.specs.Requester.{end_of_queue}
 use Rattle.protocol.specs.EndWords as words
-use Rattle.ideal_model.specs.Machine.{End, bytes_at, has_end, regions_of, untold_count}
-use Rattle.ideal_model.specs.Steps.{untold}
+use Rattle.packetless_machine.specs.Machine.{End, bytes_at, has_end, regions_of, untold_count}
+use Rattle.packetless_machine.specs.Steps.{untold}
 use Rattle.law_simulation.specs.Views.{Owned, owned, owned_there, context_of, end_of, in_rts, link_or_none, net_of, numbered_ends, name_at, receive_in, requests_of, side_of}
 use Rattle.law_simulation.specs.Joined.{IsSayable}
 use Rattle.law_simulation.specs.Stands.{AreNumbered, AreProgressing, AreSame, AreLeft, AreSent, IsContextSound, IsEndSound}
@@ -55,9 +55,9 @@ use Rattle.protocol.specs.Refusals as refusing
 use Rattle.protocol.specs.DeviceStep as device
 use Rattle.protocol.specs.WorldStep as step
 use Rattle.protocol.specs.WorldStep.{is_live, home, ran}
-use Rattle.ideal_model.specs.Machine as machine
-use Rattle.ideal_model.specs.Machine.{Machine, has_context}
-use Rattle.ideal_model.specs.Verbs as verbing
+use Rattle.packetless_machine.specs.Machine as machine
+use Rattle.packetless_machine.specs.Machine.{Machine, has_context}
+use Rattle.packetless_machine.specs.Verbs as verbing
 use Rattle.law_simulation.specs.Kept as kept
 use Rattle.law_simulation.specs.Stands.{Stands}
 use Rattle.law_simulation.specs.Law.{Follows}

@@ -10,7 +10,7 @@ use Rattle.rdma_types.specs.Lists.{has_name, named, store_named, store, without,
 use Rattle.rdma_types.specs.Memory.{Right, grants, granted, is_granted, local_key, remote_key, allows, holds}
 use Rattle.rdma_types.specs.Objects.{Region, no_region}
 use Rattle.protocol.specs.State.{Progress, NoMessage, InSend, InWrite}
-use Rattle.ideal_model.specs.Machine.{End}
+use Rattle.packetless_machine.specs.Machine.{End}
 use Rattle.law_simulation.specs.Joined.{IsProgress, is_granted_in}
 use Rattle.law_simulation.proofs.relation.Tables.{name_tells, count_by-cons, once_later}
 

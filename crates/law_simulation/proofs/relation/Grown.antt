@@ -8,8 +8,8 @@ use Rattle.rdma_types.specs.Lists.{named, has_name}
 use Rattle.rdma_types.specs.Objects.{Region}
 use Rattle.protocol.specs.State as state
 use Rattle.protocol.specs.State.{World, no_end}
-use Rattle.ideal_model.specs.Machine as machine
-use Rattle.ideal_model.specs.Machine.{Machine, has_end, regions_of}
+use Rattle.packetless_machine.specs.Machine as machine
+use Rattle.packetless_machine.specs.Machine.{Machine, has_end, regions_of}
 use Rattle.law_simulation.specs.Views.{Net, net_of, numbered, numbered_ends, peer, context_of, end_of}
 use Rattle.law_simulation.specs.Joined.{IsJoined, IsProgress}
 use Rattle.law_simulation.specs.Stands.{Stands, IsPlaced, IsCounted, AreNumbered, AreSame, IsContextSound, AreLeft, AreSent, husks_of}

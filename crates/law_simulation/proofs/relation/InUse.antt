@@ -18,12 +18,12 @@ use Rattle.protocol.specs.State as state
 use Rattle.protocol.specs.State.{World, Link, Progress, NoMessage, InSend, InWrite, no_end}
 use Rattle.protocol.specs.Memory.{untold_of}
 use Rattle.protocol.specs.Refusals as refusing
-use Rattle.ideal_model.specs.Machine as machine
-use Rattle.ideal_model.specs.Machine.{Machine, End, has_end}
-use Rattle.ideal_model.specs.Numbers.{due}
-use Rattle.ideal_model.specs.Sound.{IsSound}
-use Rattle.ideal_model.specs.Steps.{current, has_current, has_peer, has_turn, lands_before, untold}
-use Rattle.ideal_model.specs.Verbs as verbing
+use Rattle.packetless_machine.specs.Machine as machine
+use Rattle.packetless_machine.specs.Machine.{Machine, End, has_end}
+use Rattle.packetless_machine.specs.Numbers.{due}
+use Rattle.packetless_machine.specs.Sound.{IsSound}
+use Rattle.packetless_machine.specs.Steps.{current, has_current, has_peer, has_turn, lands_before, untold}
+use Rattle.packetless_machine.specs.Verbs as verbing
 use Rattle.law_simulation.specs.Views.{Net, net_of, requests_of, peer, owned, owned_there, link_or_none, receive_in, end_of, in_rts, context_of}
 use Rattle.law_simulation.specs.Joined.{IsJoined, IsProgress}
 use Rattle.law_simulation.specs.Stands.{Stands, IsEndSound}

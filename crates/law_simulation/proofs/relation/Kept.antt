@@ -7,8 +7,8 @@ use Rattle.rdma_types.specs.declared.requests.Address.{Address}
 use Rattle.rdma_types.specs.Objects.{Region}
 use Rattle.protocol.specs.State as state
 use Rattle.protocol.specs.State.{World, Progress, device_at}
-use Rattle.ideal_model.specs.Machine as machine
-use Rattle.ideal_model.specs.Machine.{Machine, End, regions_of}
+use Rattle.packetless_machine.specs.Machine as machine
+use Rattle.packetless_machine.specs.Machine.{Machine, End, regions_of}
 use Rattle.law_simulation.specs.Views.{Net, net_of, numbered_ends, peer, context_of}
 use Rattle.law_simulation.specs.Joined.{IsProgress}
 use Rattle.law_simulation.specs.Stands.{Stands, ArePlaced, IsPlaced, IsCounted, AreNumbered, AreSame, IsContextSound, AreProgressing, AreJoined, AreLeft, AreSent, husks_of}

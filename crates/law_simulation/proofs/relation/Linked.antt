@@ -18,10 +18,10 @@ use Rattle.protocol.specs.Refusals as refusing
 use Rattle.protocol.specs.DeviceStep as device
 use Rattle.protocol.specs.WorldStep as step
 use Rattle.protocol.specs.WorldStep.{world_step, is_live, is_carried, home, ran, exchanged}
-use Rattle.ideal_model.specs.Machine as machine
-use Rattle.ideal_model.specs.Machine.{Machine, End, has_context, has_end, nobody, regions_of}
-use Rattle.ideal_model.specs.Steps.{untold}
-use Rattle.ideal_model.specs.Verbs as verbing
+use Rattle.packetless_machine.specs.Machine as machine
+use Rattle.packetless_machine.specs.Machine.{Machine, End, has_context, has_end, nobody, regions_of}
+use Rattle.packetless_machine.specs.Steps.{untold}
+use Rattle.packetless_machine.specs.Verbs as verbing
 use Rattle.law_simulation.specs.Views.{Owned, owned, owned_there, contexts_of, context_of, link_or_none, receive_in, numbered_ends}
 use Rattle.law_simulation.specs.Stands.{IsPlaced, AreSame, IsContextSound, IsEndSound}
 use Rattle.law_simulation.proofs.relation.Tables.{named-store_same, named-store_other, has_name-store, map-store, All-named, All-store, once_store}

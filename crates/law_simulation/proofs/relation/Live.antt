@@ -12,9 +12,9 @@ use Rattle.protocol.specs.Refusals as refusing
 use Rattle.protocol.specs.Refusals.{has_husk}
 use Rattle.protocol.specs.DeviceStep as device
 use Rattle.protocol.specs.WorldStep.{is_live, home, ran}
-use Rattle.ideal_model.specs.Machine as machine
-use Rattle.ideal_model.specs.Machine.{Machine, End, has_context, regions_of}
-use Rattle.ideal_model.specs.Verbs.{lacks_context}
+use Rattle.packetless_machine.specs.Machine as machine
+use Rattle.packetless_machine.specs.Machine.{Machine, End, has_context, regions_of}
+use Rattle.packetless_machine.specs.Verbs.{lacks_context}
 use Rattle.law_simulation.specs.Views.{context_of, net_of}
 use Rattle.law_simulation.specs.Joined.{IsProgress}
 use Rattle.law_simulation.specs.Stands.{Stands, AreSame, IsContextSound, IsPlaced, AreProgressing}

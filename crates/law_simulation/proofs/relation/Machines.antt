@@ -5,7 +5,7 @@ use Rattle.rdma_types.specs.declared.names.Name.{Name}
 use Rattle.rdma_types.specs.declared.names.ObjName.{ObjName}
 use Rattle.rdma_types.specs.Lists.{named, has_name, store_named}
 use Rattle.rdma_types.specs.Objects.{CompletionQueue}
-use Rattle.ideal_model.specs.Machine.{Machine, Context, End, no_context, nobody, has_context, context_of, has_end, end_of, with_context, with_end, with_end_in, with_queue, with_queue_in}
+use Rattle.packetless_machine.specs.Machine.{Machine, Context, End, no_context, nobody, has_context, context_of, has_end, end_of, with_context, with_end, with_end_in, with_queue, with_queue_in}
 use Rattle.law_simulation.specs.Views.{numbered, numbered_ends}
 use Rattle.law_simulation.proofs.relation.Tables.{name_or_not, name-named, name-named_there, named-store_same, named-store_other, map-store, flat_map-store, replaced-stored}
 

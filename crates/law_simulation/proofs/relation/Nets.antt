@@ -5,8 +5,8 @@ use Rattle.rdma_types.specs.declared.names.ObjName.{ObjName}
 use Rattle.rdma_types.specs.Lists.{named, has_name}
 use Rattle.protocol.specs.State as state
 use Rattle.protocol.specs.State.{World, no_end}
-use Rattle.ideal_model.specs.Machine as machine
-use Rattle.ideal_model.specs.Machine.{Machine, nobody}
+use Rattle.packetless_machine.specs.Machine as machine
+use Rattle.packetless_machine.specs.Machine.{Machine, nobody}
 use Rattle.law_simulation.specs.Views.{context_of, numbered, numbered_ends, name_at, requests_of, side_of, net_of}
 use Rattle.law_simulation.proofs.relation.Worlds.{WorldChanged, side_same}
 use Rattle.law_simulation.proofs.relation.Machines.{MachineChanged, end_part_same, there_same, listed_same}

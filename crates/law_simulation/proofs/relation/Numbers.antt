@@ -6,7 +6,7 @@ use Rattle.std.proofs.lemmas.List.{get_or_append_left}
 use Rattle.rdma_types.specs.Kinds.{is_atomic}
 use Rattle.rdma_types.specs.Objects.{Posted, no_posted}
 use Rattle.rdma_types.specs.Spans.{Piece, span, span_of, pieces, first_number, end_number, request_of, piece_of, piece_at}
-use Rattle.ideal_model.specs.declared.reply.Reply.{Reply}
+use Rattle.packetless_machine.specs.declared.reply.Reply.{Reply}
 use Rattle.law_simulation.specs.Joined.{old_value, old_values}
 
 pub span_positive : (r : Posted) (mtu : ℕ) → 1 ≤ span_of r mtu

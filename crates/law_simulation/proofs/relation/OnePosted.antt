@@ -16,12 +16,12 @@ use Rattle.protocol.specs.Numbers.{wire_number}
 use Rattle.protocol.specs.Segments.{packet_at, packet_of_found}
 use Rattle.protocol.specs.Wire.{Packet}
 use Rattle.rdma_types.specs.Objects.{Region}
-use Rattle.ideal_model.specs.declared.reply.Reply.{Reply}
-use Rattle.ideal_model.specs.declared.reply.Reply.TheVariants.{OldValue}
-use Rattle.ideal_model.specs.Machine.{End, untold_count}
-use Rattle.ideal_model.specs.Numbers.{due, oldest}
-use Rattle.ideal_model.specs.Sound.{IsSound, IsOfferOf, IsReplyTo, IsDenial}
-use Rattle.ideal_model.specs.Steps.{current, in_place}
+use Rattle.packetless_machine.specs.declared.reply.Reply.{Reply}
+use Rattle.packetless_machine.specs.declared.reply.Reply.TheVariants.{OldValue}
+use Rattle.packetless_machine.specs.Machine.{End, untold_count}
+use Rattle.packetless_machine.specs.Numbers.{due, oldest}
+use Rattle.packetless_machine.specs.Sound.{IsSound, IsOfferOf, IsReplyTo, IsDenial}
+use Rattle.packetless_machine.specs.Steps.{current, in_place}
 use Rattle.law_simulation.specs.Packets.{Class, class_of, IsRequest, IsReadResponse, IsAtomicResponse, IsAck, IsSequenceNak, IsRefusal, IsReceiverNotReady, IsStopped, IsResume, IsResumeAck, IsNothing}
 use Rattle.law_simulation.specs.Facts.{IsLeft, IsRequestOf, IsOffered, IsOld, NumberedFact, MoveFact, ClassFact, PacketFact, request_for, past_packet}
 use Rattle.law_simulation.specs.Views.{Side}

@@ -8,10 +8,10 @@ use Rattle.rdma_types.specs.Objects.{Posted, Region}
 use Rattle.rdma_types.specs.Spans.{end_number, span_of}
 use Rattle.protocol.specs.Wire.{Packet, packet_of}
 use Rattle.protocol.specs.State.{Flight, HuskEntry}
-use Rattle.ideal_model.specs.Machine.{End, untold_count}
-use Rattle.ideal_model.specs.Numbers.{due}
-use Rattle.ideal_model.specs.Sound.{IsSound}
-use Rattle.ideal_model.specs.Steps.{in_place}
+use Rattle.packetless_machine.specs.Machine.{End, untold_count}
+use Rattle.packetless_machine.specs.Numbers.{due}
+use Rattle.packetless_machine.specs.Sound.{IsSound}
+use Rattle.packetless_machine.specs.Steps.{in_place}
 use Rattle.law_simulation.specs.Views.{Net, Side, peer, requests_of}
 use Rattle.law_simulation.specs.Joined.{IsJoined, IsProgress, IsSayable}
 use Rattle.law_simulation.specs.Facts.{HuskFact, IsLeft, BytesFact, PacketFact}

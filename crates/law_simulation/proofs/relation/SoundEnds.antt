@@ -2,9 +2,9 @@
 use Rattle.std.proofs.Common.{◌≡◌, ◌≤◌, ◌<◌, ◌⊎◌, ℕ, suc, length}
 use Rattle.std.specs.Prelude.{All, slice_get}
 use Rattle.std.proofs.lemmas.List.Elements.{All-weaker}
-use Rattle.ideal_model.specs.Machine.{End, posted_at, untold_count}
-use Rattle.ideal_model.specs.Sound.{IsSound, IsOfferOf, IsReplyTo, IsDenial}
-use Rattle.ideal_model.specs.Steps.{in_place}
+use Rattle.packetless_machine.specs.Machine.{End, posted_at, untold_count}
+use Rattle.packetless_machine.specs.Sound.{IsSound, IsOfferOf, IsReplyTo, IsDenial}
+use Rattle.packetless_machine.specs.Steps.{in_place}
 
 -- an end with the requests of e, and with the connection, the answers, the offers and the receives of e'
 abbrev pub requests_in : End → End → End

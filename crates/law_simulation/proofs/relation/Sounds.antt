@@ -10,9 +10,9 @@ use Rattle.rdma_types.specs.Lists.{has_name, has_word}
 use Rattle.rdma_types.specs.Objects.{CompletionQueue, Region}
 use Rattle.rdma_types.specs.Kinds.{kind_of, size_of}
 use Rattle.rdma_types.specs.Memory.{LocalWrite, Right, is_granted, landing_right, local_key}
-use Rattle.ideal_model.specs.Machine.{End, new_end, untold_count}
+use Rattle.packetless_machine.specs.Machine.{End, new_end, untold_count}
 use Rattle.rdma_types.specs.declared.requests.Receive.{Receive}
-use Rattle.ideal_model.specs.Steps.{in_place, untold, receives_of}
+use Rattle.packetless_machine.specs.Steps.{in_place, untold, receives_of}
 use Rattle.law_simulation.specs.Stands.{IsEndSound}
 use Rattle.law_simulation.proofs.relation.SoundEnds.{sound_still}
 use Rattle.law_simulation.proofs.relation.Tables.{has_name-map, has_name-push}

@@ -5,7 +5,7 @@ use Rattle.std.proofs.lemmas.Bool.Decides.{nat_tests, eqb_tells}
 use Rattle.std.proofs.lemmas.Slice.Eq.{bytes_eq-Decides}
 use Rattle.std.proofs.lemmas.List.Elements.{All-cons, All-head, All-tail}
 use Rattle.rdma_types.specs.Lists.{named, has_name, store_named, without, first_that, store, at, has, some}
-use Rattle.ideal_model.specs.Tables.{replaced, place_where}
+use Rattle.packetless_machine.specs.Tables.{replaced, place_where}
 use Rattle.std.specs.List.{count_by}
 use Rattle.std.proofs.lemmas.List.Sums.{sum_by-cons, sum_by_push}
 

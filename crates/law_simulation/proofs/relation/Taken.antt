@@ -16,7 +16,7 @@ use Rattle.rdma_types.specs.Objects.{IsWhole, Region, no_region}
 use Rattle.protocol.specs.Memory.{region_of_key, loaded}
 use Rattle.protocol.specs.State as state
 use Rattle.protocol.specs.DeviceStep.{taken_bytes}
-use Rattle.ideal_model.specs.Machine.{bytes_at, is_at}
+use Rattle.packetless_machine.specs.Machine.{bytes_at, is_at}
 use Rattle.law_simulation.proofs.relation.Tables.{count_by-cons, once_later}
 
 cut_none : (place : ℕ) (bytes : List ℕ) → cut place 0 bytes ≡ []

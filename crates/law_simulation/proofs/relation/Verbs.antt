@@ -20,9 +20,9 @@ use Rattle.protocol.specs.DeviceStep as device
 use Rattle.protocol.specs.DeviceStep.{device_step, done_by}
 use Rattle.protocol.specs.WorldStep as step
 use Rattle.protocol.specs.WorldStep.{world_step, is_live, is_carried, home, with_device, ran, runs, context_causes, context_of_event}
-use Rattle.ideal_model.specs.declared.steps.IdealStep.TheVariants as steps
-use Rattle.ideal_model.specs.Machine.{Machine, has_context}
-use Rattle.ideal_model.specs.Verbs.{refusal_of, may_answer, answered, after_answer, may_give, granted_answer, done}
+use Rattle.packetless_machine.specs.declared.steps.MachineStep.TheVariants as steps
+use Rattle.packetless_machine.specs.Machine.{Machine, has_context}
+use Rattle.packetless_machine.specs.Verbs.{refusal_of, may_answer, answered, after_answer, may_give, granted_answer, done}
 use Rattle.law_simulation.specs.Kept.{kept_of, kept_verb, verb_of, verb_in, is_unmade, is_unmade_by}
 use Rattle.law_simulation.specs.Carries.{Allows, CarriesAt}
 use Rattle.law_simulation.specs.Stands.{Stands, IsPlaced}

@@ -11,8 +11,8 @@ use Rattle.rdma_types.specs.declared.answers.Answer.{Answer}
 use Rattle.rdma_types.specs.Lists.{named, has_name, has_word, store_named, store, first_that, some}
 use Rattle.protocol.specs.Images as images
 use Rattle.protocol.specs.State.{World, Device, Context, End, Husk, context_at, device_at, no_device, no_context, no_end}
-use Rattle.ideal_model.specs.Machine as machine
-use Rattle.ideal_model.specs.Machine.{Machine}
+use Rattle.packetless_machine.specs.Machine as machine
+use Rattle.packetless_machine.specs.Machine.{Machine}
 use Rattle.protocol.specs.declared.images.ContextImage.{ContextImage}
 use Rattle.protocol.specs.Fabric.{sending}
 use Rattle.protocol.specs.DeviceStep as device

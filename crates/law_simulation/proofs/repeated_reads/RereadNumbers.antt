@@ -7,10 +7,10 @@ use Rattle.rdma_types.specs.Limits.{is_mtu}
 use Rattle.rdma_types.specs.Objects.{Posted}
 use Rattle.rdma_types.specs.Spans.{first_number, request_of, pieces}
 use Rattle.rdma_types.proofs.Numbers.{split}
-use Rattle.ideal_model.specs.Machine.{End, posted_at}
-use Rattle.ideal_model.specs.Numbers.{due}
-use Rattle.ideal_model.specs.Sound.{IsSound}
-use Rattle.ideal_model.specs.Steps.{current}
+use Rattle.packetless_machine.specs.Machine.{End, posted_at}
+use Rattle.packetless_machine.specs.Numbers.{due}
+use Rattle.packetless_machine.specs.Sound.{IsSound}
+use Rattle.packetless_machine.specs.Steps.{current}
 use Rattle.law_simulation.proofs.requests.Due.{mtu_is}
 use Rattle.law_simulation.proofs.requests.Pieces.{first_suc}
 use Rattle.law_simulation.proofs.requests.Expected.{current_within}

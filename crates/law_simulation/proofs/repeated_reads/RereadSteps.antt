@@ -13,12 +13,12 @@ use Rattle.protocol.specs.State as state
 use Rattle.protocol.specs.State.{Link, Receiver, Progress, NoMessage, InSend, InWrite}
 use Rattle.protocol.specs.Wire.{Packet}
 use Rattle.protocol.specs.Responder.{repeated, answers_read, read_grant}
-use Rattle.ideal_model.specs.Machine as machine
-use Rattle.ideal_model.specs.Machine.{Machine, End, Offered, posted_at}
-use Rattle.ideal_model.specs.Numbers.{due}
-use Rattle.ideal_model.specs.Sound.{IsOfferOf, IsSound}
-use Rattle.ideal_model.specs.Steps.{in_place, is_granted_there}
-use Rattle.ideal_model.specs.Machine.{untold_count}
+use Rattle.packetless_machine.specs.Machine as machine
+use Rattle.packetless_machine.specs.Machine.{Machine, End, Offered, posted_at}
+use Rattle.packetless_machine.specs.Numbers.{due}
+use Rattle.packetless_machine.specs.Sound.{IsOfferOf, IsSound}
+use Rattle.packetless_machine.specs.Steps.{in_place, is_granted_there}
+use Rattle.packetless_machine.specs.Machine.{untold_count}
 use Rattle.law_simulation.specs.Carries.{is_rest_granted, offers_of, repeat_steps}
 use Rattle.law_simulation.specs.Joined.{IsInPieces, IsProgress, Receives}
 use Rattle.law_simulation.proofs.relation.SoundEnds.{sound_still}

@@ -6,8 +6,8 @@ use Rattle.std.proofs.lemmas.List.{append-nil}
 use Rattle.std.proofs.lemmas.List.Elements.{All-get_or, Contains-append_right, All-nil, All-cons, All-weaker}
 use Rattle.rdma_types.specs.declared.names.ObjName.{ObjName}
 use Rattle.rdma_types.specs.declared.answers.Sent.{Sent}
-use Rattle.rdma_types.specs.declared.answers.Took.TheVariants as took
-use Rattle.rdma_types.specs.declared.answers.SilentWhy.TheVariants as why
+use Rattle.rdma_types.specs.declared.answers.ArrivalEffect.TheVariants as took
+use Rattle.rdma_types.specs.declared.answers.DropReason.TheVariants as why
 use Rattle.rdma_types.specs.Kinds as kinds
 use Rattle.rdma_types.specs.Kinds.{kind_of, size_of}
 use Rattle.rdma_types.specs.Limits.{is_mtu}
@@ -26,12 +26,12 @@ use Rattle.protocol.specs.EndStep.{takes}
 use Rattle.protocol.specs.Responder.{answers_read, read_answers, read_pieces, read_piece, read_grant}
 use Rattle.protocol.specs.DeviceStep.{ended_step}
 use Rattle.protocol.specs.WorldStep.{home, ran}
-use Rattle.ideal_model.specs.Machine as machine
-use Rattle.ideal_model.specs.Machine.{Machine, End, Offered, has_end, regions_of, bytes_at, posted_at}
-use Rattle.ideal_model.specs.Legal.{IsRun, after}
-use Rattle.ideal_model.specs.Numbers.{due}
-use Rattle.ideal_model.specs.Sound.{IsOfferOf, IsSound}
-use Rattle.ideal_model.specs.Steps.{is_granted_there}
+use Rattle.packetless_machine.specs.Machine as machine
+use Rattle.packetless_machine.specs.Machine.{Machine, End, Offered, has_end, regions_of, bytes_at, posted_at}
+use Rattle.packetless_machine.specs.Legal.{IsRun, after}
+use Rattle.packetless_machine.specs.Numbers.{due}
+use Rattle.packetless_machine.specs.Sound.{IsOfferOf, IsSound}
+use Rattle.packetless_machine.specs.Steps.{is_granted_there}
 use Rattle.law_simulation.specs.Packets.{class_of, IsRequest}
 use Rattle.law_simulation.specs.Carries.{offers_of, offers_from, request_steps, is_rest_granted}
 use Rattle.law_simulation.specs.Views.{link_of, link_or_none, requests_of, side_of, owned, owned_there}

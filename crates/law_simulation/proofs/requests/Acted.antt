@@ -10,12 +10,12 @@ use Rattle.rdma_types.specs.Limits.{is_mtu, most_kept}
 use Rattle.rdma_types.specs.Kinds.{is_read, kind_of, lands, size_of}
 use Rattle.rdma_types.specs.Spans.{first_number, span_of}
 use Rattle.protocol.specs.State.{Receiver}
-use Rattle.ideal_model.specs.declared.reply.Reply.{Reply}
-use Rattle.ideal_model.specs.declared.reply.Reply.TheVariants.{Finished}
-use Rattle.ideal_model.specs.Machine.{End, Offered, posted_at, untold_count}
-use Rattle.ideal_model.specs.Numbers.{due}
-use Rattle.ideal_model.specs.Sound.{IsSound, IsReplyTo, IsOfferOf}
-use Rattle.ideal_model.specs.Steps.{current, in_place, untold}
+use Rattle.packetless_machine.specs.declared.reply.Reply.{Reply}
+use Rattle.packetless_machine.specs.declared.reply.Reply.TheVariants.{Finished}
+use Rattle.packetless_machine.specs.Machine.{End, Offered, posted_at, untold_count}
+use Rattle.packetless_machine.specs.Numbers.{due}
+use Rattle.packetless_machine.specs.Sound.{IsSound, IsReplyTo, IsOfferOf}
+use Rattle.packetless_machine.specs.Steps.{current, in_place, untold}
 use Rattle.law_simulation.specs.Joined.{IsInPieces, IsUnwrapped, IsWordReply, old_value, old_values, last_of}
 use Rattle.law_simulation.specs.Stands.{IsEndSound}
 use Rattle.law_simulation.proofs.requests.Due.{mtu_is}

@@ -6,11 +6,11 @@ use Rattle.rdma_types.specs.Kinds.{is_read, kind_of}
 use Rattle.rdma_types.specs.Spans.{request_of}
 use Rattle.protocol.specs.State.{Link, Receiver, HuskEntry}
 use Rattle.protocol.specs.Wire.{Packet}
-use Rattle.ideal_model.specs.declared.reply.Reply.{Reply}
-use Rattle.ideal_model.specs.declared.reply.Reply.TheVariants.{OldValue, Denied}
-use Rattle.ideal_model.specs.Machine.{End, Offered, posted_at}
-use Rattle.ideal_model.specs.Numbers.{due, oldest}
-use Rattle.ideal_model.specs.Steps.{current}
+use Rattle.packetless_machine.specs.declared.reply.Reply.{Reply}
+use Rattle.packetless_machine.specs.declared.reply.Reply.TheVariants.{OldValue, Denied}
+use Rattle.packetless_machine.specs.Machine.{End, Offered, posted_at}
+use Rattle.packetless_machine.specs.Numbers.{due, oldest}
+use Rattle.packetless_machine.specs.Steps.{current}
 use Rattle.law_simulation.specs.Packets.{Class, class_of, IsRequest, IsReadResponse, IsAtomicResponse, IsAck, IsSequenceNak, IsRefusal, IsReceiverNotReady, IsStopped, IsResume, IsResumeAck, IsNothing}
 use Rattle.law_simulation.specs.Views.{Side}
 use Rattle.law_simulation.specs.Joined.{IsJoined, IsInPieces, AreWholePieces, IsHeardOf, IsUnwrapped, IsWordReply, Receives}

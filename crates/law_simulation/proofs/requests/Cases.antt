@@ -5,7 +5,7 @@ use Rattle.rdma_types.specs.declared.names.ObjName.{ObjName}
 use Rattle.rdma_types.specs.Kinds.{is_read, is_atomic, kind_of}
 use Rattle.protocol.specs.State.{World, Link}
 use Rattle.protocol.specs.Wire.{Packet}
-use Rattle.ideal_model.specs.Machine.{Machine}
+use Rattle.packetless_machine.specs.Machine.{Machine}
 use Rattle.law_simulation.specs.Packets.{class_of, IsRequest}
 use Rattle.law_simulation.specs.Delivered.{Arrives}
 use Rattle.law_simulation.specs.Taken.{AreTakenWhere, IsAtPaused, IsAhead, IsMessageRepeat, IsWriteDry, IsWriteRun, IsSendRun, IsSendDry, IsReadTurn, asked}

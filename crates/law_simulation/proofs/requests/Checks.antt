@@ -13,7 +13,7 @@ use Rattle.rdma_types.specs.Limits.{number_limit}
 use Rattle.rdma_types.specs.Memory.{RemoteAtomic, RemoteRead, RemoteWrite, granted, is_granted, remote_key}
 use Rattle.rdma_types.specs.Objects.{Posted, Region, no_posted, no_region}
 use Rattle.rdma_types.specs.Spans.{first_number, request_of, span_of, span, pieces}
-use Rattle.rdma_types.specs.declared.answers.Why.TheVariants as refused
+use Rattle.rdma_types.specs.declared.answers.RefusalReason.TheVariants as refused
 use Rattle.protocol.specs.declared.wire.Reth.{Reth}
 use Rattle.protocol.specs.State as state
 use Rattle.protocol.specs.State.{World, Link, Progress, NoMessage, InSend, InWrite}
@@ -22,10 +22,10 @@ use Rattle.protocol.specs.Segments.{read_packet, atomic_packet, opcode_of, is_fi
 use Rattle.protocol.specs.Wire.{Packet, plain, when}
 use Rattle.protocol.specs.EndWords.{is_paused}
 use Rattle.protocol.specs.Responder.{is_invalid, part_of, is_send, is_write, is_read_request, begins, target, is_not_ready, needs_receive, is_empty, is_too_long, receive_of, bytes_before, front, span_of_packet, no_repeat, refuses, granted_packet, expected_packet}
-use Rattle.ideal_model.specs.Machine as machine
-use Rattle.ideal_model.specs.Machine.{Machine, End, regions_of}
-use Rattle.ideal_model.specs.Numbers.{due}
-use Rattle.ideal_model.specs.Steps.{fills, is_misaligned, is_current_granted, is_request_granted, is_granted_there, right_for, has_unused, has_imm, receive_for, first_receive, overflows, peer_of}
+use Rattle.packetless_machine.specs.Machine as machine
+use Rattle.packetless_machine.specs.Machine.{Machine, End, regions_of}
+use Rattle.packetless_machine.specs.Numbers.{due}
+use Rattle.packetless_machine.specs.Steps.{fills, is_misaligned, is_current_granted, is_request_granted, is_granted_there, right_for, has_unused, has_imm, receive_for, first_receive, overflows, peer_of}
 use Rattle.law_simulation.specs.Packets.{class_of, IsRequest}
 use Rattle.law_simulation.specs.Facts.{past_packet, request_for}
 use Rattle.law_simulation.specs.Views.{link_of, link_or_none, requests_of, owned, owned_there, receive_in}

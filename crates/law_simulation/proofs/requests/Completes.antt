@@ -9,8 +9,8 @@ use Rattle.rdma_types.specs.declared.requests.Receive.{Receive}
 use Rattle.rdma_types.specs.Lists.{has_name, store_named}
 use Rattle.rdma_types.specs.Memory.{LocalWrite, is_granted, local_key}
 use Rattle.rdma_types.specs.Objects.{CompletionQueue, Region, no_queue}
-use Rattle.ideal_model.specs.Machine.{End, completed, untold_count}
-use Rattle.ideal_model.specs.Steps.{in_place, untold, receives_of}
+use Rattle.packetless_machine.specs.Machine.{End, completed, untold_count}
+use Rattle.packetless_machine.specs.Steps.{in_place, untold, receives_of}
 use Rattle.law_simulation.specs.Stands.{IsEndSound}
 use Rattle.law_simulation.proofs.relation.SoundEnds.{sound_still}
 use Rattle.law_simulation.proofs.relation.Tables.{replaced-stored}

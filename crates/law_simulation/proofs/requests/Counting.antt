@@ -9,9 +9,9 @@ use Rattle.protocol.specs.State.{World, Link, Receiver, Progress, no_end}
 use Rattle.protocol.specs.Wire.{Packet}
 use Rattle.protocol.specs.EndWords as words
 use Rattle.protocol.specs.WorldStep.{is_live}
-use Rattle.ideal_model.specs.declared.reply.Reply.{Reply}
-use Rattle.ideal_model.specs.Machine as machine
-use Rattle.ideal_model.specs.Machine.{Machine, End, Offered, has_end, has_context, regions_of, nobody}
+use Rattle.packetless_machine.specs.declared.reply.Reply.{Reply}
+use Rattle.packetless_machine.specs.Machine as machine
+use Rattle.packetless_machine.specs.Machine.{Machine, End, Offered, has_end, has_context, regions_of, nobody}
 use Rattle.law_simulation.specs.Views.{side_of, link_of, link_or_none, requests_of, owned, owned_there, receive_in}
 use Rattle.law_simulation.specs.Joined.{IsProgress}
 use Rattle.law_simulation.specs.Stands.{Stands, AreSame, IsEndSound}

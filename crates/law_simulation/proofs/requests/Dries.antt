@@ -3,7 +3,7 @@ use Rattle.std.proofs.Common.{arith, ◌≡◌, ℕ, List, [], ◌∷◌, ◌++�
 use Rattle.std.specs.Prelude.{Option, Contains}
 use Rattle.std.proofs.lemmas.List.Elements.{All-nil, All-cons}
 use Rattle.rdma_types.specs.declared.names.ObjName.{ObjName}
-use Rattle.rdma_types.specs.declared.answers.Took.TheVariants as took
+use Rattle.rdma_types.specs.declared.answers.ArrivalEffect.TheVariants as took
 use Rattle.protocol.specs.declared.wire.Syndrome.TheVariants.{Rnr}
 use Rattle.protocol.specs.State as state
 use Rattle.protocol.specs.State.{World, Link, Receiver}
@@ -13,12 +13,12 @@ use Rattle.protocol.specs.EndWords.{is_paused}
 use Rattle.protocol.specs.Responder.{not_ready, expected_packet, acknowledge}
 use Rattle.protocol.specs.DeviceStep.{ended_step}
 use Rattle.protocol.specs.WorldStep.{home, ran}
-use Rattle.ideal_model.specs.declared.steps.IdealStep.TheVariants as steps
-use Rattle.ideal_model.specs.Machine as machine
-use Rattle.ideal_model.specs.Machine.{Machine, End, regions_of}
-use Rattle.ideal_model.specs.Numbers.{due}
-use Rattle.ideal_model.specs.Sound.{IsSound}
-use Rattle.ideal_model.specs.Steps.{in_place, may_dry, dried, dried_at}
+use Rattle.packetless_machine.specs.declared.steps.MachineStep.TheVariants as steps
+use Rattle.packetless_machine.specs.Machine as machine
+use Rattle.packetless_machine.specs.Machine.{Machine, End, regions_of}
+use Rattle.packetless_machine.specs.Numbers.{due}
+use Rattle.packetless_machine.specs.Sound.{IsSound}
+use Rattle.packetless_machine.specs.Steps.{in_place, may_dry, dried, dried_at}
 use Rattle.law_simulation.specs.Packets.{class_of, IsRequest}
 use Rattle.law_simulation.specs.Carries.{due_steps}
 use Rattle.law_simulation.specs.Views.{link_of, requests_of, side_of}

@@ -6,9 +6,9 @@ use Rattle.rdma_types.specs.Limits.{is_mtu}
 use Rattle.rdma_types.specs.Objects.{Posted, no_posted}
 use Rattle.rdma_types.specs.Kinds.{is_atomic, kind_of, size_of}
 use Rattle.rdma_types.specs.Spans.{first_number, end_number, piece_of, request_of, span, span_of, pieces}
-use Rattle.ideal_model.specs.Machine.{End}
-use Rattle.ideal_model.specs.Numbers.{due}
-use Rattle.ideal_model.specs.Steps.{current}
+use Rattle.packetless_machine.specs.Machine.{End}
+use Rattle.packetless_machine.specs.Numbers.{due}
+use Rattle.packetless_machine.specs.Steps.{current}
 use Rattle.law_simulation.proofs.relation.Numbers.{request-inside}
 
 -- ---- the five payload sizes

@@ -5,8 +5,8 @@ use Rattle.std.proofs.lemmas.Bool.Decides.{nat_tests}
 use Rattle.std.proofs.lemmas.List.Elements.{All-nil, All-cons}
 use Rattle.rdma_types.specs.declared.names.ObjName.{ObjName}
 use Rattle.rdma_types.specs.declared.answers.Sent.{Sent}
-use Rattle.rdma_types.specs.declared.answers.Took.TheVariants as took
-use Rattle.rdma_types.specs.declared.answers.SilentWhy.TheVariants as why
+use Rattle.rdma_types.specs.declared.answers.ArrivalEffect.TheVariants as took
+use Rattle.rdma_types.specs.declared.answers.DropReason.TheVariants as why
 use Rattle.rdma_types.specs.Kinds.{is_read, is_atomic, kind_of}
 use Rattle.rdma_types.specs.Objects.{Posted}
 use Rattle.rdma_types.specs.Spans.{piece_of, request_of}
@@ -20,9 +20,9 @@ use Rattle.protocol.specs.EndStep.{takes}
 use Rattle.protocol.specs.Responder.{request_at, ahead, repeated, expected_packet, acknowledge, is_read_request}
 use Rattle.protocol.specs.DeviceStep.{ended_step}
 use Rattle.protocol.specs.WorldStep.{home, ran}
-use Rattle.ideal_model.specs.Machine as machine
-use Rattle.ideal_model.specs.Machine.{Machine, End, posted_at}
-use Rattle.ideal_model.specs.Numbers.{due}
+use Rattle.packetless_machine.specs.Machine as machine
+use Rattle.packetless_machine.specs.Machine.{Machine, End, posted_at}
+use Rattle.packetless_machine.specs.Numbers.{due}
 use Rattle.law_simulation.specs.Packets.{class_of, IsRequest}
 use Rattle.law_simulation.specs.Carries.{request_steps, repeat_steps, due_steps}
 use Rattle.protocol.specs.Fabric.{flight_of}

@@ -16,12 +16,12 @@ use Rattle.protocol.specs.Wire.{Packet}
 use Rattle.protocol.specs.EndStep.{takes}
 use Rattle.protocol.specs.EndWords.{is_paused}
 use Rattle.protocol.specs.Responder.{expected_packet, repeated, ahead}
-use Rattle.ideal_model.specs.Machine as machine
-use Rattle.ideal_model.specs.Machine.{Machine, End, has_end}
-use Rattle.ideal_model.specs.Numbers.{due}
-use Rattle.ideal_model.specs.Sound.{IsSound}
-use Rattle.ideal_model.specs.declared.steps.IdealStep.TheVariants as steps
-use Rattle.ideal_model.specs.Steps.{may_run, current, has_current, has_peer, has_turn, lands_before}
+use Rattle.packetless_machine.specs.Machine as machine
+use Rattle.packetless_machine.specs.Machine.{Machine, End, has_end}
+use Rattle.packetless_machine.specs.Numbers.{due}
+use Rattle.packetless_machine.specs.Sound.{IsSound}
+use Rattle.packetless_machine.specs.declared.steps.MachineStep.TheVariants as steps
+use Rattle.packetless_machine.specs.Steps.{may_run, current, has_current, has_peer, has_turn, lands_before}
 use Rattle.law_simulation.specs.Packets.{class_of, IsRequest}
 use Rattle.law_simulation.specs.Carries.{request_steps, due_steps}
 use Rattle.law_simulation.specs.Views.{owned, owned_there, link_of, link_or_none, requests_of}

@@ -9,9 +9,9 @@ use Rattle.protocol.specs.State as state
 use Rattle.protocol.specs.State.{World, Link, Receiver}
 use Rattle.protocol.specs.Wire.{Packet}
 use Rattle.protocol.specs.WorldStep.{is_live}
-use Rattle.ideal_model.specs.declared.reply.Reply.{Reply}
-use Rattle.ideal_model.specs.Machine as machine
-use Rattle.ideal_model.specs.Machine.{Machine, Context, End, Offered, regions_of, nobody}
+use Rattle.packetless_machine.specs.declared.reply.Reply.{Reply}
+use Rattle.packetless_machine.specs.Machine as machine
+use Rattle.packetless_machine.specs.Machine.{Machine, Context, End, Offered, regions_of, nobody}
 use Rattle.law_simulation.specs.Views.{link_of, requests_of, owned, owned_there}
 use Rattle.law_simulation.specs.Joined.{IsProgress}
 use Rattle.law_simulation.specs.Stands.{Stands, IsContextSound, IsEndSound}

@@ -19,9 +19,9 @@ use Rattle.protocol.specs.Segments.{message_packet, is_first_piece, is_last_piec
 use Rattle.protocol.specs.Wire.{Packet, when}
 use Rattle.protocol.specs.EndWords.{is_paused}
 use Rattle.protocol.specs.Responder.{is_invalid, part_of, is_write, is_read_request, finishes}
-use Rattle.ideal_model.specs.Machine as machine
-use Rattle.ideal_model.specs.Machine.{Machine, End}
-use Rattle.ideal_model.specs.Steps.{current, fills, next_bytes}
+use Rattle.packetless_machine.specs.Machine as machine
+use Rattle.packetless_machine.specs.Machine.{Machine, End}
+use Rattle.packetless_machine.specs.Steps.{current, fills, next_bytes}
 use Rattle.law_simulation.specs.Packets.{class_of, IsRequest}
 use Rattle.law_simulation.specs.Views.{link_of}
 use Rattle.law_simulation.specs.Joined.{IsSayable}

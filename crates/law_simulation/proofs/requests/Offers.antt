@@ -9,10 +9,10 @@ use Rattle.rdma_types.specs.Lists.{has_name, store_named, first_that}
 use Rattle.rdma_types.specs.Kinds.{is_read, kind_of, size_of}
 use Rattle.rdma_types.specs.Memory.{cut, local_key, RemoteRead, allows, holds, grants, granted, is_granted, remote_key}
 use Rattle.rdma_types.specs.Objects.{Posted, Region}
-use Rattle.ideal_model.specs.Machine as machine
-use Rattle.ideal_model.specs.Machine.{Machine, Context, End, Offered, has_context, has_end, end_of, regions_of, posted_at, bytes_at, is_at}
-use Rattle.ideal_model.specs.Legal.{IsRun, after}
-use Rattle.ideal_model.specs.Steps.{has_peer, is_read_part, is_granted_there, may_offer, offered, with_offer, bytes_there}
+use Rattle.packetless_machine.specs.Machine as machine
+use Rattle.packetless_machine.specs.Machine.{Machine, Context, End, Offered, has_context, has_end, end_of, regions_of, posted_at, bytes_at, is_at}
+use Rattle.packetless_machine.specs.Legal.{IsRun, after}
+use Rattle.packetless_machine.specs.Steps.{has_peer, is_read_part, is_granted_there, may_offer, offered, with_offer, bytes_there}
 use Rattle.law_simulation.specs.Carries.{offers_from}
 use Rattle.std.specs.List.{count_by}
 use Rattle.std.proofs.lemmas.List.Elements.{All-head, All-tail, All-contains}
@@ -21,7 +21,7 @@ use Rattle.law_simulation.proofs.relation.Grants.{contains_cases, contains_here,
 use Rattle.law_simulation.proofs.relation.Machines as machines
 use Rattle.law_simulation.proofs.relation.Machines.{MachineChanged}
 use Rattle.law_simulation.proofs.relation.Linked.{context_with, end_changed, machine_here, machine_other, there_kept}
-use Rattle.ideal_model.specs.declared.reply.Reply.{Reply}
+use Rattle.packetless_machine.specs.declared.reply.Reply.{Reply}
 use Rattle.law_simulation.proofs.relation.Tables.{has_name-store}
 use Rattle.law_simulation.proofs.delivery.First.{first_passes}
 use Rattle.law_simulation.proofs.requests.Advancing.{moved_on}

@@ -8,10 +8,10 @@ use Rattle.protocol.specs.State.{Link}
 use Rattle.protocol.specs.Wire.{Packet, Fits, plain, layout_of, is_request}
 use Rattle.protocol.specs.EndWords.{to_partner}
 use Rattle.protocol.specs.Responder.{response, read_response}
-use Rattle.roce_headers.proofs.Fitting.{fits}
-use Rattle.roce_headers.proofs.Grammar.{spelled_read}
-use Rattle.roce_headers.proofs.Written.{written_spelled}
-use Rattle.ideal_model.specs.Machine.{End}
+use Rattle.protocol.proofs.FittingPackets.{fits}
+use Rattle.protocol.proofs.PacketGrammar.{spelled_read}
+use Rattle.protocol.proofs.WrittenPackets.{written_spelled}
+use Rattle.packetless_machine.specs.Machine.{End}
 use Rattle.law_simulation.specs.Packets.{class_of, IsReadResponse}
 use Rattle.law_simulation.specs.Views.{Side}
 use Rattle.law_simulation.specs.Facts.{NumberedFact, IsOffered}

@@ -6,8 +6,8 @@ use Rattle.std.proofs.lemmas.List.{append-nil, length-take}
 use Rattle.std.proofs.lemmas.List.Elements.{All-get_or, All-head, All-tail, All-take, All-drop, Contains-append_left, Contains-append_right, All-nil, All-cons, All-weaker, All-append}
 use Rattle.rdma_types.specs.declared.names.ObjName.{ObjName}
 use Rattle.rdma_types.specs.declared.answers.Sent.{Sent}
-use Rattle.rdma_types.specs.declared.answers.Took.TheVariants as took
-use Rattle.rdma_types.specs.declared.answers.Why.TheVariants as whys
+use Rattle.rdma_types.specs.declared.answers.ArrivalEffect.TheVariants as took
+use Rattle.rdma_types.specs.declared.answers.RefusalReason.TheVariants as whys
 use Rattle.rdma_types.specs.declared.requests.Kind.{Kind}
 use Rattle.rdma_types.specs.declared.requests.Kind.TheVariants as kinds'
 use Rattle.rdma_types.specs.Kinds as kinds
@@ -27,20 +27,20 @@ use Rattle.protocol.specs.EndWords.{is_paused}
 use Rattle.protocol.specs.Responder.{begins, is_empty, no_repeat, refuses, not_ready, refuses_length, receive_of, bytes_before, send_acts, write_acts, read_acts, atomic_acts, read_answers, read_pieces, read_piece, expected_packet, granted_packet, packet_acts, executed, is_invalid, target, target_of, reth_target, read_grant, is_send, is_write, is_read_request, span_of_packet, place_of, part_of}
 use Rattle.protocol.specs.DeviceStep.{ended_step}
 use Rattle.protocol.specs.WorldStep.{home, ran}
-use Rattle.ideal_model.specs.declared.reply.Reply.TheVariants.{Finished}
-use Rattle.ideal_model.specs.declared.steps.IdealStep.{IdealStep}
-use Rattle.ideal_model.specs.declared.steps.IdealStep.TheVariants as steps
-use Rattle.ideal_model.specs.Machine as machine
-use Rattle.ideal_model.specs.Machine.{Machine, End, Offered, has_end, regions_of, bytes_at, is_at}
-use Rattle.ideal_model.specs.Legal.{IsRun, after}
-use Rattle.ideal_model.specs.Sound.{IsOfferOf}
-use Rattle.ideal_model.specs.Steps.{current, has_current, may_run, may_run_kind, may_add, may_atom, may_read, is_current_granted, is_request_granted, is_granted_there, right_for, read_turn, acted_with}
+use Rattle.packetless_machine.specs.declared.reply.Reply.TheVariants.{Finished}
+use Rattle.packetless_machine.specs.declared.steps.MachineStep.{MachineStep}
+use Rattle.packetless_machine.specs.declared.steps.MachineStep.TheVariants as steps
+use Rattle.packetless_machine.specs.Machine as machine
+use Rattle.packetless_machine.specs.Machine.{Machine, End, Offered, has_end, regions_of, bytes_at, is_at}
+use Rattle.packetless_machine.specs.Legal.{IsRun, after}
+use Rattle.packetless_machine.specs.Sound.{IsOfferOf}
+use Rattle.packetless_machine.specs.Steps.{current, has_current, may_run, may_run_kind, may_add, may_atom, may_read, is_current_granted, is_request_granted, is_granted_there, right_for, read_turn, acted_with}
 use Rattle.law_simulation.specs.Packets.{class_of, IsRequest}
 use Rattle.law_simulation.specs.Carries.{due_steps, offers_of, offers_from}
 use Rattle.law_simulation.specs.Views.{receive_in, link_of, requests_of, side_of, owned, owned_there}
 use Rattle.law_simulation.specs.Stands.{Stands}
 use Rattle.law_simulation.specs.Joined.{IsProgress, IsSayable, IsUnwrapped, last_of, old_values}
-use Rattle.ideal_model.specs.Numbers.{due}
+use Rattle.packetless_machine.specs.Numbers.{due}
 use Rattle.law_simulation.proofs.requests.Pieces.{first_suc}
 use Rattle.law_simulation.specs.Facts.{IsOffered, past_packet}
 use Rattle.law_simulation.proofs.relation.Tables.{name-named_there}
@@ -297,7 +297,7 @@ module _ (w : World) (m : Machine) (o : ObjName) (l : Link) (number : Option ℕ
   unfolding offers_of
   offers_are = let same : count - 0 ≡ count = omega arith in ap (offers_from q g g.acted 0) same
 
-  abbrev ss : List IdealStep
+  abbrev ss : List MachineStep
   ss = steps.ReadTurn q ∷ offers_from q g g.acted 0 count
 
   is_run : IsRun m ss

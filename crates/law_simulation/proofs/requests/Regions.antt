@@ -6,7 +6,7 @@ use Rattle.std.proofs.lemmas.List.Elements.{All-head, All-tail}
 use Rattle.rdma_types.specs.Lists.{at, has, store}
 use Rattle.rdma_types.specs.Memory.{holds, local_key, remote_key}
 use Rattle.rdma_types.specs.Objects.{Region, no_region}
-use Rattle.ideal_model.specs.Machine.{put_at}
+use Rattle.packetless_machine.specs.Machine.{put_at}
 use Rattle.law_simulation.proofs.delivery.Regions.{over}
 
 -- the region with the local key is the first with the remote one, and is the only one

@@ -9,11 +9,11 @@ use Rattle.protocol.specs.State.{Link}
 use Rattle.protocol.specs.Wire as wire
 use Rattle.protocol.specs.Wire.{Packet, Fits, plain, packet_of, wire_of, layout_of, fits_syndrome, base_bytes, is_request}
 use Rattle.protocol.specs.Responder.{acknowledge}
-use Rattle.roce_headers.proofs.Fitting.{fits}
-use Rattle.roce_headers.proofs.Grammar.{spelled_read}
-use Rattle.roce_headers.proofs.Written.{written_spelled}
-use Rattle.ideal_model.specs.Machine.{End}
-use Rattle.ideal_model.specs.Numbers.{due}
+use Rattle.protocol.proofs.FittingPackets.{fits}
+use Rattle.protocol.proofs.PacketGrammar.{spelled_read}
+use Rattle.protocol.proofs.WrittenPackets.{written_spelled}
+use Rattle.packetless_machine.specs.Machine.{End}
+use Rattle.packetless_machine.specs.Numbers.{due}
 use Rattle.law_simulation.specs.Packets.{Class, class_of, aeth_class, syndrome_class, nak_class, IsAck, IsSequenceNak, IsRefusal, IsReceiverNotReady}
 use Rattle.law_simulation.specs.Views.{Side}
 use Rattle.law_simulation.specs.Facts.{NumberedFact, IsDry, IsRefused}

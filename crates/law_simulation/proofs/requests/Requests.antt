@@ -4,7 +4,7 @@ use Rattle.std.specs.Prelude.{Option, Some, None, if◌then◌else◌, not, ◌&
 use Rattle.std.proofs.lemmas.Bool.Decides.{nat_tests, leb_tells}
 use Rattle.std.proofs.lemmas.List.Elements.{All-contains}
 use Rattle.rdma_types.specs.declared.names.ObjName.{ObjName}
-use Rattle.rdma_types.specs.declared.answers.SilentWhy.TheVariants as why
+use Rattle.rdma_types.specs.declared.answers.DropReason.TheVariants as why
 use Rattle.rdma_types.specs.Kinds.{is_read, kind_of}
 use Rattle.rdma_types.specs.Objects.{no_posted}
 use Rattle.rdma_types.specs.Spans.{first_number, piece_of, request_of, span_of}
@@ -19,9 +19,9 @@ use Rattle.protocol.specs.EndWords.{is_paused, silent}
 use Rattle.protocol.specs.EndStep.{takes}
 use Rattle.protocol.specs.Responder.{takes_request, request_at}
 use Rattle.protocol.proofs.NearNumbers.{known}
-use Rattle.ideal_model.specs.Machine as machine
-use Rattle.ideal_model.specs.Machine.{Machine, End}
-use Rattle.ideal_model.specs.Numbers.{due}
+use Rattle.packetless_machine.specs.Machine as machine
+use Rattle.packetless_machine.specs.Machine.{Machine, End}
+use Rattle.packetless_machine.specs.Numbers.{due}
 use Rattle.protocol.specs.declared.wire.Aeth.{Aeth}
 use Rattle.protocol.specs.declared.wire.ResumeBody.{ResumeBody}
 use Rattle.protocol.specs.declared.wire.Syndrome.{Syndrome}

@@ -4,9 +4,9 @@ use Rattle.std.specs.Prelude.{Option, Some, if◌then◌else◌, All}
 use Rattle.rdma_types.specs.declared.names.Name.{Name}
 use Rattle.rdma_types.specs.declared.names.ObjName.{ObjName}
 use Rattle.rdma_types.specs.declared.answers.Sent.{Sent}
-use Rattle.rdma_types.specs.declared.answers.Took.{Took}
-use Rattle.rdma_types.specs.declared.answers.Took.TheVariants as took
-use Rattle.rdma_types.specs.declared.answers.SilentWhy.TheVariants as why
+use Rattle.rdma_types.specs.declared.answers.ArrivalEffect.{ArrivalEffect}
+use Rattle.rdma_types.specs.declared.answers.ArrivalEffect.TheVariants as took
+use Rattle.rdma_types.specs.declared.answers.DropReason.TheVariants as why
 use Rattle.rdma_types.specs.Lists.{has_name, store_named}
 use Rattle.protocol.specs.State as state
 use Rattle.protocol.specs.State.{World, Link, Receiver, Progress, no_end}
@@ -19,12 +19,12 @@ use Rattle.protocol.specs.Responder.{request_at}
 use Rattle.protocol.specs.DeviceStep as device
 use Rattle.protocol.specs.DeviceStep.{ended_step}
 use Rattle.protocol.specs.WorldStep.{is_live, home, ran}
-use Rattle.ideal_model.specs.declared.reply.Reply.{Reply}
-use Rattle.ideal_model.specs.declared.steps.IdealStep.{IdealStep}
-use Rattle.ideal_model.specs.Machine as machine
-use Rattle.ideal_model.specs.Machine.{Machine, End, Offered, has_end, has_context, regions_of, nobody}
-use Rattle.ideal_model.specs.Legal.{IsRun, after}
-use Rattle.ideal_model.specs.Steps.{untold}
+use Rattle.packetless_machine.specs.declared.reply.Reply.{Reply}
+use Rattle.packetless_machine.specs.declared.steps.MachineStep.{MachineStep}
+use Rattle.packetless_machine.specs.Machine as machine
+use Rattle.packetless_machine.specs.Machine.{Machine, End, Offered, has_end, has_context, regions_of, nobody}
+use Rattle.packetless_machine.specs.Legal.{IsRun, after}
+use Rattle.packetless_machine.specs.Steps.{untold}
 use Rattle.law_simulation.specs.Packets.{class_of, IsRequest}
 use Rattle.law_simulation.specs.Carries.{CarriesNumbered, request_steps}
 use Rattle.law_simulation.specs.Views.{side_of, link_of, requests_of, owned}
@@ -154,23 +154,23 @@ module _ (w : World) (m m' : Machine) (o : ObjName) (l : Link) (n : ℕ) (d : Pa
   }
 
   -- the next world stands for the next machine, once the answers are on their way
-  pub responds : (t : Took) (sent : List Sent) → All (IsAnswer (side_of w q) (side_now (side_of w o) (got l r')) (requests_of g') (requests_of f')) sent → Stands (ran w (ended_step (home w o.context) (record { context = x'; took = t; sent = sent }))).world m'
+  pub responds : (t : ArrivalEffect) (sent : List Sent) → All (IsAnswer (side_of w q) (side_now (side_of w o) (got l r')) (requests_of g') (requests_of f')) sent → Stands (ran w (ended_step (home w o.context) (record { context = x'; took = t; sent = sent }))).world m'
   responds t sent facts = sent_stands w m m' o (got l r') x' y f' g' (device.took_answer t sent) s live at.live pair_step sent facts
 
 -- ---- what is owed of a request
 
 -- the steps that it may carry
-pub carries : (w : World) (m : Machine) (o : ObjName) (l : Link) (n : ℕ) (d : Packet) (ss : List IdealStep) → link_of w o ≡ l → class_of d ≡ IsRequest → ss ≡ (if is_paused l.moving.phase then [] else request_steps m (asker m o) n (length d.payload)) → CarriesNumbered w m o (Some n) d.payload (class_of d) ss
+pub carries : (w : World) (m : Machine) (o : ObjName) (l : Link) (n : ℕ) (d : Packet) (ss : List MachineStep) → link_of w o ≡ l → class_of d ≡ IsRequest → ss ≡ (if is_paused l.moving.phase then [] else request_steps m (asker m o) n (length d.payload)) → CarriesNumbered w m o (Some n) d.payload (class_of d) ss
 carries w m o l n d ss link is same =
     subst (λ c. CarriesNumbered w m o (Some n) d.payload c ss) (sym is) (same ∙ ap (λ (z : Link). if is_paused z.moving.phase then [] else request_steps m (asker m o) n (length d.payload)) (sym link))
 
 -- .. and that are named
-named : (w : World) (m : Machine) (o : ObjName) (l : Link) (n : ℕ) (d : Packet) (ss : List IdealStep) (t : Took) → link_of w o ≡ l → class_of d ≡ IsRequest → ss ≡ (if is_paused l.moving.phase then [] else request_steps m (asker m o) n (length d.payload)) → ss ≡ numbered_steps w m o (Some n) d.payload (class_of d) t
+named : (w : World) (m : Machine) (o : ObjName) (l : Link) (n : ℕ) (d : Packet) (ss : List MachineStep) (t : ArrivalEffect) → link_of w o ≡ l → class_of d ≡ IsRequest → ss ≡ (if is_paused l.moving.phase then [] else request_steps m (asker m o) n (length d.payload)) → ss ≡ numbered_steps w m o (Some n) d.payload (class_of d) t
 named w m o l n d ss t link is same =
     subst (λ c. ss ≡ numbered_steps w m o (Some n) d.payload c t) (sym is) (same ∙ ap (λ (z : Link). if is_paused z.moving.phase then [] else request_steps m (asker m o) n (length d.payload)) (sym link))
 
 -- it is taken so
-pub takes_so : (w : World) (m : Machine) (o : ObjName) (l : Link) (number : Option ℕ) (d : Packet) (n : ℕ) (ss : List IdealStep) (z : words.EndStep) → number ≡ Some n → link_of w o ≡ l → class_of d ≡ IsRequest → AreInner ss → IsRun m ss →
+pub takes_so : (w : World) (m : Machine) (o : ObjName) (l : Link) (number : Option ℕ) (d : Packet) (n : ℕ) (ss : List MachineStep) (z : words.EndStep) → number ≡ Some n → link_of w o ≡ l → class_of d ≡ IsRequest → AreInner ss → IsRun m ss →
     ss ≡ (if is_paused l.moving.phase then [] else request_steps m (asker m o) n (length d.payload)) → takes (context_there w o) (end_there w o) l d ≡ z → Stands (ran w (ended_step (home w o.context) z)).world (after m ss) → Takes w m o l number d
 takes_so w m o l number d n ss z numbered link is inner run same step stands =
     subst (λ k. Takes w m o l k d) (sym numbered) (record {
@@ -190,7 +190,7 @@ step_of w m o l n d alive at =
 
 -- ---- a Paused end
 
-no_steps : List IdealStep
+no_steps : List MachineStep
 no_steps = []
 
 pub paused_taken : (w : World) (m : Machine) (o : ObjName) (l : Link) (number : Option ℕ) (bytes : List ℕ) (d : Packet) → Arrives w m o l number bytes d → class_of d ≡ IsRequest → is_paused l.moving.phase ≡ true → Takes w m o l number d

@@ -9,11 +9,11 @@ use Rattle.rdma_types.specs.Kinds.{kind_of}
 use Rattle.rdma_types.specs.Memory.{remote_key, local_key}
 use Rattle.rdma_types.specs.Objects.{CompletionQueue, Region}
 use Rattle.rdma_types.specs.declared.requests.Receive.{Receive}
-use Rattle.ideal_model.specs.declared.reply.Reply.TheVariants.{Finished}
-use Rattle.ideal_model.specs.Machine as machine
-use Rattle.ideal_model.specs.Machine.{Machine, Context, End, has_context, has_end, end_of, regions_of, nobody, put_at}
-use Rattle.ideal_model.specs.Steps as steps
-use Rattle.ideal_model.specs.Steps.{advanced, fills, current, receiving, arrivals, next_bytes, run, run_towards, placing, acted_with, receive_for}
+use Rattle.packetless_machine.specs.declared.reply.Reply.TheVariants.{Finished}
+use Rattle.packetless_machine.specs.Machine as machine
+use Rattle.packetless_machine.specs.Machine.{Machine, Context, End, has_context, has_end, end_of, regions_of, nobody, put_at}
+use Rattle.packetless_machine.specs.Steps as steps
+use Rattle.packetless_machine.specs.Steps.{advanced, fills, current, receiving, arrivals, next_bytes, run, run_towards, placing, acted_with, receive_for}
 use Rattle.law_simulation.proofs.relation.Tables.{name_tells, has_name-store, same_name}
 use Rattle.law_simulation.proofs.relation.Machines as machines
 use Rattle.law_simulation.proofs.relation.Machines.{MachineChanged, context_name, with_context_changed, end_stored}

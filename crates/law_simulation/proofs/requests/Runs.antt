@@ -15,13 +15,13 @@ use Rattle.protocol.specs.State.{World, Link, Receiver}
 use Rattle.protocol.specs.Wire.{Packet}
 use Rattle.protocol.specs.EndWords.{is_paused}
 use Rattle.protocol.specs.Responder.{span_of_packet, is_read_request}
-use Rattle.ideal_model.specs.declared.reply.Reply.{Reply}
-use Rattle.ideal_model.specs.declared.reply.Reply.TheVariants.{Finished}
-use Rattle.ideal_model.specs.Machine as machine
-use Rattle.ideal_model.specs.Machine.{Machine, End}
-use Rattle.ideal_model.specs.Numbers.{due}
-use Rattle.ideal_model.specs.Sound.{IsSound}
-use Rattle.ideal_model.specs.Steps.{current, fills, advanced}
+use Rattle.packetless_machine.specs.declared.reply.Reply.{Reply}
+use Rattle.packetless_machine.specs.declared.reply.Reply.TheVariants.{Finished}
+use Rattle.packetless_machine.specs.Machine as machine
+use Rattle.packetless_machine.specs.Machine.{Machine, End}
+use Rattle.packetless_machine.specs.Numbers.{due}
+use Rattle.packetless_machine.specs.Sound.{IsSound}
+use Rattle.packetless_machine.specs.Steps.{current, fills, advanced}
 use Rattle.law_simulation.specs.Packets.{class_of, IsRequest}
 use Rattle.law_simulation.specs.Views.{link_of, requests_of}
 use Rattle.law_simulation.specs.Joined.{last_of}

@@ -6,9 +6,9 @@ use Rattle.rdma_types.specs.Objects.{Posted, Region}
 use Rattle.protocol.specs.State as state
 use Rattle.protocol.specs.State.{World, Link}
 use Rattle.protocol.specs.Wire.{Packet}
-use Rattle.ideal_model.specs.Machine as machine
-use Rattle.ideal_model.specs.Machine.{Machine, End, regions_of}
-use Rattle.ideal_model.specs.Steps.{current}
+use Rattle.packetless_machine.specs.Machine as machine
+use Rattle.packetless_machine.specs.Machine.{Machine, End, regions_of}
+use Rattle.packetless_machine.specs.Steps.{current}
 use Rattle.law_simulation.specs.Packets.{class_of, IsRequest}
 use Rattle.law_simulation.specs.Delivered as delivered
 use Rattle.law_simulation.specs.Delivered.{Arrives}

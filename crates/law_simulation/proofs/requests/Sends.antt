@@ -12,7 +12,7 @@ use Rattle.rdma_types.specs.Limits.{number_limit}
 use Rattle.rdma_types.specs.Lists.{at, has, store}
 use Rattle.rdma_types.specs.Memory.{LocalWrite, put, holds, is_granted, local_key}
 use Rattle.rdma_types.specs.Objects.{Region, no_region}
-use Rattle.rdma_types.specs.declared.answers.Why.TheVariants as whys
+use Rattle.rdma_types.specs.declared.answers.RefusalReason.TheVariants as whys
 use Rattle.protocol.specs.State as state
 use Rattle.protocol.specs.State.{Link, Progress, NoMessage, InSend, InWrite}
 use Rattle.protocol.specs.Memory.{landed, written, with_region, stored, region_of_key}
@@ -20,8 +20,8 @@ use Rattle.protocol.specs.Wire.{Packet}
 use Rattle.protocol.specs.EndWords as words
 use Rattle.protocol.specs.EndWords.{in_use_by}
 use Rattle.protocol.specs.Responder.{no_repeat, refuses, not_ready, is_too_long, refuses_length, receive_of, bytes_before, send_acts, write_acts, read_acts, atomic_acts, expected_packet, granted_packet, packet_acts, executed, is_invalid, target, target_of, reth_target, is_not_ready, is_send, is_write, is_read_request, part_of, front, place_of}
-use Rattle.ideal_model.specs.Machine.{put_at}
-use Rattle.ideal_model.specs.Steps.{first_receive}
+use Rattle.packetless_machine.specs.Machine.{put_at}
+use Rattle.packetless_machine.specs.Steps.{first_receive}
 use Rattle.law_simulation.proofs.requests.Opcodes.{part}
 use Rattle.law_simulation.proofs.delivery.Regions.{over, put_nothing}
 use Rattle.law_simulation.proofs.requests.Written.{granted_region, number_once, contains_has, held_part}

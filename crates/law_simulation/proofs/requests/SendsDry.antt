@@ -3,7 +3,7 @@ use Rattle.std.proofs.Common.{arith, ◌≡◌, ◌+◌, ◌/◌, ℕ, suc, List
 use Rattle.std.specs.Prelude.{Option, None, is_some, not, nat_lt, ◌==◌, ◌&&◌, ◌||◌}
 use Rattle.std.proofs.lemmas.Bool.Decides.{nat_tests, eqb_tells}
 use Rattle.rdma_types.specs.declared.names.ObjName.{ObjName}
-use Rattle.rdma_types.specs.declared.answers.Why.TheVariants as whys
+use Rattle.rdma_types.specs.declared.answers.RefusalReason.TheVariants as whys
 use Rattle.rdma_types.specs.declared.requests.Receive.{Receive}
 use Rattle.rdma_types.specs.Kinds as kinds
 use Rattle.rdma_types.specs.Kinds.{kind_of, size_of}
@@ -14,9 +14,9 @@ use Rattle.protocol.specs.Wire.{Packet, when}
 use Rattle.protocol.specs.EndWords.{is_paused}
 use Rattle.protocol.specs.Responder.{is_invalid, is_not_ready, is_empty, begins, part_of}
 use Rattle.protocol.specs.Segments.{is_first_piece, is_last_piece}
-use Rattle.ideal_model.specs.Machine as machine
-use Rattle.ideal_model.specs.Machine.{Machine, regions_of}
-use Rattle.ideal_model.specs.Steps.{current, fills, has_unused, has_current, may_run, may_refuse, may_refuse_for, may_dry, may_dry_kind, first_receive, is_misaligned, overflows, peer_of, receive_for}
+use Rattle.packetless_machine.specs.Machine as machine
+use Rattle.packetless_machine.specs.Machine.{Machine, regions_of}
+use Rattle.packetless_machine.specs.Steps.{current, fills, has_unused, has_current, may_run, may_refuse, may_refuse_for, may_dry, may_dry_kind, first_receive, is_misaligned, overflows, peer_of, receive_for}
 use Rattle.law_simulation.specs.Packets.{class_of, IsRequest}
 use Rattle.law_simulation.specs.Views.{owned, owned_there, link_or_none, receive_in}
 use Rattle.law_simulation.specs.Joined.{IsProgress}

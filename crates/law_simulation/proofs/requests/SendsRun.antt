@@ -5,7 +5,7 @@ use Rattle.std.specs.Prelude.{Option, Some, None, if◌then◌else◌, is_some, 
 use Rattle.std.proofs.lemmas.List.Elements.{All-nil, All-cons, All-take, All-drop, All-head, All-tail}
 use Rattle.rdma_types.specs.declared.names.Name.{Name}
 use Rattle.rdma_types.specs.declared.names.ObjName.{ObjName}
-use Rattle.rdma_types.specs.declared.answers.Took.TheVariants as took
+use Rattle.rdma_types.specs.declared.answers.ArrivalEffect.TheVariants as took
 use Rattle.rdma_types.specs.declared.requests.Receive.{Receive}
 use Rattle.rdma_types.specs.declared.requests.WcKind.TheVariants as wc
 use Rattle.rdma_types.specs.declared.requests.WcStatus.TheVariants as status
@@ -28,11 +28,11 @@ use Rattle.protocol.specs.Responder.{send_done, finished, begins, receive_of, by
 use Rattle.protocol.specs.EndStep.{takes}
 use Rattle.protocol.specs.DeviceStep.{ended_step}
 use Rattle.protocol.specs.WorldStep.{home, ran}
-use Rattle.ideal_model.specs.declared.reply.Reply.{Reply}
-use Rattle.ideal_model.specs.declared.steps.IdealStep.TheVariants as steps
-use Rattle.ideal_model.specs.Machine as machine
-use Rattle.ideal_model.specs.Machine.{Machine, End, put_at}
-use Rattle.ideal_model.specs.Steps.{fits, first_receive, untold, receive_for, unused_after, current, fills, has_imm, has_current, may_run, may_run_kind, may_add, next_bytes, receiving, arrivals, received_whole, used_by, run}
+use Rattle.packetless_machine.specs.declared.reply.Reply.{Reply}
+use Rattle.packetless_machine.specs.declared.steps.MachineStep.TheVariants as steps
+use Rattle.packetless_machine.specs.Machine as machine
+use Rattle.packetless_machine.specs.Machine.{Machine, End, put_at}
+use Rattle.packetless_machine.specs.Steps.{fits, first_receive, untold, receive_for, unused_after, current, fills, has_imm, has_current, may_run, may_run_kind, may_add, next_bytes, receiving, arrivals, received_whole, used_by, run}
 use Rattle.law_simulation.specs.Packets.{class_of, IsRequest}
 use Rattle.law_simulation.specs.Views.{Owned, requests_of, side_of, owned, owned_there, receive_in, link_or_none}
 use Rattle.law_simulation.specs.Joined.{IsProgress}

@@ -18,9 +18,9 @@ use Rattle.protocol.specs.Segments.{is_first_piece, is_last_piece}
 use Rattle.protocol.specs.Wire.{Packet, when}
 use Rattle.protocol.specs.EndWords.{is_paused}
 use Rattle.protocol.specs.Responder.{is_invalid, part_of, is_write, is_read_request, target, target_of, reth_target, read_grant, place_of}
-use Rattle.ideal_model.specs.Machine as machine
-use Rattle.ideal_model.specs.Machine.{Machine, End, regions_of}
-use Rattle.ideal_model.specs.Steps.{current, fills, right_for}
+use Rattle.packetless_machine.specs.Machine as machine
+use Rattle.packetless_machine.specs.Machine.{Machine, End, regions_of}
+use Rattle.packetless_machine.specs.Steps.{current, fills, right_for}
 use Rattle.law_simulation.specs.Packets.{class_of, IsRequest}
 use Rattle.law_simulation.specs.Joined.{IsProgress, is_granted_in}
 use Rattle.law_simulation.specs.Delivered as delivered

@@ -3,7 +3,7 @@ use Rattle.std.proofs.Common.{arith, ◌≡◌, ◌<◌, ◌≤◌, ◌+◌, ◌
 use Rattle.std.specs.Prelude.{Option, Some, None, if◌then◌else◌, is_some, not, nat_lt, nat_le, ◌==◌, ◌&&◌, ◌||◌}
 use Rattle.std.proofs.lemmas.Bool.Decides.{nat_tests, leb_tells}
 use Rattle.rdma_types.specs.declared.names.ObjName.{ObjName}
-use Rattle.rdma_types.specs.declared.answers.Why.TheVariants as whys
+use Rattle.rdma_types.specs.declared.answers.RefusalReason.TheVariants as whys
 use Rattle.rdma_types.specs.declared.requests.Receive.{Receive}
 use Rattle.rdma_types.specs.Kinds as kinds
 use Rattle.rdma_types.specs.Kinds.{kind_of, size_of}
@@ -16,10 +16,10 @@ use Rattle.protocol.specs.Wire.{Packet}
 use Rattle.protocol.specs.EndWords.{is_paused}
 use Rattle.protocol.specs.Responder.{no_repeat, refuses, not_ready, is_too_long, refuses_length, expected_packet, granted_packet, packet_acts, executed, is_invalid, target, is_not_ready, is_write, is_read_request, is_empty, begins, part_of}
 use Rattle.protocol.specs.Segments.{is_first_piece, is_last_piece}
-use Rattle.ideal_model.specs.declared.steps.IdealStep.TheVariants as steps
-use Rattle.ideal_model.specs.Machine as machine
-use Rattle.ideal_model.specs.Machine.{Machine, End, regions_of}
-use Rattle.ideal_model.specs.Steps.{current, fills, has_imm, has_unused, has_current, may_run, may_run_kind, may_add, may_atom, may_read, may_refuse, may_refuse_for, may_dry, may_dry_kind, is_current_granted, is_request_granted, is_granted_there, is_misaligned, right_for, peer_of}
+use Rattle.packetless_machine.specs.declared.steps.MachineStep.TheVariants as steps
+use Rattle.packetless_machine.specs.Machine as machine
+use Rattle.packetless_machine.specs.Machine.{Machine, End, regions_of}
+use Rattle.packetless_machine.specs.Steps.{current, fills, has_imm, has_unused, has_current, may_run, may_run_kind, may_add, may_atom, may_read, may_refuse, may_refuse_for, may_dry, may_dry_kind, is_current_granted, is_request_granted, is_granted_there, is_misaligned, right_for, peer_of}
 use Rattle.law_simulation.specs.Packets.{class_of, IsRequest}
 use Rattle.law_simulation.specs.Carries.{due_steps}
 use Rattle.law_simulation.specs.Views.{owned, owned_there}

@@ -4,7 +4,7 @@ use Rattle.std.specs.Prelude.{Option, Some, None, if◌then◌else◌, is_some, 
 use Rattle.std.proofs.lemmas.List.Elements.{All-nil, All-cons, All-weaker, All-take, All-drop}
 use Rattle.rdma_types.specs.declared.names.Name.{Name}
 use Rattle.rdma_types.specs.declared.names.ObjName.{ObjName}
-use Rattle.rdma_types.specs.declared.answers.Took.TheVariants as took
+use Rattle.rdma_types.specs.declared.answers.ArrivalEffect.TheVariants as took
 use Rattle.rdma_types.specs.declared.requests.Completion.{Completion}
 use Rattle.rdma_types.specs.declared.requests.Receive.{Receive}
 use Rattle.rdma_types.specs.declared.requests.WcKind.TheVariants as wc
@@ -23,16 +23,16 @@ use Rattle.protocol.specs.Segments.{is_first_piece, is_last_piece}
 use Rattle.protocol.specs.Wire.{Packet}
 use Rattle.protocol.specs.EndWords as words
 use Rattle.protocol.specs.EndWords.{is_paused}
-use Rattle.rdma_types.specs.declared.answers.Why.TheVariants as whys
+use Rattle.rdma_types.specs.declared.answers.RefusalReason.TheVariants as whys
 use Rattle.protocol.specs.Responder.{finished, begins, no_repeat, refuses, not_ready, is_too_long, refuses_length, receive_of, bytes_before, send_acts, read_acts, atomic_acts, with_immediate, Place, expected_packet, granted_packet, packet_acts, write_acts, write_done, acts, executed, in_progress, is_invalid, target, is_not_ready, is_send, is_write, is_read_request, span_of_packet, place_of, part_of, finishes, acknowledge, is_empty, front}
 use Rattle.protocol.specs.EndStep.{takes}
 use Rattle.protocol.specs.DeviceStep.{ended_step}
 use Rattle.protocol.specs.WorldStep.{home, ran}
-use Rattle.ideal_model.specs.declared.reply.Reply.{Reply}
-use Rattle.ideal_model.specs.declared.steps.IdealStep.TheVariants as steps
-use Rattle.ideal_model.specs.Machine as machine
-use Rattle.ideal_model.specs.Machine.{Machine, End, regions_of, put_at}
-use Rattle.ideal_model.specs.Steps.{untold, receive_for, unused_after, current, fills, has_imm, has_unused, has_current, may_run, may_run_kind, may_add, is_current_granted, is_request_granted, is_granted_there, right_for, peer_of, next_bytes, receiving, arrivals, received_whole, used_by, run}
+use Rattle.packetless_machine.specs.declared.reply.Reply.{Reply}
+use Rattle.packetless_machine.specs.declared.steps.MachineStep.TheVariants as steps
+use Rattle.packetless_machine.specs.Machine as machine
+use Rattle.packetless_machine.specs.Machine.{Machine, End, regions_of, put_at}
+use Rattle.packetless_machine.specs.Steps.{untold, receive_for, unused_after, current, fills, has_imm, has_unused, has_current, may_run, may_run_kind, may_add, is_current_granted, is_request_granted, is_granted_there, right_for, peer_of, next_bytes, receiving, arrivals, received_whole, used_by, run}
 use Rattle.law_simulation.specs.Packets.{class_of, IsRequest}
 use Rattle.law_simulation.specs.Views.{Owned, requests_of, side_of, owned, owned_there, receive_in, link_or_none}
 use Rattle.law_simulation.specs.Joined.{IsProgress, is_granted_in}

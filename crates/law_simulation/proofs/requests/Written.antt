@@ -12,8 +12,8 @@ use Rattle.rdma_types.specs.Objects.{Posted, Region, no_region}
 use Rattle.protocol.specs.State as state
 use Rattle.protocol.specs.Memory.{written, with_region, stored, region_of_key}
 use Rattle.protocol.specs.Responder.{Place}
-use Rattle.ideal_model.specs.Machine.{put_at}
-use Rattle.ideal_model.specs.Steps.{right_for}
+use Rattle.packetless_machine.specs.Machine.{put_at}
+use Rattle.packetless_machine.specs.Steps.{right_for}
 use Rattle.law_simulation.specs.Joined.{IsWriting, is_granted_in}
 use Rattle.law_simulation.proofs.relation.Grants.{contains_cases, contains_here, contains_later}
 use Rattle.law_simulation.proofs.relation.Tables.{count_by-cons}

@@ -13,12 +13,12 @@ use Rattle.protocol.specs.Requester as requester
 use Rattle.protocol.specs.Requester.{advanced, after_telling, ended_with, told_completions, told_count, telling}
 use Rattle.protocol.specs.DeviceStep as device
 use Rattle.protocol.specs.WorldStep.{home, ran}
-use Rattle.ideal_model.specs.Legal.{after}
-use Rattle.ideal_model.specs.Machine as machine
-use Rattle.ideal_model.specs.Machine.{Machine, End}
-use Rattle.ideal_model.specs.Numbers.{due, oldest, barrier}
-use Rattle.ideal_model.specs.Sound.{IsSound}
-use Rattle.ideal_model.specs.Steps as making
+use Rattle.packetless_machine.specs.Legal.{after}
+use Rattle.packetless_machine.specs.Machine as machine
+use Rattle.packetless_machine.specs.Machine.{Machine, End}
+use Rattle.packetless_machine.specs.Numbers.{due, oldest, barrier}
+use Rattle.packetless_machine.specs.Sound.{IsSound}
+use Rattle.packetless_machine.specs.Steps as making
 use Rattle.law_simulation.specs.Named.{learning, tells}
 use Rattle.law_simulation.specs.Views.{requests_of}
 use Rattle.law_simulation.specs.Joined.{IsFencedIn, lands_untold_before}

@@ -8,7 +8,7 @@ use Rattle.protocol.specs.declared.wire.Aeth.{Aeth}
 use Rattle.protocol.specs.declared.wire.ResumeBody.{ResumeBody}
 use Rattle.protocol.specs.declared.wire.Syndrome.{Syndrome}
 use Rattle.protocol.specs.declared.wire.Syndrome.TheVariants.{Ack, Rnr, Nak}
-use Rattle.rdma_types.specs.declared.answers.SilentWhy.TheVariants as why
+use Rattle.rdma_types.specs.declared.answers.DropReason.TheVariants as why
 use Rattle.protocol.specs.EndStep.{takes, takes_kind}
 use Rattle.protocol.specs.EndWords as words
 use Rattle.protocol.specs.Moves.{control_of, resuming_of, stopped_of}
@@ -18,10 +18,10 @@ use Rattle.protocol.specs.Responder.{takes_request}
 use Rattle.protocol.specs.State.{World, Link}
 use Rattle.protocol.specs.Wire.{Packet, packet_of, layout_of, is_nak_stopped, is_read_response, is_request, is_stopped, has_resume, when, read_resume}
 use Rattle.protocol.proofs.NearNumbers.{known}
-use Rattle.roce_headers.proofs.Grammar.{read_spelled}
-use Rattle.ideal_model.specs.Machine as machine
-use Rattle.ideal_model.specs.Machine.{Machine}
-use Rattle.ideal_model.specs.Numbers.{due}
+use Rattle.protocol.proofs.PacketGrammar.{read_spelled}
+use Rattle.packetless_machine.specs.Machine as machine
+use Rattle.packetless_machine.specs.Machine.{Machine}
+use Rattle.packetless_machine.specs.Numbers.{due}
 use Rattle.law_simulation.specs.Facts.{IsNumbered}
 use Rattle.law_simulation.specs.Packets.{Class, class_of, aeth_class, syndrome_class, nak_class, resume_class, IsRequest, IsReadResponse, IsAtomicResponse, IsAck, IsSequenceNak, IsRefusal, IsReceiverNotReady, IsStopped, IsResume, IsResumeAck, IsNothing}
 use Rattle.protocol.specs.WorldStep.{is_carried}

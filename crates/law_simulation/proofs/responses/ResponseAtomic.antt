@@ -5,8 +5,8 @@ use Rattle.std.proofs.Math.Nat.{zero-mod, zero-div}
 use Rattle.std.proofs.lemmas.Bool.Decides.{nat_tests, leb_tells, eqb_tells}
 use Rattle.std.proofs.lemmas.List.{get_or-drop, length-drop}
 use Rattle.rdma_types.specs.declared.names.ObjName.{ObjName}
-use Rattle.rdma_types.specs.declared.answers.Took.{Took}
-use Rattle.rdma_types.specs.declared.answers.Took.TheVariants as took
+use Rattle.rdma_types.specs.declared.answers.ArrivalEffect.{ArrivalEffect}
+use Rattle.rdma_types.specs.declared.answers.ArrivalEffect.TheVariants as took
 use Rattle.rdma_types.specs.Kinds.{is_atomic, is_read, kind_of, size_of}
 use Rattle.rdma_types.specs.Memory.{is_granted, landing_right, local_key, word_bytes}
 use Rattle.rdma_types.specs.Objects.{Posted, Region, no_posted}
@@ -23,15 +23,15 @@ use Rattle.protocol.specs.Requester.{advanced, after_telling, is_this_piece, lan
 use Rattle.protocol.specs.State.{World, Link, Sender}
 use Rattle.protocol.specs.Wire.{Packet, packet_of, is_read_response, is_request, has_resume, layout_of}
 use Rattle.protocol.specs.DeviceStep.{took_answer}
-use Rattle.roce_headers.proofs.Grammar.{read_spelled}
-use Rattle.ideal_model.specs.declared.reply.Reply.TheVariants.{OldValue}
-use Rattle.ideal_model.specs.declared.steps.IdealStep.{IdealStep}
-use Rattle.ideal_model.specs.declared.steps.IdealStep.TheVariants as steps
-use Rattle.ideal_model.specs.Legal.{after}
-use Rattle.ideal_model.specs.Machine as machine
-use Rattle.ideal_model.specs.Machine.{Machine, End, posted_at, put_at, regions_of}
-use Rattle.ideal_model.specs.Numbers.{due, oldest}
-use Rattle.ideal_model.specs.Steps.{front, may_tell, success, tell, told_one, untold, with_known}
+use Rattle.protocol.proofs.PacketGrammar.{read_spelled}
+use Rattle.packetless_machine.specs.declared.reply.Reply.TheVariants.{OldValue}
+use Rattle.packetless_machine.specs.declared.steps.MachineStep.{MachineStep}
+use Rattle.packetless_machine.specs.declared.steps.MachineStep.TheVariants as steps
+use Rattle.packetless_machine.specs.Legal.{after}
+use Rattle.packetless_machine.specs.Machine as machine
+use Rattle.packetless_machine.specs.Machine.{Machine, End, posted_at, put_at, regions_of}
+use Rattle.packetless_machine.specs.Numbers.{due, oldest}
+use Rattle.packetless_machine.specs.Steps.{front, may_tell, success, tell, told_one, untold, with_known}
 use Rattle.law_simulation.specs.Carries.{LandsOld}
 use Rattle.law_simulation.specs.Facts.{ClassFact, IsOld, MoveFact, NumberedFact}
 use Rattle.law_simulation.specs.Joined.{IsFencedIn, lands_untold_before}
@@ -122,10 +122,10 @@ module _ (w : World) (m : Machine) (o : ObjName) (l : Link) (n : ℕ) (bytes : L
   abbrev f : End
   f = machine.end_of m o
 
-  abbrev Allowed : List IdealStep → Type 0
+  abbrev Allowed : List MachineStep → Type 0
   Allowed ss = (ss ≡ []) ⊎ LandsOld m o n ss
 
-  abbrev Named : Took → List IdealStep
+  abbrev Named : ArrivalEffect → List MachineStep
   Named t = if is_landed t then old_steps o f n else []
 
   abbrev Reached : words.EndStep → Type 0
@@ -198,7 +198,7 @@ module _ (w : World) (m : Machine) (o : ObjName) (l : Link) (n : ℕ) (bytes : L
 
     -- ---- the machine
 
-    abbrev ss : List IdealStep
+    abbrev ss : List MachineStep
     ss = (heard w m o l a.stands h a.alive n low within acts).steps
 
     abbrev m' : Machine

@@ -2,7 +2,7 @@
 use Rattle.std.proofs.Common.{arith, ◌≡◌, ◌≤◌, ◌+◌, ◌-◌, ◌%◌, ℕ, List, true, false, Bool, refl, sym, ap, ◌∙◌, subst}
 use Rattle.std.specs.Prelude.{Option, Some, None, IsTrue, not, ◌==◌, ◌&&◌, ◌||◌, if◌then◌else◌}
 use Rattle.rdma_types.specs.declared.names.ObjName.{ObjName}
-use Rattle.rdma_types.specs.declared.answers.SilentWhy.TheVariants as why
+use Rattle.rdma_types.specs.declared.answers.DropReason.TheVariants as why
 use Rattle.rdma_types.specs.Kinds.{kind_of, lands}
 use Rattle.rdma_types.specs.Spans.{Piece, first_number, piece_at, next_landing}
 use Rattle.protocol.specs.declared.wire.Syndrome.TheVariants.{Ack, Rnr, Nak}
@@ -15,9 +15,9 @@ use Rattle.protocol.specs.Requester.{takes_response, takes_aeth, takes_landing, 
 use Rattle.protocol.specs.Responder.{takes_request}
 use Rattle.protocol.specs.State.{World, Link}
 use Rattle.protocol.specs.Wire.{Packet, Spells, has_aeth, has_resume, is_nak_stopped, is_read_response, is_request, is_stopped, is_syndrome, read_aeth, read_resume, read_syndrome, syndrome_type, when}
-use Rattle.ideal_model.specs.Machine as machine
-use Rattle.ideal_model.specs.Machine.{Machine}
-use Rattle.ideal_model.specs.Numbers.{due, oldest}
+use Rattle.packetless_machine.specs.Machine as machine
+use Rattle.packetless_machine.specs.Machine.{Machine}
+use Rattle.packetless_machine.specs.Numbers.{due, oldest}
 use Rattle.law_simulation.specs.Facts.{IsNumbered}
 use Rattle.law_simulation.specs.Views.{side_of}
 use Rattle.law_simulation.specs.Delivered.{Arrives, context_there, end_there}

@@ -4,9 +4,9 @@ use Rattle.std.specs.Prelude.{Option, Some, min, if◌then◌else◌}
 use Rattle.std.proofs.lemmas.Bool.Decides.{nat_tests, leb_tells}
 use Rattle.std.proofs.lemmas.List.{append-nil}
 use Rattle.rdma_types.specs.declared.names.ObjName.{ObjName}
-use Rattle.rdma_types.specs.declared.answers.SilentWhy.TheVariants as why
-use Rattle.rdma_types.specs.declared.answers.Took.{Took}
-use Rattle.rdma_types.specs.declared.answers.Took.TheVariants as took
+use Rattle.rdma_types.specs.declared.answers.DropReason.TheVariants as why
+use Rattle.rdma_types.specs.declared.answers.ArrivalEffect.{ArrivalEffect}
+use Rattle.rdma_types.specs.declared.answers.ArrivalEffect.TheVariants as took
 use Rattle.rdma_types.specs.Objects.{Posted}
 use Rattle.rdma_types.specs.Spans.{next_landing, span_of}
 use Rattle.protocol.specs.EndStep.{takes}
@@ -17,11 +17,11 @@ use Rattle.protocol.specs.State.{World, Link}
 use Rattle.protocol.specs.Wire.{Packet}
 use Rattle.protocol.specs.DeviceStep.{ended_step, took_answer}
 use Rattle.protocol.specs.WorldStep.{home, ran}
-use Rattle.ideal_model.specs.declared.steps.IdealStep.{IdealStep}
-use Rattle.ideal_model.specs.Legal.{IsRun, after}
-use Rattle.ideal_model.specs.Machine as machine
-use Rattle.ideal_model.specs.Machine.{Machine}
-use Rattle.ideal_model.specs.Numbers.{due, oldest}
+use Rattle.packetless_machine.specs.declared.steps.MachineStep.{MachineStep}
+use Rattle.packetless_machine.specs.Legal.{IsRun, after}
+use Rattle.packetless_machine.specs.Machine as machine
+use Rattle.packetless_machine.specs.Machine.{Machine}
+use Rattle.packetless_machine.specs.Numbers.{due, oldest}
 use Rattle.law_simulation.specs.Carries.{CarriesNumbered, TellsUpTo, before_barrier}
 use Rattle.law_simulation.specs.Named.{acknowledged_steps, is_learned, last_step, learning, numbered_steps}
 use Rattle.law_simulation.specs.Packets.{Class, class_of}
@@ -33,8 +33,8 @@ use Rattle.law_simulation.proofs.responses.ResponseAdvance.{Knows, advanced_know
 
 -- the machine makes such inner steps, those that are named by what the datagram was taken for, and the relation is kept where
 -- the end's step was this
-pub record IsTaken (w : World) (m : Machine) (o : ObjName) (P : List IdealStep → Type 0) (N : Took → List IdealStep) (step : words.EndStep) : Type 0 where
-  pub steps : List IdealStep
+pub record IsTaken (w : World) (m : Machine) (o : ObjName) (P : List MachineStep → Type 0) (N : ArrivalEffect → List MachineStep) (step : words.EndStep) : Type 0 where
+  pub steps : List MachineStep
   pub inner : AreInner steps
   pub is_run : IsRun m steps
   pub allowed : P steps
@@ -52,7 +52,7 @@ taken_takes w m o l n d c step is same t = record {
 }
 
 -- nothing happens
-pub nothing_taken : (w : World) (m : Machine) (o : ObjName) (l : Link) (P : List IdealStep → Type 0) (N : Took → List IdealStep) (number : Option ℕ) (bytes : List ℕ) (d : Packet) → Arrives w m o l number bytes d → P [] → [] ≡ N (took.Silent why.Useless) → IsTaken w m o P N (useless (context_there w o))
+pub nothing_taken : (w : World) (m : Machine) (o : ObjName) (l : Link) (P : List MachineStep → Type 0) (N : ArrivalEffect → List MachineStep) (number : Option ℕ) (bytes : List ℕ) (d : Packet) → Arrives w m o l number bytes d → P [] → [] ≡ N (took.Silent why.Useless) → IsTaken w m o P N (useless (context_there w o))
 nothing_taken w m o l P N number bytes d a p q = record { steps = []; inner = tt; is_run = tt; allowed = p; named = q; stands = unchanged_stands w m o.context (took.Silent why.Useless) a.stands a.live }
 
 pub no_tells : (m : Machine) (o : ObjName) (limit : ℕ) → TellsUpTo m o limit []
@@ -66,7 +66,7 @@ unfolding acknowledged_steps is_learned
 useless_named m o limit = refl
 
 -- what is learned, and the last step
-pub step_named : (m : Machine) (o : ObjName) (limit : ℕ) (t : Took) (ss last : List IdealStep) → is_learned t ≡ true → ss ≡ learning o (machine.end_of m o) limit → last ≡ last_step o t → ss ++ last ≡ acknowledged_steps m o limit t
+pub step_named : (m : Machine) (o : ObjName) (limit : ℕ) (t : ArrivalEffect) (ss last : List MachineStep) → is_learned t ≡ true → ss ≡ learning o (machine.end_of m o) limit → last ≡ last_step o t → ss ++ last ≡ acknowledged_steps m o limit t
 unfolding acknowledged_steps
 step_named m o limit t ss last learned are is =
     ap (λ z. z ++ last) are
@@ -74,11 +74,11 @@ step_named m o limit t ss last learned are is =
     ∙ sym (ap (λ b. if b then learning o (machine.end_of m o) limit ++ last_step o t else []) learned))
 
 -- .. where it is none
-pub acked_named : (m : Machine) (o : ObjName) (limit : ℕ) (ss : List IdealStep) → ss ≡ learning o (machine.end_of m o) limit → ss ≡ acknowledged_steps m o limit took.Acked
+pub acked_named : (m : Machine) (o : ObjName) (limit : ℕ) (ss : List MachineStep) → ss ≡ learning o (machine.end_of m o) limit → ss ≡ acknowledged_steps m o limit took.Acked
 unfolding is_learned last_step
 acked_named m o limit ss are = sym (append-nil ss) ∙ step_named m o limit took.Acked ss [] refl are refl
 
-pub rewound_named : (m : Machine) (o : ObjName) (limit : ℕ) (ss : List IdealStep) → ss ≡ learning o (machine.end_of m o) limit → ss ≡ acknowledged_steps m o limit took.Rewound
+pub rewound_named : (m : Machine) (o : ObjName) (limit : ℕ) (ss : List MachineStep) → ss ≡ learning o (machine.end_of m o) limit → ss ≡ acknowledged_steps m o limit took.Rewound
 unfolding is_learned last_step
 rewound_named m o limit ss are = sym (append-nil ss) ∙ step_named m o limit took.Rewound ss [] refl are refl
 
@@ -120,7 +120,7 @@ module _ (w : World) (m : Machine) (o : ObjName) (l : Link) (s : Stands w m) (h 
   heard_are = (heard w m o l s h alive (up_to l k) low_too within_too acts_too).are ∙ ap (λ b. learning o (machine.end_of m o) (min k b)) (barrier_same w m o l s h alive)
 
   -- .. and the requester goes on
-  pub learned_taken : (P : List IdealStep → Type 0) (N : Took → List IdealStep) (t : Took) → P (heard w m o l s h alive (up_to l k) low_too within_too acts_too).steps → (heard w m o l s h alive (up_to l k) low_too within_too acts_too).steps ≡ N t → IsTaken w m o P N (words.stays (telling (context_there w o) (end_there w o) l (acknowledged l k)) t)
+  pub learned_taken : (P : List MachineStep → Type 0) (N : ArrivalEffect → List MachineStep) (t : ArrivalEffect) → P (heard w m o l s h alive (up_to l k) low_too within_too acts_too).steps → (heard w m o l s h alive (up_to l k) low_too within_too acts_too).steps ≡ N t → IsTaken w m o P N (words.stays (telling (context_there w o) (end_there w o) l (acknowledged l k)) t)
   learned_taken P N t p q =
       let x = heard w m o l s h alive (up_to l k) low_too within_too acts_too in
       record {
@@ -148,7 +148,7 @@ module _ (w : World) (m : Machine) (o : ObjName) (l : Link) (s : Stands w m) (h 
       }
 
   -- .. and sends again from there
-  pub rewound_taken : (P : List IdealStep → Type 0) (N : Took → List IdealStep) (t : Took) → P (heard w m o l s h alive (up_to l k) low_too within_too acts_too).steps → (heard w m o l s h alive (up_to l k) low_too within_too acts_too).steps ≡ N t → IsTaken w m o P N (words.stays (telling (context_there w o) (end_there w o) l (rewound (acknowledged l k))) t)
+  pub rewound_taken : (P : List MachineStep → Type 0) (N : ArrivalEffect → List MachineStep) (t : ArrivalEffect) → P (heard w m o l s h alive (up_to l k) low_too within_too acts_too).steps → (heard w m o l s h alive (up_to l k) low_too within_too acts_too).steps ≡ N t → IsTaken w m o P N (words.stays (telling (context_there w o) (end_there w o) l (rewound (acknowledged l k))) t)
   rewound_taken P N t p q =
       let x = heard w m o l s h alive (up_to l k) low_too within_too acts_too in
       record {

@@ -9,9 +9,9 @@ use Rattle.rdma_types.specs.Lists.{has_name, named, store_named}
 use Rattle.rdma_types.specs.Memory.{local_key}
 use Rattle.rdma_types.specs.Objects.{CompletionQueue, Posted, Region, no_queue}
 use Rattle.rdma_types.specs.Spans.{Piece, piece_at, piece_of, span_of}
-use Rattle.ideal_model.specs.Machine as machine
-use Rattle.ideal_model.specs.Machine.{Machine, End, Offered, has_context, put_at, regions_of}
-use Rattle.ideal_model.specs.Steps.{bytes_of, front, land_at, landed, putting, with_known}
+use Rattle.packetless_machine.specs.Machine as machine
+use Rattle.packetless_machine.specs.Machine.{Machine, End, Offered, has_context, put_at, regions_of}
+use Rattle.packetless_machine.specs.Steps.{bytes_of, front, land_at, landed, putting, with_known}
 use Rattle.law_simulation.proofs.relation.Tables.{has_name-store, name-named_there, named-store_same}
 use Rattle.law_simulation.proofs.relation.Machines as machines
 use Rattle.law_simulation.proofs.relation.Machines.{MachineChanged, context_name, with_context_changed}

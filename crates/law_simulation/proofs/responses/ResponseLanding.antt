@@ -14,9 +14,9 @@ use Rattle.protocol.specs.EndWords as words
 use Rattle.protocol.specs.Requester.{after_telling, told_completions, telling}
 use Rattle.protocol.specs.DeviceStep as device
 use Rattle.protocol.specs.WorldStep.{home, ran}
-use Rattle.ideal_model.specs.Machine as machine
-use Rattle.ideal_model.specs.Machine.{Machine, End, has_end}
-use Rattle.ideal_model.specs.Steps.{front, success, told_one}
+use Rattle.packetless_machine.specs.Machine as machine
+use Rattle.packetless_machine.specs.Machine.{Machine, End, has_end}
+use Rattle.packetless_machine.specs.Steps.{front, success, told_one}
 use Rattle.law_simulation.specs.Views.{owned, owned_there, requests_of}
 use Rattle.law_simulation.specs.Stands.{Stands, IsContextSound, IsEndSound}
 use Rattle.law_simulation.proofs.relation.Ends.{completing_there, ends_store, with_more, with_more_names}

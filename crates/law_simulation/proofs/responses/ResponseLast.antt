@@ -7,13 +7,13 @@ use Rattle.rdma_types.specs.declared.names.ObjName.{ObjName}
 use Rattle.rdma_types.specs.Spans.{end_number, request_of, span_of}
 use Rattle.protocol.specs.Requester as requester
 use Rattle.protocol.specs.State.{World, Link}
-use Rattle.ideal_model.specs.declared.steps.IdealStep.{IdealStep}
-use Rattle.ideal_model.specs.declared.steps.IdealStep.TheVariants as steps
-use Rattle.ideal_model.specs.Legal.{IsRun, after, effect}
-use Rattle.ideal_model.specs.Machine as machine
-use Rattle.ideal_model.specs.Machine.{Machine, End, posted_at}
-use Rattle.ideal_model.specs.Numbers.{due}
-use Rattle.ideal_model.specs.Steps.{has_untold}
+use Rattle.packetless_machine.specs.declared.steps.MachineStep.{MachineStep}
+use Rattle.packetless_machine.specs.declared.steps.MachineStep.TheVariants as steps
+use Rattle.packetless_machine.specs.Legal.{IsRun, after, effect}
+use Rattle.packetless_machine.specs.Machine as machine
+use Rattle.packetless_machine.specs.Machine.{Machine, End, posted_at}
+use Rattle.packetless_machine.specs.Numbers.{due}
+use Rattle.packetless_machine.specs.Steps.{has_untold}
 use Rattle.law_simulation.specs.Carries.{TellsUpTo, TellsThenMaybe}
 use Rattle.law_simulation.specs.Stands.{Stands}
 use Rattle.law_simulation.specs.Delivered.{AreInner}
@@ -26,15 +26,15 @@ use Rattle.law_simulation.proofs.responses.ResponseNumbers.{request_inside}
 
 -- ---- runs
 
-pub run_then : (xs ys : List IdealStep) (m : Machine) → IsRun m xs → IsRun (after m xs) ys → IsRun m (xs ++ ys)
+pub run_then : (xs ys : List MachineStep) (m : Machine) → IsRun m xs → IsRun (after m xs) ys → IsRun m (xs ++ ys)
 run_then [] ys m a b = b
 run_then (x ∷ xs) ys m a b = (a.0, run_then xs ys (effect m x) a.1 b)
 
-pub after_then : (xs ys : List IdealStep) (m : Machine) → after m (xs ++ ys) ≡ after (after m xs) ys
+pub after_then : (xs ys : List MachineStep) (m : Machine) → after m (xs ++ ys) ≡ after (after m xs) ys
 after_then [] ys m = refl
 after_then (x ∷ xs) ys m = after_then xs ys (effect m x)
 
-pub inner_then : (xs ys : List IdealStep) → AreInner xs → AreInner ys → AreInner (xs ++ ys)
+pub inner_then : (xs ys : List MachineStep) → AreInner xs → AreInner ys → AreInner (xs ++ ys)
 inner_then [] ys a b = b
 inner_then (steps.Verb verb given ∷ xs) ys a b = absurd a
 inner_then (steps.Run q n ∷ xs) ys a b = inner_then xs ys a b
@@ -50,10 +50,10 @@ inner_then (steps.Expire q ∷ xs) ys a b = inner_then xs ys a b
 inner_then (steps.Wait q ∷ xs) ys a b = inner_then xs ys a b
 inner_then (steps.Bounce q ∷ xs) ys a b = inner_then xs ys a b
 
-pub then_none : (m : Machine) (o : ObjName) (limit : ℕ) (step : IdealStep) (ss : List IdealStep) → TellsUpTo m o limit ss → TellsThenMaybe m o limit step ss
+pub then_none : (m : Machine) (o : ObjName) (limit : ℕ) (step : MachineStep) (ss : List MachineStep) → TellsUpTo m o limit ss → TellsThenMaybe m o limit step ss
 then_none m o limit step ss t = record { tells = ss; last = []; are = sym (append-nil ss); told = t; at_most = inl refl }
 
-pub then_one : (m : Machine) (o : ObjName) (limit : ℕ) (step : IdealStep) (ss : List IdealStep) → TellsUpTo m o limit ss → TellsThenMaybe m o limit step (ss ++ step ∷ [])
+pub then_one : (m : Machine) (o : ObjName) (limit : ℕ) (step : MachineStep) (ss : List MachineStep) → TellsUpTo m o limit ss → TellsThenMaybe m o limit step (ss ++ step ∷ [])
 then_one m o limit step ss t = record { tells = ss; last = step ∷ []; are = refl; told = t; at_most = inr refl }
 
 less_tells : (a b : ℕ) → a < b → nat_lt a b ≡ true

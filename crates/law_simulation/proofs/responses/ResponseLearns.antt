@@ -10,12 +10,12 @@ use Rattle.rdma_types.specs.Kinds.{is_atomic, kind_of, lands, size_of}
 use Rattle.rdma_types.specs.Limits.{is_mtu}
 use Rattle.rdma_types.specs.Objects.{Posted, no_posted}
 use Rattle.rdma_types.specs.Spans.{span_of, first_number, end_number, next_landing, piece_of, request_of}
-use Rattle.ideal_model.specs.declared.reply.Reply.{Reply}
-use Rattle.ideal_model.specs.declared.reply.Reply.TheVariants.{Finished, OldValue, Denied}
-use Rattle.ideal_model.specs.Machine.{End, posted_at}
-use Rattle.ideal_model.specs.Numbers.{due, oldest, barrier}
-use Rattle.ideal_model.specs.Sound.{IsSound, IsReplyTo}
-use Rattle.ideal_model.specs.Steps.{current, front, in_place, told_one, with_known}
+use Rattle.packetless_machine.specs.declared.reply.Reply.{Reply}
+use Rattle.packetless_machine.specs.declared.reply.Reply.TheVariants.{Finished, OldValue, Denied}
+use Rattle.packetless_machine.specs.Machine.{End, posted_at}
+use Rattle.packetless_machine.specs.Numbers.{due, oldest, barrier}
+use Rattle.packetless_machine.specs.Sound.{IsSound, IsReplyTo}
+use Rattle.packetless_machine.specs.Steps.{current, front, in_place, told_one, with_known}
 use Rattle.law_simulation.specs.Carries.{piece_at, request_at}
 use Rattle.law_simulation.specs.Joined.{AreWholePieces}
 use Rattle.law_simulation.specs.Named.{known_bytes, learning, tells}

@@ -7,8 +7,8 @@ use Rattle.std.proofs.lemmas.Bool.Decides.{nat_tests, leb_tells, eqb_tells}
 use Rattle.std.proofs.lemmas.List.{append-nil}
 use Rattle.std.proofs.lemmas.List.Folds.{list_any_at}
 use Rattle.rdma_types.specs.declared.names.ObjName.{ObjName}
-use Rattle.rdma_types.specs.declared.answers.Took.{Took}
-use Rattle.rdma_types.specs.declared.answers.Took.TheVariants as took
+use Rattle.rdma_types.specs.declared.answers.ArrivalEffect.{ArrivalEffect}
+use Rattle.rdma_types.specs.declared.answers.ArrivalEffect.TheVariants as took
 use Rattle.rdma_types.specs.declared.requests.WcStatus.TheVariants as status
 use Rattle.rdma_types.specs.Lists.{store_named}
 use Rattle.rdma_types.specs.Spans.{end_number, request_of}
@@ -23,14 +23,14 @@ use Rattle.protocol.specs.State.{World, Link, Sender}
 use Rattle.protocol.specs.Wire.{Packet}
 use Rattle.protocol.specs.DeviceStep.{ended_step, took_answer}
 use Rattle.protocol.specs.WorldStep.{home, ran}
-use Rattle.ideal_model.specs.declared.steps.IdealStep.{IdealStep}
-use Rattle.ideal_model.specs.declared.steps.IdealStep.TheVariants as steps
-use Rattle.ideal_model.specs.Legal.{after}
-use Rattle.ideal_model.specs.Machine as machine
-use Rattle.ideal_model.specs.Machine.{Machine, End}
-use Rattle.ideal_model.specs.Numbers.{due}
-use Rattle.ideal_model.specs.Steps as making
-use Rattle.ideal_model.specs.Steps.{may_wait, wait}
+use Rattle.packetless_machine.specs.declared.steps.MachineStep.{MachineStep}
+use Rattle.packetless_machine.specs.declared.steps.MachineStep.TheVariants as steps
+use Rattle.packetless_machine.specs.Legal.{after}
+use Rattle.packetless_machine.specs.Machine as machine
+use Rattle.packetless_machine.specs.Machine.{Machine, End}
+use Rattle.packetless_machine.specs.Numbers.{due}
+use Rattle.packetless_machine.specs.Steps as making
+use Rattle.packetless_machine.specs.Steps.{may_wait, wait}
 use Rattle.law_simulation.specs.Carries.{TellsThenMaybe, before_barrier}
 use Rattle.law_simulation.specs.Facts.{ClassFact, IsDry, MoveFact, NumberedFact}
 use Rattle.law_simulation.specs.Named.{acknowledged_steps, ending, is_learned, last_step}
@@ -116,10 +116,10 @@ module _ (w : World) (m : Machine) (o : ObjName) (l : Link) (n : ℕ) (bytes : L
   abbrev f : End
   f = machine.end_of m o
 
-  abbrev Allowed : List IdealStep → Type 0
+  abbrev Allowed : List MachineStep → Type 0
   Allowed ss = TellsThenMaybe m o (before_barrier m o n) (steps.Wait o) ss
 
-  abbrev Named : Took → List IdealStep
+  abbrev Named : ArrivalEffect → List MachineStep
   Named = acknowledged_steps m o (before_barrier m o n)
 
   abbrev Reached : words.EndStep → Type 0
@@ -166,7 +166,7 @@ module _ (w : World) (m : Machine) (o : ObjName) (l : Link) (n : ℕ) (bytes : L
       inside : up < end_number f.posted f.mtu
       inside = omega (arith, all, top, (ordered_here w m o l a.stands h).top_end)
 
-      abbrev ss : List IdealStep
+      abbrev ss : List MachineStep
       ss = (heard w m o l a.stands h a.alive up low' within' acts').steps
 
       abbrev m' : Machine

@@ -12,12 +12,12 @@ use Rattle.rdma_types.specs.Lists.{has_name, named, store_named}
 use Rattle.rdma_types.specs.Memory.{local_key, word_bytes}
 use Rattle.rdma_types.specs.Objects.{Posted, Region}
 use Rattle.rdma_types.specs.Spans.{Piece, next_landing, piece_at, span_of}
-use Rattle.ideal_model.specs.declared.reply.Reply.{Reply}
-use Rattle.ideal_model.specs.declared.reply.Reply.TheVariants.{OldValue}
-use Rattle.ideal_model.specs.Machine as machine
-use Rattle.ideal_model.specs.Machine.{Machine, End, put_at, regions_of}
-use Rattle.ideal_model.specs.Sound.{IsDenial}
-use Rattle.ideal_model.specs.Steps.{front, put_old, putting, success, tell, tell_at, told_one}
+use Rattle.packetless_machine.specs.declared.reply.Reply.{Reply}
+use Rattle.packetless_machine.specs.declared.reply.Reply.TheVariants.{OldValue}
+use Rattle.packetless_machine.specs.Machine as machine
+use Rattle.packetless_machine.specs.Machine.{Machine, End, put_at, regions_of}
+use Rattle.packetless_machine.specs.Sound.{IsDenial}
+use Rattle.packetless_machine.specs.Steps.{front, put_old, putting, success, tell, tell_at, told_one}
 use Rattle.law_simulation.proofs.relation.Machines as machines
 use Rattle.law_simulation.proofs.relation.Machines.{MachineChanged, context_name, with_context_changed, queue_stored}
 use Rattle.law_simulation.proofs.relation.Ends.{with_more}

@@ -7,8 +7,8 @@ use Rattle.std.proofs.lemmas.List.Elements.{All-contains}
 use Rattle.std.proofs.lemmas.List.{append-nil, get_or-drop, length-drop}
 use Rattle.std.proofs.lemmas.Slice.Eq.{bytes_eq-Decides}
 use Rattle.rdma_types.specs.declared.names.ObjName.{ObjName}
-use Rattle.rdma_types.specs.declared.answers.Took.{Took}
-use Rattle.rdma_types.specs.declared.answers.Took.TheVariants as took
+use Rattle.rdma_types.specs.declared.answers.ArrivalEffect.{ArrivalEffect}
+use Rattle.rdma_types.specs.declared.answers.ArrivalEffect.TheVariants as took
 use Rattle.rdma_types.specs.declared.requests.Kind.{Kind}
 use Rattle.rdma_types.specs.declared.requests.Kind.TheVariants.{Write, Send, Read, CompareSwap, FetchAdd}
 use Rattle.rdma_types.specs.Limits.{is_mtu}
@@ -28,18 +28,18 @@ use Rattle.protocol.specs.Requester.{advanced, after_telling, is_this_piece, lan
 use Rattle.protocol.specs.State.{World, Link, Sender}
 use Rattle.protocol.specs.Wire.{Packet, packet_of, is_read_response, is_request, has_resume, layout_of}
 use Rattle.protocol.specs.DeviceStep.{took_answer}
-use Rattle.roce_headers.proofs.Grammar.{read_spelled}
-use Rattle.ideal_model.specs.Sound.{IsReplyTo}
-use Rattle.ideal_model.specs.declared.reply.Reply.{Reply}
-use Rattle.ideal_model.specs.declared.reply.Reply.TheVariants.{Finished, OldValue, Denied}
-use Rattle.ideal_model.specs.declared.steps.IdealStep.{IdealStep}
-use Rattle.ideal_model.specs.declared.steps.IdealStep.TheVariants as steps
-use Rattle.ideal_model.specs.Legal.{IsRun, after}
-use Rattle.ideal_model.specs.Machine as machine
-use Rattle.ideal_model.specs.Machine.{Machine, End, Offered, posted_at, put_at, regions_of}
-use Rattle.ideal_model.specs.Tables.{place_where}
-use Rattle.ideal_model.specs.Numbers.{due, oldest}
-use Rattle.ideal_model.specs.Steps.{front, has_untold, landed, may_land, may_land_offer, may_tell, success, tell, told_one, untold, with_known}
+use Rattle.protocol.proofs.PacketGrammar.{read_spelled}
+use Rattle.packetless_machine.specs.Sound.{IsReplyTo}
+use Rattle.packetless_machine.specs.declared.reply.Reply.{Reply}
+use Rattle.packetless_machine.specs.declared.reply.Reply.TheVariants.{Finished, OldValue, Denied}
+use Rattle.packetless_machine.specs.declared.steps.MachineStep.{MachineStep}
+use Rattle.packetless_machine.specs.declared.steps.MachineStep.TheVariants as steps
+use Rattle.packetless_machine.specs.Legal.{IsRun, after}
+use Rattle.packetless_machine.specs.Machine as machine
+use Rattle.packetless_machine.specs.Machine.{Machine, End, Offered, posted_at, put_at, regions_of}
+use Rattle.packetless_machine.specs.Tables.{place_where}
+use Rattle.packetless_machine.specs.Numbers.{due, oldest}
+use Rattle.packetless_machine.specs.Steps.{front, has_untold, landed, may_land, may_land_offer, may_tell, success, tell, told_one, untold, with_known}
 use Rattle.law_simulation.specs.Carries.{Lands, land_steps, tell_steps}
 use Rattle.law_simulation.specs.Facts.{ClassFact, IsOffered, MoveFact, NumberedFact}
 use Rattle.law_simulation.specs.Joined.{AreWholePieces, IsFencedIn, lands_untold_before}
@@ -161,10 +161,10 @@ module _ (w : World) (m : Machine) (o : ObjName) (l : Link) (n : ℕ) (bytes : L
   abbrev f : End
   f = machine.end_of m o
 
-  abbrev Allowed : List IdealStep → Type 0
+  abbrev Allowed : List MachineStep → Type 0
   Allowed ss = (ss ≡ []) ⊎ Lands m o n d.payload ss
 
-  abbrev Named : Took → List IdealStep
+  abbrev Named : ArrivalEffect → List MachineStep
   Named t = if is_landed t then read_steps o f n d.payload else []
 
   abbrev Reached : words.EndStep → Type 0
@@ -233,7 +233,7 @@ module _ (w : World) (m : Machine) (o : ObjName) (l : Link) (n : ℕ) (bytes : L
 
     -- ---- the machine before the bytes land
 
-    abbrev ss : List IdealStep
+    abbrev ss : List MachineStep
     ss = (heard w m o l a.stands h a.alive n low within acts).steps
 
     abbrev m' : Machine
@@ -392,7 +392,7 @@ module _ (w : World) (m : Machine) (o : ObjName) (l : Link) (n : ℕ) (bytes : L
 
     -- ---- what is reached, by what is told after the bytes landed
 
-    module _ (more : List IdealStep) (is : tell_steps o f n ≡ more) (inner : AreInner more) (run : IsRun m2 more) (count' known' : ℕ) (learned : LearnedAt m (after m2 more) o (gone_end f (f.told + count') known' 0 0 f.ended) (entries_by f count') rs)
+    module _ (more : List MachineStep) (is : tell_steps o f n ≡ more) (inner : AreInner more) (run : IsRun m2 more) (count' known' : ℕ) (learned : LearnedAt m (after m2 more) o (gone_end f (f.told + count') known' 0 0 f.ended) (entries_by f count') rs)
         (counts : request_of us f.mtu (n + 1 - l.sender.first) ≡ count') (knows : MayKnow f (f.told + count') known') (oldest_is : first_number f.posted f.mtu (f.told + count') + known' / f.mtu ≡ n + 1) (telling' : AreWholePieces f.mtu (posted_at f.posted (f.told + count')) known') where
       abbrev last : End
       last = gone_end f (f.told + count') known' 0 0 f.ended
@@ -440,7 +440,7 @@ module _ (w : World) (m : Machine) (o : ObjName) (l : Link) (n : ℕ) (bytes : L
             telling = telling';
           }
 
-      abbrev all : List IdealStep
+      abbrev all : List MachineStep
       all = ss ++ (land_steps o place d.payload ++ more)
 
       allowed : Lands m o n d.payload all

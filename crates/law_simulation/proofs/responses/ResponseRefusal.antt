@@ -4,10 +4,10 @@ use Rattle.std.proofs.Common.{arith, ◌≡◌, ◌≤◌, ◌<◌, ◌+◌, ℕ
 use Rattle.std.specs.Prelude.{Option, Some, None, nat_lt, nat_le, slice_get, ◌&&◌, ◌==◌, if◌then◌else◌}
 use Rattle.std.proofs.lemmas.Bool.Decides.{nat_tests, leb_tells, eqb_tells}
 use Rattle.rdma_types.specs.declared.names.ObjName.{ObjName}
-use Rattle.rdma_types.specs.declared.answers.Took.{Took}
-use Rattle.rdma_types.specs.declared.answers.Took.TheVariants as took
-use Rattle.rdma_types.specs.declared.answers.Why.{Why}
-use Rattle.rdma_types.specs.declared.answers.Why.TheVariants as whys
+use Rattle.rdma_types.specs.declared.answers.ArrivalEffect.{ArrivalEffect}
+use Rattle.rdma_types.specs.declared.answers.ArrivalEffect.TheVariants as took
+use Rattle.rdma_types.specs.declared.answers.RefusalReason.{RefusalReason}
+use Rattle.rdma_types.specs.declared.answers.RefusalReason.TheVariants as whys
 use Rattle.rdma_types.specs.declared.requests.WcStatus.{WcStatus}
 use Rattle.rdma_types.specs.declared.requests.WcStatus.TheVariants as status
 use Rattle.rdma_types.specs.Spans.{end_number}
@@ -21,15 +21,15 @@ use Rattle.protocol.specs.State as state
 use Rattle.protocol.specs.State.{World, Link}
 use Rattle.protocol.specs.Wire.{Packet}
 use Rattle.protocol.specs.DeviceStep.{took_answer}
-use Rattle.ideal_model.specs.declared.reply.Reply.TheVariants.{Denied}
-use Rattle.ideal_model.specs.declared.steps.IdealStep.{IdealStep}
-use Rattle.ideal_model.specs.declared.steps.IdealStep.TheVariants as steps
-use Rattle.ideal_model.specs.Legal.{after}
-use Rattle.ideal_model.specs.Machine as machine
-use Rattle.ideal_model.specs.Machine.{Machine, End}
-use Rattle.ideal_model.specs.Numbers.{due}
-use Rattle.ideal_model.specs.Steps as making
-use Rattle.ideal_model.specs.Steps.{bounce, bounce_status, is_denied, may_bounce}
+use Rattle.packetless_machine.specs.declared.reply.Reply.TheVariants.{Denied}
+use Rattle.packetless_machine.specs.declared.steps.MachineStep.{MachineStep}
+use Rattle.packetless_machine.specs.declared.steps.MachineStep.TheVariants as steps
+use Rattle.packetless_machine.specs.Legal.{after}
+use Rattle.packetless_machine.specs.Machine as machine
+use Rattle.packetless_machine.specs.Machine.{Machine, End}
+use Rattle.packetless_machine.specs.Numbers.{due}
+use Rattle.packetless_machine.specs.Steps as making
+use Rattle.packetless_machine.specs.Steps.{bounce, bounce_status, is_denied, may_bounce}
 use Rattle.law_simulation.specs.Carries.{TellsThenMaybe, before_barrier}
 use Rattle.law_simulation.specs.Facts.{ClassFact, IsRefused, MoveFact, NumberedFact, is_access_denied}
 use Rattle.law_simulation.specs.Named.{acknowledged_steps, ending, is_learned, last_step, learning}
@@ -68,13 +68,13 @@ row_is c e l n (Nak code) msn b says = by_code (code == 0) (code == 1) (code == 
     by_code false false false false says = absurd (cc)
 
 -- what is learned, and the end that is refused, by name
-ended_named : (m : Machine) (o : ObjName) (limit : ℕ) (b : Bool) (ss : List IdealStep) → ss ≡ learning o (machine.end_of m o) limit → ss ++ steps.Bounce o ∷ [] ≡ acknowledged_steps m o limit (took.Ended (status_of b))
+ended_named : (m : Machine) (o : ObjName) (limit : ℕ) (b : Bool) (ss : List MachineStep) → ss ≡ learning o (machine.end_of m o) limit → ss ++ steps.Bounce o ∷ [] ≡ acknowledged_steps m o limit (took.Ended (status_of b))
 unfolding is_learned last_step ending
 ended_named m o limit true ss are = step_named m o limit (took.Ended status.RemoteAccess) ss (steps.Bounce o ∷ []) refl are refl
 ended_named m o limit false ss are = step_named m o limit (took.Ended status.RemoteInvalid) ss (steps.Bounce o ∷ []) refl are refl
 
 -- the owner sees that status
-bounced : (why : Why) (b : Bool) → is_access_denied why ≡ b → bounce_status (Some (Denied why)) ≡ status_of b
+bounced : (why : RefusalReason) (b : Bool) → is_access_denied why ≡ b → bounce_status (Some (Denied why)) ≡ status_of b
 unfolding is_access_denied bounce_status
 bounced whys.Access b h = ap status_of h
 bounced whys.Invalid b h = ap status_of h
@@ -87,10 +87,10 @@ module _ (w : World) (m : Machine) (o : ObjName) (l : Link) (n : ℕ) (bytes : L
   abbrev f : End
   f = machine.end_of m o
 
-  abbrev Allowed : List IdealStep → Type 0
+  abbrev Allowed : List MachineStep → Type 0
   Allowed ss = TellsThenMaybe m o (before_barrier m o n) (steps.Bounce o) ss
 
-  abbrev Named : Took → List IdealStep
+  abbrev Named : ArrivalEffect → List MachineStep
   Named = acknowledged_steps m o (before_barrier m o n)
 
   abbrev Reached : words.EndStep → Type 0

@@ -9,7 +9,7 @@ use Rattle.rdma_types.specs.Memory.{Right, allows, grants, granted, holds, is_gr
 use Rattle.rdma_types.specs.Objects.{Region, no_region}
 use Rattle.protocol.specs.State as state
 use Rattle.protocol.specs.Memory.{landed, written, with_region, stored, region_of_key}
-use Rattle.ideal_model.specs.Machine.{put_at}
+use Rattle.packetless_machine.specs.Machine.{put_at}
 use Rattle.law_simulation.proofs.relation.Tables.{at-found}
 use Rattle.law_simulation.proofs.delivery.First.{first_passes}
 use Rattle.law_simulation.proofs.delivery.Regions.{over, put_nothing}

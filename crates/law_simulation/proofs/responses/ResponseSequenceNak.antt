@@ -4,7 +4,7 @@ use Rattle.std.proofs.Common.{arith, ◌≡◌, ◌≤◌, ℕ, List, true, fals
 use Rattle.std.specs.Prelude.{Option, Some, None, nat_lt, nat_le, ◌&&◌, ◌==◌, if◌then◌else◌}
 use Rattle.std.proofs.lemmas.Bool.Decides.{nat_tests, leb_tells}
 use Rattle.rdma_types.specs.declared.names.ObjName.{ObjName}
-use Rattle.rdma_types.specs.declared.answers.Took.TheVariants as took
+use Rattle.rdma_types.specs.declared.answers.ArrivalEffect.TheVariants as took
 use Rattle.rdma_types.specs.declared.requests.WcStatus.TheVariants as status
 use Rattle.protocol.specs.declared.wire.Aeth.{Aeth}
 use Rattle.protocol.specs.declared.wire.Syndrome.{Syndrome}
@@ -14,9 +14,9 @@ use Rattle.protocol.specs.Requester.{acknowledged, goes_back, takes_nak, takes_r
 use Rattle.protocol.specs.State as state
 use Rattle.protocol.specs.State.{World, Link}
 use Rattle.protocol.specs.Wire.{Packet}
-use Rattle.ideal_model.specs.Machine as machine
-use Rattle.ideal_model.specs.Machine.{Machine}
-use Rattle.ideal_model.specs.Numbers.{due}
+use Rattle.packetless_machine.specs.Machine as machine
+use Rattle.packetless_machine.specs.Machine.{Machine}
+use Rattle.packetless_machine.specs.Numbers.{due}
 use Rattle.law_simulation.specs.Carries.{TellsUpTo, before_barrier}
 use Rattle.law_simulation.specs.Facts.{ClassFact, MoveFact, NumberedFact}
 use Rattle.law_simulation.specs.Named.{acknowledged_steps}

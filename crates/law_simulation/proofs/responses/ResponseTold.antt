@@ -11,13 +11,13 @@ use Rattle.rdma_types.specs.declared.requests.Kind.TheVariants.{Write, Send, Rea
 use Rattle.rdma_types.specs.Kinds.{is_read, kind_of, lands}
 use Rattle.rdma_types.specs.Lists.{has_name, named, store_named}
 use Rattle.rdma_types.specs.Objects.{CompletionQueue, no_queue}
-use Rattle.ideal_model.specs.declared.reply.Reply.TheVariants.{Finished}
-use Rattle.ideal_model.specs.declared.steps.IdealStep.{IdealStep}
-use Rattle.ideal_model.specs.declared.steps.IdealStep.TheVariants as steps
-use Rattle.ideal_model.specs.Legal.{IsRun, after}
-use Rattle.ideal_model.specs.Machine as machine
-use Rattle.ideal_model.specs.Machine.{Machine, End, has_context, posted_at}
-use Rattle.ideal_model.specs.Steps.{front, has_untold, in_place, knowing, may_know, may_tell, put_old, success, tell, tell_at, told_one, with_known}
+use Rattle.packetless_machine.specs.declared.reply.Reply.TheVariants.{Finished}
+use Rattle.packetless_machine.specs.declared.steps.MachineStep.{MachineStep}
+use Rattle.packetless_machine.specs.declared.steps.MachineStep.TheVariants as steps
+use Rattle.packetless_machine.specs.Legal.{IsRun, after}
+use Rattle.packetless_machine.specs.Machine as machine
+use Rattle.packetless_machine.specs.Machine.{Machine, End, has_context, posted_at}
+use Rattle.packetless_machine.specs.Steps.{front, has_untold, in_place, knowing, may_know, may_tell, put_old, success, tell, tell_at, told_one, with_known}
 use Rattle.law_simulation.specs.Carries.{OnlyTells}
 use Rattle.law_simulation.specs.Named.{tells}
 use Rattle.law_simulation.proofs.relation.Tables.{has_name-store, name-named_there, named-store_same}
@@ -233,13 +233,13 @@ known_by e None = e
 known_by e (Some bytes) = with_known e bytes
 
 -- .. as a step
-unfoldable pub known_last : ObjName → Option ℕ → List IdealStep
+unfoldable pub known_last : ObjName → Option ℕ → List MachineStep
 known_last o None = []
 known_last o (Some bytes) = steps.Known o bytes ∷ []
 
 -- requests are told, and then perhaps bytes become known: by the steps that are named
-pub record Hears (m : Machine) (o : ObjName) (g : End) (more : List Completion) (named : List IdealStep) : Type 0 where
-  pub steps : List IdealStep
+pub record Hears (m : Machine) (o : ObjName) (g : End) (more : List Completion) (named : List MachineStep) : Type 0 where
+  pub steps : List MachineStep
   pub are : steps ≡ named
   pub inner : AreInner steps
   pub only : OnlyTells o steps

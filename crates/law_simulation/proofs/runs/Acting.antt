@@ -10,23 +10,23 @@ use Rattle.rdma_types.specs.declared.requests.Shape.{Shape}
 use Rattle.rdma_types.specs.declared.requests.WcStatus.{WcStatus}
 use Rattle.rdma_types.specs.declared.requests.WcStatus.TheVariants as statuses
 use Rattle.rdma_types.specs.declared.answers.Refusal.{Refusal}
-use Rattle.rdma_types.specs.declared.answers.Why.{Why}
+use Rattle.rdma_types.specs.declared.answers.RefusalReason.{RefusalReason}
 use Rattle.rdma_types.specs.declared.verbs.Verb.{Verb}
 use Rattle.rdma_types.specs.declared.verbs.Verb.TheVariants as verbs
 use Rattle.rdma_types.specs.declared.requests.WcKind.TheVariants as wc_kinds
 use Rattle.rdma_types.specs.Kinds.{is_send, kind_of, receive_done, request_done}
 use Rattle.rdma_types.specs.Lists.{named}
 use Rattle.rdma_types.specs.Objects.{CompletionQueue, Region}
-use Rattle.ideal_model.specs.declared.reply.Reply.TheVariants.{Finished, OldValue}
-use Rattle.ideal_model.specs.declared.steps.IdealStep.TheVariants as steps
-use Rattle.ideal_model.specs.Tables.{place_where, replaced}
-use Rattle.ideal_model.specs.Machine.{Machine, Context, End, no_context, nobody, new_end, context_of, end_of, with_context, with_end, with_end_in, with_regions, with_queues, with_queue, with_queue_in, completing, in_end}
-use Rattle.ideal_model.specs.Steps as ideal
-use Rattle.ideal_model.specs.Steps.{advanced, acted_with, fills, receiving, placing, put_in_receive, put_in_range, run_towards, run, atom, atom_on, read_turn, refuse, refuse_at, denied, closed, dried, dried_at, offered, with_offer, landed, land_at, with_known, knowing, tell, tell_at, told_one, expire, expired, ended_with, wait, waited, bounce, peer_of, receive_for, current, put_old}
-use Rattle.ideal_model.specs.Verbs as verbal
-use Rattle.ideal_model.specs.Verbs.{refusal_of, after_answer, done}
-use Rattle.ideal_model.specs.Legal.{effect}
-use Rattle.ideal_model.proofs.Views.{end_of-with_context, end_of-with_regions, end_of-completing, end_of-put_old}
+use Rattle.packetless_machine.specs.declared.reply.Reply.TheVariants.{Finished, OldValue}
+use Rattle.packetless_machine.specs.declared.steps.MachineStep.TheVariants as steps
+use Rattle.packetless_machine.specs.Tables.{place_where, replaced}
+use Rattle.packetless_machine.specs.Machine.{Machine, Context, End, no_context, nobody, new_end, context_of, end_of, with_context, with_end, with_end_in, with_regions, with_queues, with_queue, with_queue_in, completing, in_end}
+use Rattle.packetless_machine.specs.Steps as ideal
+use Rattle.packetless_machine.specs.Steps.{advanced, acted_with, fills, receiving, placing, put_in_receive, put_in_range, run_towards, run, atom, atom_on, read_turn, refuse, refuse_at, denied, closed, dried, dried_at, offered, with_offer, landed, land_at, with_known, knowing, tell, tell_at, told_one, expire, expired, ended_with, wait, waited, bounce, peer_of, receive_for, current, put_old}
+use Rattle.packetless_machine.specs.Verbs as verbal
+use Rattle.packetless_machine.specs.Verbs.{refusal_of, after_answer, done}
+use Rattle.packetless_machine.specs.Legal.{effect}
+use Rattle.packetless_machine.proofs.Views.{end_of-with_context, end_of-with_regions, end_of-completing, end_of-put_old}
 use Rattle.law_simulation.proofs.relation.Tables.{name_or_not, name_tells}
 use Rattle.law_simulation.specs.Once.{acted_of, ActsByOne, ActsOnce}
 
@@ -194,7 +194,7 @@ turn_acts : (m : Machine) (o q : ObjName) → ActsAt o m (read_turn m o) q
 unfolding read_turn acted_with
 turn_acts m o q = acts_at m o _ q refl (inr refl)
 
-refuse_kept : (m : Machine) (o : ObjName) (why : Why) (q : ObjName) → acted_of (refuse m o why) q ≡ acted_of m q
+refuse_kept : (m : Machine) (o : ObjName) (why : RefusalReason) (q : ObjName) → acted_of (refuse m o why) q ≡ acted_of m q
 unfolding refuse refuse_at denied closed
 refuse_kept m o why q = queues_kept _ _ _ q ∙ (acted_kept _ _ _ q refl refl ∙ acted_kept m o _ q refl refl)
 

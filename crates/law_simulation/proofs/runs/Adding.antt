@@ -12,24 +12,24 @@ use Rattle.rdma_types.specs.declared.requests.WcKind.TheVariants as wc_kinds
 use Rattle.rdma_types.specs.declared.requests.WcStatus.{WcStatus}
 use Rattle.rdma_types.specs.declared.requests.WcStatus.TheVariants as statuses
 use Rattle.rdma_types.specs.declared.answers.Refusal.{Refusal}
-use Rattle.rdma_types.specs.declared.answers.Why.{Why}
-use Rattle.rdma_types.specs.declared.answers.Why.TheVariants as whys
+use Rattle.rdma_types.specs.declared.answers.RefusalReason.{RefusalReason}
+use Rattle.rdma_types.specs.declared.answers.RefusalReason.TheVariants as whys
 use Rattle.rdma_types.specs.declared.verbs.Verb.{Verb}
 use Rattle.rdma_types.specs.declared.verbs.Verb.TheVariants as verbs
 use Rattle.rdma_types.specs.Kinds.{is_send, kind_of, receive_done, request_done, size_of}
 use Rattle.rdma_types.specs.Lists.{named}
 use Rattle.rdma_types.specs.Objects.{CompletionQueue, Posted, Region, no_queue}
-use Rattle.ideal_model.specs.declared.reply.Reply.{Reply}
-use Rattle.ideal_model.specs.declared.reply.Reply.TheVariants.{Finished, OldValue, Denied}
-use Rattle.ideal_model.specs.declared.steps.IdealStep.{IdealStep}
-use Rattle.ideal_model.specs.declared.steps.IdealStep.TheVariants as steps
-use Rattle.ideal_model.specs.Tables.{replaced}
-use Rattle.ideal_model.specs.Machine.{Machine, Context, End, no_context, new_end, context_of, end_of, queue_of, with_context, with_end, with_end_in, with_regions, with_queues, with_queue, with_queue_in, completing, completed, longer, in_end}
-use Rattle.ideal_model.specs.Steps as ideal
-use Rattle.ideal_model.specs.Steps.{arrivals, fills, received_whole, used_by, placing, put_in_receive, put_in_range, receive_for, current, run, run_towards, atom, atom_on, read_turn, refuse, refuse_at, refused_queues, refused_entries, too_long, dried, offered, landed, land_at, knowing, tell, tell_at, put_old, success, expire, expired, ended_with, failed_queues, failed_requests, failed_receives, wait, waited, bounce, bounce_status}
-use Rattle.ideal_model.specs.Verbs as verbal
-use Rattle.ideal_model.specs.Verbs.{refusal_of, after_answer, done}
-use Rattle.ideal_model.specs.Legal.{effect}
+use Rattle.packetless_machine.specs.declared.reply.Reply.{Reply}
+use Rattle.packetless_machine.specs.declared.reply.Reply.TheVariants.{Finished, OldValue, Denied}
+use Rattle.packetless_machine.specs.declared.steps.MachineStep.{MachineStep}
+use Rattle.packetless_machine.specs.declared.steps.MachineStep.TheVariants as steps
+use Rattle.packetless_machine.specs.Tables.{replaced}
+use Rattle.packetless_machine.specs.Machine.{Machine, Context, End, no_context, new_end, context_of, end_of, queue_of, with_context, with_end, with_end_in, with_regions, with_queues, with_queue, with_queue_in, completing, completed, longer, in_end}
+use Rattle.packetless_machine.specs.Steps as ideal
+use Rattle.packetless_machine.specs.Steps.{arrivals, fills, received_whole, used_by, placing, put_in_receive, put_in_range, receive_for, current, run, run_towards, atom, atom_on, read_turn, refuse, refuse_at, refused_queues, refused_entries, too_long, dried, offered, landed, land_at, knowing, tell, tell_at, put_old, success, expire, expired, ended_with, failed_queues, failed_requests, failed_receives, wait, waited, bounce, bounce_status}
+use Rattle.packetless_machine.specs.Verbs as verbal
+use Rattle.packetless_machine.specs.Verbs.{refusal_of, after_answer, done}
+use Rattle.packetless_machine.specs.Legal.{effect}
 use Rattle.law_simulation.specs.Spent.{IsLastExpiry, IsLastWait}
 use Rattle.law_simulation.proofs.runs.Acting.{related, pushed}
 
@@ -110,8 +110,8 @@ pub record Admits (New : List Completion → List Completion → Type 0) (IsUsua
   pub access : IsUsual statuses.RemoteAccess
 
 -- a step of this kind adds a usual status, or is one that is told apart
-abbrev pub IsUsualUnless : Type 0 → (Machine → IdealStep → Type 0) → (Machine → IdealStep → Type 0) → Type 0
-IsUsualUnless Usual IsKind IsLast = (m : Machine) (s : IdealStep) → IsKind m s → Usual ⊎ IsLast m s
+abbrev pub IsUsualUnless : Type 0 → (Machine → MachineStep → Type 0) → (Machine → MachineStep → Type 0) → Type 0
+IsUsualUnless Usual IsKind IsLast = (m : Machine) (s : MachineStep) → IsKind m s → Usual ⊎ IsLast m s
 
 module _ (New : List Completion → List Completion → Type 0) (IsUsual : WcStatus → Type 0) (admits : Admits New IsUsual) where
   abbrev AreUsual : List Completion → Type 0
@@ -230,19 +230,19 @@ module _ (New : List Completion → List Completion → Type 0) (IsUsual : WcSta
   too_long_usual number None = none_usual
   too_long_usual number (Some v) = one_usual _ [] admits.length none_usual
 
-  entries_usual : (x : End) (why : Why) → AreUsual (refused_entries x why)
+  entries_usual : (x : End) (why : RefusalReason) → AreUsual (refused_entries x why)
   unfolding refused_entries
   entries_usual x whys.Invalid = none_usual
   entries_usual x whys.Access = none_usual
   entries_usual x whys.Length = too_long_usual x.number (receive_for x)
 
-  refused_new : (x : End) (why : Why) (qs : List CompletionQueue) → NewIn qs (refused_queues x why qs)
+  refused_new : (x : End) (why : RefusalReason) (qs : List CompletionQueue) → NewIn qs (refused_queues x why qs)
   unfolding refused_queues
   refused_new x why qs k =
       admits.turn _ _ _ (completed_new x.receive_queue (refused_entries x why) qs (entries_usual x why) k)
       (failed_new x statuses.Flush (ideal.refused_receives x why) (completed x.receive_queue (refused_entries x why) qs) admits.flush k)
 
-  refuse_new : (m : Machine) (o : ObjName) (why : Why) → NewAt m (refuse m o why)
+  refuse_new : (m : Machine) (o : ObjName) (why : RefusalReason) → NewAt m (refuse m o why)
   unfolding refuse refuse_at
   refuse_new m o why = queues_new m _ (end_of m o).peer.context _ (kept_then m _ _ (end_kept m o _) (end_kept _ _ _)) (refused_new (ideal.peer_of m o) why (context_of m (end_of m o).peer.context).queues)
 
@@ -328,8 +328,8 @@ module _ (New : List Completion → List Completion → Type 0) (IsUsual : WcSta
 
   -- ---- each step
 
-  module _ (IsLast : Machine → IdealStep → Type 0) (expiring : IsUsualUnless (IsUsual statuses.RetryExceeded) IsLastExpiry IsLast) (waiting : IsUsualUnless (IsUsual statuses.RnrExceeded) IsLastWait IsLast) where
-    failing_new : (m : Machine) (o : ObjName) (status : WcStatus) (s : IdealStep) → IsUsual status ⊎ IsLast m s → NewAt m (ended_with m o status) ⊎ IsLast m s
+  module _ (IsLast : Machine → MachineStep → Type 0) (expiring : IsUsualUnless (IsUsual statuses.RetryExceeded) IsLastExpiry IsLast) (waiting : IsUsualUnless (IsUsual statuses.RnrExceeded) IsLastWait IsLast) where
+    failing_new : (m : Machine) (o : ObjName) (status : WcStatus) (s : MachineStep) → IsUsual status ⊎ IsLast m s → NewAt m (ended_with m o status) ⊎ IsLast m s
     failing_new m o status s h = elim h [ inl usual ↦ inl (ended_new m o status usual) | inr last ↦ inr last ]
 
     expire_new : (m : Machine) (o : ObjName) → NewAt m (expire m o) ⊎ IsLast m (steps.Expire o)
@@ -349,7 +349,7 @@ module _ (New : List Completion → List Completion → Type 0) (IsUsual : WcSta
         by false true s t = failing_new m o statuses.RnrExceeded (steps.Wait o) (waiting m (steps.Wait o) (ne _ _ s, eq _ _ t))
         by false false s t = inl (kept_new m _ (end_kept m o _))
 
-    pub step_new : (m : Machine) (s : IdealStep) → NewAt m (effect m s) ⊎ IsLast m s
+    pub step_new : (m : Machine) (s : MachineStep) → NewAt m (effect m s) ⊎ IsLast m s
     step_new m (steps.Verb v given) = inl (verb_new m v given (refusal_of m v))
     step_new m (steps.Run o n) = inl (run_new m o n)
     step_new m (steps.Atom o) = inl (atom_new m o)

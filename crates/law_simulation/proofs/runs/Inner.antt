@@ -4,18 +4,18 @@ use Rattle.std.specs.Prelude.{Option, Some, None, ◌==◌, ◌&&◌, nat_lt, if
 use Rattle.rdma_types.specs.declared.names.ObjName.{ObjName}
 use Rattle.rdma_types.specs.declared.answers.Answer.{Answer}
 use Rattle.rdma_types.specs.declared.answers.Answer.TheVariants as answers
-use Rattle.rdma_types.specs.declared.answers.Took.{Took}
-use Rattle.rdma_types.specs.declared.answers.Took.TheVariants as took
+use Rattle.rdma_types.specs.declared.answers.ArrivalEffect.{ArrivalEffect}
+use Rattle.rdma_types.specs.declared.answers.ArrivalEffect.TheVariants as took
 use Rattle.rdma_types.specs.declared.requests.WcStatus.TheVariants as statuses
 use Rattle.rdma_types.specs.declared.verbs.Verb.{Verb}
-use Rattle.ideal_model.specs.declared.steps.IdealStep.{IdealStep}
-use Rattle.ideal_model.specs.declared.steps.IdealStep.TheVariants as steps
-use Rattle.ideal_model.specs.Machine as machine
-use Rattle.ideal_model.specs.Machine.{Machine}
+use Rattle.packetless_machine.specs.declared.steps.MachineStep.{MachineStep}
+use Rattle.packetless_machine.specs.declared.steps.MachineStep.TheVariants as steps
+use Rattle.packetless_machine.specs.Machine as machine
+use Rattle.packetless_machine.specs.Machine.{Machine}
 use Rattle.law_simulation.specs.Law.{inner_of}
 use Rattle.rdma_types.specs.Kinds.{is_read, kind_of, size_of}
 use Rattle.rdma_types.specs.Spans.{span_of}
-use Rattle.rdma_types.specs.declared.answers.Why.TheVariants as whys
+use Rattle.rdma_types.specs.declared.answers.RefusalReason.TheVariants as whys
 use Rattle.protocol.specs.declared.events.Event.{Event}
 use Rattle.protocol.specs.declared.events.Event.TheVariants as events
 use Rattle.protocol.specs.declared.events.WorldEvent.{WorldEvent}
@@ -23,8 +23,8 @@ use Rattle.protocol.specs.declared.events.WorldEvent.TheVariants as world_events
 use Rattle.protocol.specs.State.{World, Flight}
 use Rattle.protocol.specs.Wire.{Packet}
 use Rattle.protocol.specs.WorldStep.{world_step}
-use Rattle.ideal_model.specs.Numbers.{due}
-use Rattle.ideal_model.specs.Steps.{may_run, may_atom, may_read, may_refuse}
+use Rattle.packetless_machine.specs.Numbers.{due}
+use Rattle.packetless_machine.specs.Steps.{may_run, may_atom, may_read, may_refuse}
 use Rattle.law_simulation.specs.Carries.{Allows, due_steps, expire_steps, is_counted, is_rest_granted, piece_at, request_at, land_steps, offers_from, offers_of, repeat_steps, request_steps, tell_steps}
 use Rattle.law_simulation.specs.Kept.{kept_of}
 use Rattle.law_simulation.specs.Packets.{Class, IsRequest, IsReadResponse, IsAtomicResponse, IsAck, IsSequenceNak, IsRefusal, IsReceiverNotReady, IsStopped, IsResume, IsResumeAck, IsNothing}
@@ -32,22 +32,22 @@ use Rattle.law_simulation.specs.Named as named
 use Rattle.law_simulation.specs.Named.{NamedIsMore, acknowledged_steps, event_steps, inner_by, inner_steps, known_bytes, last_step, learning, ending, old_steps, read_steps, spoken_steps, tells}
 
 -- nothing but inner steps
-abbrev pub AreInner : List IdealStep → Type 0
+abbrev pub AreInner : List MachineStep → Type 0
 AreInner ss = inner_of ss ≡ ss
 
 -- verbs in front are left out
-pub spoken_left : (xs : List (Verb × Answer)) (ss : List IdealStep) → inner_of (spoken_steps xs ++ ss) ≡ inner_of ss
+pub spoken_left : (xs : List (Verb × Answer)) (ss : List MachineStep) → inner_of (spoken_steps xs ++ ss) ≡ inner_of ss
 spoken_left [] ss = refl
 spoken_left (x ∷ xs) ss = spoken_left xs ss
 
-if_inner : (b : Bool) (xs ys : List IdealStep) → AreInner xs → AreInner ys → AreInner (if b then xs else ys)
+if_inner : (b : Bool) (xs ys : List MachineStep) → AreInner xs → AreInner ys → AreInner (if b then xs else ys)
 if_inner true xs ys h k = h
 if_inner false xs ys h k = k
 
-both_inner : (xs ys : List IdealStep) → AreInner xs → AreInner ys → inner_of (xs ++ ys) ≡ xs ++ ys
+both_inner : (xs ys : List MachineStep) → AreInner xs → AreInner ys → inner_of (xs ++ ys) ≡ xs ++ ys
 both_inner xs ys h k = joined xs ∙ (ap (λ z. z ++ inner_of ys) h ∙ ap (λ z. xs ++ z) k)
   where
-    joined : (xs : List IdealStep) → inner_of (xs ++ ys) ≡ inner_of xs ++ inner_of ys
+    joined : (xs : List MachineStep) → inner_of (xs ++ ys) ≡ inner_of xs ++ inner_of ys
     joined [] = refl
     joined (steps.Verb verb given ∷ ss) = joined ss
     joined (steps.Run q n ∷ ss) = ap (λ z. steps.Run q n ∷ z) (joined ss)
@@ -77,7 +77,7 @@ learning_inner : (q : ObjName) (e : machine.End) (n : ℕ) → AreInner (learnin
 unfolding learning
 learning_inner q e n = if_inner _ _ [] (both_inner _ _ (tells_inner q _) (bytes_inner q _)) refl
 
-last_inner : (q : ObjName) (t : Took) → AreInner (last_step q t)
+last_inner : (q : ObjName) (t : ArrivalEffect) → AreInner (last_step q t)
 unfolding last_step ending
 last_inner q took.Waits = refl
 last_inner q (took.Ended statuses.Success) = refl
@@ -105,7 +105,7 @@ last_inner q took.ResumeAck = refl
 last_inner q took.Running = refl
 last_inner q (took.Silent w) = refl
 
-acknowledged_inner : (m : Machine) (q : ObjName) (limit : ℕ) (t : Took) → AreInner (acknowledged_steps m q limit t)
+acknowledged_inner : (m : Machine) (q : ObjName) (limit : ℕ) (t : ArrivalEffect) → AreInner (acknowledged_steps m q limit t)
 unfolding acknowledged_steps
 acknowledged_inner m q limit t = if_inner _ _ [] (both_inner _ _ (learning_inner q _ limit) (last_inner q t)) refl
 
@@ -131,7 +131,7 @@ all_offers : (q : ObjName) (e : machine.End) (i k : ℕ) → AreInner (offers_of
 unfolding offers_of
 all_offers q e i k = offers_inner q e i k _
 
-by_tests : (m : Machine) (q : ObjName) (bytes : ℕ) (xs : List IdealStep) → AreInner xs → (a b c d e f : Bool) →
+by_tests : (m : Machine) (q : ObjName) (bytes : ℕ) (xs : List MachineStep) → AreInner xs → (a b c d e f : Bool) →
     AreInner (if a then steps.Run q bytes ∷ [] else if b then steps.Atom q ∷ [] else if c then steps.ReadTurn q ∷ xs else if d then steps.Refuse q whys.Invalid ∷ [] else if e then steps.Refuse q whys.Access ∷ [] else if f then steps.Refuse q whys.Length ∷ [] else steps.Dry q ∷ [])
 by_tests m q bytes xs h true b c d e f = refl
 by_tests m q bytes xs h false true c d e f = refl
@@ -156,7 +156,7 @@ request_inner m q n bytes =
     if_inner (n == due (machine.end_of m q)) (due_steps m q bytes) _ (due_inner m q bytes)
     (if_inner (nat_lt n (due (machine.end_of m q))) (repeat_steps m q _ _) [] (repeat_inner m q (request_at (machine.end_of m q) n) (piece_at (machine.end_of m q) n)) refl)
 
-class_inner : (w : World) (m : Machine) (p : ObjName) (n : ℕ) (bytes : List ℕ) (c : Class) (t : Took) → AreInner (named.class_steps w m p n bytes c t)
+class_inner : (w : World) (m : Machine) (p : ObjName) (n : ℕ) (bytes : List ℕ) (c : Class) (t : ArrivalEffect) → AreInner (named.class_steps w m p n bytes c t)
 class_inner w m p n bytes IsRequest t = if_inner _ [] _ refl (request_inner m _ n _)
 class_inner w m p n bytes IsReadResponse t = if_inner _ _ [] (read_inner p _ n bytes) refl
 class_inner w m p n bytes IsAtomicResponse t = if_inner _ _ [] (old_inner p _ n) refl
@@ -169,15 +169,15 @@ class_inner w m p n bytes (IsResume body) t = refl
 class_inner w m p n bytes (IsResumeAck body) t = refl
 class_inner w m p n bytes IsNothing t = refl
 
-numbered_inner : (w : World) (m : Machine) (p : ObjName) (number : Option ℕ) (bytes : List ℕ) (c : Class) (t : Took) → AreInner (named.numbered_steps w m p number bytes c t)
+numbered_inner : (w : World) (m : Machine) (p : ObjName) (number : Option ℕ) (bytes : List ℕ) (c : Class) (t : ArrivalEffect) → AreInner (named.numbered_steps w m p number bytes c t)
 numbered_inner w m p None bytes c t = refl
 numbered_inner w m p (Some n) bytes c t = class_inner w m p n bytes c t
 
-packet_inner : (w : World) (m : Machine) (f : Flight) (d : Option Packet) (t : Took) → AreInner (named.packet_steps w m f d t)
+packet_inner : (w : World) (m : Machine) (f : Flight) (d : Option Packet) (t : ArrivalEffect) → AreInner (named.packet_steps w m f d t)
 packet_inner w m f None t = refl
 packet_inner w m f (Some d) t = if_inner _ _ [] (numbered_inner w m _ f.number d.payload _ t) refl
 
-flight_inner : (w : World) (m : Machine) (f : Option Flight) (t : Took) → AreInner (named.flight_steps w m f t)
+flight_inner : (w : World) (m : Machine) (f : Option Flight) (t : ArrivalEffect) → AreInner (named.flight_steps w m f t)
 flight_inner w m None t = refl
 flight_inner w m (Some f) t = packet_inner w m f _ t
 

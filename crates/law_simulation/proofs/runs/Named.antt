@@ -12,11 +12,11 @@ use Rattle.protocol.specs.declared.events.WorldEvent.{WorldEvent}
 use Rattle.protocol.specs.declared.events.WorldEvent.TheVariants as world_events
 use Rattle.protocol.specs.State.{World}
 use Rattle.protocol.specs.WorldStep.{world_step, world_after}
-use Rattle.ideal_model.specs.declared.steps.IdealStep.{IdealStep}
-use Rattle.ideal_model.specs.declared.steps.IdealStep.TheVariants as steps
-use Rattle.ideal_model.specs.Legal.{IsRun, after, effect, seen}
-use Rattle.ideal_model.specs.Machine.{Machine}
-use Rattle.ideal_model.specs.Verbs.{after_answer, answered, may_answer, refusal_of, verb_answer}
+use Rattle.packetless_machine.specs.declared.steps.MachineStep.{MachineStep}
+use Rattle.packetless_machine.specs.declared.steps.MachineStep.TheVariants as steps
+use Rattle.packetless_machine.specs.Legal.{IsRun, after, effect, seen}
+use Rattle.packetless_machine.specs.Machine.{Machine}
+use Rattle.packetless_machine.specs.Verbs.{after_answer, answered, may_answer, refusal_of, verb_answer}
 use Rattle.law_simulation.specs.Carries.{Allows}
 use Rattle.law_simulation.specs.Kept as kept_verbs
 use Rattle.law_simulation.specs.Kept.{kept_of}
@@ -28,7 +28,7 @@ use Rattle.law_simulation.proofs.runs.Runs.{after_on, first_of_all, rest_of_all,
 
 -- ---- where no verb is heard, all steps are inner ones
 
-unheard_inner : (m : Machine) (ss : List IdealStep) → seen m ss ≡ [] → inner_of ss ≡ ss
+unheard_inner : (m : Machine) (ss : List MachineStep) → seen m ss ≡ [] → inner_of ss ≡ ss
 unheard_inner m [] h = refl
 unheard_inner m (steps.Verb verb given ∷ ss) h = absurd (cc)
 unheard_inner m (steps.Run q n ∷ ss) h = ap (λ z. steps.Run q n ∷ z) (unheard_inner (effect m (steps.Run q n)) ss h)
@@ -69,15 +69,15 @@ spoken_given None m (verbs.PostRecv o r) given may = record { may = refl; same =
 spoken_given None m (verbs.Poll cq max) given may = record { may = refl; same = refl; says = refl }
 
 -- steps that are all verbs, as they are heard
-record AreSpoken (m : Machine) (ss : List IdealStep) : Type 0 where
+record AreSpoken (m : Machine) (ss : List MachineStep) : Type 0 where
   is_run : IsRun m (spoken_steps (seen m ss))
   same : after m (spoken_steps (seen m ss)) ≡ after m ss
   says : seen m (spoken_steps (seen m ss)) ≡ seen m ss
 
-spoken_on : (m m' : Machine) (v : Verb) (a : Answer) (ss : List IdealStep) (xs : List (Verb × Answer)) → m' ≡ m → IsRun m ss → seen m ss ≡ xs → (IsRun m' ss) × (after m' ss ≡ after m ss) × ((v, a) ∷ seen m' ss ≡ (v, a) ∷ xs)
+spoken_on : (m m' : Machine) (v : Verb) (a : Answer) (ss : List MachineStep) (xs : List (Verb × Answer)) → m' ≡ m → IsRun m ss → seen m ss ≡ xs → (IsRun m' ss) × (after m' ss ≡ after m ss) × ((v, a) ∷ seen m' ss ≡ (v, a) ∷ xs)
 spoken_on m m' v a ss xs same run says = (subst (λ z. IsRun z ss) (sym same) run, ap (λ z. after z ss) same, ap (λ z. (v, a) ∷ z) (ap (λ z. seen z ss) same ∙ says))
 
-spoken_all : (m : Machine) (ss : List IdealStep) → inner_of ss ≡ [] → IsRun m ss → AreSpoken m ss
+spoken_all : (m : Machine) (ss : List MachineStep) → inner_of ss ≡ [] → IsRun m ss → AreSpoken m ss
 spoken_all m [] none run = record { is_run = tt; same = refl; says = refl }
 spoken_all m (steps.Verb v given ∷ ss) none run =
     let one : IsSpoken (refusal_of m v) m v given = spoken_given (refusal_of m v) m v given run.0 in
@@ -175,7 +175,7 @@ named_on : (w : World) (m : Machine) (e : WorldEvent) (es : List WorldEvent) →
 unfolding world_after steps_of_each
 named_on w m e es f rest =
     let m1 : Machine = after m (event_steps w m e) in
-    let more : List IdealStep = run_steps (world_step w e).world m1 es in
+    let more : List MachineStep = run_steps (world_step w e).world m1 es in
     record {
       is_run = runs_on m (event_steps w m e) more f.is_run rest.is_run;
       heard = seen_on m (event_steps w m e) more ∙ rw (f.heard, rest.heard) refl;

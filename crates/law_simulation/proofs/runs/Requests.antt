@@ -9,9 +9,9 @@ use Rattle.rdma_types.specs.Kinds.{is_atomic, is_read, is_send, is_write, kind_o
 use Rattle.protocol.specs.EndWords.{is_paused}
 use Rattle.protocol.specs.State.{World, Link}
 use Rattle.protocol.specs.Wire.{Packet}
-use Rattle.ideal_model.specs.Machine as machine
-use Rattle.ideal_model.specs.Machine.{Machine}
-use Rattle.ideal_model.specs.Steps.{current, has_current, is_current_granted, may_add, may_atom, may_read, may_run, may_run_kind}
+use Rattle.packetless_machine.specs.Machine as machine
+use Rattle.packetless_machine.specs.Machine.{Machine}
+use Rattle.packetless_machine.specs.Steps.{current, has_current, is_current_granted, may_add, may_atom, may_read, may_run, may_run_kind}
 use Rattle.law_simulation.specs.Packets.{class_of, IsRequest}
 use Rattle.law_simulation.specs.Delivered.{Arrives, RequestsAreTaken, Takes}
 use Rattle.law_simulation.specs.Taken.{AreTakenWhere, IsAhead, IsAtPaused, IsExpected, IsMessageRepeat, IsReadTurn, IsRepeat, IsSendRun, IsWriteRun, asked}

@@ -5,23 +5,23 @@ use Rattle.std.proofs.lemmas.List.{append_assoc}
 use Rattle.protocol.specs.declared.events.WorldEvent.{WorldEvent}
 use Rattle.protocol.specs.State.{World, empty_world}
 use Rattle.protocol.specs.WorldStep.{world_step, world_after}
-use Rattle.ideal_model.specs.declared.steps.IdealStep.{IdealStep}
-use Rattle.ideal_model.specs.Machine.{Machine, empty}
-use Rattle.ideal_model.specs.Legal.{IsRun, IsLegal, after, effect, seen, seen_of}
+use Rattle.packetless_machine.specs.declared.steps.MachineStep.{MachineStep}
+use Rattle.packetless_machine.specs.Machine.{Machine, empty}
+use Rattle.packetless_machine.specs.Legal.{IsRun, IsLegal, after, effect, seen, seen_of}
 use Rattle.law_simulation.specs.Stands.{Stands}
 use Rattle.law_simulation.specs.Law.{AlwaysFollows, Follows, FollowsRun, IsInRange, joined_steps, kept}
 
 -- ---- two runs, one after the other
 
-pub runs_on : (m : Machine) (ss ts : List IdealStep) → IsRun m ss → IsRun (after m ss) ts → IsRun m (ss ++ ts)
+pub runs_on : (m : Machine) (ss ts : List MachineStep) → IsRun m ss → IsRun (after m ss) ts → IsRun m (ss ++ ts)
 runs_on m [] ts first second = second
 runs_on m (s ∷ ss) ts first second = (first.0, runs_on (effect m s) ss ts first.1 second)
 
-pub after_on : (m : Machine) (ss ts : List IdealStep) → after m (ss ++ ts) ≡ after (after m ss) ts
+pub after_on : (m : Machine) (ss ts : List MachineStep) → after m (ss ++ ts) ≡ after (after m ss) ts
 after_on m [] ts = refl
 after_on m (s ∷ ss) ts = after_on (effect m s) ss ts
 
-pub seen_on : (m : Machine) (ss ts : List IdealStep) → seen m (ss ++ ts) ≡ seen m ss ++ seen (after m ss) ts
+pub seen_on : (m : Machine) (ss ts : List MachineStep) → seen m (ss ++ ts) ≡ seen m ss ++ seen (after m ss) ts
 seen_on m [] ts = refl
 seen_on m (s ∷ ss) ts = ap (λ x. seen_of m s ++ x) (seen_on (effect m s) ss ts) ∙ sym (append_assoc (seen_of m s) (seen (effect m s) ss) (seen (after (effect m s) ss) ts))
 

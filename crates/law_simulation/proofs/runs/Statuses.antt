@@ -5,8 +5,8 @@ use Rattle.std.proofs.lemmas.List.Elements.{All-contains, Contains-append_cases}
 use Rattle.rdma_types.specs.declared.requests.Completion.{Completion}
 use Rattle.rdma_types.specs.declared.requests.WcStatus.{WcStatus}
 use Rattle.rdma_types.specs.declared.requests.WcStatus.TheVariants as statuses
-use Rattle.ideal_model.specs.declared.steps.IdealStep.{IdealStep}
-use Rattle.ideal_model.specs.Machine.{Machine}
+use Rattle.packetless_machine.specs.declared.steps.MachineStep.{MachineStep}
+use Rattle.packetless_machine.specs.Machine.{Machine}
 use Rattle.law_simulation.proofs.relation.Grants.{contains_later}
 use Rattle.law_simulation.proofs.runs.Adding.{Admits, IsUsualUnless, step_new}
 use Rattle.law_simulation.specs.Spent.{ComesOnlyBy, IsLastExpiry, IsLastWait}
@@ -34,7 +34,7 @@ module _ (st : WcStatus) (success : statuses.Success ≢ st) (flush : statuses.F
     access = access;
   }
 
-  comes_only : (IsLast : Machine → IdealStep → Type 0) → IsUsualUnless (statuses.RetryExceeded ≢ st) IsLastExpiry IsLast → IsUsualUnless (statuses.RnrExceeded ≢ st) IsLastWait IsLast → ComesOnlyBy st IsLast
+  comes_only : (IsLast : Machine → MachineStep → Type 0) → IsUsualUnless (statuses.RetryExceeded ≢ st) IsLastExpiry IsLast → IsUsualUnless (statuses.RnrExceeded ≢ st) IsLastWait IsLast → ComesOnlyBy st IsLast
   comes_only IsLast expiring waiting m s c k x h = elim (step_new New (λ status. status ≢ st) admits IsLast expiring waiting m s) [
     | inl new ↦ elim (new c k x h) [ inl g ↦ inl g | inr g ↦ inr (inl g) ]
     | inr last ↦ inr (inr last)

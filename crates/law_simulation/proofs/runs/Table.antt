@@ -13,7 +13,7 @@ use Rattle.rdma_types.specs.declared.requests.Request.{Request}
 use Rattle.rdma_types.specs.declared.requests.Terms.{Terms}
 use Rattle.rdma_types.specs.declared.rights.Rights.{Rights}
 use Rattle.protocol.specs.State.{empty_world}
-use Rattle.ideal_model.specs.Machine.{empty}
+use Rattle.packetless_machine.specs.Machine.{empty}
 use Rattle.law_simulation.specs.Views.{peer}
 use Rattle.law_simulation.specs.Stands.{Stands}
 use Rattle.law_simulation.specs.Law.{AlwaysFollows, Law}

@@ -9,22 +9,22 @@ use Rattle.rdma_types.specs.declared.requests.Shape.{Shape}
 use Rattle.rdma_types.specs.declared.requests.WcStatus.{WcStatus}
 use Rattle.rdma_types.specs.declared.requests.WcStatus.TheVariants as statuses
 use Rattle.rdma_types.specs.declared.answers.Refusal.{Refusal}
-use Rattle.rdma_types.specs.declared.answers.Why.{Why}
+use Rattle.rdma_types.specs.declared.answers.RefusalReason.{RefusalReason}
 use Rattle.rdma_types.specs.declared.verbs.Verb.{Verb}
 use Rattle.rdma_types.specs.declared.verbs.Verb.TheVariants as verbs
 use Rattle.rdma_types.specs.declared.requests.WcKind.TheVariants as wc_kinds
 use Rattle.rdma_types.specs.Kinds.{is_send, kind_of, receive_done, request_done}
 use Rattle.rdma_types.specs.Lists.{named}
 use Rattle.rdma_types.specs.Objects.{CompletionQueue, Region}
-use Rattle.ideal_model.specs.declared.reply.Reply.TheVariants.{Finished}
-use Rattle.ideal_model.specs.declared.steps.IdealStep.{IdealStep}
-use Rattle.ideal_model.specs.declared.steps.IdealStep.TheVariants as steps
-use Rattle.ideal_model.specs.Machine.{Machine, Context, End, no_context, nobody, new_end, context_of, end_of, with_context, with_end, with_regions, with_queues, with_queue, with_queue_in, completing, in_end}
-use Rattle.ideal_model.specs.Steps as ideal
-use Rattle.ideal_model.specs.Steps.{advanced, acted_with, fills, receiving, placing, put_in_receive, put_in_range, run_towards, run, atom, atom_on, read_turn, refuse, refuse_at, denied, closed, dried, dried_at, offered, with_offer, landed, land_at, with_known, knowing, tell, tell_at, told_one, expire, expired, ended_with, wait, waited, bounce, peer_of, receive_for, current, put_old}
-use Rattle.ideal_model.specs.Verbs as verbal
-use Rattle.ideal_model.specs.Verbs.{refusal_of, after_answer, done}
-use Rattle.ideal_model.proofs.Views.{end_of-with_context, end_of-with_regions, end_of-completing, end_of-put_old}
+use Rattle.packetless_machine.specs.declared.reply.Reply.TheVariants.{Finished}
+use Rattle.packetless_machine.specs.declared.steps.MachineStep.{MachineStep}
+use Rattle.packetless_machine.specs.declared.steps.MachineStep.TheVariants as steps
+use Rattle.packetless_machine.specs.Machine.{Machine, Context, End, no_context, nobody, new_end, context_of, end_of, with_context, with_end, with_regions, with_queues, with_queue, with_queue_in, completing, in_end}
+use Rattle.packetless_machine.specs.Steps as ideal
+use Rattle.packetless_machine.specs.Steps.{advanced, acted_with, fills, receiving, placing, put_in_receive, put_in_range, run_towards, run, atom, atom_on, read_turn, refuse, refuse_at, denied, closed, dried, dried_at, offered, with_offer, landed, land_at, with_known, knowing, tell, tell_at, told_one, expire, expired, ended_with, wait, waited, bounce, peer_of, receive_for, current, put_old}
+use Rattle.packetless_machine.specs.Verbs as verbal
+use Rattle.packetless_machine.specs.Verbs.{refusal_of, after_answer, done}
+use Rattle.packetless_machine.proofs.Views.{end_of-with_context, end_of-with_regions, end_of-completing, end_of-put_old}
 use Rattle.law_simulation.specs.Told.{told_of, IsTellOf, AreAllTold, TellsByOne}
 use Rattle.law_simulation.proofs.runs.Acting.{related, pushed, end_related, end_other, object_or_not}
 
@@ -119,7 +119,7 @@ turn_kept : (m : Machine) (o q : ObjName) → told_of (read_turn m o) q ≡ told
 unfolding read_turn acted_with
 turn_kept m o q = told_kept m o _ q refl refl
 
-refuse_fails : (m : Machine) (o : ObjName) (why : Why) (q : ObjName) → StaysOrFails m (refuse m o why) q
+refuse_fails : (m : Machine) (o : ObjName) (why : RefusalReason) (q : ObjName) → StaysOrFails m (refuse m o why) q
 unfolding refuse refuse_at denied closed
 refuse_fails m o why q = elim (fails_at _ (end_of m o).peer (closed (end_of (in_end m o (λ e. denied e why)) (end_of m o).peer)) q refl (refl, refl)) [
   | inl h ↦ inl (queues_kept _ _ _ q ∙ (h ∙ told_kept m o _ q refl refl))
@@ -224,7 +224,7 @@ verb_kept m v given (Some r) q = refl
 
 -- ---- each step
 
-still : (m m' : Machine) (s : IdealStep) (q : ObjName) → StaysOrFails m m' q → (told_of m' q ≡ told_of m q) ⊎ (IsTellOf q s × (told_of m' q ≡ suc (told_of m q))) ⊎ AreAllTold (end_of m' q)
+still : (m m' : Machine) (s : MachineStep) (q : ObjName) → StaysOrFails m m' q → (told_of m' q ≡ told_of m q) ⊎ (IsTellOf q s × (told_of m' q ≡ suc (told_of m q))) ⊎ AreAllTold (end_of m' q)
 still m m' s q (inl h) = inl h
 still m m' s q (inr h) = inr (inr h)
 

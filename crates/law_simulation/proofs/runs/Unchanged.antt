@@ -6,10 +6,10 @@ use Rattle.protocol.specs.declared.events.WorldEvent.TheVariants as world_events
 use Rattle.rdma_types.specs.declared.answers.Answer.{Answer}
 use Rattle.protocol.specs.State.{World, empty_world}
 use Rattle.protocol.specs.WorldStep.{world_step, world_after}
-use Rattle.ideal_model.specs.declared.steps.IdealStep.{IdealStep}
-use Rattle.ideal_model.specs.declared.steps.IdealStep.TheVariants as steps
-use Rattle.ideal_model.specs.Machine.{Machine, empty}
-use Rattle.ideal_model.specs.Legal.{after, seen}
+use Rattle.packetless_machine.specs.declared.steps.MachineStep.{MachineStep}
+use Rattle.packetless_machine.specs.declared.steps.MachineStep.TheVariants as steps
+use Rattle.packetless_machine.specs.Machine.{Machine, empty}
+use Rattle.packetless_machine.specs.Legal.{after, seen}
 use Rattle.law_simulation.specs.Kept as kept
 use Rattle.law_simulation.specs.Kept.{kept_of}
 use Rattle.law_simulation.specs.Carries.{Allows}
@@ -18,7 +18,7 @@ use Rattle.law_simulation.specs.Law.{Follows, FollowsRun, IsInRange, Law, inner_
 use Rattle.law_simulation.specs.Unseen.{IsUnseen, AreUnchanged, UnseenChangesNothing}
 
 -- what is neither seen nor an inner step is nothing
-no_steps : (m : Machine) (ss : List IdealStep) → seen m ss ≡ [] → inner_of ss ≡ [] → ss ≡ []
+no_steps : (m : Machine) (ss : List MachineStep) → seen m ss ≡ [] → inner_of ss ≡ [] → ss ≡ []
 no_steps m [] unseen inner = refl
 no_steps m (steps.Verb verb given ∷ ss) unseen inner = absurd (cc)
 no_steps m (steps.Run q n ∷ ss) unseen inner = absurd (cc)
@@ -65,7 +65,7 @@ unheard w (world_events.At (events.Stop name alone)) a u = absurd u
 unheard w (world_events.At (events.Restore image)) a u = absurd u
 unheard w (world_events.At (events.Release name)) a u = absurd u
 
-none_allowed : (w : World) (m : Machine) (e : WorldEvent) (a : Answer) (ss : List IdealStep) → IsUnseen e → Allows w m e a ss → ss ≡ []
+none_allowed : (w : World) (m : Machine) (e : WorldEvent) (a : Answer) (ss : List MachineStep) → IsUnseen e → Allows w m e a ss → ss ≡ []
 none_allowed w m (world_events.AddDevice id address) a ss u h = absurd u
 none_allowed w m (world_events.MakeContext name device) a ss u h = absurd u
 none_allowed w m (world_events.Connect one two terms) a ss u h = absurd u

@@ -5,7 +5,7 @@ use Rattle.std.proofs.lemmas.Bool.Decides.{nat_tests, leb_tells, eqb_tells}
 use Rattle.rdma_types.specs.declared.names.ObjName.{ObjName}
 use Rattle.rdma_types.specs.declared.answers.Answer.{Answer}
 use Rattle.rdma_types.specs.declared.answers.Answer.TheVariants as answers
-use Rattle.rdma_types.specs.declared.answers.NotWhy.{NotWhy}
+use Rattle.rdma_types.specs.declared.answers.ExpiryIgnored.{ExpiryIgnored}
 use Rattle.rdma_types.specs.declared.requests.WcStatus.TheVariants as status
 use Rattle.rdma_types.specs.Lists.{store_named}
 use Rattle.rdma_types.specs.Spans.{end_number}
@@ -19,12 +19,12 @@ use Rattle.protocol.specs.Requester.{not_counted, counted, ended_with}
 use Rattle.protocol.specs.DeviceStep as device
 use Rattle.protocol.specs.WorldStep as step
 use Rattle.protocol.specs.WorldStep.{is_live, home, ran}
-use Rattle.ideal_model.specs.declared.steps.IdealStep.TheVariants as steps
-use Rattle.ideal_model.specs.Machine as machine
-use Rattle.ideal_model.specs.Machine.{Machine, End, has_context, has_end}
-use Rattle.ideal_model.specs.Numbers.{due, oldest}
-use Rattle.ideal_model.specs.Steps as making
-use Rattle.ideal_model.specs.Steps.{expire, expired, has_untold}
+use Rattle.packetless_machine.specs.declared.steps.MachineStep.TheVariants as steps
+use Rattle.packetless_machine.specs.Machine as machine
+use Rattle.packetless_machine.specs.Machine.{Machine, End, has_context, has_end}
+use Rattle.packetless_machine.specs.Numbers.{due, oldest}
+use Rattle.packetless_machine.specs.Steps as making
+use Rattle.packetless_machine.specs.Steps.{expire, expired, has_untold}
 use Rattle.law_simulation.specs.Kept as kept
 use Rattle.law_simulation.specs.Carries.{is_counted, expire_steps}
 use Rattle.law_simulation.specs.Stands.{Stands}
@@ -46,7 +46,7 @@ expiring : (l : Link) → not_counted l ≡ None → (l.ended ≡ false) × ((l.
 unfolding not_counted
 expiring l h = by_tests l.ended (is_paused l.moving.phase) (is_resuming l.moving.phase) l.sender.rnr_wait (l.sender.next == l.sender.una) _ _ _ _ _ h
   where
-    by_tests : (a b c d e : Bool) (u v x y z : NotWhy) → (if a then Some u else if b then Some v else if c then Some x else if d then Some y else if e then Some z else None) ≡ None → (a ≡ false) × (e ≡ false)
+    by_tests : (a b c d e : Bool) (u v x y z : ExpiryIgnored) → (if a then Some u else if b then Some v else if c then Some x else if d then Some y else if e then Some z else None) ≡ None → (a ≡ false) × (e ≡ false)
     by_tests true b c d e u v x y z h = absurd (cc)
     by_tests false true c d e u v x y z h = absurd (cc)
     by_tests false false true d e u v x y z h = absurd (cc)
@@ -158,7 +158,7 @@ module _ (w : World) (m : Machine) (o : ObjName) (s : Stands w m) where
     by_spent true h = expire_reached (spent_world l) answers.Spent refl untold (subst (λ b. Stands (spent_world l) (if b then making.ended_with m o status.RetryExceeded else machine.in_end m o expired)) (sym (same_spent ∙ h)) spent_stands)
     by_spent false h = expire_reached (counted_world l) (answers.Expired (l.sender.spent + 1)) refl untold (subst (λ b. Stands (counted_world l) (if b then making.ended_with m o status.RetryExceeded else machine.in_end m o expired)) (sym (same_spent ∙ h)) (counted_stands h))
 
-  by_reason : (l : Link) (r : Option NotWhy) → LiveEnd w m o l → not_counted l ≡ r →
+  by_reason : (l : Link) (r : Option ExpiryIgnored) → LiveEnd w m o l → not_counted l ≡ r →
       Reaches w m (world_events.At (events.Expire o)) (ran w (device.expires_by (home w o.context) (live_of w o.context) (end_there_of w o) l r)).world (ran w (device.expires_by (home w o.context) (live_of w o.context) (end_there_of w o) l r)).answer
   unfolding ran step.numbered kept.verb_in expire_steps is_counted device.counts
   by_reason l (Some why) h is = same_reached w m (events.Expire o) (answers.NotCounted why) s h.live refl refl refl

@@ -24,9 +24,9 @@ use Rattle.protocol.specs.Requester.{Transmission, SendsResume, Waits, IsIdle, W
 use Rattle.protocol.specs.DeviceStep as device
 use Rattle.protocol.specs.WorldStep as step
 use Rattle.protocol.specs.WorldStep.{is_live, home, ran, with_device}
-use Rattle.ideal_model.specs.Machine as machine
-use Rattle.ideal_model.specs.Machine.{Machine, End, has_context, has_end}
-use Rattle.ideal_model.specs.Numbers.{due}
+use Rattle.packetless_machine.specs.Machine as machine
+use Rattle.packetless_machine.specs.Machine.{Machine, End, has_context, has_end}
+use Rattle.packetless_machine.specs.Numbers.{due}
 use Rattle.law_simulation.specs.Facts.{Fact, IsRequestOf, MoveFact, NumberedFact}
 use Rattle.law_simulation.specs.Joined.{IsSayable}
 use Rattle.law_simulation.specs.Kept as kept

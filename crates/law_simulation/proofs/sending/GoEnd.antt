@@ -11,9 +11,9 @@ use Rattle.rdma_types.specs.Spans.{end_number, request_of}
 use Rattle.protocol.specs.State.{Sender, Link, HuskEntry, Phase, Running, Progress, NoMessage}
 use Rattle.protocol.specs.Requester.{emptied_at}
 use Rattle.protocol.specs.Wire.{Packet}
-use Rattle.ideal_model.specs.Machine.{End}
-use Rattle.ideal_model.specs.Numbers.{due}
-use Rattle.ideal_model.specs.Steps.{front}
+use Rattle.packetless_machine.specs.Machine.{End}
+use Rattle.packetless_machine.specs.Numbers.{due}
+use Rattle.packetless_machine.specs.Steps.{front}
 use Rattle.law_simulation.specs.Packets.{Class, class_of, IsRequest, IsReadResponse, IsAtomicResponse, IsAck, IsSequenceNak, IsRefusal, IsReceiverNotReady, IsStopped, IsResume, IsResumeAck, IsNothing}
 use Rattle.law_simulation.specs.Facts.{IsCarriedWith, IsLeft, IsRequestOf, NumberedFact, MoveFact, ClassFact, PacketFact}
 use Rattle.law_simulation.specs.Views.{Side}

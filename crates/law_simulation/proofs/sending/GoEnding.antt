@@ -13,11 +13,11 @@ use Rattle.protocol.specs.EndWords as words
 use Rattle.protocol.specs.Requester.{end_of_queue, emptied_at, ended_link, ended_with}
 use Rattle.protocol.specs.DeviceStep as device
 use Rattle.protocol.specs.WorldStep.{home, ran}
-use Rattle.ideal_model.specs.Machine as machine
-use Rattle.ideal_model.specs.Machine.{Machine, End}
-use Rattle.ideal_model.specs.Numbers.{due}
-use Rattle.ideal_model.specs.Steps as steps
-use Rattle.ideal_model.specs.Steps.{closed}
+use Rattle.packetless_machine.specs.Machine as machine
+use Rattle.packetless_machine.specs.Machine.{Machine, End}
+use Rattle.packetless_machine.specs.Numbers.{due}
+use Rattle.packetless_machine.specs.Steps as steps
+use Rattle.packetless_machine.specs.Steps.{closed}
 use Rattle.law_simulation.specs.Views.{Side, requests_of, side_of}
 use Rattle.law_simulation.specs.Joined.{IsJoined}
 use Rattle.law_simulation.specs.Stands.{Stands, IsEndSound}

@@ -7,8 +7,8 @@ use Rattle.rdma_types.specs.Causes.{first_cause}
 use Rattle.protocol.specs.State.{World, Link}
 use Rattle.protocol.specs.Refusals as refusing
 use Rattle.protocol.specs.WorldStep.{is_live, home}
-use Rattle.ideal_model.specs.Machine as machine
-use Rattle.ideal_model.specs.Machine.{Machine, has_context, has_end}
+use Rattle.packetless_machine.specs.Machine as machine
+use Rattle.packetless_machine.specs.Machine.{Machine, has_context, has_end}
 use Rattle.law_simulation.specs.Stands.{Stands}
 use Rattle.law_simulation.proofs.relation.Ends.{end_there}
 use Rattle.law_simulation.proofs.relation.Live.{live_of, live_same}

@@ -10,9 +10,9 @@ use Rattle.protocol.specs.State.{World, Link, Sender, Progress, no_end}
 use Rattle.protocol.specs.EndWords as words
 use Rattle.protocol.specs.DeviceStep as device
 use Rattle.protocol.specs.WorldStep.{is_live, home, ran}
-use Rattle.ideal_model.specs.Machine as machine
-use Rattle.ideal_model.specs.Machine.{Machine, End, has_context, has_end, regions_of}
-use Rattle.ideal_model.specs.Steps.{untold}
+use Rattle.packetless_machine.specs.Machine as machine
+use Rattle.packetless_machine.specs.Machine.{Machine, End, has_context, has_end, regions_of}
+use Rattle.packetless_machine.specs.Steps.{untold}
 use Rattle.law_simulation.specs.Views.{Owned, owned, owned_there, end_of, in_rts, link_or_none, receive_in, requests_of, side_of}
 use Rattle.law_simulation.specs.Joined.{IsJoined, IsProgress, Sends, IsOrdered, IsFencedIn}
 use Rattle.law_simulation.specs.Stands.{Stands, AreSame, IsContextSound, IsEndSound}

@@ -6,9 +6,9 @@ use Rattle.rdma_types.specs.Kinds.{is_atomic, size_of}
 use Rattle.rdma_types.specs.Limits.{is_mtu, most_bytes}
 use Rattle.rdma_types.specs.Objects.{Posted, no_posted}
 use Rattle.rdma_types.specs.Spans.{pieces, span, span_of, first_number, end_number}
-use Rattle.ideal_model.specs.Machine.{End, untold_count}
-use Rattle.ideal_model.specs.Numbers.{due, oldest}
-use Rattle.ideal_model.specs.Sound.{IsSound}
+use Rattle.packetless_machine.specs.Machine.{End, untold_count}
+use Rattle.packetless_machine.specs.Numbers.{due, oldest}
+use Rattle.packetless_machine.specs.Sound.{IsSound}
 use Rattle.law_simulation.proofs.relation.Numbers.{first-rest}
 
 -- ---- one of the five MTUs

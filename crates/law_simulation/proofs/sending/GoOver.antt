@@ -14,10 +14,10 @@ use Rattle.protocol.specs.State as state
 use Rattle.protocol.specs.State.{World, Link, Progress, NoMessage, InSend, InWrite}
 use Rattle.protocol.specs.EndWords as words
 use Rattle.protocol.specs.Requester.{ended_link, ended_with, failing}
-use Rattle.ideal_model.specs.Machine as machine
-use Rattle.ideal_model.specs.Machine.{Machine, End, has_context, has_end, completed}
-use Rattle.ideal_model.specs.Steps as steps
-use Rattle.ideal_model.specs.Steps.{closed, failed_queues, failed_receives, failed_requests, receives_of, untold}
+use Rattle.packetless_machine.specs.Machine as machine
+use Rattle.packetless_machine.specs.Machine.{Machine, End, has_context, has_end, completed}
+use Rattle.packetless_machine.specs.Steps as steps
+use Rattle.packetless_machine.specs.Steps.{closed, failed_queues, failed_receives, failed_requests, receives_of, untold}
 use Rattle.law_simulation.specs.Views.{Owned, owned, owned_there, link_or_none, receive_in}
 use Rattle.law_simulation.specs.Stands.{Stands, IsContextSound, IsEndSound}
 use Rattle.law_simulation.proofs.relation.Tables.{All-named, replaced-stored, has_name-store, name-named_there, named-store_same}

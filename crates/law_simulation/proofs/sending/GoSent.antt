@@ -9,8 +9,8 @@ use Rattle.rdma_types.specs.Lists.{first_that}
 use Rattle.protocol.specs.State.{World, Device, Flight}
 use Rattle.protocol.specs.Wire.{Packet, packet_of, wire_of}
 use Rattle.protocol.specs.WorldStep.{is_live, home}
-use Rattle.ideal_model.specs.Machine as machine
-use Rattle.ideal_model.specs.Machine.{Machine, End, has_end}
+use Rattle.packetless_machine.specs.Machine as machine
+use Rattle.packetless_machine.specs.Machine.{Machine, End, has_end}
 use Rattle.law_simulation.specs.Views.{Net, net_of, peer, requests_of, side_of}
 use Rattle.law_simulation.specs.Facts.{Fact, BytesFact, PacketFact, ClassFact}
 use Rattle.law_simulation.specs.Stands.{Stands, AreSent}

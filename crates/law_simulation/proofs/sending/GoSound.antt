@@ -7,9 +7,9 @@ use Rattle.rdma_types.specs.declared.names.Name.{Name}
 use Rattle.rdma_types.specs.Kinds.{is_atomic, kind_of, lands, size_of}
 use Rattle.rdma_types.specs.Memory.{is_granted, landing_right, local_key}
 use Rattle.rdma_types.specs.Objects.{Region}
-use Rattle.ideal_model.specs.Machine.{End, posted_at, untold_count}
-use Rattle.ideal_model.specs.Sound.{IsSound, IsOfferOf}
-use Rattle.ideal_model.specs.Steps.{closed, in_place, untold}
+use Rattle.packetless_machine.specs.Machine.{End, posted_at, untold_count}
+use Rattle.packetless_machine.specs.Sound.{IsSound, IsOfferOf}
+use Rattle.packetless_machine.specs.Steps.{closed, in_place, untold}
 use Rattle.law_simulation.specs.Stands.{IsEndSound}
 use Rattle.law_simulation.proofs.sending.GoEnd.{gone_end}
 

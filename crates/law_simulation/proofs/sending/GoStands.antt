@@ -6,8 +6,8 @@ use Rattle.rdma_types.specs.declared.names.ObjName.{ObjName}
 use Rattle.rdma_types.specs.Lists.{has_name, named, store_named}
 use Rattle.protocol.specs.State as state
 use Rattle.protocol.specs.State.{World, Link, Flight, Progress, no_end}
-use Rattle.ideal_model.specs.Machine as machine
-use Rattle.ideal_model.specs.Machine.{Machine, End, has_end, nobody, regions_of}
+use Rattle.packetless_machine.specs.Machine as machine
+use Rattle.packetless_machine.specs.Machine.{Machine, End, has_end, nobody, regions_of}
 use Rattle.law_simulation.specs.Views.{Side, context_of, end_of, in_rts, link_or_none, net_of, numbered_ends, name_at, requests_of, side_of}
 use Rattle.law_simulation.specs.Joined.{IsProgress}
 use Rattle.law_simulation.specs.Stands.{Stands, IsCounted, AreNumbered, AreSame, AreLeft, AreSent, IsContextSound}

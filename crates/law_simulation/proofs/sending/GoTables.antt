@@ -4,8 +4,8 @@ use Rattle.std.specs.Prelude.{if◌then◌else◌, bytes_eq}
 use Rattle.rdma_types.specs.declared.names.Name.{Name}
 use Rattle.rdma_types.specs.declared.names.ObjName.{ObjName}
 use Rattle.rdma_types.specs.Lists.{has_name, named, store_named}
-use Rattle.ideal_model.specs.Machine as machine
-use Rattle.ideal_model.specs.Machine.{Machine, End, has_context}
+use Rattle.packetless_machine.specs.Machine as machine
+use Rattle.packetless_machine.specs.Machine.{Machine, End, has_context}
 use Rattle.law_simulation.proofs.relation.Tables.{same_name, replaced-stored}
 use Rattle.law_simulation.proofs.relation.Machines.{MachineChanged, end_stored}
 use Rattle.law_simulation.proofs.relation.Linked.{HasEnd}

@@ -11,9 +11,9 @@ use Rattle.protocol.specs.Numbers.{wire_number}
 use Rattle.protocol.specs.State.{Link, Sender}
 use Rattle.protocol.specs.Segments.{packet_at, packet_of_found, packet_of_piece}
 use Rattle.protocol.specs.Requester.{SendsResume, Waits, IsIdle, WindowIsFull, ReadsAreFull, IsFenced, Sends, transmission, next_transmission, barrier, going_to, past}
-use Rattle.ideal_model.specs.Machine.{End}
-use Rattle.ideal_model.specs.Numbers.{due, oldest}
-use Rattle.ideal_model.specs.Sound.{IsSound}
+use Rattle.packetless_machine.specs.Machine.{End}
+use Rattle.packetless_machine.specs.Numbers.{due, oldest}
+use Rattle.packetless_machine.specs.Sound.{IsSound}
 use Rattle.law_simulation.specs.Facts.{IsRequestOf, past_packet, request_for}
 use Rattle.law_simulation.specs.Joined as joined
 use Rattle.law_simulation.specs.Joined.{IsOrdered, IsFencedIn, AreWholePieces, lands_untold_before}

@@ -14,7 +14,7 @@ use Rattle.protocol.specs.DeviceStep as device
 use Rattle.protocol.specs.DeviceStep.{device_step, done_by}
 use Rattle.protocol.specs.WorldStep as step
 use Rattle.protocol.specs.WorldStep.{is_live, is_carried, home, ran, runs, context_causes, context_of_event}
-use Rattle.ideal_model.specs.Machine.{Machine, has_context}
+use Rattle.packetless_machine.specs.Machine.{Machine, has_context}
 use Rattle.law_simulation.specs.Kept.{kept_of, kept_verb, verb_of, verb_in}
 use Rattle.law_simulation.specs.Carries.{CarriesAt}
 use Rattle.law_simulation.specs.Stands.{Stands}

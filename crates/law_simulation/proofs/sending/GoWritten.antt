@@ -11,9 +11,9 @@ use Rattle.protocol.specs.Numbers.{wire_number}
 use Rattle.protocol.specs.Moves.{resume_packet}
 use Rattle.protocol.specs.Segments.{message_packet, read_packet, atomic_packet, packet_of_piece}
 use Rattle.protocol.specs.Wire.{Packet, Fits, layout_of, is_request, packet_of, wire_of}
-use Rattle.roce_headers.proofs.Fitting.{of_kind, piece-fits, piece-request, resume-fits}
-use Rattle.roce_headers.proofs.Grammar.{spelled_read}
-use Rattle.roce_headers.proofs.Written.{written_spelled}
+use Rattle.protocol.proofs.FittingPackets.{of_kind, piece-fits, piece-request, resume-fits}
+use Rattle.protocol.proofs.PacketGrammar.{spelled_read}
+use Rattle.protocol.proofs.WrittenPackets.{written_spelled}
 use Rattle.law_simulation.specs.Joined.{IsSayable}
 use Rattle.law_simulation.specs.Packets.{class_of, resume_class, IsRequest, IsResume}
 

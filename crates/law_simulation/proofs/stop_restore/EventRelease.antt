@@ -20,8 +20,8 @@ use Rattle.protocol.specs.Refusals as refusing
 use Rattle.protocol.specs.DeviceStep as device
 use Rattle.protocol.specs.WorldStep as step
 use Rattle.protocol.specs.WorldStep.{world_step, with_device, ran, has_device, same_address}
-use Rattle.ideal_model.specs.Machine as machine
-use Rattle.ideal_model.specs.Machine.{Machine}
+use Rattle.packetless_machine.specs.Machine as machine
+use Rattle.packetless_machine.specs.Machine.{Machine}
 use Rattle.law_simulation.specs.Kept as kept
 use Rattle.law_simulation.specs.Views.{contexts_of, context_of, end_of, link_or_none, in_rts, home_in, address_or_none, place_of, side_of, net_of, numbered_ends}
 use Rattle.law_simulation.specs.Facts.{HuskFact}

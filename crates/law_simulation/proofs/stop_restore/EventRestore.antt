@@ -25,7 +25,7 @@ use Rattle.protocol.specs.DeviceStep as device
 use Rattle.protocol.specs.DeviceStep.{highest}
 use Rattle.protocol.specs.WorldStep as step
 use Rattle.protocol.specs.WorldStep.{world_step, is_live, is_carried, home, with_device, ran, live_context, partner_moves, is_carried_end, is_resuming_end, context_causes}
-use Rattle.ideal_model.specs.Machine.{Machine}
+use Rattle.packetless_machine.specs.Machine.{Machine}
 use Rattle.law_simulation.specs.Kept as kept
 use Rattle.law_simulation.specs.Packets.{IsStopped}
 use Rattle.law_simulation.specs.Views.{Net, Side, contexts_of, context_of, end_of, link_or_none, home_in, address_or_none, place_of, side_of, net_of, peer, owned_there}

@@ -22,8 +22,8 @@ use Rattle.protocol.specs.DeviceStep as device
 use Rattle.protocol.specs.DeviceStep.{husked, husk_of, husk_entry}
 use Rattle.protocol.specs.WorldStep as step
 use Rattle.protocol.specs.WorldStep.{world_step, is_live, is_carried, home, with_device, ran, live_context, partner_moves, is_carried_end, is_resuming_end, context_causes}
-use Rattle.ideal_model.specs.Machine as machine
-use Rattle.ideal_model.specs.Machine.{Machine, has_end, nobody}
+use Rattle.packetless_machine.specs.Machine as machine
+use Rattle.packetless_machine.specs.Machine.{Machine, has_end, nobody}
 use Rattle.law_simulation.specs.Kept as kept
 use Rattle.law_simulation.specs.Packets.{IsStopped}
 use Rattle.law_simulation.specs.Views.{Net, Side, contexts_of, context_of, end_of, link_or_none, in_rts, home_in, address_or_none, place_of, side_of, net_of, name_of, peer, owned_there, receive_in}

@@ -9,8 +9,8 @@ use Rattle.rdma_types.specs.declared.names.ObjName.{ObjName}
 use Rattle.rdma_types.specs.Lists.{named, has, has_name, has_word}
 use Rattle.rdma_types.specs.Objects.{Region}
 use Rattle.protocol.specs.State.{World, Context, End, Link, Progress, NoMessage, InSend, InWrite, no_end}
-use Rattle.ideal_model.specs.Machine as machine
-use Rattle.ideal_model.specs.Machine.{Machine, nobody}
+use Rattle.packetless_machine.specs.Machine as machine
+use Rattle.packetless_machine.specs.Machine.{Machine, nobody}
 use Rattle.law_simulation.specs.Views.{Net, context_of, end_of, link_or_none, link_of, in_rts, net_of, peer, owned, owned_there}
 use Rattle.law_simulation.specs.Joined.{IsProgress}
 use Rattle.law_simulation.specs.Stands.{Stands, IsEndSound}

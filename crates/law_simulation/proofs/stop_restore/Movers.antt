@@ -15,8 +15,8 @@ use Rattle.protocol.specs.EndWords.{is_resuming_link, is_resuming}
 use Rattle.protocol.specs.State as state
 use Rattle.protocol.specs.State.{World, Context, End, Link, Phase, Running, Paused, Resuming, no_end}
 use Rattle.protocol.specs.WorldStep.{is_live, is_carried, is_linked_image, is_carried_end, is_resuming_end}
-use Rattle.ideal_model.specs.Machine as machine
-use Rattle.ideal_model.specs.Machine.{Machine, nobody}
+use Rattle.packetless_machine.specs.Machine as machine
+use Rattle.packetless_machine.specs.Machine.{Machine, nobody}
 use Rattle.law_simulation.specs.Views.{contexts_of, context_of, end_of, link_or_none, side_of, owned, owned_there}
 use Rattle.law_simulation.specs.Joined.{IsMoving}
 use Rattle.law_simulation.specs.Stands.{Stands, IsPlaced}

@@ -9,7 +9,7 @@ use Rattle.rdma_types.specs.Objects.{Region}
 use Rattle.protocol.specs.declared.wire.ResumeBody.{ResumeBody}
 use Rattle.protocol.specs.Wire.{Packet, packet_of}
 use Rattle.protocol.specs.State.{Flight, HuskEntry, Moving}
-use Rattle.ideal_model.specs.Machine.{End}
+use Rattle.packetless_machine.specs.Machine.{End}
 use Rattle.law_simulation.specs.Packets.{Class, class_of, IsRequest, IsStopped, IsResume, IsResumeAck}
 use Rattle.law_simulation.specs.Views.{Net, Side, peer}
 use Rattle.law_simulation.specs.Joined.{IsJoined, IsProgress, IsHeardOf}

@@ -8,8 +8,8 @@ use Rattle.rdma_types.specs.declared.requests.Address.{Address}
 use Rattle.rdma_types.specs.Lists.{has_name, has_word}
 use Rattle.protocol.specs.State.{World, Context, Link, device_at}
 use Rattle.protocol.specs.WorldStep.{is_carried}
-use Rattle.ideal_model.specs.Machine as machine
-use Rattle.ideal_model.specs.Machine.{Machine, regions_of}
+use Rattle.packetless_machine.specs.Machine as machine
+use Rattle.packetless_machine.specs.Machine.{Machine, regions_of}
 use Rattle.law_simulation.specs.Views.{Net, Side, contexts_of, context_of, end_of, link_or_none, in_rts, place_of, side_of, net_of, peer, owned_there}
 use Rattle.law_simulation.specs.Joined.{IsHeardOf}
 use Rattle.law_simulation.specs.Stands.{Stands, IsPlaced, AreSame, AreLeft, AreSent, names_of, husks_of}

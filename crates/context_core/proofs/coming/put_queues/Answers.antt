@@ -2,7 +2,7 @@ use Rattle.std.proofs.Common.{◌≡◌, ◌∙◌, ap}
 use Rattle.std.specs.Prelude.{◌++◌, ◌∷◌, [], None, bytes_eq}
 use Rattle.std.specs.Map.{lookup}
 use Rattle.indexmap.proofs.CallerLemmas.{insert_entry-new}
-use Rattle.completion_queue.specs.Queue.{unreserved}
+use Rattle.end_queues.specs.Completions.{unreserved}
 use Rattle.context_core.specs.Coming.{queue_after}
 use Rattle.context_core.proofs.PlacesFromImage.{queue-more, queue-new}
 use Rattle.context_core.proofs.coming.put_queues.Goals as goal

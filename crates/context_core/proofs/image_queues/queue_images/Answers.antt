@@ -4,7 +4,7 @@ use Rattle.std.specs.Option.{option_map}
 use Rattle.std.specs.Map.Iter.{deref_pair}
 use Rattle.rdma_types.specs.Objects.{CompletionQueue}
 use Rattle.rdma_types.specs.declared.names.Name.{Name}
-use Rattle.completion_queue.specs.Queue.{Queue}
+use Rattle.end_queues.specs.Completions.{Queue}
 use Rattle.protocol.specs.Images.{queue_image}
 use Rattle.endpoint_core.specs.Queues.{queues_of}
 use Rattle.context_core.proofs.ListPrefixes.{both_of, is_there, taken_all}

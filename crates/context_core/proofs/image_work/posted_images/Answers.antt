@@ -3,7 +3,7 @@ use Rattle.std.specs.Prelude.{Some, map, slice_get}
 use Rattle.std.specs.Option.{option_copied}
 use Rattle.protocol.specs.Images.{posted_image}
 use Rattle.page_pool.specs.Held.{HoldsPayload}
-use Rattle.work_queues.specs.Untold.{posted_in, untold_in}
+use Rattle.end_queues.specs.Untold.{posted_in, untold_in}
 use Rattle.context_core.proofs.ListPrefixes.{at_place, both_of, is_there, taken_all}
 use Rattle.context_core.proofs.image_work.posted_images.Goals as goal
 

@@ -1,7 +1,7 @@
 use Rattle.std.proofs.Common.{◌≡◌, take}
 use Rattle.std.specs.Prelude.{map}
 use Rattle.protocol.specs.Images.{posted_image}
-use Rattle.work_queues.specs.Untold.{untold_in}
+use Rattle.end_queues.specs.Untold.{untold_in}
 use Rattle.context_core.proofs.image_work.posted_images.Given as goal
 
 abbrev pub invariant-loop-i : goal.invariant-loop-i

@@ -1,6 +1,6 @@
 use Rattle.std.proofs.Common.{sym, subst}
-use Rattle.end_memory.specs.Payloads.{GivesBack}
-use Rattle.end_memory.proofs.Given.{gives-none}
+use Rattle.end_completions.specs.Payloads.{GivesBack}
+use Rattle.end_completions.proofs.Given.{gives-none}
 use Rattle.endpoint_core.specs.Ends.{untold_by}
 use Rattle.context_core.proofs.leaving.give_end.Goals as goal
 

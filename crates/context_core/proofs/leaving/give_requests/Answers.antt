@@ -1,6 +1,6 @@
 use Rattle.std.proofs.Common.{◌≡◌, ◌∷◌, ap, sym, ◌∙◌}
 use Rattle.std.specs.Prelude.{Some, slice_get}
-use Rattle.end_memory.proofs.Given.{gives-one}
+use Rattle.end_completions.proofs.Given.{gives-one}
 use Rattle.context_core.proofs.ReleasedPayloads.{empty-of, front-of, none-left, one-given}
 use Rattle.context_core.proofs.leaving.give_requests.Goals as goal
 

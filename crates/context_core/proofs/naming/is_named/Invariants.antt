@@ -3,7 +3,7 @@ use Rattle.std.specs.Prelude.{map}
 use Rattle.rdma_types.specs.declared.names.Name.{Name}
 use Rattle.rdma_types.specs.Lists.{some}
 use Rattle.page_pool.specs.Pool.{Pool}
-use Rattle.completion_queue.specs.Queue.{Queue}
+use Rattle.end_queues.specs.Completions.{Queue}
 use Rattle.protocol.specs.Refusals.{names_key}
 use Rattle.context_core.specs.Context.{end_of}
 use Rattle.context_core.proofs.naming.is_named.Given as goal

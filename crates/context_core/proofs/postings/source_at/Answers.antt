@@ -4,7 +4,7 @@ use Rattle.std.specs.Map.{values_of}
 use Rattle.std.specs.Map.Iter.{deref_pair}
 use Rattle.std.specs.Prelude.{Some, IfSome, is_none, is_some, nat_le, nat_lt, not, slice_get, if◌then◌else◌}
 use Rattle.std.proofs.lemmas.Bool.Decides.{nat_tests}
-use Rattle.completion_queue.specs.Queue.{used_places}
+use Rattle.end_queues.specs.Completions.{used_places}
 use Rattle.rdma_types.specs.Limits.{most_bytes}
 use Rattle.rdma_types.specs.Memory.{LocalWrite, NoRight, is_granted, landing_right, local_key}
 use Rattle.page_pool.specs.Pool.{Pool}

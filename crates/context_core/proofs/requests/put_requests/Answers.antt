@@ -1,6 +1,6 @@
 use Rattle.std.proofs.Common.{◌≡◌, ◌+◌, [], ◌∙◌, ap, refl, subst, sym, take}
 use Rattle.std.proofs.lemmas.Result.{IfOk-at_ok}
-use Rattle.work_queues.specs.Queue.{posting}
+use Rattle.end_queues.specs.Postings.{posting}
 use Rattle.context_core.specs.Coming.{Come}
 use Rattle.context_core.proofs.RequestsFromImage.{come-more, come-none, held-kept}
 use Rattle.context_core.proofs.requests.put_requests.Goals as goal

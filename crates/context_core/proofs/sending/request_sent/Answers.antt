@@ -1,5 +1,5 @@
 use Rattle.std.proofs.Common.{sym, ◌∙◌, refl, arith}
-use Rattle.work_queues.specs.Untold.{posted_in}
+use Rattle.end_queues.specs.Untold.{posted_in}
 use Rattle.roce_headers.specs.Packets.{packet}
 use Rattle.context_core.proofs.TransmittedPackets.{few, fits, posted-is, sent-is, short}
 use Rattle.context_core.proofs.sending.request_sent.Goals as goal

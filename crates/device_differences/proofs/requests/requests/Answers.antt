@@ -1,7 +1,7 @@
 use Rattle.std.proofs.Common.{rules, arith}
 use Rattle.std.proofs.lemmas.Grind.{common_steps}
 use Rattle.device_differences.specs.Differences.{posted_difference}
-use Rattle.work_queues.specs.Untold.{posted_in}
+use Rattle.end_queues.specs.Untold.{posted_in}
 use Rattle.device_differences.proofs.Found.{found-mapped, passed-mapped, end-mapped}
 use Rattle.device_differences.proofs.requests.requests.Goals as goal
 

@@ -1,5 +1,5 @@
 use Rattle.device_differences.specs.Differences.{posted_difference}
-use Rattle.work_queues.specs.Untold.{posted_in}
+use Rattle.end_queues.specs.Untold.{posted_in}
 use Rattle.std.specs.Prelude.{map}
 use Rattle.device_differences.proofs.Found.{Passed}
 use Rattle.device_differences.proofs.requests.requests.Given as goal

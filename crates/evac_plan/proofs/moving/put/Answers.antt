@@ -1,7 +1,7 @@
 use Rattle.std.proofs.Common.{sym, ◌∙◌}
 use Rattle.protocol.specs.Script.{Settles}
 use Rattle.evac_rules.specs.Evacuation.{Tried, doing, placed, returned, tries}
-use Rattle.law_evacuation.proofs.Leading.{placed_by_leads, tries_lead}
+use Rattle.law_moves.proofs.Leading.{placed_by_leads, tries_lead}
 use Rattle.evac_plan.proofs.Cuts.{cut_after, cut_as, cut_before, on_err}
 use Rattle.evac_plan.proofs.Putting.{put_none, put_some, steps_none, steps_some}
 use Rattle.evac_plan.proofs.moving.put.Goals as goal

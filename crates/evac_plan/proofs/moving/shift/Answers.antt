@@ -1,7 +1,7 @@
 use Rattle.std.proofs.Common.{sym, ◌∙◌}
 use Rattle.std.proofs.lemmas.Result.{IfOk-weaker, on_err_weaker}
 use Rattle.evac_rules.specs.Evacuation.{Evacuation, doing, moves, placed, stop}
-use Rattle.law_evacuation.proofs.Leading.{moves_leads, step_leads}
+use Rattle.law_moves.proofs.Leading.{moves_leads, step_leads}
 use Rattle.evac_plan.proofs.Cuts.{cut_after, cut_as, cut_here, on_err}
 use Rattle.evac_plan.proofs.Putting.{shift_none, shift_some, steps_stopped}
 use Rattle.evac_plan.proofs.Shown.{shows_same}

@@ -2,7 +2,7 @@ use Rattle.std.proofs.Common.{refl}
 use Rattle.std.proofs.lemmas.Result.{on_err_weaker, on_ok_weaker}
 use Rattle.protocol.specs.Script.{Settles}
 use Rattle.evac_rules.specs.Evacuation.{Evacuation, doing, release, restore, returned}
-use Rattle.law_evacuation.proofs.Leading.{returned_leads, step_leads}
+use Rattle.law_moves.proofs.Leading.{returned_leads, step_leads}
 use Rattle.evac_plan.proofs.Cuts.{cut_after, cut_as, cut_here, on_err}
 use Rattle.evac_plan.proofs.Putting.{both_leads, released_leads, shows_returned}
 use Rattle.evac_plan.proofs.Shown.{shows_same}

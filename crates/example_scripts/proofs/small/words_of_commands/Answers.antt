@@ -1,6 +1,6 @@
 use Rattle.std.specs.Prelude.{refl}
 use Rattle.script_lang.specs.Texts.{address_of, cut_at, host_of, name_of, number_in, part_of}
-use Rattle.law_program.specs.Commands.{command_of, placed_of}
+use Rattle.program_rules.specs.Commands.{command_of, placed_of}
 use Rattle.example_scripts.proofs.small.words_of_commands.Goals as goal
 
 pub returns-clause-play : goal.returns-clause-play

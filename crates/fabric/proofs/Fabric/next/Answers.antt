@@ -1,6 +1,6 @@
 use Rattle.std.proofs.Common.{subst, ◌≡◌, List}
 use Rattle.protocol.specs.State.{Flight}
-use Rattle.fabric.specs.Store.{forgetting}
+use Rattle.protocol.specs.Fabric.{forgetting}
 use Rattle.fabric.proofs.Stores.{forgetting-store}
 use Rattle.fabric.proofs.Fabric.next.Goals as goal
 

@@ -1,6 +1,7 @@
 use Rattle.std.proofs.Common.{length-append, length-drop, ◌≡◌, ◌+◌, ◌-◌, ◌<◌, [], ◌∷◌, ◌++◌, drop, length, refl, ap, arith}
 use Rattle.protocol.specs.Fabric.{flight_of, sending}
-use Rattle.fabric.proofs.Stores.{length-after_blanks, settled_within-send, is_store-send, forgetting-send, kept_flight-oldest}
+use Rattle.protocol.proofs.Histories.{length-after_blanks}
+use Rattle.fabric.proofs.Stores.{settled_within-send, is_store-send, forgetting-send, kept_flight-oldest}
 use Rattle.fabric.proofs.Fabric.send.Goals as goal
 
 pub unsettled_from-self-inside-requires : goal.unsettled_from-self-inside-requires

@@ -1,4 +1,4 @@
-use Rattle.fabric.proofs.Histories.{forgetting-nil, length-forgetting, kept_flight-forgetting, look-forgetting, pending-forgetting, sending-forgetting, sending-one_by_one, took-forgetting, losing-forgetting, forgetting-forgetting}
+use Rattle.protocol.proofs.Histories.{forgetting-nil, length-forgetting, kept_flight-forgetting, look-forgetting, pending-forgetting, sending-forgetting, sending-one_by_one, took-forgetting, losing-forgetting, forgetting-forgetting}
 use Rattle.fabric.proofs.laws.nothing_asked_for_is_forgotten.Goals as goal
 
 pub returns : goal.returns

@@ -1,5 +1,5 @@
 use Rattle.protocol.specs.State.{empty_world}
-use Rattle.ideal_model.specs.Machine.{empty}
+use Rattle.packetless_machine.specs.Machine.{empty}
 use Rattle.law_simulation.proofs.relation.first_device_follows.Goals as goal
 
 pub returns : goal.returns

@@ -1,4 +1,4 @@
-use Rattle.ideal_model.specs.Machine.{empty}
+use Rattle.packetless_machine.specs.Machine.{empty}
 use Rattle.protocol.specs.State.{empty_world}
 use Rattle.law_simulation.proofs.sending.first_transmission_follows.Goals as goal
 

@@ -1,5 +1,5 @@
 use Rattle.std.proofs.Common.{◌≡◌, drop}
-use Rattle.law_node.specs.Serve.{dated}
+use Rattle.node_rules.specs.Serve.{dated}
 use Rattle.node_engine.proofs.activity.date.Given as goal
 
 abbrev pub invariant-loop-number : goal.invariant-loop-number

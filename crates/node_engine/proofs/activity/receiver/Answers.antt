@@ -1,5 +1,5 @@
 use Rattle.std.proofs.Common.{◌∙◌, sym, ap}
-use Rattle.law_node.specs.Serve.{end_of_packet}
+use Rattle.node_rules.specs.Serve.{end_of_packet}
 use Rattle.node_engine.proofs.Ends.{marked, unmarked}
 use Rattle.node_engine.proofs.activity.receiver.Goals as goal
 

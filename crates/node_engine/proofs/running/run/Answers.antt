@@ -1,9 +1,9 @@
 use Rattle.std.proofs.Common.{◌≡◌, ◌+◌, ℕ, List, length, sym, ap, subst, arith}
-use Rattle.law_node.specs.Node.{Node, new_node}
-use Rattle.law_node.specs.Parts.{Comes}
-use Rattle.law_node.specs.Script.{lines_do, node_plan}
-use Rattle.law_node.specs.Told.{Contents}
-use Rattle.law_node.proofs.Joining.{comes_nowhere, comes_on}
+use Rattle.node_rules.specs.Node.{Node, new_node}
+use Rattle.node_rules.specs.Parts.{Comes}
+use Rattle.node_rules.specs.Script.{lines_do, node_plan}
+use Rattle.node_rules.specs.Told.{Contents}
+use Rattle.node_rules.proofs.Joining.{comes_nowhere, comes_on}
 use Rattle.rdma_types.specs.declared.requests.Address.{Address}
 use Rattle.script_lang.specs.Scripts.{lines_of}
 use Rattle.node_engine.specs.declared.faults.NodeFault.TheVariants as fault

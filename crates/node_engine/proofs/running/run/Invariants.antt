@@ -1,6 +1,6 @@
 use Rattle.std.proofs.Common.{◌≡◌, ◌+◌, length}
-use Rattle.law_node.specs.Parts.{Comes}
-use Rattle.law_node.specs.Script.{lines_do}
+use Rattle.node_rules.specs.Parts.{Comes}
+use Rattle.node_rules.specs.Script.{lines_do}
 use Rattle.node_engine.proofs.running.run.Given as goal
 
 abbrev pub invariant-loop-line : goal.invariant-loop-line

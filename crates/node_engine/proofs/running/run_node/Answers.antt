@@ -1,4 +1,4 @@
-use Rattle.law_node.specs.Script.{node_plan}
+use Rattle.node_rules.specs.Script.{node_plan}
 use Rattle.node_engine.proofs.Counts.{counts_of}
 use Rattle.node_engine.proofs.running.run_node.Goals as goal
 

@@ -1,6 +1,6 @@
 use Rattle.std.proofs.Common.{◌+◌, drop, arith}
-use Rattle.law_node.specs.Node.{sending}
-use Rattle.law_node.proofs.Joining.{comes_nowhere, comes_on}
+use Rattle.node_rules.specs.Node.{sending}
+use Rattle.node_rules.proofs.Joining.{comes_nowhere, comes_on}
 use Rattle.node_engine.proofs.Parts.{fails_as, fails_on}
 use Rattle.node_engine.proofs.Steps.{all_sent, sending_fails, sending_next}
 use Rattle.node_engine.proofs.stepping.send_all.Goals as goal

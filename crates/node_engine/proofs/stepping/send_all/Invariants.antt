@@ -1,6 +1,6 @@
 use Rattle.std.proofs.Common.{drop}
-use Rattle.law_node.specs.Node.{sending}
-use Rattle.law_node.specs.Parts.{Comes}
+use Rattle.node_rules.specs.Node.{sending}
+use Rattle.node_rules.specs.Parts.{Comes}
 use Rattle.node_engine.proofs.stepping.send_all.Given as goal
 
 abbrev pub invariant-loop-datagram : goal.invariant-loop-datagram

@@ -3,7 +3,7 @@ use Rattle.std.proofs.lemmas.List.{length_push, length-append, take_all}
 use Rattle.std.proofs.lemmas.List.Elements.{All-nil, All-push, All-same}
 use Rattle.std.specs.List.{flat_map}
 use Rattle.rdma_types.specs.Memory.{put}
-use Rattle.byte_run.proofs.Cuts.{length-put}
+use Rattle.rdma_types.proofs.Cuts.{length-put}
 use Rattle.page_pool.specs.Store.{times, blank}
 use Rattle.page_pool.specs.Ledger.{IsWholePage, own_number, own_numbers, page_bytes}
 use Rattle.page_pool.proofs.Counts.{times-none}

@@ -1,6 +1,6 @@
 use Rattle.std.proofs.Common.{◌≡◌, ◌+◌, ◌-◌, ◌*◌, ◌/◌, ◌∙◌, ap, sym, length, arith}
 use Rattle.std.specs.Arc.{arc_value}
-use Rattle.byte_run.proofs.Cuts.{cut-put_above}
+use Rattle.rdma_types.proofs.Cuts.{cut-put_above}
 use Rattle.page_pool.specs.Store.{blank}
 use Rattle.page_pool.proofs.Places.{length-blank}
 use Rattle.page_pool.proofs.Pages.{cut-blank, whole-laid}

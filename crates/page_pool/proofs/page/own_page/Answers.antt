@@ -3,7 +3,7 @@ use Rattle.std.proofs.lemmas.Bool.Decides.{nat_tests}
 use Rattle.page_pool.specs.Store.{Store}
 use Rattle.page_pool.specs.Ledger.{IsWholePage, own_number, page_at, page_bytes}
 use Rattle.rdma_types.specs.Memory.{cut}
-use Rattle.byte_run.proofs.Cuts.{length-cut}
+use Rattle.rdma_types.proofs.Cuts.{length-cut}
 use Rattle.page_pool.proofs.Steps.{inside}
 use Rattle.page_pool.proofs.Owned.{fresh-counted, fork-counted, fork-sum, written-kept, written-here}
 use Rattle.page_pool.proofs.page.own_page.Goals as goal

@@ -1,5 +1,5 @@
 use Rattle.std.proofs.Common.{◌<◌, ◌*◌, ◌∙◌, ap, sym, length, arith}
-use Rattle.byte_run.proofs.Cuts.{length-cut}
+use Rattle.rdma_types.proofs.Cuts.{length-cut}
 use Rattle.page_pool.specs.Ledger.{page_at, page_bytes}
 use Rattle.page_pool.proofs.Steps.{inside}
 use Rattle.page_pool.proofs.Owned.{held-own}

@@ -2,12 +2,12 @@
 use Rattle.std.proofs.Common.{◌≤◌, ◌<◌, ◌≡◌, ◌+◌, ◌-◌, arith, sym, ap, ◌∙◌, refl, List, [], ◌∷◌, drop, length}
 use Rattle.std.specs.Prelude.{None, slice_get}
 use Rattle.rdma_types.specs.Spans.{end_number, first_number, span, span_of}
-use Rattle.work_queues.specs.Queue.{Queue}
-use Rattle.work_queues.specs.declared.posted.QueuedRequest.{QueuedRequest}
+use Rattle.end_queues.specs.Postings.{Queue}
+use Rattle.end_queues.specs.declared.work_queues.posted.QueuedRequest.{QueuedRequest}
 use Rattle.requester.specs.Sending.{bare, bares, sender_with}
 use Rattle.requester.proofs.Bares.{bare_at, bares-drop, length-bares}
-use Rattle.requester.proofs.Keeping.{end-drop, end-none, first-none, first-one, first-zero, failed, held_failed}
-use Rattle.requester.proofs.Places.{span_inside}
+use Rattle.requester.proofs.Keeping.{end-drop, end-none, first-none, failed, held_failed}
+use Rattle.rdma_types.proofs.Places.{first-one, first-zero, span_inside}
 use Rattle.requester.proofs.Tables.{failing_is}
 use Rattle.requester.proofs.Requester.cut.Goals as goal
 

@@ -1,11 +1,12 @@
 -- The oldest request is told where all its numbers are acknowledged.
 use Rattle.std.proofs.Common.{◌≤◌, ◌<◌, ◌≡◌, ◌+◌, ◌-◌, arith, sym, ap, ◌∙◌, refl}
 use Rattle.rdma_types.specs.Spans.{span, span_of}
-use Rattle.work_queues.specs.Queue.{Queue}
-use Rattle.work_queues.specs.declared.posted.QueuedRequest.{QueuedRequest}
+use Rattle.end_queues.specs.Postings.{Queue}
+use Rattle.end_queues.specs.declared.work_queues.posted.QueuedRequest.{QueuedRequest}
 use Rattle.requester.specs.Sending.{bare, bares, sender_with}
 use Rattle.requester.proofs.Bares.{bare_at, bares-drop}
-use Rattle.requester.proofs.Keeping.{first-one, held_told, none_told, some_told}
+use Rattle.rdma_types.proofs.Places.{first-one}
+use Rattle.requester.proofs.Keeping.{held_told, none_told, some_told}
 use Rattle.requester.proofs.Requester.next_told.Goals as goal
 
 pub returns-then-self-span-clause-told : goal.returns-then-self-span-clause-told

@@ -5,8 +5,9 @@ use Rattle.rdma_types.specs.Kinds.{lands}
 use Rattle.rdma_types.specs.Spans.{Piece, piece_at, span, span_of}
 use Rattle.requester.specs.Sending.{bares, sender_of, sender_with}
 use Rattle.requester.specs.Taking.{request_at}
-use Rattle.requester.proofs.Flight.{packets_few, piece_below_span, reads_few}
-use Rattle.requester.proofs.Keeping.{held_sent, piece_ends}
+use Rattle.requester.proofs.Flight.{packets_few, reads_few}
+use Rattle.rdma_types.proofs.Places.{piece_below_span, piece_ends}
+use Rattle.requester.proofs.Keeping.{held_sent}
 use Rattle.requester.proofs.Requester.pass.Goals as goal
 
 pub past-next-requires-clause-inside : goal.past-next-requires-clause-inside

@@ -1,12 +1,12 @@
 -- The request stands at the end, and the barrier stays or goes past it.
 use Rattle.std.proofs.Common.{◌≤◌, ◌<◌, ◌≡◌, ◌+◌, arith, sym, ap, ◌∙◌}
 use Rattle.rdma_types.specs.Spans.{span, span_of}
-use Rattle.work_queues.specs.Queue.{Queue}
-use Rattle.work_queues.specs.declared.posted.QueuedRequest.{QueuedRequest}
+use Rattle.end_queues.specs.Postings.{Queue}
+use Rattle.end_queues.specs.declared.work_queues.posted.QueuedRequest.{QueuedRequest}
 use Rattle.requester.specs.Sending.{bare, bares, sender_with}
 use Rattle.requester.proofs.Bares.{bares-push, index_few, length-bares}
 use Rattle.requester.proofs.Keeping.{barrier_within, held_posted}
-use Rattle.requester.proofs.Places.{first_within}
+use Rattle.rdma_types.proofs.Places.{first_within}
 use Rattle.requester.proofs.Tables.{end_is}
 use Rattle.requester.proofs.Requester.post.Goals as goal
 

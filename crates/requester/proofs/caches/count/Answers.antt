@@ -7,12 +7,11 @@ use Rattle.rdma_types.specs.Objects.{Posted}
 use Rattle.rdma_types.specs.Spans.{end_number, first_number, span_of}
 use Rattle.rdma_types.proofs.Numbers.{ends}
 use Rattle.protocol.specs.Requester.{overlap, packets_in_flight, packets_of, reads_in_flight}
-use Rattle.work_queues.specs.declared.posted.QueuedRequest as queued
+use Rattle.end_queues.specs.declared.work_queues.posted.QueuedRequest as queued
 use Rattle.requester.specs.Sending.{bare, bares}
 use Rattle.requester.proofs.Bares.{bare_at, bare_none, drop_all, length-bares, packets_more, reads_more, step}
 use Rattle.requester.proofs.Flight.{packets_few, reads_few, reads_of}
-use Rattle.requester.proofs.Keeping.{first-zero}
-use Rattle.requester.proofs.Places.{at_end}
+use Rattle.rdma_types.proofs.Places.{at_end, first-zero}
 use Rattle.requester.proofs.caches.count.Goals as goal
 
 -- what one more request does to the counts

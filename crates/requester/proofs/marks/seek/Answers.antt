@@ -4,7 +4,7 @@ use Rattle.std.specs.Prelude.{Some, slice_get}
 use Rattle.rdma_types.proofs.Numbers.{ends}
 use Rattle.requester.specs.Sending.{bare, bares}
 use Rattle.requester.proofs.Bares.{bare_at, bare_none, length-bares, step}
-use Rattle.requester.proofs.Places.{at_end, request_here, request_past}
+use Rattle.rdma_types.proofs.Places.{at_end, request_here, request_past}
 use Rattle.requester.proofs.marks.seek.Goals as goal
 
 pub overflow_add-past : goal.overflow_add-past

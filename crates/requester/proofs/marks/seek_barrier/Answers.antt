@@ -9,7 +9,7 @@ use Rattle.requester.specs.Marks.{IsMark}
 use Rattle.rdma_types.proofs.Numbers.{ends, found, landing_after, landing_before_end, piece_below, split}
 use Rattle.requester.specs.Sending.{bare, bares}
 use Rattle.requester.proofs.Bares.{bare_at, bare_none}
-use Rattle.requester.proofs.Places.{at_end, first-suc, landing_between, landing_here, landing_skips}
+use Rattle.rdma_types.proofs.Places.{at_end, first-suc, landing_between, landing_here, landing_skips}
 use Rattle.requester.proofs.marks.seek_barrier.Goals as goal
 
 -- the barrier of a number of a request for which nothing lands is that of its first number

@@ -5,7 +5,7 @@ use Rattle.rdma_types.specs.Spans.{next_landing}
 use Rattle.rdma_types.proofs.Numbers.{ends, landing_after, landing_before_end}
 use Rattle.requester.specs.Sending.{bare, bares}
 use Rattle.requester.proofs.Bares.{bare_at, bare_none, length-bares, step}
-use Rattle.requester.proofs.Places.{at_end, landing_here, landing_skips, piece_here, request_here, request_past, span_positive}
+use Rattle.rdma_types.proofs.Places.{at_end, landing_here, landing_skips, piece_here, request_here, request_past, span_positive}
 use Rattle.requester.proofs.marks.seek_landing.Goals as goal
 
 pub overflow_add-at : goal.overflow_add-at

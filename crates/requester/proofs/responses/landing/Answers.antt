@@ -1,6 +1,6 @@
 -- A request has no more numbers than its message has pieces.
 use Rattle.std.proofs.Common.{arith}
-use Rattle.requester.proofs.Places.{span_within}
+use Rattle.rdma_types.proofs.Places.{span_within}
 use Rattle.requester.proofs.responses.landing.Goals as goal
 
 pub piece_at-off-requires-clause-inside : goal.piece_at-off-requires-clause-inside

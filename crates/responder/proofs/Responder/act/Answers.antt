@@ -10,7 +10,8 @@ use Rattle.responder.specs.Sound.{IsPlace}
 use Rattle.responder.specs.Taken.{IsTaken, spot_named, target_in}
 use Rattle.responder.specs.Taking.{Taking, around_with, link_with, place_at, write_taking}
 use Rattle.responder.proofs.Kindly.{and-false, read-names-no-word, send-part, valid-parts, word-is-no-read, write-names-no-word}
-use Rattle.responder.proofs.Acts.{atomic-target, front-all, in-region, named-by, next-fits, send-finds, send-row, word-is, write-fits, write-next}
+use Rattle.protocol.proofs.WriteSizes.{write-fits}
+use Rattle.responder.proofs.Acts.{atomic-target, front-all, in-region, named-by, next-fits, send-finds, send-row, word-is, write-next}
 use Rattle.responder.proofs.Ends.{read-taken, word-taken}
 use Rattle.responder.proofs.Responder.act.Goals as goal
 

@@ -1,4 +1,4 @@
-use Rattle.roce_headers.proofs.Grammar.{spelled_unoffending, unoffending_spelled}
+use Rattle.protocol.proofs.PacketGrammar.{spelled_unoffending, unoffending_spelled}
 use Rattle.roce_headers.proofs.laws.nothing_is_spelled_where_something_offends.Goals as goal
 
 pub returns : goal.returns

@@ -1,4 +1,4 @@
-use Rattle.roce_headers.proofs.Grammar.{read_spelled}
+use Rattle.protocol.proofs.PacketGrammar.{read_spelled}
 use Rattle.roce_headers.proofs.Ranges.{read_fits, all_small}
 use Rattle.roce_headers.proofs.laws.what_is_read_can_be_written.Goals as goal
 

@@ -1,4 +1,4 @@
-use Rattle.roce_headers.proofs.Grammar.{read_spelled, spelled_read}
+use Rattle.protocol.proofs.PacketGrammar.{read_spelled, spelled_read}
 use Rattle.roce_headers.proofs.laws.what_is_read_is_what_is_spelled.Goals as goal
 
 pub returns : goal.returns

@@ -1,4 +1,4 @@
-use Rattle.roce_headers.proofs.Written.{written_spelled}
+use Rattle.protocol.proofs.WrittenPackets.{written_spelled}
 use Rattle.roce_headers.proofs.laws.what_is_written_is_spelled.Goals as goal
 
 pub returns : goal.returns

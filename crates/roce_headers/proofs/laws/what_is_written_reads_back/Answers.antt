@@ -1,6 +1,6 @@
 use Rattle.protocol.specs.Wire.{wire_of}
-use Rattle.roce_headers.proofs.Grammar.{spelled_read}
-use Rattle.roce_headers.proofs.Written.{written_spelled}
+use Rattle.protocol.proofs.PacketGrammar.{spelled_read}
+use Rattle.protocol.proofs.WrittenPackets.{written_spelled}
 use Rattle.roce_headers.proofs.laws.what_is_written_reads_back.Goals as goal
 
 pub returns : goal.returns

@@ -1,8 +1,8 @@
 use Rattle.std.proofs.Common.{◌∙◌}
 use Rattle.protocol.specs.Wire.{wire_of}
 use Rattle.roce_headers.specs.Packets.{packet}
-use Rattle.roce_headers.proofs.Grammar.{spelled_read}
-use Rattle.roce_headers.proofs.Written.{written_parts, written_spelled}
+use Rattle.protocol.proofs.PacketGrammar.{spelled_read}
+use Rattle.protocol.proofs.WrittenPackets.{written_parts, written_spelled}
 use Rattle.roce_headers.proofs.writing.encode.Goals as goal
 
 pub returns-clause-written : goal.returns-clause-written

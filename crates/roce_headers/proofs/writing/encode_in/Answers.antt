@@ -4,7 +4,7 @@ use Rattle.std.specs.Vec.{vec_len}
 use Rattle.std.proofs.lemmas.List.{length-append}
 use Rattle.protocol.specs.Wire.{Packet, base_bytes, extension_bytes, padding, wire_of}
 use Rattle.roce_headers.specs.Packets.{packet}
-use Rattle.roce_headers.proofs.Written.{headers_length, written_len, written_on}
+use Rattle.protocol.proofs.WrittenPackets.{headers_length, written_len, written_on}
 use Rattle.roce_headers.proofs.writing.encode_in.Goals as goal
 
 pub unwrap-requires : goal.unwrap-requires

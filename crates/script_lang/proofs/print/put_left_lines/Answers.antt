@@ -1,6 +1,6 @@
 use Rattle.std.proofs.Common.{◌++◌, List, take, ap, ◌∙◌}
 use Rattle.std.proofs.lemmas.List.{take_all}
-use Rattle.rdma_types.specs.declared.answers.LeftWhy.{LeftWhy}
+use Rattle.rdma_types.specs.declared.answers.UnfinishedReason.{UnfinishedReason}
 use Rattle.rdma_types.specs.declared.names.ObjName.{ObjName}
 use Rattle.script_lang.specs.Printed.{Keeps, left_lines}
 use Rattle.script_lang.proofs.Writing.{keeps_after, left_start, left_step, on_err}
@@ -22,4 +22,4 @@ returns-in_err-put_left-clause-err c =
 
 pub returns-clause-ok : goal.returns-clause-ok
 returns-clause-ok c =
-    c.loop-end.invariant ∙ ap (λ (xs : List (ObjName × LeftWhy)). c.args.out.now.items ++ left_lines xs) (take_all c.loop-end.end-index c.args.ends.now c.loop-end-test.false)
+    c.loop-end.invariant ∙ ap (λ (xs : List (ObjName × UnfinishedReason)). c.args.out.now.items ++ left_lines xs) (take_all c.loop-end.end-index c.args.ends.now c.loop-end-test.false)

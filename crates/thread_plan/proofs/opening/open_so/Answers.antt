@@ -1,6 +1,6 @@
 use Rattle.std.proofs.Common.{rules, ◌≡◌, true, ap, ◌∙◌}
-use Rattle.law_world_orders.specs.Openings.{openings}
-use Rattle.station.specs.Books.{openings_of}
+use Rattle.order_rules.specs.Openings.{openings}
+use Rattle.shared_device.specs.Books.{openings_of}
 use Rattle.thread_plan.proofs.SameBooks.{opened_so}
 use Rattle.thread_plan.proofs.opening.open_so.Goals as goal
 

@@ -4,7 +4,7 @@ use Rattle.std.proofs.lemmas.Grind.{common_steps}
 use Rattle.protocol.specs.WorldStep.{numbered}
 use Rattle.rdma_types.specs.declared.answers.Answer.{Answer}
 use Rattle.rdma_types.specs.declared.answers.Answer.TheVariants as answer
-use Rattle.rdma_types.specs.declared.answers.Took.{Took}
+use Rattle.rdma_types.specs.declared.answers.ArrivalEffect.{ArrivalEffect}
 use Rattle.world_core.proofs.running.number.Goals as goal
 
 pub returns-after-count-eq0 : goal.returns-after-count-eq0
@@ -16,7 +16,7 @@ unfolding numbered
 returns-in-Sent c = grind (arith, common_steps)
 
 -- an answer that is none of the two stays
-other_stays : (next : ℕ) (a : Answer) → ((t : Took) (n m : ℕ) → a ≡ answer.Took t n m → ⊥) → ((n : ℕ) → a ≡ answer.Sent n → ⊥) → a ≡ numbered next a
+other_stays : (next : ℕ) (a : Answer) → ((t : ArrivalEffect) (n m : ℕ) → a ≡ answer.Took t n m → ⊥) → ((n : ℕ) → a ≡ answer.Sent n → ⊥) → a ≡ numbered next a
 unfolding numbered
 other_stays next (answer.Took t n m) took sent = absurd (took t n m refl)
 other_stays next (answer.Sent n) took sent = absurd (sent n refl)

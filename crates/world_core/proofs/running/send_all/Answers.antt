@@ -3,10 +3,9 @@ use Rattle.std.proofs.Common.{◌≡◌, ◌<◌, ◌++◌, ◌∷◌, [], List,
 use Rattle.std.specs.Prelude.{Option, Some}
 use Rattle.std.proofs.lemmas.Grind.{common_steps}
 use Rattle.std.proofs.lemmas.List.{append-nil, reverse-append, reverse-reverse}
-use Rattle.protocol.specs.Fabric.{sending}
+use Rattle.protocol.specs.Fabric.{forgetting, sending}
 use Rattle.protocol.specs.State.{Flight}
-use Rattle.fabric.specs.Store.{forgetting}
-use Rattle.fabric.proofs.Histories.{forgetting-forgetting, sending-one_by_one}
+use Rattle.protocol.proofs.Histories.{forgetting-forgetting, sending-one_by_one}
 use Rattle.rdma_types.specs.declared.answers.Sent.{Sent}
 use Rattle.rdma_types.specs.declared.requests.Address.{Address}
 use Rattle.world_core.proofs.running.send_all.Goals as goal

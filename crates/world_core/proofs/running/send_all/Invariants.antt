@@ -1,7 +1,6 @@
 -- The list is turned round: its last datagram is sent next. The rest is still to be sent.
 use Rattle.std.proofs.Common.{◌≡◌, ◌+◌, length, reverse}
-use Rattle.protocol.specs.Fabric.{sending}
-use Rattle.fabric.specs.Store.{forgetting}
+use Rattle.protocol.specs.Fabric.{forgetting, sending}
 use Rattle.world_core.proofs.running.send_all.Given as goal
 
 abbrev pub invariant-loop-datagram : goal.invariant-loop-datagram

@@ -4,7 +4,7 @@ use Rattle.std.specs.Prelude.{IfSome, ◌∷◌, [], option_map}
 use Rattle.std.specs.Result.{result_err}
 use Rattle.std.proofs.lemmas.List.Elements.{recursion_from_All}
 use Rattle.std.proofs.lemmas.Result.{IfOk-at_ok, err_from_is_err_and}
-use Rattle.work_queues.specs.Untold.{posted_in}
+use Rattle.end_queues.specs.Untold.{posted_in}
 use Rattle.protocol.specs.Refusals.{end_causes}
 use Rattle.protocol.specs.State.{Context, end_at}
 use Rattle.endpoint_core.specs.Answers.{posted_by}

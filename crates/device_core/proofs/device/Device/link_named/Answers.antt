@@ -7,7 +7,7 @@ use Rattle.protocol.specs.Refusals.{has_context}
 use Rattle.protocol.specs.State.{Context, context_at, end_at}
 use Rattle.context_core.specs.Context.{context_in}
 use Rattle.context_core.specs.Links.{link_view}
-use Rattle.law_device_sound.specs.Sound.{IsSoundDevice}
+use Rattle.law_devices.specs.Sound.{IsSoundDevice}
 use Rattle.device_core.proofs.Contexts.{found-there, lookup-found}
 use Rattle.device_core.proofs.LiveEnds.{link-few, link-nowhere, sends-held}
 use Rattle.device_core.proofs.Stepping.{found-ref}

@@ -8,7 +8,7 @@ use Rattle.protocol.specs.State.{context_at}
 use Rattle.context_core.specs.Context.{context_in}
 use Rattle.device_core.proofs.Contexts.{found-there, lookup-found, lookup-there}
 use Rattle.device_core.proofs.LiveEnds.{sends-held}
-use Rattle.law_device_sound.specs.Sound.{IsSoundDevice}
+use Rattle.law_devices.specs.Sound.{IsSoundDevice}
 use Rattle.device_core.proofs.Seen.{seen, small-view, unseen, unseen-nowhere}
 use Rattle.device_core.proofs.Stepping.{found-ref}
 use Rattle.device_core.proofs.device.Device.view_at.Goals as goal

@@ -1,6 +1,6 @@
 use Rattle.std.proofs.Common.{◌∙◌, ap, true}
-use Rattle.move_core.specs.declared.Phase.TheVariants as phase
-use Rattle.end_memory.specs.Completing.{listed}
+use Rattle.transport.specs.declared.move_core.Phase.TheVariants as phase
+use Rattle.end_completions.specs.Completing.{listed}
 use Rattle.endpoint_core.proofs.Ended.{listed-used}
 use Rattle.endpoint_core.proofs.end.EndLink.flush.Goals as goal
 

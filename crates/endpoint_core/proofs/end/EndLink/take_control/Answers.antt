@@ -1,5 +1,5 @@
 use Rattle.std.proofs.Common.{◌≡◌, ◌∙◌, ap, sym}
-use Rattle.move_core.specs.Table.{moving_of}
+use Rattle.transport.specs.Table.{moving_of}
 use Rattle.protocol.specs.EndWords.{linked}
 use Rattle.endpoint_core.specs.declared.end.EndLink.{EndLink}
 use Rattle.endpoint_core.specs.Answers.{sent_by}

@@ -1,6 +1,6 @@
 use Rattle.std.proofs.Common.{◌≡◌, ◌∙◌, ap, sym}
 use Rattle.std.specs.Prelude.{◌∷◌, []}
-use Rattle.work_queues.specs.Queue.{posting as queueing}
+use Rattle.end_queues.specs.Postings.{posting as queueing}
 use Rattle.endpoint_core.specs.Queues.{count_at, nothing, settle_at}
 use Rattle.endpoint_core.specs.Sites.{IsSound, Keeps, site_of}
 use Rattle.endpoint_core.proofs.Frames.{on-ok}

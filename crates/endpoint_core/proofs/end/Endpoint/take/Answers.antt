@@ -1,6 +1,6 @@
 use Rattle.std.proofs.Common.{[], ◌≡◌, ◌∙◌, None, ap, sym, subst, refl, rules}
 use Rattle.std.specs.Option.{option_map}
-use Rattle.rdma_types.specs.declared.answers.SilentWhy.TheVariants as why
+use Rattle.rdma_types.specs.declared.answers.DropReason.TheVariants as why
 use Rattle.protocol.specs.EndWords.{EndStep, silent}
 use Rattle.protocol.specs.Requester.{takes_response}
 use Rattle.protocol.specs.Responder.{takes_request}
@@ -13,7 +13,7 @@ use Rattle.endpoint_core.specs.Sites.{IsHome, end_at, home, site_of}
 use Rattle.endpoint_core.proofs.Frames.{home-linked, home-same, link-keeps, link-sound, linked-same, same-site, site_after, with_link'}
 use Rattle.endpoint_core.proofs.Taken.{ack-reply, none-sent, taken-control, taken-ended, taken-paused, taken-request, taken-response}
 use Rattle.std.specs.Prelude.{Some}
-use Rattle.endpoint_core.specs.declared.answers.EndTook.{EndTook}
+use Rattle.endpoint_core.specs.declared.answers.EndEffect.{EndEffect}
 use Rattle.endpoint_core.specs.declared.end.EndLink.{EndLink}
 use Rattle.endpoint_core.specs.Due.{WasDue}
 use Rattle.endpoint_core.proofs.DueReads.{ack-due, none-due}
@@ -162,13 +162,13 @@ returns-clause-sent c = λ ctx names at. ap (λ (x : EndStep). x.sent) (request 
 -- ---- what was due
 
 pub returns-then-link-clause-due : goal.returns-then-link-clause-due
-returns-then-link-clause-due c = λ l is. none-due _ _ l (packet c.args.d.now) c.silent.result.reply (ap (λ (x : EndTook). x.reply) c.silent.ensures)
+returns-then-link-clause-due c = λ l is. none-due _ _ l (packet c.args.d.now) c.silent.result.reply (ap (λ (x : EndEffect). x.reply) c.silent.ensures)
 
 pub returns-in-Some-control_of-clause-due : goal.returns-in-Some-control_of-clause-due
 returns-in-Some-control_of-clause-due c = λ l is. ack-due _ _ l (packet c.args.d.now) c.take_control.result.reply c.take_control.ensures.reply
 
 pub returns-then-is_paused-clause-due : goal.returns-then-is_paused-clause-due
-returns-then-is_paused-clause-due c = λ l is. none-due _ _ l (packet c.args.d.now) c.silent-then-is_paused.result.reply (ap (λ (x : EndTook). x.reply) c.silent-then-is_paused.ensures)
+returns-then-is_paused-clause-due c = λ l is. none-due _ _ l (packet c.args.d.now) c.silent-then-is_paused.result.reply (ap (λ (x : EndEffect). x.reply) c.silent-then-is_paused.ensures)
 
 pub returns-clause-due : goal.returns-clause-due
 returns-clause-due c = λ l at.

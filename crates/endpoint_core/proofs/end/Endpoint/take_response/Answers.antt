@@ -1,7 +1,7 @@
 use Rattle.std.proofs.Common.{ℕ, List, ◌≡◌, ◌∙◌, Some, [], ap, sym, subst, refl}
-use Rattle.rdma_types.specs.declared.answers.Took.TheVariants as took
+use Rattle.rdma_types.specs.declared.answers.ArrivalEffect.TheVariants as took
 use Rattle.rdma_types.specs.declared.names.Name.{Name}
-use Rattle.memory_keys.specs.declared.Held.{Held}
+use Rattle.memory_keys.specs.declared.RegisteredRegion.{RegisteredRegion}
 use Rattle.protocol.specs.State.{Context}
 use Rattle.protocol.specs.Requester.{ended_with, takes_response, told_completions}
 use Rattle.protocol.specs.Requester as rows
@@ -40,7 +40,7 @@ returns-in-Ended-clause-step c = λ ctx names l at is.
     let same : l ≡ k = cc in
     let answered = c.respond-taken.ensures.answered (ap is_useless c.in-Ended.is) in
     let s1 : EndWithMemory = failing c in
-    let ended : (h : List Held) → Context = λ h. ended_with (home ctx names (record s1 { held = h })) (end_at names s1) (link_in s1.pool l') c.in-Ended.status in
+    let ended : (h : List RegisteredRegion) → Context = λ h. ended_with (home ctx names (record s1 { held = h })) (end_at names s1) (link_in s1.pool l') c.in-Ended.status in
     let stands : (name : Name) (place : ℕ) → StandsAt s.queues name place → StandsAt s1.queues name place =
     λ name place there. subst (λ qs. StandsAt qs name place) (sym answered.queues) (stands-settled s.queues name place s.send (rows.told_count k.requester.terms (taken_response k.requester.terms (sender_of k.requester) (packet c.args.d.now)).sender) (told_completions s.end.number k.requester.terms (taken_response k.requester.terms (sender_of k.requester) (packet c.args.d.now)).sender) there) in
     ap (λ (x : EndLink). takes_response ctx (end_at names s) (link_in s.pool x) (packet c.args.d.now)) same

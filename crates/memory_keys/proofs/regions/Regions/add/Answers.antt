@@ -5,7 +5,7 @@ use Rattle.indexmap.specs.IndexMap.{insert_entry}
 use Rattle.std.proofs.lemmas.List.Elements.{All-push}
 use Rattle.indexmap.proofs.CallerLemmas.{insert_entry-new}
 use Rattle.page_pool.specs.Pool.{free_pages}
-use Rattle.memory_keys.specs.declared.Held.{Held}
+use Rattle.memory_keys.specs.declared.RegisteredRegion.{RegisteredRegion}
 use Rattle.memory_keys.specs.Regions.{AreHeld, regions_of, held_at}
 use Rattle.memory_keys.proofs.Found.{found}
 use Rattle.memory_keys.proofs.Spots.{holds-pages}
@@ -60,7 +60,7 @@ returns-clause-free c =
 
 pub invariant_of-self-2 : goal.invariant_of-self-2
 invariant_of-self-2 c =
-    let v : Held = record { head = c.args.head; list = c.in_ok-list.list } in
+    let v : RegisteredRegion = record { head = c.args.head; list = c.in_ok-list.list } in
     let none = ap (λ es. lookup (nat_eq c.args.head.keys.local) es) c.reserve.ensures.entries ∙ (found c.args.head.keys.local c.self.inside.held.entries c.self.invariant.local ∙ (ap (held_at c.args.head.keys.local) c.self.view_is ∙ c.requires.new)) in
     let stored : c.insert.new.self.entries ≡ insert_entry nat_eq c.reserve.new.self.entries c.args.head.keys.local v = subst (λ r. OnOk r (c.insert.new.self.entries ≡ insert_entry nat_eq c.reserve.new.self.entries c.args.head.keys.local v)) c.unwrap.ensures c.insert.ensures.entries in
     let entries : c.insert.new.self.entries ≡ c.self.inside.held.entries ++ (c.args.head.keys.local, v) ∷ [] = stored ∙ (insert_entry-new nat_eq c.reserve.new.self c.args.head.keys.local v none ∙ ap (λ es. es ++ (c.args.head.keys.local, v) ∷ []) c.reserve.ensures.entries) in
@@ -72,7 +72,7 @@ invariant_of-self-2 c =
 
 pub returns-clause-held : goal.returns-clause-held
 returns-clause-held c =
-    let v : Held = record { head = c.args.head; list = c.in_ok-list.list } in
+    let v : RegisteredRegion = record { head = c.args.head; list = c.in_ok-list.list } in
     let none = ap (λ es. lookup (nat_eq c.args.head.keys.local) es) c.reserve.ensures.entries ∙ (found c.args.head.keys.local c.self.inside.held.entries c.self.invariant.local ∙ (ap (held_at c.args.head.keys.local) c.self.view_is ∙ c.requires.new)) in
     let stored : c.insert.new.self.entries ≡ insert_entry nat_eq c.reserve.new.self.entries c.args.head.keys.local v = subst (λ r. OnOk r (c.insert.new.self.entries ≡ insert_entry nat_eq c.reserve.new.self.entries c.args.head.keys.local v)) c.unwrap.ensures c.insert.ensures.entries in
     let entries : c.insert.new.self.entries ≡ c.self.inside.held.entries ++ (c.args.head.keys.local, v) ∷ [] = stored ∙ (insert_entry-new nat_eq c.reserve.new.self c.args.head.keys.local v none ∙ ap (λ es. es ++ (c.args.head.keys.local, v) ∷ []) c.reserve.ensures.entries) in
@@ -82,7 +82,7 @@ returns-clause-held c =
 
 pub returns-clause-regions : goal.returns-clause-regions
 returns-clause-regions c =
-    let v : Held = record { head = c.args.head; list = c.in_ok-list.list } in
+    let v : RegisteredRegion = record { head = c.args.head; list = c.in_ok-list.list } in
     let none = ap (λ es. lookup (nat_eq c.args.head.keys.local) es) c.reserve.ensures.entries ∙ (found c.args.head.keys.local c.self.inside.held.entries c.self.invariant.local ∙ (ap (held_at c.args.head.keys.local) c.self.view_is ∙ c.requires.new)) in
     let stored : c.insert.new.self.entries ≡ insert_entry nat_eq c.reserve.new.self.entries c.args.head.keys.local v = subst (λ r. OnOk r (c.insert.new.self.entries ≡ insert_entry nat_eq c.reserve.new.self.entries c.args.head.keys.local v)) c.unwrap.ensures c.insert.ensures.entries in
     let entries : c.insert.new.self.entries ≡ c.self.inside.held.entries ++ (c.args.head.keys.local, v) ∷ [] = stored ∙ (insert_entry-new nat_eq c.reserve.new.self c.args.head.keys.local v none ∙ ap (λ es. es ++ (c.args.head.keys.local, v) ∷ []) c.reserve.ensures.entries) in
@@ -92,7 +92,7 @@ returns-clause-regions c =
 
 pub returns-clause-added : goal.returns-clause-added
 returns-clause-added c =
-    let v : Held = record { head = c.args.head; list = c.in_ok-list.list } in
+    let v : RegisteredRegion = record { head = c.args.head; list = c.in_ok-list.list } in
     let none = ap (λ es. lookup (nat_eq c.args.head.keys.local) es) c.reserve.ensures.entries ∙ (found c.args.head.keys.local c.self.inside.held.entries c.self.invariant.local ∙ (ap (held_at c.args.head.keys.local) c.self.view_is ∙ c.requires.new)) in
     let stored : c.insert.new.self.entries ≡ insert_entry nat_eq c.reserve.new.self.entries c.args.head.keys.local v = subst (λ r. OnOk r (c.insert.new.self.entries ≡ insert_entry nat_eq c.reserve.new.self.entries c.args.head.keys.local v)) c.unwrap.ensures c.insert.ensures.entries in
     let entries : c.insert.new.self.entries ≡ c.self.inside.held.entries ++ (c.args.head.keys.local, v) ∷ [] = stored ∙ (insert_entry-new nat_eq c.reserve.new.self c.args.head.keys.local v none ∙ ap (λ es. es ++ (c.args.head.keys.local, v) ∷ []) c.reserve.ensures.entries) in

@@ -2,7 +2,7 @@ use Rattle.std.proofs.Common.{◌≡◌, ◌+◌, ℕ, ap, sym, ◌∙◌, subst
 use Rattle.std.specs.Prelude.{Some, None, slice_get, remove, All, option_map}
 use Rattle.std.specs.Map.{values_of}
 use Rattle.page_pool.specs.Pool.{free_pages, pages_for}
-use Rattle.memory_keys.specs.declared.Held.{Held}
+use Rattle.memory_keys.specs.declared.RegisteredRegion.{RegisteredRegion}
 use Rattle.std.specs.Map.Iter.{deref_pair}
 use Rattle.memory_keys.specs.Regions.{AreHeld, Lies, regions_of}
 use Rattle.memory_keys.proofs.Spots.{lies-pages}
@@ -15,7 +15,7 @@ returns-in_default-clause-refused c = not-there (regions_of c.args.pool.now c.ar
 
 pub returns-then-contains-clause-refused : goal.returns-then-contains-clause-refused
 returns-then-contains-clause-refused c =
-    let e : ℕ × Held = (c.unwrap.result.0.now, c.unwrap.result.1.now) in
+    let e : ℕ × RegisteredRegion = (c.unwrap.result.0.now, c.unwrap.result.1.now) in
     let at : slice_get c.self.inside.held.entries c.in-Some.place ≡ Some e = sym c.get_index.ensures.entry ∙ ap (option_map deref_pair) c.unwrap.ensures in
     let key = asked-key c.args.pool.now c.args.name c.self.inside.held.entries c.args.self.now c.in-Some.place e c.args.busy.now c.contains.result c.self.view_is c.self.invariant.local c.in-Some.ensures at c.contains.ensures.value in
     in-use (regions_of c.args.pool.now c.args.self.now) c.args.name c.args.busy.now key.0 (key.1 ∙ c.if-contains.true)
@@ -69,7 +69,7 @@ returns-clause-free c =
 
 pub returns-clause-refused : goal.returns-clause-refused
 returns-clause-refused c =
-    let e : ℕ × Held = (c.unwrap.result.0.now, c.unwrap.result.1.now) in
+    let e : ℕ × RegisteredRegion = (c.unwrap.result.0.now, c.unwrap.result.1.now) in
     let at : slice_get c.self.inside.held.entries c.in-Some.place ≡ Some e = sym c.get_index.ensures.entry ∙ ap (option_map deref_pair) c.unwrap.ensures in
     let key = asked-key c.args.pool.now c.args.name c.self.inside.held.entries c.args.self.now c.in-Some.place e c.args.busy.now c.contains.result c.self.view_is c.self.invariant.local c.in-Some.ensures at c.contains.ensures.value in
     free-to-drop (regions_of c.args.pool.now c.args.self.now) c.args.name c.args.busy.now key.0 (key.1 ∙ c.if-contains.false)

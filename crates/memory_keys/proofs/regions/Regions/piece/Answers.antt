@@ -8,7 +8,7 @@ use Rattle.std.proofs.lemmas.Bool.Decides.{nat_tests}
 use Rattle.byte_run.proofs.Runs.{take-cut}
 use Rattle.page_pool.specs.Pool.{bytes_in}
 use Rattle.rdma_types.specs.Memory.{cut}
-use Rattle.memory_keys.specs.declared.Spot.{Spot}
+use Rattle.memory_keys.specs.declared.RegionRange.{RegionRange}
 use Rattle.memory_keys.specs.Regions.{part_of, pages_touched}
 use Rattle.memory_keys.proofs.Spots.{part-is, spot-in, spot-there, spot-is, touched-is, holds-pages}
 use Rattle.memory_keys.proofs.regions.Regions.piece.Goals as goal
@@ -21,7 +21,7 @@ first-bytes (Some x) page bytes n p whole =
     p.0.2 ∙ (ap (λ k. take k page) all ∙ whole p.0.1)
 
 -- they are there where a spot touches one page
-one-page : (o : Option (Bor (List ℕ))) (page : List ℕ) (spot : Spot) → 0 < spot.length → length page ≡ 4096 - spot.off % 4096 → PartBy (λ x. x.now) page 0 spot.length o → is_some o ≡ (pages_touched spot == 1)
+one-page : (o : Option (Bor (List ℕ))) (page : List ℕ) (spot : RegionRange) → 0 < spot.length → length page ≡ 4096 - spot.off % 4096 → PartBy (λ x. x.now) page 0 spot.length o → is_some o ≡ (pages_touched spot == 1)
 one-page o page spot some size p = by_case o p
   where
     touched : pages_touched spot ≡ div_ceil (spot.off % 4096 + spot.length) 4096

@@ -1,7 +1,7 @@
 use Rattle.std.proofs.Common.{◌≡◌, ◌++◌, ◌∷◌, [], ◌∙◌, arith, ap, length, subst}
 use Rattle.std.specs.Prelude.{OnOk}
 use Rattle.rdma_types.specs.Memory.{put}
-use Rattle.byte_run.proofs.Cuts.{put-none}
+use Rattle.rdma_types.proofs.Cuts.{put-none}
 use Rattle.memory_keys.specs.Regions.{blank_region, regions_of}
 use Rattle.memory_keys.proofs.regions.Regions.register.Goals as goal
 

@@ -5,7 +5,7 @@ use Rattle.std.specs.Map.{values_of}
 use Rattle.std.proofs.lemmas.Bool.Decides.{nat_tests}
 use Rattle.rdma_types.specs.Memory.{put}
 use Rattle.page_pool.specs.Pool.{Puts, bytes_in}
-use Rattle.memory_keys.specs.declared.Held.{Held}
+use Rattle.memory_keys.specs.declared.RegisteredRegion.{RegisteredRegion}
 use Rattle.memory_keys.specs.Keyed.{IsKeyed}
 use Rattle.memory_keys.specs.Regions.{AreHeld, part_of, regions_of, held_at}
 use Rattle.memory_keys.proofs.Found.{found, keyed}
@@ -35,7 +35,7 @@ pub invariant_of-self : goal.invariant_of-self
 invariant_of-self c =
     let h = c.unwrap-held.result.now in
     let at = sym c.get_mut.ensures.value ∙ ap option_copied_mut c.unwrap-held.ensures in
-    let w : Held = record { head = h.head; list = c.write.new.list } in
+    let w : RegisteredRegion = record { head = h.head; list = c.write.new.list } in
     let same = (c.get_mut.follows.holds w).0 ∙ set-same c.args.spot.region c.self.inside.held.entries h w at (ap (λ l. record { head = h.head; list = l }) c.write.ensures.list) in
     subst IsKeyed (sym same) c.self.invariant
 
@@ -43,7 +43,7 @@ pub returns-clause-same : goal.returns-clause-same
 returns-clause-same c =
     let h = c.unwrap-held.result.now in
     let at = sym c.get_mut.ensures.value ∙ ap option_copied_mut c.unwrap-held.ensures in
-    let w : Held = record { head = h.head; list = c.write.new.list } in
+    let w : RegisteredRegion = record { head = h.head; list = c.write.new.list } in
     let same = (c.get_mut.follows.holds w).0 ∙ set-same c.args.spot.region c.self.inside.held.entries h w at (ap (λ l. record { head = h.head; list = l }) c.write.ensures.list) in
     ap values_of same ∙ c.self.view_is
 

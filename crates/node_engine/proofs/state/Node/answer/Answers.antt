@@ -1,6 +1,6 @@
 use Rattle.std.proofs.Common.{◌∙◌, refl, ap}
 use Rattle.node_engine.specs.declared.faults.NodeFault.TheVariants as fault
-use Rattle.law_node.specs.Lines.{answering, counting}
+use Rattle.node_rules.specs.Lines.{answering, counting}
 use Rattle.script_lang.specs.Printed.{printed}
 use Rattle.node_engine.proofs.Parts.{fails_as, ran_out_at_once}
 use Rattle.node_engine.proofs.OneTurn.{text_written}

@@ -1,9 +1,9 @@
 use Rattle.std.proofs.Common.{◌∙◌, Some}
-use Rattle.law_node.proofs.Joining.{comes_on}
+use Rattle.node_rules.proofs.Joining.{comes_on}
 use Rattle.protocol.specs.declared.events.Event.TheVariants as event
 use Rattle.node_engine.specs.declared.faults.NodeFault.TheVariants as fault
-use Rattle.law_node.specs.Serve.{arrived, arriving}
-use Rattle.mig_ports.specs.Links.{Addressed}
+use Rattle.node_rules.specs.Serve.{arrived, arriving}
+use Rattle.host_ports.specs.Links.{Addressed}
 use Rattle.node_engine.proofs.Parts.{fails_as, ran_out}
 use Rattle.node_engine.proofs.Steps.{gives, step_comes, step_fails}
 use Rattle.node_engine.proofs.OneTurn.{after_arrival, arrival_marked}

@@ -1,6 +1,6 @@
 use Rattle.std.proofs.Common.{sym}
 use Rattle.rdma_types.specs.declared.answers.Answer.TheVariants as answer
-use Rattle.law_node.specs.Lines.{answering, clearing}
+use Rattle.node_rules.specs.Lines.{answering, clearing}
 use Rattle.node_engine.proofs.Parts.{does_as}
 use Rattle.node_engine.proofs.OneTurn.{done_clears, other_clears}
 use Rattle.node_engine.proofs.state.Node.clear.Goals as goal

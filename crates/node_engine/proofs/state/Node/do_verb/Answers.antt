@@ -1,8 +1,8 @@
 use Rattle.std.proofs.Common.{Some, None, ap}
-use Rattle.law_node.specs.Node.{Node}
-use Rattle.law_node.specs.Plan.{Plan}
-use Rattle.law_node.proofs.Joining.{comes_nowhere}
-use Rattle.law_node.specs.Lines.{stepped_if, verb_event}
+use Rattle.node_rules.specs.Node.{Node}
+use Rattle.node_rules.specs.Plan.{Plan}
+use Rattle.node_rules.proofs.Joining.{comes_nowhere}
+use Rattle.node_rules.specs.Lines.{stepped_if, verb_event}
 use Rattle.node_engine.proofs.Parts.{does_as, made_as}
 use Rattle.node_engine.proofs.state.Node.do_verb.Goals as goal
 

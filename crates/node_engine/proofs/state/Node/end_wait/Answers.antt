@@ -1,8 +1,8 @@
-use Rattle.law_node.specs.Node.{Node}
-use Rattle.law_node.specs.Plan.{Plan}
+use Rattle.node_rules.specs.Node.{Node}
+use Rattle.node_rules.specs.Plan.{Plan}
 use Rattle.protocol.specs.declared.events.Event.TheVariants as event
 use Rattle.protocol.specs.declared.images.Outcome.{Outcome}
-use Rattle.law_node.specs.Node.{stepping}
+use Rattle.node_rules.specs.Node.{stepping}
 use Rattle.node_engine.proofs.Parts.{fails_as}
 use Rattle.node_engine.proofs.Steps.{step_comes, step_fails}
 use Rattle.node_engine.proofs.state.Node.end_wait.Goals as goal

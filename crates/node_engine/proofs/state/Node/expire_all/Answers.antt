@@ -1,6 +1,6 @@
 use Rattle.std.proofs.Common.{◌+◌, drop, arith}
-use Rattle.law_node.proofs.Joining.{comes_nowhere, comes_on}
-use Rattle.law_node.specs.Serve.{expiring}
+use Rattle.node_rules.proofs.Joining.{comes_nowhere, comes_on}
+use Rattle.node_rules.specs.Serve.{expiring}
 use Rattle.node_engine.specs.Names.{names_of}
 use Rattle.node_engine.proofs.Parts.{fails_as, fails_on}
 use Rattle.node_engine.proofs.Steps.{all_expired, expiring_fails, expiring_next}

@@ -1,6 +1,6 @@
 use Rattle.std.proofs.Common.{drop}
-use Rattle.law_node.specs.Parts.{Comes}
-use Rattle.law_node.specs.Serve.{expiring}
+use Rattle.node_rules.specs.Parts.{Comes}
+use Rattle.node_rules.specs.Serve.{expiring}
 use Rattle.node_engine.specs.Names.{names_of}
 use Rattle.node_engine.proofs.state.Node.expire_all.Given as goal
 

@@ -1,9 +1,9 @@
 use Rattle.std.proofs.Common.{ap}
-use Rattle.law_node.specs.Node.{Node}
-use Rattle.law_node.specs.Plan.{Plan}
-use Rattle.law_node.proofs.Joining.{comes_nowhere}
+use Rattle.node_rules.specs.Node.{Node}
+use Rattle.node_rules.specs.Plan.{Plan}
+use Rattle.node_rules.proofs.Joining.{comes_nowhere}
 use Rattle.std.proofs.Common.{Bool}
-use Rattle.law_node.specs.Serve.{expiring_if, expiring_one, is_due}
+use Rattle.node_rules.specs.Serve.{expiring_if, expiring_one, is_due}
 use Rattle.node_engine.proofs.Parts.{does_as, made_as}
 use Rattle.node_engine.proofs.state.Node.expire_named.Goals as goal
 

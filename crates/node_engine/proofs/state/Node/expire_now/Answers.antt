@@ -1,5 +1,5 @@
 use Rattle.protocol.specs.declared.events.Event.TheVariants as event
-use Rattle.law_node.specs.Serve.{expiring_one}
+use Rattle.node_rules.specs.Serve.{expiring_one}
 use Rattle.node_engine.proofs.Parts.{fails_as}
 use Rattle.node_engine.proofs.Steps.{step_fails, step_then}
 use Rattle.node_engine.proofs.OneTurn.{after_expiry}

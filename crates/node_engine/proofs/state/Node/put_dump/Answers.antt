@@ -1,6 +1,6 @@
 use Rattle.std.proofs.Common.{◌∙◌, Some}
 use Rattle.node_engine.specs.declared.faults.NodeFault.TheVariants as fault
-use Rattle.law_node.specs.Lines.{answering, storing}
+use Rattle.node_rules.specs.Lines.{answering, storing}
 use Rattle.node_engine.proofs.Parts.{does_on, fails_as, ran_out_at_once}
 use Rattle.node_engine.proofs.OneTurn.{dump_not_put, dump_put}
 use Rattle.node_engine.proofs.state.Node.put_dump.Goals as goal

@@ -1,5 +1,5 @@
 use Rattle.std.proofs.Common.{Ok, ap, sym}
-use Rattle.law_node.specs.Script.{reading_does}
+use Rattle.node_rules.specs.Script.{reading_does}
 use Rattle.script_lang.specs.Lines.{node_reading_of}
 use Rattle.node_engine.proofs.Parts.{does_as}
 use Rattle.node_engine.proofs.WholeScript.{line_unread}

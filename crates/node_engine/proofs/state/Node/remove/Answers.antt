@@ -1,10 +1,10 @@
 use Rattle.std.proofs.Common.{Some, None, refl}
-use Rattle.law_node.specs.Plan as plan
-use Rattle.law_node.specs.Plan.{Plan}
+use Rattle.node_rules.specs.Plan as plan
+use Rattle.node_rules.specs.Plan.{Plan}
 use Rattle.node_engine.proofs.Parts.{fails_as, fails_first, then}
 use Rattle.node_engine.proofs.OneTurn.{after_remove, not_there}
 use Rattle.rdma_types.specs.declared.answers.Answer.TheVariants as answer
-use Rattle.law_node.specs.Lines.{clearing}
+use Rattle.node_rules.specs.Lines.{clearing}
 use Rattle.node_engine.proofs.state.Node.remove.Goals as goal
 
 pub returns-in_err-found : goal.returns-in_err-found

@@ -1,9 +1,9 @@
 use Rattle.std.proofs.Common.{Some, None, refl, ap}
-use Rattle.law_node.specs.Plan as plan
-use Rattle.law_node.specs.Plan.{Plan}
+use Rattle.node_rules.specs.Plan as plan
+use Rattle.node_rules.specs.Plan.{Plan}
 use Rattle.node_engine.proofs.Parts.{does_as, fails_as, fails_first, then}
 use Rattle.node_engine.proofs.OneTurn.{after_look, not_there}
-use Rattle.law_node.specs.Lines.{restoring, restoring_bytes}
+use Rattle.node_rules.specs.Lines.{restoring, restoring_bytes}
 use Rattle.node_engine.proofs.state.Node.restore.Goals as goal
 
 pub returns-in_err-found : goal.returns-in_err-found

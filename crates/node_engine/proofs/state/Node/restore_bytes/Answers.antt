@@ -2,7 +2,7 @@ use Rattle.std.proofs.Common.{[], Some, length, sym, ap}
 use Rattle.protocol.specs.declared.events.Event.TheVariants as event
 use Rattle.protocol.specs.declared.images.ContextImage.{ContextImage}
 use Rattle.protocol.specs.Dumps.{Good, Reading}
-use Rattle.law_node.specs.Lines.{restoring_bytes, restoring_image}
+use Rattle.node_rules.specs.Lines.{restoring_bytes, restoring_image}
 use Rattle.node_engine.specs.Faults.{fault_of_dump}
 use Rattle.node_engine.proofs.Parts.{does_as, fails_as, fails_if}
 use Rattle.node_engine.proofs.Steps.{step_fails, step_then}

@@ -1,7 +1,7 @@
 use Rattle.std.proofs.Common.{◌+◌, ◌-◌, ap, arith}
-use Rattle.law_node.specs.Node.{Node}
-use Rattle.law_node.proofs.Joining.{comes_on}
-use Rattle.law_node.specs.Serve.{serving, turns}
+use Rattle.node_rules.specs.Node.{Node}
+use Rattle.node_rules.proofs.Joining.{comes_on}
+use Rattle.node_rules.specs.Serve.{serving, turns}
 use Rattle.node_engine.proofs.Parts.{fails_as, fails_if, fails_on, made_as}
 use Rattle.node_engine.proofs.Steps.{all_turned, turns_begin, turns_fails, turns_next}
 use Rattle.node_engine.proofs.state.Node.serve.Goals as goal

@@ -1,6 +1,6 @@
 use Rattle.std.proofs.Common.{◌-◌}
-use Rattle.law_node.specs.Parts.{Comes}
-use Rattle.law_node.specs.Serve.{turns}
+use Rattle.node_rules.specs.Parts.{Comes}
+use Rattle.node_rules.specs.Serve.{turns}
 use Rattle.node_engine.proofs.state.Node.serve.Given as goal
 
 abbrev pub invariant-loop : goal.invariant-loop

@@ -1,10 +1,10 @@
 use Rattle.std.proofs.Common.{◌∙◌, refl, ap}
-use Rattle.law_node.specs.Node.{Node}
-use Rattle.law_node.specs.Plan as plan
-use Rattle.law_node.specs.Plan.{Plan}
+use Rattle.node_rules.specs.Node.{Node}
+use Rattle.node_rules.specs.Plan as plan
+use Rattle.node_rules.specs.Plan.{Plan}
 use Rattle.node_engine.specs.declared.faults.NodeFault.TheVariants as fault
-use Rattle.law_node.specs.Lines.{serves, served_text}
-use Rattle.law_node.specs.Serve.{serving, turns}
+use Rattle.node_rules.specs.Lines.{serves, served_text}
+use Rattle.node_rules.specs.Serve.{serving, turns}
 use Rattle.node_engine.proofs.Parts.{fails_as, fails_first, ran_out, second}
 use Rattle.node_engine.proofs.OneTurn.{served}
 use Rattle.node_engine.proofs.state.Node.serve_and_tell.Goals as goal

@@ -1,8 +1,8 @@
 use Rattle.std.proofs.Common.{◌≡◌, subst, sym}
-use Rattle.law_node.specs.Lines.{stepped}
-use Rattle.law_node.specs.Node.{Node}
-use Rattle.law_node.specs.Parts.{IsMadeWhole}
-use Rattle.law_node.specs.Told.{Contents}
+use Rattle.node_rules.specs.Lines.{stepped}
+use Rattle.node_rules.specs.Node.{Node}
+use Rattle.node_rules.specs.Parts.{IsMadeWhole}
+use Rattle.node_rules.specs.Told.{Contents}
 use Rattle.protocol.specs.declared.events.Event.{Event}
 use Rattle.protocol.specs.declared.images.Outcome.{Outcome}
 use Rattle.node_engine.specs.Names.{stepping_pair}

@@ -1,6 +1,6 @@
 use Rattle.protocol.specs.declared.events.Event.TheVariants as event
 use Rattle.std.proofs.Common.{true}
-use Rattle.law_node.specs.Lines.{stopping}
+use Rattle.node_rules.specs.Lines.{stopping}
 use Rattle.node_engine.proofs.Parts.{fails_as}
 use Rattle.node_engine.proofs.Steps.{step_fails, step_then}
 use Rattle.node_engine.proofs.OneTurn.{after_stop}

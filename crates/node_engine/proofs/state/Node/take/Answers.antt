@@ -1,8 +1,8 @@
 use Rattle.std.proofs.Common.{◌≤◌, [], Option, Some, length, take, refl, subst, arith}
-use Rattle.law_node.specs.Plan as plan
-use Rattle.law_node.specs.Plan.{Plan}
-use Rattle.law_node.specs.Serve.{arriving, taking}
-use Rattle.mig_ports.specs.Links.{Addressed, FitsIn}
+use Rattle.node_rules.specs.Plan as plan
+use Rattle.node_rules.specs.Plan.{Plan}
+use Rattle.node_rules.specs.Serve.{arriving, taking}
+use Rattle.host_ports.specs.Links.{Addressed, FitsIn}
 use Rattle.node_engine.proofs.Parts.{does_on, fails_as, fails_first}
 use Rattle.node_engine.proofs.OneTurn.{took_nothing, took_one}
 use Rattle.node_engine.proofs.state.Node.take.Goals as goal

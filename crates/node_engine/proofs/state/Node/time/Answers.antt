@@ -1,9 +1,9 @@
 use Rattle.std.proofs.Common.{ℕ, ap}
-use Rattle.law_node.specs.Node.{Node}
-use Rattle.law_node.specs.Plan as plan
-use Rattle.law_node.specs.Plan.{Plan}
+use Rattle.node_rules.specs.Node.{Node}
+use Rattle.node_rules.specs.Plan as plan
+use Rattle.node_rules.specs.Plan.{Plan}
 use Rattle.node_engine.specs.declared.faults.NodeFault.TheVariants as fault
-use Rattle.law_node.specs.Serve.{asked, expiring}
+use Rattle.node_rules.specs.Serve.{asked, expiring}
 use Rattle.node_engine.specs.Names.{names_of}
 use Rattle.node_engine.proofs.Parts.{does_as, fails_as, ran_out, second, then}
 use Rattle.node_engine.proofs.OneTurn.{timing_of}

@@ -1,5 +1,5 @@
-use Rattle.law_node.proofs.Joining.{comes_nowhere}
-use Rattle.law_node.specs.Serve.{transmitting}
+use Rattle.node_rules.proofs.Joining.{comes_nowhere}
+use Rattle.node_rules.specs.Serve.{transmitting}
 use Rattle.node_engine.proofs.OneTurn.{named_does, unnamed_does}
 use Rattle.node_engine.proofs.state.Node.transmit.Goals as goal
 

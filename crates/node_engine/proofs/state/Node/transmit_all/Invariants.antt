@@ -1,6 +1,6 @@
 use Rattle.std.proofs.Common.{drop}
-use Rattle.law_node.specs.Parts.{Comes}
-use Rattle.law_node.specs.Serve.{transmitting}
+use Rattle.node_rules.specs.Parts.{Comes}
+use Rattle.node_rules.specs.Serve.{transmitting}
 use Rattle.node_engine.specs.Names.{names_of}
 use Rattle.node_engine.proofs.state.Node.transmit_all.Given as goal
 

@@ -1,9 +1,9 @@
 use Rattle.std.proofs.Common.{◌∙◌, [], ◌∷◌, ap}
-use Rattle.law_node.proofs.Joining.{comes_on}
+use Rattle.node_rules.proofs.Joining.{comes_on}
 use Rattle.protocol.specs.declared.events.Event.TheVariants as event
 use Rattle.node_engine.specs.declared.faults.NodeFault.TheVariants as fault
-use Rattle.law_node.specs.Serve.{is_active, marking, transmitting_one}
-use Rattle.law_node.specs.Node.{number_at}
+use Rattle.node_rules.specs.Serve.{is_active, marking, transmitting_one}
+use Rattle.node_rules.specs.Node.{number_at}
 use Rattle.node_engine.proofs.Parts.{fails_as, ran_out}
 use Rattle.node_engine.proofs.Steps.{gives, step_comes, step_fails}
 use Rattle.node_engine.proofs.OneTurn.{after_sending}

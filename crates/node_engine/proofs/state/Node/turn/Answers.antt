@@ -1,8 +1,8 @@
 use Rattle.std.proofs.Common.{◌∙◌, ap}
-use Rattle.law_node.specs.Node.{Node}
-use Rattle.law_node.specs.Plan.{Plan}
+use Rattle.node_rules.specs.Node.{Node}
+use Rattle.node_rules.specs.Plan.{Plan}
 use Rattle.node_engine.specs.declared.faults.NodeFault.TheVariants as fault
-use Rattle.law_node.specs.Serve.{taking, timing, turn}
+use Rattle.node_rules.specs.Serve.{taking, timing, turn}
 use Rattle.node_engine.specs.Names.{names_of}
 use Rattle.node_engine.proofs.Parts.{fails_as, fails_first, ran_out}
 use Rattle.node_engine.proofs.OneTurn.{past_arrival, turn_sent, turn_timed, turn_took, turn_unsent}

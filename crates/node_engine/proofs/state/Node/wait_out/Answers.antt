@@ -1,10 +1,10 @@
 use Rattle.std.proofs.Common.{sym}
-use Rattle.law_node.specs.Node.{Node}
-use Rattle.law_node.specs.Plan.{Plan}
-use Rattle.law_node.proofs.Joining.{comes_nowhere}
+use Rattle.node_rules.specs.Node.{Node}
+use Rattle.node_rules.specs.Plan.{Plan}
+use Rattle.node_rules.proofs.Joining.{comes_nowhere}
 use Rattle.protocol.specs.declared.events.Event.TheVariants as event
-use Rattle.law_node.specs.Node.{stepping}
-use Rattle.law_node.specs.Serve.{waiting_out}
+use Rattle.node_rules.specs.Node.{stepping}
+use Rattle.node_rules.specs.Serve.{waiting_out}
 use Rattle.node_engine.proofs.Parts.{does_as, made_as}
 use Rattle.node_engine.proofs.OneTurn.{rnr_passes, rnr_waits}
 use Rattle.node_engine.proofs.state.Node.wait_out.Goals as goal

@@ -2,7 +2,7 @@ use Rattle.std.proofs.Common.{◌+◌, ◌-◌, ◌*◌, ◌<◌, ◌≤◌, ◌
 use Rattle.std.proofs.lemmas.List.{length-set}
 use Rattle.rdma_types.specs.Memory.{put}
 use Rattle.page_pool.specs.Store.{Store}
-use Rattle.byte_run.proofs.Cuts.{length-cut}
+use Rattle.rdma_types.proofs.Cuts.{length-cut}
 use Rattle.page_pool.proofs.Counts.{sum-set}
 use Rattle.page_pool.proofs.Steps.{inside}
 use Rattle.page_pool.proofs.Kept.{store, front, front_inside, read_now, made_set, holds_still, seen_cut, seen_held, idle_before}

@@ -1,6 +1,6 @@
 use Rattle.std.proofs.Common.{◌+◌, ◌*◌, ◌≤◌, ◌∙◌, ap, length, arith}
 use Rattle.page_pool.specs.Store.{Store}
-use Rattle.byte_run.proofs.Cuts.{length-put}
+use Rattle.rdma_types.proofs.Cuts.{length-put}
 use Rattle.page_pool.proofs.Stock.{sound}
 use Rattle.page_pool.proofs.Kept.{front_inside, seen_put, still_made, still_stocked}
 use Rattle.page_pool.proofs.frames.Frames.put.Goals as goal

@@ -1,7 +1,7 @@
 use Rattle.std.proofs.Common.{◌*◌, ◌∙◌, arith, ap, length, subst}
 use Rattle.std.specs.Prelude.{IfOk, Some}
 use Rattle.rdma_types.specs.Memory.{put}
-use Rattle.byte_run.proofs.Cuts.{put-none}
+use Rattle.rdma_types.proofs.Cuts.{put-none}
 use Rattle.page_pool.specs.Pool.{Puts}
 use Rattle.page_pool.specs.Store.{blank}
 use Rattle.page_pool.proofs.pool.PagePool.take.Goals as goal

@@ -2,13 +2,12 @@
 use Rattle.std.proofs.Common.{◌≡◌, ◌<◌, ◌+◌, ◌∙◌, ap, sym, subst, slice_get, Some, None, true, is_some, refl, length}
 use Rattle.std.proofs.lemmas.Option.{slice_get_read}
 use Rattle.protocol.specs.DeviceStep.{device_step}
-use Rattle.protocol.specs.Fabric.{kept_flight, sending}
+use Rattle.protocol.specs.Fabric.{forgetting, kept_flight, sending}
 use Rattle.protocol.specs.State.{Flight, World}
 use Rattle.protocol.specs.WorldStep.{with_taken}
 use Rattle.protocol.specs.declared.events.Event.{Event}
 use Rattle.protocol.specs.declared.events.Event.TheVariants as event
 use Rattle.protocol.specs.declared.images.Outcome.{Outcome}
-use Rattle.fabric.specs.Store.{forgetting}
 use Rattle.world_core.proofs.Delivering.{delivered-at}
 use Rattle.world_core.proofs.Stepping.{answered_all, parts_after, parts_same}
 use Rattle.world_core.proofs.Places.{read_set, some_there}

@@ -1,8 +1,0 @@
-use Rattle.std.proofs.Common.{length, sym, ap, ◌∙◌}
-use Rattle.atomic_replay.proofs.Replies.{length-in_order}
-use Rattle.atomic_replay.proofs.Kept.len.Goals as goal
-
-pub returns-clause-len : goal.returns-clause-len
-returns-clause-len c =
-    let q = c.self.inside in
-    sym (length-in_order q.oldest q.len q.ring c.self.invariant) ∙ ap length c.self.view_is

@@ -1,6 +1,0 @@
-use Rattle.std.proofs.Common.{◌≡◌, take}
-use Rattle.fan_queue.specs.Fanned.{dealt_to}
-use Rattle.cq_fanout.proofs.dealing.dealt.Given as goal
-
-abbrev pub invariant-loop-k : goal.invariant-loop-k
-invariant-loop-k l = l.entries.items ≡ dealt_to l.consumers l.i 0 (take l.k l.completions)

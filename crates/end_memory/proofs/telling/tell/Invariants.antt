@@ -1,9 +1,0 @@
-use Rattle.std.proofs.Common.{length}
-use Rattle.end_memory.proofs.Told.{Telling}
-use Rattle.end_memory.proofs.telling.tell.Given as goal
-
-abbrev pub invariant-loop-p : goal.invariant-loop-p
-invariant-loop-p l = Telling l.number l.requester l.initial.requester l.pool l.initial.pool l.cq l.initial.cq
-
-abbrev pub decreases-loop-p : goal.decreases-loop-p
-decreases-loop-p l = length l.requester.items

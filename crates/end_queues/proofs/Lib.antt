@@ -1,0 +1,2 @@
+pub mod CopiedCompletions
+pub mod CopiedPostings

@@ -1,0 +1,3 @@
+pub mod Completions
+pub mod Postings
+pub mod Untold

@@ -1,3 +1,0 @@
-pub mod Said
-pub mod Opened
-pub mod Datagrams

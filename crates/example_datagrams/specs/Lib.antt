@@ -1,4 +1,0 @@
-pub mod Said
-pub mod Datagrams
-pub mod Bits
-pub mod Forged

@@ -1,7 +1,0 @@
-use Rattle.std.specs.Prelude.{refl}
-use Rattle.evac_rules.specs.Evaluate.{evacuated_after}
-use Rattle.example_evacuation.proofs.second_target_takes_it.Goals as goal
-
-pub returns : goal.returns
-unfolding evacuated_after
-returns c = refl

@@ -1,7 +1,0 @@
-use Rattle.std.specs.Prelude.{refl}
-use Rattle.letter_rules.specs.Evaluate.{line_written}
-use Rattle.example_letters.proofs.larger_plan.Goals as goal
-
-pub returns : goal.returns
-unfolding line_written
-returns c = refl

@@ -1,7 +1,0 @@
-use Rattle.std.specs.Prelude.{refl}
-use Rattle.letter_rules.specs.Evaluate.{answered_after_cut}
-use Rattle.example_letters.proofs.work_is_cut_off.Goals as goal
-
-pub returns : goal.returns
-unfolding answered_after_cut
-returns c = refl

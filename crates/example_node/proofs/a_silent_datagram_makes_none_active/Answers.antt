@@ -1,7 +1,0 @@
-use Rattle.std.specs.Prelude.{refl}
-use Rattle.example_node.specs.Evaluate.{run_of, spelled}
-use Rattle.example_node.proofs.a_silent_datagram_makes_none_active.Goals as goal
-
-pub returns : goal.returns
-unfolding run_of spelled
-returns c = refl

@@ -1,0 +1,19 @@
+use Rattle.std.specs.Prelude.{refl}
+use Rattle.example_nodes.specs.Evaluate.{run_of, spelled}
+use Rattle.example_nodes.proofs.plans.a_context_goes_through_a_file.Goals as goal
+
+pub returns-clause-text : goal.returns-clause-text
+unfolding run_of spelled
+returns-clause-text c = refl
+
+pub returns-clause-sent : goal.returns-clause-sent
+unfolding run_of spelled
+returns-clause-sent c = refl
+
+pub returns-clause-gone : goal.returns-clause-gone
+unfolding run_of spelled
+returns-clause-gone c = refl
+
+pub returns-clause-ending : goal.returns-clause-ending
+unfolding run_of spelled
+returns-clause-ending c = refl

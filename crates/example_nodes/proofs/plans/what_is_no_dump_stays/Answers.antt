@@ -1,0 +1,7 @@
+use Rattle.std.specs.Prelude.{refl}
+use Rattle.example_nodes.specs.Evaluate.{run_of, spelled}
+use Rattle.example_nodes.proofs.plans.what_is_no_dump_stays.Goals as goal
+
+pub returns : goal.returns
+unfolding run_of spelled
+returns c = refl

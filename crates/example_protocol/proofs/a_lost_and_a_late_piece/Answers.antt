@@ -1,7 +1,0 @@
-use Rattle.std.specs.Prelude.{refl}
-use Rattle.protocol.specs.Evaluate.{played}
-use Rattle.example_protocol.proofs.a_lost_and_a_late_piece.Goals as goal
-
-pub returns : goal.returns
-unfolding played
-returns c = refl

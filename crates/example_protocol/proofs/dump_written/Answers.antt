@@ -1,8 +1,0 @@
-use Rattle.std.specs.Prelude.{refl}
-use Rattle.protocol.specs.Evaluate.{computed}
-use Rattle.protocol.specs.Dumps.{dump_bytes}
-use Rattle.example_protocol.proofs.dump_written.Goals as goal
-
-pub returns : goal.returns
-unfolding computed dump_bytes
-returns c = refl

@@ -1,8 +1,0 @@
-use Rattle.std.specs.Prelude.{refl}
-use Rattle.protocol.specs.Evaluate.{computed}
-use Rattle.protocol.specs.Fabric.{look}
-use Rattle.example_protocol.proofs.flight_gone.Goals as goal
-
-pub returns : goal.returns
-unfolding computed look
-returns c = refl

@@ -1,7 +1,0 @@
-use Rattle.std.specs.Prelude.{refl}
-use Rattle.protocol.specs.Evaluate.{computed}
-use Rattle.example_protocol.proofs.husk_answers.Goals as goal
-
-pub returns : goal.returns
-unfolding computed
-returns c = refl

@@ -1,8 +1,0 @@
-use Rattle.std.specs.Prelude.{refl}
-use Rattle.protocol.specs.Evaluate.{computed}
-use Rattle.protocol.specs.Numbers.{unwrap_near}
-use Rattle.example_protocol.proofs.near_above.Goals as goal
-
-pub returns : goal.returns
-unfolding computed unwrap_near
-returns c = refl

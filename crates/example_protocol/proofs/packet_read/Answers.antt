@@ -1,8 +1,0 @@
-use Rattle.std.specs.Prelude.{refl}
-use Rattle.protocol.specs.Evaluate.{computed}
-use Rattle.protocol.specs.Wire.{packet_of}
-use Rattle.example_protocol.proofs.packet_read.Goals as goal
-
-pub returns : goal.returns
-unfolding computed packet_of
-returns c = refl

@@ -1,7 +1,0 @@
-use Rattle.std.proofs.Common.{refl}
-use Rattle.law_traces.specs.Evaluate.{recorded}
-use Rattle.example_records.proofs.one_write_is_recorded.Goals as goal
-
-pub returns : goal.returns
-unfolding recorded
-returns c = refl

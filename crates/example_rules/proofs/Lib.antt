@@ -1,0 +1,4 @@
+pub mod Alone
+pub mod WorldOrders
+pub mod Examples
+pub mod Arrivals

@@ -1,0 +1,7 @@
+use Rattle.std.specs.Prelude.{refl}
+use Rattle.evac_rules.specs.Evaluate.{evacuated_after}
+use Rattle.example_rules.proofs.evacuation.target_has_the_husk.Goals as goal
+
+pub returns : goal.returns
+unfolding evacuated_after
+returns c = refl

@@ -1,0 +1,7 @@
+use Rattle.std.specs.Prelude.{refl}
+use Rattle.protocol.specs.Evaluate.{computed}
+use Rattle.example_rules.proofs.protocol_runs.remote_access.Goals as goal
+
+pub returns : goal.returns
+unfolding computed
+returns c = refl

@@ -1,0 +1,7 @@
+use Rattle.std.specs.Prelude.{refl}
+use Rattle.protocol.specs.Evaluate.{played}
+use Rattle.example_rules.proofs.protocol_runs.usual_session.Goals as goal
+
+pub returns : goal.returns
+unfolding played
+returns c = refl

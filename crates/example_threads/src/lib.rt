@@ -1,9 +1,0 @@
-//! Worked examples of books, orders, the check of a run, and runs.
-#![tactic(auto)]
-
-#[cfg(test)]
-mod runs;
-#[cfg(test)]
-mod tests;
-#[cfg(test)]
-mod threads;

@@ -1,5 +1,0 @@
-use Rattle.std.proofs.Common.{vec_len}
-use Rattle.fan_queue.proofs.consumers.+consume_all.Given as goal
-
-abbrev pub decreases-consume_all : goal.decreases-consume_all
-decreases-consume_all g l = vec_len l.rooms

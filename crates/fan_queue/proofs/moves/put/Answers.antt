@@ -1,9 +1,0 @@
-use Rattle.std.proofs.Common.{subst, sym}
-use Rattle.fan_queue.specs.declared.rule.Share.{Share}
-use Rattle.fan_queue.specs.Rule.{MayPut}
-use Rattle.fan_queue.proofs.Steps.{may_put}
-use Rattle.fan_queue.proofs.moves.put.Goals as goal
-
-pub push_as-requires-clause-rule : goal.push_as-requires-clause-rule
-push_as-requires-clause-rule g c =
-    (may_put _ _ _ c.args.parcel (subst (λ (v : Share). MayPut v c.args.parcel) (sym c.loop.invariant.1) c.requires.may), λ items views f at. tt)

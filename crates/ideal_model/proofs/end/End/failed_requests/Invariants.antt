@@ -1,6 +1,0 @@
-use Rattle.std.proofs.Common.{◌≡◌, ◌++◌, drop}
-use Rattle.ideal_model.specs.Steps.{failed_requests}
-use Rattle.ideal_model.proofs.end.End.failed_requests.Given as goal
-
-abbrev pub invariant-loop-r : goal.invariant-loop-r
-invariant-loop-r l = l.all.items ++ failed_requests l.number l.next (drop l.r-index l.untold) ≡ failed_requests l.number l.fn.status l.untold

@@ -1,6 +1,0 @@
-use Rattle.std.proofs.Common.{arith}
-use Rattle.ideal_model.proofs.Marks.{mark_at_start}
-use Rattle.ideal_model.proofs.end.End.join.Goals as goal
-
-pub invariant_of-self : goal.invariant_of-self
-invariant_of-self c = record { expiries = omega arith; receives = omega arith; mark = mark_at_start _ _; passed = c.self.invariant.passed }

@@ -1,7 +1,0 @@
-use Rattle.std.proofs.Common.{arith}
-use Rattle.ideal_model.proofs.Marks.{mark_at_start}
-use Rattle.ideal_model.proofs.Passing.{passed_at_start}
-use Rattle.ideal_model.proofs.end.End.make.Goals as goal
-
-pub invariant_of-result : goal.invariant_of-result
-invariant_of-result c = record { expiries = omega arith; receives = omega arith; mark = mark_at_start _ _; passed = passed_at_start _ _ }

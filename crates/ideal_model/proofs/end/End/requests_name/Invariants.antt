@@ -1,7 +1,0 @@
-use Rattle.std.proofs.Common.{◌≡◌, drop}
-use Rattle.std.specs.List.{list_any}
-use Rattle.ideal_model.specs.Verbs.{request_names}
-use Rattle.ideal_model.proofs.end.End.requests_name.Given as goal
-
-abbrev pub invariant-loop-r : goal.invariant-loop-r
-invariant-loop-r l = list_any (request_names l.key) (drop l.r-index l.untold) ≡ list_any (request_names l.key) l.untold

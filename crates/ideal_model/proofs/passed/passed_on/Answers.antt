@@ -1,7 +1,0 @@
-use Rattle.std.proofs.Common.{arith}
-use Rattle.ideal_model.proofs.Passing.{passed_one}
-use Rattle.ideal_model.proofs.passed.passed_on.Goals as goal
-
-pub loop-i-preserved : goal.loop-i-preserved
-loop-i-preserved c =
-    passed_one c.args.offers.now c.loop-i.i c.args.below c.index-offers-i.result (omega arith) c.index-offers-i.is (rw (← c.offer.view_is) c.if-offer-below.false) c.loop-i.invariant

@@ -1,9 +1,0 @@
-pub mod Lists
-pub mod Homes
-pub mod Stops
-pub mod Restores
-pub mod Settles
-pub mod Leading
-pub mod Trying
-pub mod Emptying
-pub mod Staying

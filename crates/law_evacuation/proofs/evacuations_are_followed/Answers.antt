@@ -1,6 +1,0 @@
-use Rattle.law_evacuation.proofs.Emptying.{AreLaws}
-use Rattle.law_evacuation.proofs.Staying.{all_followed}
-use Rattle.law_evacuation.proofs.evacuations_are_followed.Goals as goal
-
-pub returns : goal.returns
-returns c = let laws : AreLaws = record { follow = c.lines_are_followed.ensures.from_any; settling = record { made = c.settling_is_events.ensures; follows = c.settling_follows.ensures; lightens = c.taking_lightens.ensures }; moved = c.a_restored_context_is_its_moved_image.ensures.moved } in all_followed laws

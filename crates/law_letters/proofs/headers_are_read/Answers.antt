@@ -1,8 +1,0 @@
-use Rattle.law_letters.proofs.Headers.{header_read, message_read}
-use Rattle.law_letters.proofs.headers_are_read.Goals as goal
-
-pub returns-clause-header : goal.returns-clause-header
-returns-clause-header c = header_read
-
-pub returns-clause-message : goal.returns-clause-message
-returns-clause-message c = message_read

@@ -1,5 +1,0 @@
-use Rattle.law_letters.proofs.Reaching.{here_after_settling}
-use Rattle.law_letters.proofs.letters_are_here_after_settling.Goals as goal
-
-pub returns : goal.returns
-returns c = here_after_settling c.all_is_posted.ensures c.work_stops_in_time.ensures c.working_is_enough.ensures

@@ -1,5 +1,0 @@
-use Rattle.law_letters.proofs.FindingRoom.{letters_kept}
-use Rattle.law_letters.proofs.letters_are_kept.Goals as goal
-
-pub returns : goal.returns
-returns c = letters_kept c.letters_are_kept_where_work_finds_room.ensures c.work_finds_room.ensures

@@ -1,8 +1,0 @@
-use Rattle.law_letters.proofs.Ahead.{moves_are_ahead, works_go_ahead}
-use Rattle.law_letters.proofs.nothing_goes_back.Goals as goal
-
-pub returns-clause-moves : goal.returns-clause-moves
-returns-clause-moves c = moves_are_ahead
-
-pub returns-clause-work : goal.returns-clause-work
-returns-clause-work c = works_go_ahead

@@ -1,8 +1,0 @@
-use Rattle.law_letters.proofs.Plans.{steps_build_nothing, verbs_build_nothing}
-use Rattle.law_letters.proofs.nothing_is_built.Goals as goal
-
-pub returns-clause-steps : goal.returns-clause-steps
-returns-clause-steps c = steps_build_nothing
-
-pub returns-clause-verbs : goal.returns-clause-verbs
-returns-clause-verbs c = verbs_build_nothing

@@ -1,5 +1,0 @@
-use Rattle.law_letters.proofs.OtherSteps.{other_steps}
-use Rattle.law_letters.proofs.other_steps_are_seen.Goals as goal
-
-pub returns : goal.returns
-returns c = other_steps

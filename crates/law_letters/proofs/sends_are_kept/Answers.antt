@@ -1,5 +1,0 @@
-use Rattle.law_letters.proofs.Sent.{sends_kept}
-use Rattle.law_letters.proofs.sends_are_kept.Goals as goal
-
-pub returns : goal.returns
-returns c = sends_kept c.steps_are_named.ensures.events

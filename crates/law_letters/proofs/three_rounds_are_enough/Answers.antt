@@ -1,5 +1,0 @@
-use Rattle.law_letters.proofs.Rounds.{three_rounds}
-use Rattle.law_letters.proofs.three_rounds_are_enough.Goals as goal
-
-pub returns : goal.returns
-returns c = three_rounds

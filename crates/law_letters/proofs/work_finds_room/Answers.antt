@@ -1,5 +1,0 @@
-use Rattle.law_letters.proofs.FindingRoom.{finds_room}
-use Rattle.law_letters.proofs.work_finds_room.Goals as goal
-
-pub returns : goal.returns
-returns c = finds_room c.few_stand_always.ensures c.works_keep_few.ensures c.few_have_room.ensures c.contexts_stay_furnished.ensures.works

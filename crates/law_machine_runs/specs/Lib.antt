@@ -1,0 +1,5 @@
+pub mod Changes
+pub mod Isolation
+pub mod Reach
+pub mod Counted
+pub mod Put

@@ -1,0 +1,5 @@
+pub mod connection
+pub mod opening
+pub mod queue_room
+pub mod settling
+pub mod work

@@ -1,0 +1,10 @@
+pub mod Beginning
+pub mod Evaluated
+pub mod FirstFurnished
+pub mod Furnished
+pub mod Furnishing
+pub mod InRange
+pub mod Pages
+pub mod Planned
+pub mod Plans
+pub mod Remains

@@ -1,0 +1,2 @@
+pub mod Evacuated
+pub mod Held

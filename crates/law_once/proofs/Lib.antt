@@ -1,4 +1,0 @@
-pub mod Counts
-pub mod Lasts
-pub mod Growing
-pub mod Putting

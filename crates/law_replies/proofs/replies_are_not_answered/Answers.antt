@@ -1,6 +1,0 @@
--- What is proved of each packet.
-use Rattle.law_replies.proofs.Silent.{reply_silent}
-use Rattle.law_replies.proofs.replies_are_not_answered.Goals as goal
-
-pub returns : goal.returns
-returns c = reply_silent

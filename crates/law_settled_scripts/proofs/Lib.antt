@@ -1,4 +1,0 @@
-pub mod Images
-pub mod Worlds
-pub mod Names
-pub mod Scripts

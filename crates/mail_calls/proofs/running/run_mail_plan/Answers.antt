@@ -1,8 +1,0 @@
-use Rattle.std.proofs.Common.{subst}
-use Rattle.command_endings.specs.Endings.{IsWritten}
-use Rattle.mail_calls.proofs.Ending.{ended_done}
-use Rattle.mail_calls.proofs.running.run_mail_plan.Goals as goal
-
-pub returns-in-Ok : goal.returns-in-Ok
-returns-in-Ok g c = ended_done c.args.plan.now (g.K.Sink.held c.args.output.now) (g.K.Sink.held c.end_with.new.output) (g.K.Sink.faults c.args.output.now) (g.K.Sink.faults c.end_with.new.output) c.in-Ok.text.items c.end_with.result c.in-Ok.ensures
-    (subst (λ t. IsWritten (g.K.Sink.held c.args.output.now) (g.K.Sink.held c.end_with.new.output) (g.K.Sink.faults c.args.output.now) (g.K.Sink.faults c.end_with.new.output) t 0 c.end_with.result) c.as_slice.ensures.value c.end_with.ensures)

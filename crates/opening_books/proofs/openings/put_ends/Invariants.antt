@@ -1,7 +1,0 @@
-use Rattle.std.proofs.Common.{◌≡◌}
-use Rattle.protocol.specs.Replay.{replay}
-use Rattle.law_world_orders.specs.Openings.{ends_of}
-use Rattle.opening_books.proofs.openings.put_ends.Given as goal
-
-abbrev pub invariant-loop-i : goal.invariant-loop-i
-invariant-loop-i l = l.device ≡ replay l.fn.device (ends_of l.side.context l.side.other l.side.terms 1 l.i)

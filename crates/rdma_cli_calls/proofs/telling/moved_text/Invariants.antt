@@ -1,5 +1,0 @@
-use Rattle.rdma_cli_calls.proofs.Tales.{IsTale}
-use Rattle.rdma_cli_calls.proofs.telling.moved_text.Given as goal
-
-abbrev pub invariant-loop-shifted : goal.invariant-loop-shifted
-invariant-loop-shifted l = IsTale l.moved l.shifted-index l.text.items

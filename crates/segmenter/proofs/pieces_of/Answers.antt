@@ -1,7 +1,0 @@
-use Rattle.std.proofs.Common.{arith}
-use Rattle.std.proofs.lemmas.Grind.{common_steps}
-use Rattle.segmenter.proofs.Pieces.{pieces-rounded}
-use Rattle.segmenter.proofs.pieces_of.Goals as goal
-
-pub returns-clause-rule : goal.returns-clause-rule
-returns-clause-rule c = grind (arith, common_steps, pieces-rounded c.args.length c.args.mtu c.requires)

@@ -1,6 +1,0 @@
-use Rattle.std.proofs.lemmas.Result.{IfOk-weaker}
-use Rattle.tag_messages.proofs.Shown.{asked_on}
-use Rattle.tag_messages.proofs.asking.ask.Goals as goal
-
-pub returns-clause-ok : goal.returns-clause-ok
-returns-clause-ok c = IfOk-weaker c.step.result _ _ (λ a made w is. asked_on c.args.world.now c.step.new.self w c.args.event a is made) c.step.ensures.ok

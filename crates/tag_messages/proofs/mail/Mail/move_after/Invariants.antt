@@ -1,6 +1,0 @@
-use Rattle.letter_rules.specs.Command.{moves_after}
-use Rattle.tag_messages.specs.Runs.{IsRun}
-use Rattle.tag_messages.proofs.mail.Mail.move_after.Given as goal
-
-abbrev pub invariant-loop-k : goal.invariant-loop-k
-invariant-loop-k g l = IsRun l.fn.self l.self 0 0 (λ m. moves_after l.plan l.j l.k)

@@ -1,6 +1,0 @@
-use Rattle.std.proofs.Common.{◌≡◌, replicate}
-use Rattle.letter_rules.specs.State.{fresh_channel}
-use Rattle.tag_messages.proofs.making.fresh_channels.Given as goal
-
-abbrev pub invariant-loop-made : goal.invariant-loop-made
-invariant-loop-made l = l.channels.items ≡ replicate l._made fresh_channel

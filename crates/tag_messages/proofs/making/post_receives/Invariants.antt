@@ -1,6 +1,0 @@
-use Rattle.letter_rules.specs.Opening.{receives_events}
-use Rattle.tag_messages.specs.Steps.{IsMadeOf}
-use Rattle.tag_messages.proofs.making.post_receives.Given as goal
-
-abbrev pub invariant-loop-k : goal.invariant-loop-k
-invariant-loop-k l = IsMadeOf l.fn.world l.world (receives_events l.i l.k)

@@ -1,0 +1,7 @@
+use Rattle.std.specs.Prelude.{refl}
+use Rattle.mailbox_rules.specs.Evaluate.{line_written}
+use Rattle.test_program.proofs.letters.fetching_plan.Goals as goal
+
+pub returns : goal.returns
+unfolding line_written
+returns c = refl

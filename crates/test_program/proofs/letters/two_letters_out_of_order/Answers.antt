@@ -1,0 +1,7 @@
+use Rattle.std.specs.Prelude.{refl}
+use Rattle.mailbox_rules.specs.Evaluate.{answered}
+use Rattle.test_program.proofs.letters.two_letters_out_of_order.Goals as goal
+
+pub returns : goal.returns
+unfolding answered
+returns c = refl

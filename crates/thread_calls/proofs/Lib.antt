@@ -1,4 +1,0 @@
-pub mod Apart
-pub mod Counting
-pub mod Ending
-pub mod Joined

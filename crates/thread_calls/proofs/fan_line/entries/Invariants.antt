@@ -1,6 +1,0 @@
-use Rattle.std.proofs.Common.{◌≡◌, take}
-use Rattle.thread_calls.specs.Fanout.{entries_in}
-use Rattle.thread_calls.proofs.fan_line.entries.Given as goal
-
-abbrev pub invariant-loop-list : goal.invariant-loop-list
-invariant-loop-list l = l.count ≡ entries_in (take l.list-index l.lists)

@@ -1,9 +1,0 @@
-use Rattle.std.proofs.Common.{length}
-use Rattle.trace_audit.proofs.Loop.{IsFound}
-use Rattle.trace_audit.proofs.auditing.find.Given as goal
-
-abbrev pub invariant-loop-line : goal.invariant-loop-line
-invariant-loop-line l = IsFound l.trace l.rest l.audit l.number
-
-abbrev pub decreases-loop-line : goal.decreases-loop-line
-decreases-loop-line l = length l.rest

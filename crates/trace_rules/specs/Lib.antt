@@ -1,0 +1,4 @@
+pub mod Recording
+pub mod Playing
+pub mod Heard
+pub mod Evaluate

@@ -1,5 +1,0 @@
-pub mod Learns
-pub mod Due
-pub mod Offers
-pub mod Repeats
-pub mod Numbered

@@ -1,9 +1,0 @@
-use Rattle.std.proofs.Common.{◌≡◌, ◌++◌, length}
-use Rattle.trace_writer.specs.Written.{answer_text, ended_lines}
-use Rattle.trace_writer.proofs.answers.put_lines.Given as goal
-
-abbrev pub invariant-loop-line : goal.invariant-loop-line
-invariant-loop-line l = l.out.items ++ answer_text (ended_lines l.rest) ≡ l.initial.out.items ++ answer_text (ended_lines l.text)
-
-abbrev pub decreases-loop-line : goal.decreases-loop-line
-decreases-loop-line l = length l.rest

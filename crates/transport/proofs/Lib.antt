@@ -1,0 +1,4 @@
+pub mod Replies
+mod Near
+pub mod Pieces
+mod Packets

@@ -1,0 +1,5 @@
+pub mod Ring
+pub mod Table
+pub mod Near
+pub mod Cut
+pub mod Heads

@@ -1,5 +1,0 @@
-use Rattle.std.proofs.Common.{◌≡◌, take}
-use Rattle.work_queues.proofs.copying.copy_recvs.Given as goal
-
-abbrev pub invariant-loop-i : goal.invariant-loop-i
-invariant-loop-i l = l.copy ≡ record { depth = l.queue.depth; items = take l.i l.queue.items }
