@@ -2,7 +2,7 @@
 
 ghost use Rattle.std.specs.Prelude.{None};
 
-use mig_ports::Ticks;
+use host_ports::Ticks;
 use std::rt::Clock;
 use std::time::Instant;
 

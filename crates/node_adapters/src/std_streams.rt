@@ -1,9 +1,9 @@
 //! The input and output of a process.
 
 ghost use Rattle.std.specs.Prelude.{◌≡◌, ◌≤◌, None, IfOk, length};
-ghost use Rattle.mig_ports.specs.Streams.{FaultsCounted};
+ghost use Rattle.host_ports.specs.Streams.{FaultsCounted};
 
-use mig_ports::{Failed, Sink, Source};
+use host_ports::{Failed, Sink, Source};
 use std::io;
 use std::io::{Read, Write};
 
@@ -122,7 +122,7 @@ impl<W: Write> Sink for StdSink<W> {
 #[cfg(test)]
 mod tests {
     use super::*;
-    use mig_ports::{WriteFault, write_all_of};
+    use host_ports::{WriteFault, write_all_of};
     use std::test::Fail;
 
     /// Takes bytes up to its room, and shows them once they are flushed.

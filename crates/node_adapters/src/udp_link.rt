@@ -1,9 +1,9 @@
 //! Datagrams over UDP.
 
 ghost use Rattle.std.specs.Prelude.{◌≡◌, ◌≤◌, None};
-ghost use Rattle.mig_ports.specs.Streams.{FaultsCounted};
+ghost use Rattle.host_ports.specs.Streams.{FaultsCounted};
 
-use mig_ports::{Failed, Got, LONGEST_DATAGRAM, Link};
+use host_ports::{Failed, Got, LONGEST_DATAGRAM, Link};
 use rdma_types::Address;
 use std::io;
 use std::io::ErrorKind;
