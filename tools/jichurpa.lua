@@ -107,6 +107,9 @@ payloads:register_heuristic("infiniband.payload", function(buffer, pinfo, tree)
     if not datagram or not is_datagram(datagram.range) then
         return false
     end
-    Dissector.get("data"):call(buffer:range():tvb(), pinfo, tree)
+    -- A READ request and an empty message have none; an empty range cannot be made.
+    if buffer:len() > 0 then
+        Dissector.get("data"):call(buffer:range():tvb(), pinfo, tree)
+    end
     return true
 end)

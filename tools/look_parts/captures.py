@@ -26,11 +26,17 @@ def frames_of(data, name):
 
 def packets_of(data, name):
     """Of each whole UDP datagram over IPv4: the address that it comes from, the one that it goes to, and its payload."""
+    for _, start, end, payload in numbered_packets_of(data, name):
+        yield start, end, payload
+
+
+def numbered_packets_of(data, name):
+    """The same behind the number of the frame, counted from 1 as Wireshark does."""
     kind, frames = frames_of(data, name)
     if kind not in LINKS:
         raise LookError(f"{name} has frames of the kind {kind}; known are {', '.join(map(str, LINKS))}")
     before, protocol = LINKS[kind]
-    for frame in frames:
+    for number, frame in enumerate(frames, 1):
         ip = frame[before:]
         if protocol is not None and int.from_bytes(frame[protocol:protocol + 2], "big") != IPV4:
             continue
@@ -40,4 +46,4 @@ def packets_of(data, name):
             continue
         udp = ip[length:]
         start, end, size = struct.unpack("!HHH", udp[:6])
-        yield (int.from_bytes(ip[12:16], "big"), start), (int.from_bytes(ip[16:20], "big"), end), udp[8:size]
+        yield number, (int.from_bytes(ip[12:16], "big"), start), (int.from_bytes(ip[16:20], "big"), end), udp[8:size]

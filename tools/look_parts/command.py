@@ -4,7 +4,7 @@ import importlib
 import os
 import sys
 
-from .errors import LookError
+from .errors import LookError, warn
 from .program import INSTALLED, VARIABLE, Program, TriedProgram
 
 SCRIPT_HELP = "the script's file, or - for standard input"
@@ -28,6 +28,10 @@ STATS = (
     "Counts the datagrams of a script by kind, what they did, expiries and waits, completions and refusals, and tells of "
     "each move its pages, its dump's bytes, and the datagrams and lines until the ends run again. With --node: what the log "
     "of a node tells of this.")
+CHECK = (
+    "Holds a capture of RoCEv2 connections against the protocol, and tells the first datagram that an end would not send or "
+    "answer so, with the rule. The terms of a connection are the number and the address of each end, `mtu` M, `psn` X Y, and "
+    "`reads` N if that is known. It ends with 0, or with 13 where a rule is broken.")
 UNFOLD = (
     "Writes the script with lines `go`, `deliver`, `rnr` and `expire` in the place of each `settle`, as far as the program "
     "confirms them: the same answers, and the same datagrams byte for byte.")
@@ -44,7 +48,7 @@ def parser():
         "-i", dest="prompt", nargs="?", const="", metavar="SCRIPT",
         help="a prompt that answers line by line, behind the lines of a script if one is named")
     kinds = top.add_subparsers(dest="kind", metavar="SUBCOMMAND")
-    for add in (add_side, add_ladder, add_pcap, add_stats, add_unfold, add_dump):
+    for add in (add_side, add_ladder, add_pcap, add_stats, add_check, add_unfold, add_dump):
         add(kinds)
     return top
 
@@ -93,13 +97,23 @@ def add_stats(kinds):
     words.add_argument("script", nargs="?", help=SCRIPT_HELP)
     words.add_argument(
         "--bulk", nargs=4, type=int, metavar=("SEED", "CONNECTIONS", "MESSAGES", "MOVES"),
-        help="the generated script of docs/generated.md")
+        help="the generated script of docs/commands.md")
     words.add_argument("--node", metavar="LOG", help=NODE_HELP)
     words.add_argument("--depot", metavar="FOLDER", help="with --node: the node's depot, for the bytes of dumps that still lie there")
     words.add_argument("--capture", metavar="FILE", help="with --node: a capture of the node's link in pcap form, for its datagrams by kind")
     words.add_argument("--unfold", action="store_true", help=UNFOLD_HELP)
     words.add_argument("--json", action="store_true", help="the same as JSON")
     add_evacuate(words)
+
+
+def add_check(kinds):
+    words = subcommand(kinds, "check", "check", "a capture against the rules", CHECK)
+    words.add_argument("capture", help="the capture's file in pcap form, or - for standard input")
+    words.add_argument(
+        "--connection", nargs="+", action="append", required=True, metavar="TERM",
+        help="NUMBER ADDRESS NUMBER ADDRESS mtu M psn X Y [reads N]; once for each connection")
+    words.add_argument("--standard", action="store_true", help="leave out what this project chose where the standard leaves room")
+    words.add_argument("--json", action="store_true", help="the same as JSON")
 
 
 def add_unfold(kinds):
@@ -135,8 +149,8 @@ def main(words):
         return getattr(importlib.import_module(f".{part}", __package__), call)(program, asked)
     except LookError as fault:
         sys.stdout.flush()
-        print(f"look: {fault}", file=sys.stderr)
-        return 1
+        warn(fault)
+        return fault.status
     except BrokenPipeError:
         os.dup2(os.open(os.devnull, os.O_WRONLY), sys.stdout.fileno())
         return 1

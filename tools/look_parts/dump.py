@@ -7,6 +7,7 @@ from .answers import play
 from .dump_format import KEY, MAGIC, PAIR, STATES
 from .dump_reader import Fault, read_dump
 from .dump_writer import dump_bytes, from_json, to_json
+from .early import status_of
 from .errors import LookError
 from .script import lines_of, read_bytes
 
@@ -47,13 +48,14 @@ def dumps_in(name, data):
 
 
 def dumps_of_script(program, name):
-    """The bytes of the dumps that a script's answers show."""
+    """The bytes of the dumps that a script's answers show, and the status with which the script ended."""
     script = read_bytes(name)
     played = play(program, lines_of(script), script)
+    status = status_of(played, name)
     found = dumps_in_lines([a.first for a in played.answered if a.line.verb == "dump"])
     if not found:
-        raise LookError(f"{name}: no line of the script shows a dump; `dump N` does, between the stop and the restore of N")
-    return found
+        raise LookError(f"{name}: no line of the script shows a dump; `dump N` does, between the stop and the restore of N", status or 1)
+    return found, status
 
 
 def read_or_fail(data):
@@ -138,7 +140,7 @@ def dump(program, asked):
         return 0
     if asked.source is None:
         raise LookError("dump wants a depot's file, answers or hexadecimal digits; or --from-json")
-    found = dumps_of_script(program, asked.source) if asked.play else dumps_in(asked.source, read_bytes(asked.source))
+    found, status = dumps_of_script(program, asked.source) if asked.play else (dumps_in(asked.source, read_bytes(asked.source)), 0)
     found = picked(found, asked.pick)
     read = [read_or_fail(data) for data in found]
     if asked.out:
@@ -156,4 +158,4 @@ def dump(program, asked):
                 print(*lines_of_image(image), sep="\n")
             else:
                 print_fields(fields, asked.wide)
-    return 0
+    return status

@@ -1,5 +1,6 @@
 """One sentence for a refusal or a bad line, which says what to look at."""
 import difflib
+import unicodedata
 
 from .answers import LOG_ENDS
 from .script import FORMS, MOST_LINE, OPTIONS, REQUESTS, form_of
@@ -217,7 +218,7 @@ def refusal(world, answered):
     cause = answered.words[1]
     explain = REFUSALS.get(cause)
     sentence = explain and explain(world, answered.line.verb, answered.line.rest)
-    return sentence or f"docs/answers.md says when a line is refused with {cause}."
+    return sentence or f"docs/scripts.md says when a line is refused with {cause}."
 
 
 # ---- bad lines
@@ -255,25 +256,72 @@ def bad_line(ending, forms):
     if why == "long":
         return f"The line has {len(line.raw):,} bytes, and the most is {MOST_LINE:,}."
     if why == "ascii":
-        return ascii_sentence(line.raw[column - 1], column, column == len(line.raw))
+        return ascii_sentence(line, column)
     at = next((i for i, word in enumerate(line.words) if word.column == column), len(line.words))
     word = line.words[at].text if at < len(line.words) else ""
     if why == "word":
-        near = difflib.get_close_matches(word, forms, 1)
-        return f"No line begins with `{word}`" + (f"; did you mean `{near[0]}`?" if near else "; docs/scripts.md has all lines.")
+        return word_sentence(word, forms)
     form = form_of(line.verb, forms)
     if why == "extra":
         options = OPTIONS.get(line.verb)
-        return f"`{word}` is one word too many: the form is `{form}`" + (", its options once each in this order." if options else ".")
+        return f"`{word}` is one word too many: the form is `{form}`" + (", its options once each in this order." if options else ".") + small(word)
     wanted = place_words(forms, line.verb, at - 1) or "an immediate of eight hexadecimal digits behind `imm`"
     if why == "missing":
         return f"Here must stand {wanted}; the form is `{form}`."
-    return f"In the place of `{word}` must stand {wanted}; the form is `{form}`."
+    return f"In the place of `{word}` must stand {wanted}; the form is `{form}`." + (small(word) if why in IN_SMALL_LETTERS else "")
 
 
-def ascii_sentence(byte, column, is_last):
-    name = {9: " (a tab)", 13: " (a carriage return without a newline behind it)" if is_last else " (a carriage return)"}.get(byte, "")
-    return f"The byte {byte:02x}{name} in column {column} is none that a line may have; those are 32 to 126."
+# The reasons under which capitals may be what is wrong: digits of numbers and keys may have either case.
+IN_SMALL_LETTERS = ("name", "rights", "option")
+
+
+def small(word):
+    """What to do with capitals."""
+    return "" if word == word.lower() else f" Write it in small letters: `{word.lower()}`."
+
+
+def word_sentence(word, forms):
+    """What to look at where no line begins with a word."""
+    if word.lower() in forms:
+        return f"No line begins with `{word}`." + small(word)
+    near = difflib.get_close_matches(word.lower(), forms, 1)
+    return f"No line begins with `{word}`" + (f"; did you mean `{near[0]}`?" if near else "; docs/scripts.md has all lines.")
+
+
+# What stands at the head of a file that an editor saved in another way than as ASCII: the bytes, and how to take them away.
+HEADS = {
+    b"\xef\xbb\xbf": "a byte order mark; save the file without it (UTF-8 without BOM), or take it away: sed -i '1s/^\\xEF\\xBB\\xBF//' FILE",
+    b"\xff\xfe": "the mark of UTF-16; save the file as ASCII or UTF-8, or convert it: iconv -f UTF-16 -t ASCII FILE",
+    b"\xfe\xff": "the mark of UTF-16; save the file as ASCII or UTF-8, or convert it: iconv -f UTF-16 -t ASCII FILE",
+}
+
+
+def ascii_sentence(line, column):
+    """What to do with a byte that no line may have."""
+    head = next((told for begin, told in HEADS.items() if line.number == 1 and column == 1 and line.raw.startswith(begin)), None)
+    if head:
+        return f"The file begins with {head}."
+    byte = line.raw[column - 1]
+    told = f"The byte {byte:02x}{byte_name(line.raw, column)} in column {column} is none that a line may have; those are 32 to 126."
+    if byte == 9:
+        return f"{told} Put spaces in its place; `expand FILE` does so for all tabs."
+    return told
+
+
+def byte_name(raw, column):
+    """What a byte is, or the character that it begins, in brackets."""
+    byte = raw[column - 1]
+    if byte == 9:
+        return " (a tab)"
+    if byte == 13:
+        return " (a carriage return without a newline behind it)" if column == len(raw) else " (a carriage return)"
+    for size in (2, 3, 4) if byte >= 128 else ():
+        try:
+            character = raw[column - 1:column - 1 + size].decode("utf-8")
+        except UnicodeDecodeError:
+            continue
+        return f" (of the character U+{ord(character):04X}, {unicodedata.name(character, 'without a name').lower()})" if len(character) == 1 else ""
+    return ""
 
 
 ENDINGS = {

@@ -85,8 +85,8 @@ class Copy:
             raise LookError(f"a copy of the script with lines `wire` has {len(answers)} lines of answers, and not {at}")
         return {number: answers[start:start + count] for number, start, count in places if count}
 
-    def ask_in_parts(self, wanted):
-        """The same for pairs of a line's number and an extra line, in as many runs as they need."""
+    def ask_in_parts(self, wanted, what):
+        """The same for pairs of a line's number and an extra line, in as many runs as they need; `what` they look at is for the progress."""
         room, told, at = self.room(), [], 0
         while at < len(wanted):
             extra, used, end = {}, 0, at
@@ -99,9 +99,11 @@ class Copy:
                 end += 1
             if end == at:
                 raise LookError(f"the script has {self.size:,} bytes without its blank lines, and {MOST_BYTES:,} leave no room for a line `wire`")
+            self.program.doing = f", for {what} {at + 1:,} to {end:,} of {len(wanted):,}"
             answers = self.ask(extra)
             told += [answer for number in sorted(extra) for answer in answers[number]]
             at = end
+        self.program.doing = ""
         return told
 
 
@@ -173,7 +175,7 @@ def count_settled(copy, settlings):
         if not open_ones:
             return
         wanted = [(s.line, f"wire {number}") for s in open_ones for number in probes_of(s)]
-        answers = iter(copy.ask_in_parts(wanted))
+        answers = iter(copy.ask_in_parts(wanted, "settles, look"))
         for settling in open_ones:
             numbers = probes_of(settling)
             there = [n for n, answer in zip(numbers, answers) if answer != "gone"]
@@ -229,7 +231,7 @@ class Story:
 
     def find_bytes(self):
         wanted = [(flight.line, f"wire {number}") for number, flight in self.flights.items()]
-        for flight, answer in zip(self.flights.values(), self.copy.ask_in_parts(wanted)):
+        for flight, answer in zip(self.flights.values(), self.copy.ask_in_parts(wanted, "datagrams")):
             if answer != "gone":
                 flight.data = bytes.fromhex(answer.split()[1])
                 flight.packet = read_datagram(flight.data)

@@ -1,4 +1,4 @@
-"""The generated script of a seed, by docs/generated.md. The program plays it (`bulk`) and does not print it."""
+"""The generated script of a seed, by docs/commands.md. The program plays it (`bulk`) and does not print it."""
 
 from .errors import LookError
 

@@ -84,7 +84,7 @@ def was_sent_by(flight, line, last):
 
 def weigh(story, moves):
     """The bytes of the dumps and the pages of the images."""
-    answers = story.copy.ask_in_parts([(m.stop, f"dump {m.context}") for m in moves])
+    answers = story.copy.ask_in_parts([(m.stop, f"dump {m.context}") for m in moves], "dumps")
     for move, answer in zip(moves, answers):
         if answer.startswith("dump "):
             move.dump_bytes = int(answer.split()[1])

@@ -80,7 +80,7 @@ class NodeWorld(World):
             return sentence.format(rest[0])
         if verb in SHARED and context:
             return refusal(self, answered)
-        return f"docs/answers.md says when a line is refused with {cause}."
+        return f"docs/scripts.md says when a line is refused with {cause}."
 
 
 def read_log(script_name, log_name):
@@ -188,9 +188,8 @@ def cannot_tell(has_capture):
     return told
 
 
-def statistics(asked):
+def statistics(played, asked):
     """All that a log tells, as a value for JSON."""
-    played = read_log(asked.script, asked.node)
     answered = [a for a in played.answered if not a.line.is_blank]
     entries = [answer.split() for a in answered for answer in a.answers if answer.startswith("wc ")]
     return {

@@ -8,6 +8,7 @@ import struct
 import sys
 from pathlib import Path
 
+from .early import status_of
 from .errors import LookError
 from .evacuation import script_asked
 from .flights import Story
@@ -75,9 +76,10 @@ def write_output(name, data, told):
 def pcap(program, asked):
     """The subcommand."""
     story = Story(program, script_asked(program, asked))
+    status = status_of(story.played, asked.script)
     known = [flight for flight in story.flights.values() if flight.data is not None]
     data = capture(known)
     left = len(story.flights) - len(known)
     note = f", and {left} that the network kept no more are left out" if left else ""
     write_output(asked.file, data, f"{len(known)} datagrams{note}")
-    return 0
+    return status

@@ -15,7 +15,8 @@ import re
 from pathlib import Path
 
 from .drawings import mermaid, write_svg
-from .errors import LookError
+from .early import status_of
+from .errors import LookError, warn
 from .evacuation import evacuated_script
 from .flights import Story
 from .ladder import Maker
@@ -28,8 +29,18 @@ END = "<!-- end of the ladder -->"
 OPENING, CLOSING = "```mermaid", "```"
 
 
-def ladder_of(program, script, first=1, last=None):
-    return Maker(Story(program, script), first, last).make()
+def check_range(story, first, last):
+    """Refuses lines that the script does not have."""
+    count = len(story.played.answered) + len(story.played.unplayed)
+    if first > max(1, count):
+        raise LookError(f"--first {first} is beyond the end: the script has {count} lines")
+    if first < 1 or last is not None and last < first:
+        raise LookError(f"lines {first} to {count if last is None else last} are none: lines count from 1, and --last is not before --first")
+
+
+def ladder_of(story, first=1, last=None):
+    check_range(story, first, last)
+    return Maker(story, first, last).make()
 
 
 def block_of(program, begin):
@@ -38,7 +49,7 @@ def block_of(program, begin):
     if begin["evacuate"]:
         script = evacuated_script(program, script, [int(word) for word in begin["evacuate"].split()])
     last = int(begin["last"]) if begin["last"] else None
-    return [OPENING, *mermaid(ladder_of(program, script, int(begin["first"] or 1), last)), CLOSING]
+    return [OPENING, *mermaid(ladder_of(Story(program, script), int(begin["first"] or 1), last)), CLOSING]
 
 
 def refreshed(program, name, text):
@@ -83,9 +94,13 @@ def ladder(program, asked):
         return check_documents(program, asked.check or asked.refresh, bool(asked.refresh))
     if asked.script is None:
         raise LookError("ladder wants a script, or --check with documents")
-    drawn = ladder_of(program, script_to_show(program, asked), asked.first, asked.last)
+    story = Story(program, script_to_show(program, asked))
+    status = status_of(story.played, asked.script)
+    drawn = ladder_of(story, asked.first, asked.last)
+    if not drawn.steps:
+        warn(f"nothing is drawn: {'these lines' if asked.last or asked.first > 1 else 'the lines of the script'} did nothing that a ladder shows")
     if asked.svg:
         write_svg(drawn, asked.svg)
     else:
         print("\n".join(mermaid(drawn)))
-    return 0
+    return status

@@ -6,6 +6,7 @@ import sys
 from pathlib import Path
 
 from .errors import LookError
+from .progress import Progress
 
 TOP = Path(__file__).resolve().parent.parent.parent
 CRATE = TOP / "crates" / "rdma_cli"
@@ -46,6 +47,8 @@ class Program:
     def __init__(self, named=None):
         self.named = named
         self.runs = 0
+        self.doing = ""  # what the next runs are for, as the line of progress tells it
+        self.progress = Progress("look")
 
     def command(self):
         """The words that run the program, and the folder in which they have to."""
@@ -55,10 +58,13 @@ class Program:
         """The status and the bytes that the program wrote."""
         command, folder = self.command()
         self.runs += 1
+        self.progress.show(f"run {self.runs} of the program{self.doing}")
         try:
             ended = subprocess.run([*command, *words], input=given, stdout=subprocess.PIPE, stderr=subprocess.PIPE, cwd=folder, check=False)
         except OSError as fault:
             raise LookError(f"{command[0]} cannot be run: {fault.strerror}") from None
+        finally:
+            self.progress.clear()
         return ended.returncode, ended.stdout
 
     def play(self, script):

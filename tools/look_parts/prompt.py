@@ -11,6 +11,7 @@ from .answers import play
 from .drawings import mermaid
 from .errors import LookError
 from .explain import ending_sentence, hint, refusal
+from .flights import Story
 from .pictures import ladder_of
 from .script import FORMS, form_of, lines_of, read_bytes
 from .side import print_table
@@ -110,7 +111,7 @@ class Prompt:
         elif name == ":list" and not rest:
             print_table(self.play(), wide=False)
         elif name == ":ladder" and not rest:
-            print("\n".join(mermaid(ladder_of(self.program, self.script()))))
+            print("\n".join(mermaid(ladder_of(Story(self.program, self.script())))))
         elif name == ":undo" and not rest and self.lines:
             print(f"taken back: {self.lines.pop().decode('latin-1')}")
         elif name == ":save" and len(rest) == 1:

@@ -3,7 +3,8 @@ import json
 
 from . import node
 from .answers import play
-from .errors import LookError
+from .early import is_of_a_node, node_sentence
+from .errors import LookError, warn
 from .evacuation import script_asked
 from .explain import ending_sentence, hint, refusal
 from .script import FORMS, NODE_FORMS, lines_of
@@ -99,6 +100,8 @@ def side(program, asked):
     else:
         script = script_asked(program, asked)
         played = play(program, lines_of(script), script)
+        if played.ending and is_of_a_node(lines_of(script)):
+            warn(node_sentence(asked.script))
     reader = Reader(bool(asked.node))
     if asked.json:
         print(json.dumps(as_json(played, reader), indent=1))

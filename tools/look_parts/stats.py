@@ -3,6 +3,7 @@ import json
 from collections import Counter
 
 from . import node
+from .early import status_of, status_of_log
 from .errors import LookError
 from .flights import Story
 from .generated import generated_script
@@ -77,9 +78,8 @@ def cannot_tell(story):
     return told
 
 
-def statistics(program, script):
+def statistics(story):
     """All of it, as a value for JSON."""
-    story = Story(program, script)
     moves = moves_of(story)
     weigh(story, moves)
     return {
@@ -112,7 +112,7 @@ def bulk_script(program, numbers):
     told = written.decode("ascii", "replace").strip()
     mine = summary_of(script, program.play(script)[1])
     if status or told != mine:
-        raise LookError(f"bulk wrote {told!r} with status {status}, and the script of docs/generated.md gives {mine!r}")
+        raise LookError(f"bulk wrote {told!r} with status {status}, and the script of docs/commands.md gives {mine!r}")
     return script, told
 
 
@@ -181,12 +181,14 @@ def node_stats(asked):
     """The statistics of a node's log."""
     if asked.bulk or asked.unfold or asked.evacuate:
         raise LookError("--bulk, --unfold and --evacuate do not go with --node")
-    told = node.statistics(asked)
+    played = node.read_log(asked.script, asked.node)
+    told = node.statistics(played, asked)
+    status = status_of_log(played, asked.node)
     if asked.json:
         print(json.dumps(told, indent=1))
     else:
         print_node(told)
-    return 0
+    return status
 
 
 def stats(program, asked):
@@ -205,13 +207,15 @@ def stats(program, asked):
         script = unfold_script(program, script) if asked.unfold else script
     else:
         script = script_to_show(program, asked)
-    told = statistics(program, script)
+    story = Story(program, script)
+    status = status_of(story.played, asked.script)
+    told = statistics(story)
     if summary:
         told = {"bulk": summary, **told}
     if asked.json:
         print(json.dumps(told, indent=1))
-        return 0
+        return status
     if summary:
         print(summary)
     print_text(told)
-    return 0
+    return status

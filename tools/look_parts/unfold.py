@@ -1,6 +1,6 @@
 """look unfold: a script in which lines `go`, `deliver`, `rnr` and `expire` stand in the place of each `settle`.
 
-By docs/settling.md settling delivers what is pending, least number first, and an end sends only where nothing is pending.
+By docs/proof.md settling delivers what is pending, least number first, and an end sends only where nothing is pending.
 So the numbers of the datagrams give the order of sending and delivering. What they do not give is where timers were
 stepped. Where an end is to send datagram N by `go` and does not, a round ended without a change, and the timers were
 stepped: RNR timers where the end waits, and else the expiries of all ends. After the last datagram all timers are tried
@@ -13,6 +13,7 @@ from dataclasses import dataclass, field
 
 from .answers import play
 from .datagrams import RESUME_OPCODE
+from .early import refuse_node
 from .errors import LookError
 from .evacuation import script_asked
 from .flights import Story
@@ -143,11 +144,12 @@ def confirm(story, steps, other):
             raise LookError(f"line {answered.line.number} of the unfolded script answers {answered.first!r}, so it is not shown")
 
 
-def unfold_script(program, script):
+def unfold_script(program, script, name="-"):
     """The script with its settlings in lines, as bytes."""
     story, visits = Story(program, script), Visits()
     if story.played.ending:
-        raise LookError(f"the script is not played to its end: {story.played.ending.text}")
+        refuse_node(story.played, name)
+        raise LookError(f"the script ends early, so it is not unfolded: {story.played.ending.text}", story.played.status)
     steps = step_timers(program, first_steps(story, visits), visits.patient)
     new = script_of(steps)
     confirm(story, steps, Story(program, new))
@@ -157,11 +159,11 @@ def unfold_script(program, script):
 def script_to_show(program, asked):
     """The script of a subcommand, unfolded where that is asked for."""
     script = script_asked(program, asked)
-    return unfold_script(program, script) if asked.unfold else script
+    return unfold_script(program, script, asked.script) if asked.unfold else script
 
 
 def unfold(program, asked):
     """The subcommand."""
-    new = unfold_script(program, script_asked(program, asked))
+    new = unfold_script(program, script_asked(program, asked), asked.script)
     write_output(asked.file, new, f"{len(lines_of(new))} lines")
     return 0

@@ -3,6 +3,7 @@ import contextlib
 import io
 import os
 import shutil
+import socket
 import subprocess
 import sys
 import tempfile
@@ -10,11 +11,14 @@ import unittest
 from pathlib import Path
 from unittest import mock
 
+from look_parts.bench import free_ports
 from look_parts.command import main
 from look_parts.errors import LookError
 from look_parts.program import TOP, VARIABLE, find_program
 
 LOOK = TOP / "tools" / "look"
+# The one command of docs/look.md that installs what tests need.
+INSTALL = "`apt-get update && apt-get install -y tshark mscgen`"
 EXAMPLES = TOP / "examples"
 # The examples that `play` answers, without those of `large`, which send thousands of datagrams; those of `live_move` are of nodes.
 SCRIPTS = sorted(path for path in EXAMPLES.rglob("*.script") if path.parent.name not in ("large", "live_move"))
@@ -38,7 +42,17 @@ def prepare(named):
     for tool in ("tshark", "mscgen"):
         found[tool] = shutil.which(tool)
         if not found[tool]:
-            yield f"tests with {tool} are left out, since it is not on the path (Debian package {tool})"
+            yield f"tests with {tool} are left out, since it is not on the path; {INSTALL} installs it on Debian"
+    try:
+        free_ports()
+        found["loopback"] = True
+    except LookError as fault:
+        yield f"tests that measure are left out: {fault}"
+    try:
+        socket.socket(socket.AF_PACKET, socket.SOCK_RAW).close()
+        found["tap"] = found.get("loopback")
+    except (AttributeError, OSError):
+        yield "the test of a live capture is left out, since raw sockets are not permitted"
 
 
 def need(name):

@@ -1,4 +1,4 @@
-"""What `evacuate` did, in lines: counted by hand by docs/evacuate.md and docs/settling.md."""
+"""What `evacuate` did, in lines: counted by hand by docs/evacuate.md and docs/proof.md."""
 import json
 import subprocess
 

@@ -11,7 +11,7 @@ from look_parts.program import TOP, Program
 
 from .running import EXAMPLES, SCRIPTS, LookTest, found, need, play
 
-PAGES = ["README.md", "docs/moves.md", "docs/settling.md", "docs/getting-started.md"]
+PAGES = ["README.md", "docs/moves.md", "docs/getting-started.md"]
 DOCUMENTS = [*(TOP / name for name in PAGES), *sorted((TOP / "examples" / "tour").glob("[0-9]*.md"))]
 
 OPENING = """\
@@ -243,7 +243,7 @@ class Stats(LookTest):
 class Unfolding(LookTest):
     @need("program")
     def test_settlings_in_lines(self):
-        """By docs/settling.md: the moved end resumes, the sender sends again, and once more after its RNR timer, which helps only
+        """By docs/proof.md: the moved end resumes, the sender sends again, and once more after its RNR timer, which helps only
         once without a receive. With the receive the timer is stepped again."""
         path = EXAMPLES / "evicted_while_waiting.script"
         lines = path.read_text().splitlines()

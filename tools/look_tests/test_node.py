@@ -1,4 +1,4 @@
-"""The log of a node: worked scripts of the crate example_node, whose answers come from two other descriptions of a node."""
+"""The log of a node: worked scripts of the crate example_nodes, whose answers come from two other descriptions of a node."""
 import json
 import struct
 
@@ -78,7 +78,8 @@ class Node(LookTest):
         return self.file("node.script", script), "--node", self.file("node.log", answers)
 
     def statistics(self, script, answers, *more):
-        return json.loads(self.look("stats", *self.log(script, answers), *more, "--json"))
+        ends = {"missing": 12, "bad": 3}.get(answers.splitlines()[-1].split()[0], 0)
+        return json.loads(self.look("stats", *self.log(script, answers), *more, "--json", status=ends))
 
     def test_lines_stand_beside_their_answers(self):
         told = json.loads(self.look("side", *self.log(MOVING, MOVED), "--json", status=12))
@@ -132,6 +133,7 @@ class Node(LookTest):
 
     def test_statistics_of_a_move(self):
         told = self.statistics(MOVING, MOVED)
+        self.assertIn("node.log ended early: missing f. The node's depot holds nothing under this name", self.told)
         self.assertEqual((told["lines"], told["ending"]), (15, "missing f"))
         self.assertEqual(list(told["counts"].values()), [1, 1, 1])
         self.assertEqual(told["refusals"], {"Stopped": 1, "NumberTaken": 1})

@@ -25,6 +25,8 @@ EXTENSIONS = [
     ("infiniband.atomiceth.swapdt", 8), ("infiniband.atomiceth.cmpdt", 8),
     ("infiniband.aeth.syndrome", 1), ("infiniband.aeth.msn", 3), ("infiniband.atomicacketh.origremdt", 8)]
 MOVING = ["jichurpa.message", "jichurpa.moves", "jichurpa.address", "jichurpa.port"]
+# Where a reader failed or found something amiss, tshark says so in one of these. All have to be empty.
+FAULTS = ["_ws.expert.message", "_ws.lua.error", "_ws.malformed"]
 OTHERS = ["infiniband.immdt", "infiniband.invariant.crc", "jichurpa.crc", "udp.payload", "ip.checksum.status", "udp.length", "data.data"]
 MESSAGES = {"1e": "RESUME", "1f": "RESUME_ACK"}
 
@@ -36,14 +38,18 @@ def number(text):
 
 def read_by_tshark(path):
     """A row of fields for each frame."""
-    names = BASE + [name for name, _ in EXTENSIONS] + MOVING + OTHERS
+    names = BASE + [name for name, _ in EXTENSIONS] + MOVING + OTHERS + FAULTS
     words = [word for name in names for word in ("-e", name)]
     # Of a field that stands in a frame twice, such as the immediate and its header, the first is told.
     told = ["-T", "fields", "-E", "occurrence=f", *words]
     ended = subprocess.run(
         [found["tshark"], "-X", f"lua_script:{READER}", "-o", "ip.check_checksum:TRUE", "-r", str(path), *told],
         capture_output=True, text=True, check=True)
-    return [dict(zip(names, line.split("\t"))) for line in ended.stdout.splitlines()]
+    rows = [dict(zip(names, line.split("\t"))) for line in ended.stdout.splitlines()]
+    for number_of_frame, row in enumerate(rows, 1):
+        told = [row[name] for name in FAULTS if row[name]]
+        assert not told, f"{path}, frame {number_of_frame}: {told}"
+    return rows
 
 
 MOST = 2000  # datagrams of a worked script, at most
