@@ -1,0 +1,1 @@
+"""What the tools for documents read of crates.txt and of the crates."""
