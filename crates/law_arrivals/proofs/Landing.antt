@@ -50,17 +50,17 @@ pub among : (from count k : ℕ) → from ≤ k → k < from + count → is_amon
 among from count k low high = grind (arith, nat_tests)
 
 -- bytes land in a granted local place of which each byte may change
-pub changes-landed : (may : Region → ℕ → Bool) (c : Context) (domain : Name) (lkey at' count : ℕ) (right : Right) (a : ℕ) (bytes : List ℕ) → IsSoundContext c → (0 < length bytes → IsGrantedTo (plans c.regions) domain lkey at' count right) → at' ≤ a → (0 < length bytes → a + length bytes ≤ at' + count)
-    → ((r : Region) (k : ℕ) → ((r.keys.local == lkey) && is_among at' count (r.base + k)) ≡ true → may r k ≡ true) → Changes may c (landed c lkey a bytes)
+pub changes-landed : (may : Region → ℕ → Bool) (c : Context) (e : End) (domain : Name) (lkey at' count : ℕ) (right : Right) (a : ℕ) (bytes : List ℕ) → IsSoundContext c → (0 < length bytes → IsGrantedTo (plans c.regions) domain lkey at' count right) → at' ≤ a → (0 < length bytes → a + length bytes ≤ at' + count)
+    → ((r : Region) (k : ℕ) → ((r.keys.local == lkey) && is_among at' count (r.base + k)) ≡ true → may r k ≡ true) → Changes may c e (landed c lkey a bytes)
 unfolding landed region_of_key
-changes-landed may c domain lkey at' count right a bytes s granted low high inside = by_length (cases_lt 0 (length bytes))
+changes-landed may c e domain lkey at' count right a bytes s granted low high inside = by_length (cases_lt 0 (length bytes))
   where
-    by_length : (0 < length bytes) ⊎ (length bytes ≤ 0) → Changes may c (written c lkey (a - (at local_key no_region lkey c.regions).base) bytes)
-    by_length (inr none) = changes-written may c lkey (a - (at local_key no_region lkey c.regions).base) bytes s (inl (nothing_long bytes (omega (arith, none)))) (λ k from to. absurd (omega (arith, none, from, to)))
+    by_length : (0 < length bytes) ⊎ (length bytes ≤ 0) → Changes may c e (written c lkey (a - (at local_key no_region lkey c.regions).base) bytes)
+    by_length (inr none) = changes-written may c e lkey (a - (at local_key no_region lkey c.regions).base) bytes s (inl (nothing_long bytes (omega (arith, none)))) (λ k from to. absurd (omega (arith, none, from, to)))
     by_length (inl more) =
         let fits = high more in
         let mine = granted-in c.regions domain lkey at' count right s.parts.keys (granted more) (omega (arith, more, fits, low)) in
-        changes-written may c lkey (a - (at local_key no_region lkey c.regions).base) bytes s
+        changes-written may c e lkey (a - (at local_key no_region lkey c.regions).base) bytes s
         (inr (granted-place c.regions domain lkey at' count right a (length bytes) s.parts.keys (granted more) (omega (arith, more, fits, low)) low fits))
         (λ k from to. inside (at local_key no_region lkey c.regions) k (both (same (at local_key no_region lkey c.regions).keys.local mine.key) (among at' count ((at local_key no_region lkey c.regions).base + k) (omega (arith, from, mine.low, low)) (omega (arith, to, fits, mine.low, low)))))
       where
@@ -105,7 +105,7 @@ module _ (c : Context) (e : End) (l : Link) (s : IsSoundContext c) (here : IsHer
     at-i : slice_get l.sender.untold i ≡ Some x.posted
     landing' : lands (kind_of x.posted) ≡ true
 
-  piece_lands : (x : Piece) → IsLanding x → is_this_piece l d x ≡ true → Changes lands_in c (landing c l d x)
+  piece_lands : (x : Piece) → IsLanding x → is_this_piece l d x ≡ true → Changes lands_in c e (landing c l d x)
   piece_lands x h this = by_test (is_read (kind_of x.posted)) refl this
     where
       mine : IsSoundRequest (plans c.regions) e.domain x.posted
@@ -118,13 +118,13 @@ module _ (c : Context) (e : End) (l : Link) (s : IsSoundContext c) (here : IsHer
       inside r k g = some-there (is_landing_byte r k) l.sender.untold h.i x.posted h.at-i (ap (λ b. b && ((r.keys.local == x.posted.request.lkey) && is_among x.posted.request.local x.posted.request.shape.length (r.base + k))) h.landing' ∙ g)
 
       by_test : (b : Bool) → is_read (kind_of x.posted) ≡ b → (if b then is_read_response d.opcode && length d.payload == piece_length x.posted.request.shape.length x.k l.terms.mtu else d.opcode == 0x12) ≡ true
-          → Changes lands_in c (if b then landed c x.posted.request.lkey (x.posted.request.local + x.k * l.terms.mtu) d.payload else landed c x.posted.request.lkey x.posted.request.local (old_bytes d.old))
+          → Changes lands_in c e (if b then landed c x.posted.request.lkey (x.posted.request.local + x.k * l.terms.mtu) d.payload else landed c x.posted.request.lkey x.posted.request.local (old_bytes d.old))
       by_test true t g =
           let size : length d.payload ≡ piece_length x.posted.request.shape.length x.k l.terms.mtu = length_is _ _ (both (is_read_response d.opcode) _ g).1 in
-          changes-landed lands_in c e.domain x.posted.request.lkey x.posted.request.local x.posted.request.shape.length LocalWrite (x.posted.request.local + x.k * l.terms.mtu) d.payload s (λ more. granted) (omega arith) (λ more. omega (arith, size, more)) inside
+          changes-landed lands_in c e e.domain x.posted.request.lkey x.posted.request.local x.posted.request.shape.length LocalWrite (x.posted.request.local + x.k * l.terms.mtu) d.payload s (λ more. granted) (omega arith) (λ more. omega (arith, size, more)) inside
       by_test false t g =
           let word : x.posted.request.shape.length ≡ 8 = mine.shape.word (lands_word (kind_of x.posted) h.landing' t) in
-          changes-landed lands_in c e.domain x.posted.request.lkey x.posted.request.local x.posted.request.shape.length LocalWrite x.posted.request.local (old_bytes d.old) s (λ more. granted) (omega arith) (λ more. omega (arith, word, old_few d.old)) inside
+          changes-landed lands_in c e e.domain x.posted.request.lkey x.posted.request.local x.posted.request.shape.length LocalWrite x.posted.request.local (old_bytes d.old) s (λ more. granted) (omega arith) (λ more. omega (arith, word, old_few d.old)) inside
 
   landing-ends : (x : Piece) → (landing c l d x).ends ≡ c.ends
   unfolding landed

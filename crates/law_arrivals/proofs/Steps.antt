@@ -1,5 +1,5 @@
 -- Steps of an end that write no bytes: its link, its receives and its completions.
-use Rattle.std.proofs.Common.{◌≡◌, ◌+◌, ℕ, List, [], true, false, Bool, refl, sym, ◌∙◌}
+use Rattle.std.proofs.Common.{◌≡◌, ◌+◌, ℕ, List, [], true, false, Bool, refl, sym, ◌∙◌, inl, inr}
 use Rattle.std.specs.Prelude.{Option, Some, None, if◌then◌else◌, nat_lt, nat_le, not, ◌==◌, ◌&&◌}
 use Rattle.rdma_types.specs.declared.answers.ArrivalEffect.TheVariants as took
 use Rattle.rdma_types.specs.declared.requests.Completion.{Completion}
@@ -23,7 +23,7 @@ use Rattle.law_arrivals.proofs.Changes.{Changes, changes-completing, changes-lin
 module _ (may : Region → ℕ → Bool) (c : Context) (e : End) (l : Link) (s : IsSoundContext c) (here : IsHere c e) (there : e.link ≡ Some l) where
   -- the step leaves such a context
   abbrev pub Fine : EndStep → Type 0
-  Fine x = Changes may c x.context
+  Fine x = Changes may c e x.context
 
   pub if_fine : (b : Bool) (x y : EndStep) → Fine x → Fine y → Fine (if b then x else y)
   if_fine true x y h g = h
@@ -33,35 +33,35 @@ module _ (may : Region → ℕ → Bool) (c : Context) (e : End) (l : Link) (s :
   test_fine true x y h g = h refl
   test_fine false x y h g = g refl
 
-  pub none : Changes may c c
-  none = changes-none may c
+  pub none : Changes may c e c
+  none = changes-none may c e
 
-  pub to_send_cq : (x : Context) (es : List Completion) → Changes may c x → Changes may c (completing x e.send_cq es)
-  to_send_cq x es h = changes-completing may c x e.send_cq es h (sym (word-there (λ (q : CompletionQueue). q.name) e.send_cq c.queues) ∙ (end-sound c e s.parts here).send_cq)
+  pub to_send_cq : (x : Context) (es : List Completion) → Changes may c e x → Changes may c e (completing x e.send_cq es)
+  to_send_cq x es h = changes-completing may c e x e.send_cq es (inl refl) h (sym (word-there (λ (q : CompletionQueue). q.name) e.send_cq c.queues) ∙ (end-sound c e s.parts here).send_cq)
 
-  pub to_recv_cq : (x : Context) (es : List Completion) → Changes may c x → Changes may c (completing x e.recv_cq es)
-  to_recv_cq x es h = changes-completing may c x e.recv_cq es h (sym (word-there (λ (q : CompletionQueue). q.name) e.recv_cq c.queues) ∙ (end-sound c e s.parts here).recv_cq)
+  pub to_recv_cq : (x : Context) (es : List Completion) → Changes may c e x → Changes may c e (completing x e.recv_cq es)
+  to_recv_cq x es h = changes-completing may c e x e.recv_cq es (inr refl) h (sym (word-there (λ (q : CompletionQueue). q.name) e.recv_cq c.queues) ∙ (end-sound c e s.parts here).recv_cq)
 
-  pub to_end : (x : Context) (us : List Receive) (l' : Link) → Changes may c x → x.ends ≡ c.ends → connection_of (Some l') ≡ connection_of (Some l) → Changes may c (linked x (with_unused e us) l')
+  pub to_end : (x : Context) (us : List Receive) (l' : Link) → Changes may c e x → x.ends ≡ c.ends → connection_of (Some l') ≡ connection_of (Some l) → Changes may c e (linked x (with_unused e us) l')
   to_end x us l' h ends same = changes-linked may c x e l us l' h ends here there same
 
-  pub to_link : (x : Context) (l' : Link) → Changes may c x → x.ends ≡ c.ends → connection_of (Some l') ≡ connection_of (Some l) → Changes may c (linked x e l')
+  pub to_link : (x : Context) (l' : Link) → Changes may c e x → x.ends ≡ c.ends → connection_of (Some l') ≡ connection_of (Some l) → Changes may c e (linked x e l')
   unfolding with_unused
   to_link x l' h ends same = changes-linked may c x e l e.unused l' h ends here there same
 
   -- ---- telling, and going to Error
 
-  pub to_telling : (x : Context) (y : Sender) → Changes may c x → x.ends ≡ c.ends → Changes may c (telling x e l y)
+  pub to_telling : (x : Context) (y : Sender) → Changes may c e x → x.ends ≡ c.ends → Changes may c e (telling x e l y)
   unfolding telling with_sender
   to_telling x y h ends = to_send_cq _ _ (to_link x (record l { sender = after_telling l.terms y }) h ends refl)
 
-  pub to_ended : (x : Context) (us : List Receive) (l0 : Link) (st : WcStatus) → Changes may c x → x.ends ≡ c.ends → connection_of (Some l0) ≡ connection_of (Some l) → Changes may c (ended_with x (with_unused e us) l0 st)
+  pub to_ended : (x : Context) (us : List Receive) (l0 : Link) (st : WcStatus) → Changes may c e x → x.ends ≡ c.ends → connection_of (Some l0) ≡ connection_of (Some l) → Changes may c e (ended_with x (with_unused e us) l0 st)
   unfolding ended_with ended_link with_unused
   to_ended x us l0 st h ends same = to_recv_cq _ _ (to_send_cq _ _ (to_end x [] (ended_link l0) h ends same))
 
   -- ---- acknowledges
 
-  tells : (y : Sender) → Changes may c (telling c e l y)
+  tells : (y : Sender) → Changes may c e (telling c e l y)
   tells y = to_telling c y none refl
 
   ends_fine : (y : Sender) (st : WcStatus) → Fine (ends_after c e l y st)

@@ -47,8 +47,8 @@ module _ (d : Device) (c : Context) (e : End) (s : IsSoundContext c) (here : IsH
   still : ChangesOnly untouched d d
   still = changes-nothing untouched d
 
-  goes : (c' : Context) → Changes none_may c c' → ChangesOnly untouched d (with_context d c')
-  goes c' h = changes-more _ untouched d (with_context d c') (λ name lkey k out. nowhere _) (changes-context d c c' none_may found h)
+  goes : (c' : Context) → Changes none_may c e c' → ChangesOnly untouched d (with_context d c')
+  goes c' h = changes-more _ untouched d (with_context d c') (λ name lkey k out. nowhere _) (changes-context d c e c' none_may found h)
     where
       nowhere : (b : Bool) → (b && false) ≡ false
       nowhere true = refl
@@ -59,7 +59,7 @@ module _ (d : Device) (c : Context) (e : End) (s : IsSoundContext c) (here : IsH
   if_fine false x y h g = g
 
   module _ (l : Link) (there : e.link ≡ Some l) where
-    none : Changes none_may c c
+    none : Changes none_may c e c
     none = steps.none none_may c e l s here there
 
     sends_fine : (t : Transmission) → Fine (sends_by d c e l t)

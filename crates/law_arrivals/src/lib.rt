@@ -3,4 +3,6 @@
 
 mod laws;
 
-pub use laws::{arrivals_change_what_they_may, turns_change_what_arrivals_may};
+pub use laws::{
+    arrivals_change_what_they_may, arrivals_reach_one_end, turns_change_what_arrivals_may,
+};

@@ -7,7 +7,7 @@ ghost use Rattle.packetless_machine.specs.declared.steps.IdealFault.TheVariants.
 use rdma_types::{ObjName, RefusalReason, Verb};
 use std::alloc::AllocError;
 
-/// RefusalReason a step is not made.
+/// Why a step is not made.
 #[derive(Clone, Copy, Debug)]
 pub enum IdealFault {
     /// No case of the machine's steps holds.

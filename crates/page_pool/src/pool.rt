@@ -225,7 +225,7 @@ impl PagePool {
         }
     }
 
-    /// Writes bytes into a list from `at` on. A page that another list holds is copied first, and there is always a page
+    /// Writes bytes into a list from `at` on. A page that another list or a run holds is copied first, and there is always a page
     /// for the copy. It takes no memory.
     #[inline(always)]
     pub fn write(&mut self, list: &mut PageList, at: u64, bytes: &[u8])

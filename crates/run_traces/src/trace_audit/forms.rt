@@ -81,7 +81,7 @@ pub fn step_form(word: &[u8]) -> Option<StepForm>
     Some(form)
 }
 
-/// RefusalReason a request is refused.
+/// Why a request is refused.
 #[tactic(auto, unfolding(crate::specs::Lines::why_of))]
 pub fn why_of(word: &[u8]) -> Option<RefusalReason>
     ensures { result ≡ lines.why_of word.now }
