@@ -9,12 +9,6 @@ pub mod Things
 pub mod Queues
 pub mod Law
 pub mod Worlds
-pub mod ArrivalChanges
-pub mod ArrivalSteps
-pub mod ArrivalLandings
-pub mod ArrivalRequests
-pub mod OutsideWindow
-pub mod Arrivals
 pub mod Counts
 pub mod Lasts
 pub mod Growing

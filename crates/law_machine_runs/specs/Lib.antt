@@ -1,5 +1,4 @@
 pub mod Changes
 pub mod Isolation
-pub mod Reach
 pub mod Counted
 pub mod Put

@@ -1,5 +1,5 @@
 //! Laws of runs of the packetless machine. What comes once: completions with statuses 12 and 13, and the bytes of a message.
-//! And isolation: who may change what a context holds, and how far a datagram reaches.
+//! And isolation: who may change what a context holds.
 //!
 //! The functions do nothing. Each promises the law that it names.
 #![tactic(auto)]
