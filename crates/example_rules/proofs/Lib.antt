@@ -2,3 +2,4 @@ pub mod Alone
 pub mod WorldOrders
 pub mod Examples
 pub mod Arrivals
+pub mod OwnDevices

@@ -1,4 +1,5 @@
 pub mod Alone
+pub mod OwnDevices
 pub mod After
 pub mod OrdersCases
 pub mod Machine

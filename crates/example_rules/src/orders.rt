@@ -2,14 +2,18 @@
 //!
 //! The functions do nothing. Each promises the facts that it names.
 
-ghost use Rattle.std.specs.Prelude.{◌≡◌, ◌∷◌, [], List, map, codes, false, true};
+ghost use Rattle.std.specs.Prelude.{◌≡◌, ◌∷◌, ◌++◌, [], List, map, codes, false, true};
 ghost use Rattle.rdma_types.specs.declared.answers.Answer.TheVariants.{Done, Polled, Refused, Stopped};
 ghost use Rattle.rdma_types.specs.declared.answers.Refusal.TheVariants.{NoSuch, NumberTaken};
 ghost use Rattle.protocol.specs.declared.events.WorldEvent.TheVariants.{At, MakeContext};
 ghost use Rattle.protocol.specs.declared.images.ContextImage.{ContextImage};
+ghost use Rattle.protocol.specs.State.{empty_world};
+ghost use Rattle.protocol.specs.WorldStep.{world_after};
+ghost use Rattle.packetless_machine.specs.Legal.{IsLegal};
+ghost use Rattle.order_rules.specs.AnyOpening.{ArePreparing, IsOpened};
 ghost use Rattle.order_rules.specs.Lines.{entry_of};
 ghost use Rattle.order_rules.specs.Openings.{openings};
-ghost use Rattle.order_rules.specs.Bridge.{IsFair, IsWork};
+ghost use Rattle.order_rules.specs.Bridge.{IsFair, IsFairOrder, IsWork};
 ghost use Rattle.order_rules.specs.Order.{AreRestored, IsWorldOrder};
 ghost use Rattle.order_rules.specs.Evaluate.{answered, answers_after, devices_after, devices_played, heard_of, heard_playing, outcome_after, recomputed};
 ghost use Rattle.order_rules.specs.Sides.{IsOneSided};
@@ -17,6 +21,9 @@ ghost use Rattle.example_rules.specs.After as after;
 ghost use Rattle.example_rules.specs.Alone as alone;
 ghost use Rattle.example_rules.specs.OrdersCases as cases;
 ghost use Rattle.example_rules.specs.Machine as machine;
+ghost use Rattle.example_rules.specs.OwnDevices as own;
+
+use law_orders::{prepared_orders_are_legal, prepared_worlds_are_openings};
 
 /// Two workers add once each and b moves once, in the caller's own run: the rules answer each event as is written there.
 pub fn alone_outcomes()
@@ -74,3 +81,30 @@ pub fn alone_is_fair()
     ensures work { IsWork 2 alone.lines }
     ensures fair { IsFair 2 alone.lines }
 {}
+
+/// Devices, contexts, regions, queues and a connection of one's own are prepared, and are an opening. A program makes the same
+/// devices one by one.
+pub fn own_devices_are_prepared()
+    ensures prepared { ArePreparing own.opening }
+    ensures opened { IsOpened own.opening }
+    ensures devices { (world_after empty_world own.opening).devices ≡ own.devices }
+    ensures one_by_one { own.one_by_one ≡ own.devices }
+{
+    prepared_worlds_are_openings();
+}
+
+/// Two applications work on these devices, and a mover takes the context of one to another device: the order is fair.
+pub fn own_order_is_fair()
+    ensures { IsFairOrder own.devices own.lines }
+{
+    own_devices_are_prepared();
+}
+
+/// So what both applications make and hear is legal, as it is written there.
+pub fn own_order_is_legal()
+    ensures { IsLegal (own.prepared ++ own.heard_then) }
+{
+    own_devices_are_prepared();
+    own_order_is_fair();
+    prepared_orders_are_legal();
+}

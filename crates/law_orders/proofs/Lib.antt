@@ -5,6 +5,7 @@ pub mod Found
 pub mod Playing
 pub mod Orders
 pub mod Walk
+pub mod Prepared
 pub mod Opening
 pub mod Tame
 pub mod TameSteps

@@ -253,7 +253,7 @@ step_grows m (steps.Expire o) q t = kept_grows t m _ q _ (expire_kept m o q)
 step_grows m (steps.Wait o) q t = kept_grows t m _ q _ (wait_kept m o q)
 step_grows m (steps.Bounce o) q t = kept_grows t m _ q _ (bounce_kept m o q)
 
-run_grows : (m : Machine) (ss : List MachineStep) (q : ObjName) (t : ℕ) → numbers_of t (after m ss) q ≤ numbers_of t m q + spans t (seen m ss)
+pub run_grows : (m : Machine) (ss : List MachineStep) (q : ObjName) (t : ℕ) → numbers_of t (after m ss) q ≤ numbers_of t m q + spans t (seen m ss)
 unfolding spans
 run_grows m [] q t = omega arith
 run_grows m (s ∷ ss) q t = omega (arith, run_grows (effect m s) ss q t, step_grows m s q t, spans-both t (seen_of m s) (seen (effect m s) ss))

@@ -4,8 +4,6 @@ use Rattle.std.proofs.lemmas.Bool.Decides.{nat_tests, leb_tells}
 use Rattle.std.proofs.lemmas.List.{append-nil, append_assoc}
 use Rattle.rdma_types.specs.declared.answers.Sent.{Sent}
 use Rattle.rdma_types.specs.declared.requests.Address.{Address}
-use Rattle.rdma_types.specs.declared.verbs.Verb.{Verb}
-use Rattle.rdma_types.specs.declared.answers.Answer.{Answer}
 use Rattle.rdma_types.specs.Limits.{most_flights}
 use Rattle.protocol.specs.declared.events.Event.{Event}
 use Rattle.protocol.specs.declared.events.Event.TheVariants as event
@@ -15,7 +13,7 @@ use Rattle.protocol.specs.DeviceStep.{device_step}
 use Rattle.protocol.specs.Fabric.{changed_at, flight_of, is_kept, is_late, kept_flight, marked_taken, sending, took}
 use Rattle.protocol.specs.State.{Device, Flight, World}
 use Rattle.protocol.specs.WorldStep.{now_at, world_after, world_step}
-use Rattle.packetless_machine.specs.Machine.{Machine, empty}
+use Rattle.packetless_machine.specs.Machine.{Machine}
 use Rattle.packetless_machine.specs.Legal.{after}
 use Rattle.law_simulation.specs.Kept.{kept_of, kept_verb, verb_in}
 use Rattle.law_simulation.specs.Law.{AlwaysFollows, kept}
@@ -206,8 +204,8 @@ pub record IsShort (os : List Device) (number : ℕ → ℕ) (ls more : List Lin
 abbrev pub IsRightAt : List Device → (ℕ → ℕ) → List Line → Line → Type 0
 IsRightAt os number ls l = IsRight (flown os ls) (device_after os ls l.receipt.device) l.receipt.event (number (length ls))
 
-module _ (always : (e : WorldEvent) → AlwaysFollows e) (runs : RunsFollow) (copies : CopiesStand) (os : List Device) (before : List (Verb × Answer)) (begun : AreBegun os) (number : ℕ → ℕ) where
-  ends : (ls : List Line) (untaken : List ContextImage) (r : Reached os before ls untaken) → AreAlike (flown os ls) r.world.sent → IsShort os number ls [] r.world
+module _ (always : (e : WorldEvent) → AlwaysFollows e) (runs : RunsFollow) (copies : CopiesStand) (os : List Device) (start : Machine) (begun : AreBegun os) (number : ℕ → ℕ) where
+  ends : (ls : List Line) (untaken : List ContextImage) (r : Reached os start ls untaken) → AreAlike (flown os ls) r.world.sent → IsShort os number ls [] r.world
   unfolding events_of world_after heard world_of
   ends ls untaken r alike = record {
     reached = subst (λ xs. IsWorldAfter os xs r.world) (sym (append-nil ls)) (record {
@@ -219,20 +217,20 @@ module _ (always : (e : WorldEvent) → AlwaysFollows e) (runs : RunsFollow) (co
     heard = refl;
   }
 
-  module _ (ls more : List Line) (l : Line) (untaken rest : List ContextImage) (r : Reached os before ls untaken) (f : IsFairLine os ls l) (takes : Takes untaken l.receipt.event rest) (alike : AreAlike (flown os ls) r.world.sent)
+  module _ (ls more : List Line) (l : Line) (untaken rest : List ContextImage) (r : Reached os start ls untaken) (f : IsFairLine os ls l) (takes : Takes untaken l.receipt.event rest) (alike : AreAlike (flown os ls) r.world.sent)
       (few : length (flown os ls) ≤ most_flights) (right : IsRightAt os number ls l) where
     abbrev d : Device
     d = device_after os ls l.receipt.device
 
-    network : IsReady r.world (after empty r.steps) d l.receipt.event (flown os ls)
-    network = ready_for r.world (after empty r.steps) d l.receipt.event (flown os ls) (number (length ls)) r.stands r.sent alike few right
+    network : IsReady r.world (after start r.steps) d l.receipt.event (flown os ls)
+    network = ready_for r.world (after start r.steps) d l.receipt.event (flown os ls) (number (length ls)) r.stands r.sent alike few right
 
     is_network : (network.world ≡ r.world) × (network.number ≡ number (length ls))
     unfolding network
-    is_network = ready_world r.world (after empty r.steps) d l.receipt.event (flown os ls) (number (length ls)) r.stands r.sent alike few right
+    is_network = ready_world r.world (after start r.steps) d l.receipt.event (flown os ls) (number (length ls)) r.stands r.sent alike few right
 
-    abbrev after_it : Reached os before (ls ++ l ∷ []) (with_stopped l.receipt.outcome.image rest)
-    after_it = next_from always runs copies os before begun ls l untaken rest r f takes network
+    abbrev after_it : Reached os start (ls ++ l ∷ []) (with_stopped l.receipt.outcome.image rest)
+    after_it = next_from always runs copies os start begun ls l untaken rest r f takes network
 
     abbrev es : List WorldEvent
     es = world_events d (number (length ls)) l.receipt.event l.receipt.outcome.answer
@@ -242,23 +240,23 @@ module _ (always : (e : WorldEvent) → AlwaysFollows e) (runs : RunsFollow) (co
 
     world_is : after_it.world ≡ world_after r.world es
     world_is =
-        next_world always runs copies os before begun ls l untaken rest r f takes network
+        next_world always runs copies os start begun ls l untaken rest r f takes network
         ∙ (ap (λ w. world_after w (world_events d network.number l.receipt.event (device_step d l.receipt.event).outcome.answer)) is_network.0 ∙ ap (world_after r.world) es_are)
 
     alike_then : AreAlike (flown os (ls ++ l ∷ [])) after_it.world.sent
     alike_then =
-        let plays = played always runs copies os before begun ls l untaken rest r f takes network in
+        let plays = played always runs copies os start begun ls l untaken rest r f takes network in
         let store : AreAlike (flown os ls) (store_for network.world network.number l.receipt.event) = alike_store (flown os ls) network.world network.number l.receipt.event (subst (λ w. AreAlike (flown os ls) w.sent) (sym is_network.0) alike) in
-        subst (λ w. AreAlike (flown os (ls ++ l ∷ [])) w.sent) (sym (next_world always runs copies os before begun ls l untaken rest r f takes network))
+        subst (λ w. AreAlike (flown os (ls ++ l ∷ [])) w.sent) (sym (next_world always runs copies os start begun ls l untaken rest r f takes network))
         (subst (AreAlike (flown os (ls ++ l ∷ []))) (sym plays.leads.sent)
         (subst (λ fs. AreAlike fs (sending (store_for network.world network.number l.receipt.event) (device_step d l.receipt.event).device.address (device_step d l.receipt.event).outcome.sent))
-        (ap (λ a. sending (flown os ls) a (device_step d l.receipt.event).outcome.sent) (address_then always runs copies os before begun ls l untaken rest r f takes network)
+        (ap (λ a. sending (flown os ls) a (device_step d l.receipt.event).outcome.sent) (address_then always runs copies os start begun ls l untaken rest r f takes network)
         ∙ (ap (λ o. sending (flown os ls) (opening_of os l.receipt.device).address o.sent) (sym f.is_line.outcome) ∙ sym (flown-push os ls l)))
         (alike_sending (flown os ls) (store_for network.world network.number l.receipt.event) (device_step d l.receipt.event).device.address (device_step d l.receipt.event).outcome.sent store)))
 
     heard_here : kept r.world es ≡ kept_verb (verb_in l.receipt.event) l.receipt.outcome.answer
     heard_here =
-        let plays = played always runs copies os before begun ls l untaken rest r f takes network in
+        let plays = played always runs copies os start begun ls l untaken rest r f takes network in
         ap (kept r.world) (sym es_are)
         ∙ (ap (λ w. kept w (world_events d network.number l.receipt.event (device_step d l.receipt.event).outcome.answer)) (sym is_network.0)
         ∙ (plays.heard ∙ ap (λ o. kept_verb (verb_in l.receipt.event) o.answer) (sym f.is_line.outcome)))
@@ -274,7 +272,7 @@ module _ (always : (e : WorldEvent) → AlwaysFollows e) (runs : RunsFollow) (co
         }
 
   pub shorts : (ls more : List Line) (untaken left : List ContextImage) → Each (λ xs l. IsFairLine os (ls ++ xs) l) more → Each (λ xs l. IsRightAt os number (ls ++ xs) l) more → length (flown os (ls ++ more)) ≤ most_flights → AreRestored untaken more left →
-      (r : Reached os before ls untaken) → AreAlike (flown os ls) r.world.sent → IsShort os number ls more r.world
+      (r : Reached os start ls untaken) → AreAlike (flown os ls) r.world.sent → IsShort os number ls more r.world
   shorts ls [] untaken left each right few restored r alike = ends ls untaken r alike
   shorts ls (l ∷ more) untaken left each right few restored r alike =
       let fair : IsFairLine os ls l = subst (λ xs. IsFairLine os xs l) (append-nil ls) (each 0 l refl) in

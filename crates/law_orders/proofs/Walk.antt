@@ -8,7 +8,6 @@ use Rattle.rdma_types.specs.declared.answers.Answer.TheVariants as answer
 use Rattle.rdma_types.specs.declared.answers.Refusal.{Refusal}
 use Rattle.rdma_types.specs.declared.names.Name.{Name}
 use Rattle.rdma_types.specs.declared.requests.Address.{Address}
-use Rattle.rdma_types.specs.declared.verbs.Verb.{Verb}
 use Rattle.rdma_types.specs.Limits.{most_flights}
 use Rattle.rdma_types.specs.Lists.{at, has, has_name, store}
 use Rattle.protocol.specs.declared.events.Event.{Event}
@@ -23,7 +22,7 @@ use Rattle.protocol.specs.Refusals.{refusal_of}
 use Rattle.protocol.specs.State.{Context, Device, Flight, World, context_at, device_at, no_context, no_device}
 use Rattle.protocol.specs.WorldStep.{has_device, now_at, world_after}
 use Rattle.packetless_machine.specs.declared.steps.MachineStep.{MachineStep}
-use Rattle.packetless_machine.specs.Machine.{Machine, empty}
+use Rattle.packetless_machine.specs.Machine.{Machine}
 use Rattle.packetless_machine.specs.Legal.{IsRun, after, seen}
 use Rattle.law_simulation.specs.Kept.{kept_verb, verb_in}
 use Rattle.law_simulation.specs.Law.{AlwaysFollows, FollowsRun, joined_steps}
@@ -31,10 +30,9 @@ use Rattle.law_simulation.specs.Runs.{RunsFollow}
 use Rattle.law_simulation.specs.Stands.{Stands}
 use Rattle.law_simulation.proofs.relation.Tables.{name-named_there, number-at}
 use Rattle.law_simulation.proofs.runs.Runs.{after_on, runs_on, seen_on}
-use Rattle.order_rules.specs.Bridge.{CopiesStand, IsAskedLine, IsFair, is_at_home, world_events}
+use Rattle.order_rules.specs.Bridge.{CopiesStand, IsAskedLine, IsFairOrder, is_at_home, world_events}
 use Rattle.order_rules.specs.Hears.{heard}
 use Rattle.order_rules.specs.Lines.{Line, device_after, flown, opening_of}
-use Rattle.order_rules.specs.Openings.{openings}
 use Rattle.order_rules.specs.Order.{AreRestored, Each, IsLine, Takes, with_stopped}
 use Rattle.order_rules.specs.Sides.{IsInTime, IsInTimeLine, IsOneSidedLine, carried_after, is_stopped, stops_beside_a_mover, without_restored, world_of}
 use Rattle.order_rules.proofs.Growing.{flown-push}
@@ -167,13 +165,14 @@ module _ (w : World) (m : Machine) (s : Stands w m) (k : ℕ) (made : has_device
 
 -- ---- what is reached
 
--- after some lines: a world that stands for a state of the machine, and the steps that led the machine there
-pub record Reached (os : List Device) (before : List (Verb × Answer)) (ls : List Line) (images : List ContextImage) : Type 0 where
+-- after some lines: a world that stands for a state of the machine, and the steps that led the machine there from where it
+-- started
+pub record Reached (os : List Device) (start : Machine) (ls : List Line) (images : List ContextImage) : Type 0 where
   pub world : World
   pub steps : List MachineStep
-  pub is_run : IsRun empty steps
-  pub heard_all : seen empty steps ≡ before ++ heard ls
-  pub stands : Stands world (after empty steps)
+  pub is_run : IsRun start steps
+  pub heard_all : seen start steps ≡ heard ls
+  pub stands : Stands world (after start steps)
   pub devices : world.devices ≡ after_all os ls
   pub carried : world.carried ≡ carried_after [] ls
   pub sent : AreThere world.sent (flown os ls)
@@ -188,8 +187,8 @@ pub record IsFairLine (os : List Device) (ls : List Line) (l : Line) : Type 0 wh
   pub asked : IsAskedLine os ls l
 
 -- the lines of a fair order
-pub fair_lines : (workers : ℕ) (ls : List Line) → IsFair workers ls → Each (IsFairLine (openings workers)) ls
-fair_lines workers ls fair k l at = record {
+pub fair_lines : (os : List Device) (ls : List Line) → IsFairOrder os ls → Each (IsFairLine os) ls
+fair_lines os ls fair k l at = record {
   is_line = fair.order.each k l at;
   one_sided = fair.one_sided k l at;
   in_time = fair.in_time k l at;
@@ -204,9 +203,9 @@ movers_same w v k e devices carried = ap (λ ds. of ds w.carried) devices ∙ ap
     of : List Device → List ContextImage → Bool
     of ds cs = stops_beside_a_mover (record { devices = ds; sent = w.sent; carried = cs; stopped = w.stopped }) k e
 
-module _ (always : (e : WorldEvent) → AlwaysFollows e) (runs : RunsFollow) (copies : CopiesStand) (os : List Device) (before : List (Verb × Answer)) (begun : AreBegun os) where
-  module _ (ls : List Line) (l : Line) (untaken rest : List ContextImage) (r : Reached os before ls untaken) (f : IsFairLine os ls l) (takes : Takes untaken l.receipt.event rest)
-      (network : IsReady r.world (after empty r.steps) (device_after os ls l.receipt.device) l.receipt.event (flown os ls)) where
+module _ (always : (e : WorldEvent) → AlwaysFollows e) (runs : RunsFollow) (copies : CopiesStand) (os : List Device) (start : Machine) (begun : AreBegun os) where
+  module _ (ls : List Line) (l : Line) (untaken rest : List ContextImage) (r : Reached os start ls untaken) (f : IsFairLine os ls l) (takes : Takes untaken l.receipt.event rest)
+      (network : IsReady r.world (after start r.steps) (device_after os ls l.receipt.device) l.receipt.event (flown os ls)) where
     abbrev k : ℕ
     k = l.receipt.device
 
@@ -214,7 +213,7 @@ module _ (always : (e : WorldEvent) → AlwaysFollows e) (runs : RunsFollow) (co
     e = l.receipt.event
 
     abbrev m : Machine
-    m = after empty r.steps
+    m = after start r.steps
 
     abbrev w : World
     w = r.world
@@ -264,13 +263,12 @@ module _ (always : (e : WorldEvent) → AlwaysFollows e) (runs : RunsFollow) (co
     abbrev v : World
     v = world_after u es
 
-    heard_then : seen empty (r.steps ++ steps) ≡ before ++ heard (ls ++ l ∷ [])
+    heard_then : seen start (r.steps ++ steps) ≡ heard (ls ++ l ∷ [])
     heard_then =
-        seen_on empty r.steps steps
+        seen_on start r.steps steps
         ∙ (ap (λ x. x ++ seen m steps) r.heard_all
-        ∙ (ap (λ x. (before ++ heard ls) ++ x) (followed.heard ∙ (played.heard ∙ ap (λ o. kept_verb (verb_in e) o.answer) (sym f.is_line.outcome)))
-        ∙ (append_assoc before (heard ls) (kept_verb (verb_in e) l.receipt.outcome.answer)
-        ∙ ap (λ x. before ++ x) (sym (heard-push ls l)))))
+        ∙ (ap (λ x. heard ls ++ x) (followed.heard ∙ (played.heard ∙ ap (λ o. kept_verb (verb_in e) o.answer) (sym f.is_line.outcome)))
+        ∙ sym (heard-push ls l)))
 
     id_then : out.device.id ≡ k
     id_then = (step_itself d e).id ∙ number_is_k
@@ -309,13 +307,13 @@ module _ (always : (e : WorldEvent) → AlwaysFollows e) (runs : RunsFollow) (co
         (subst (λ x. AreUntaken (with_stopped (device_step x e).outcome.image (without_restored e (device_step x e).outcome.answer w.carried)) (with_stopped (device_step x e).outcome.image rest)) (here_in w refl)
         (images_next w m r.stands k (made_in w refl) e untaken rest r.untaken takes)))
 
-    pub next_from : Reached os before (ls ++ l ∷ []) (with_stopped l.receipt.outcome.image rest)
+    pub next_from : Reached os start (ls ++ l ∷ []) (with_stopped l.receipt.outcome.image rest)
     next_from = record {
       world = v;
       steps = r.steps ++ steps;
-      is_run = runs_on empty r.steps steps r.is_run followed.is_run;
+      is_run = runs_on start r.steps steps r.is_run followed.is_run;
       heard_all = heard_then;
-      stands = subst (Stands v) (sym (after_on empty r.steps steps)) followed.stands;
+      stands = subst (Stands v) (sym (after_on start r.steps steps)) followed.stands;
       devices = devices_then;
       carried = carried_then;
       sent = sent_then;
@@ -329,19 +327,19 @@ module _ (always : (e : WorldEvent) → AlwaysFollows e) (runs : RunsFollow) (co
     next_world = refl
 
   -- .. where a datagram that arrives is sent again first
-  pub next : (ls : List Line) (l : Line) (untaken rest : List ContextImage) → Reached os before ls untaken → IsFairLine os ls l → Takes untaken l.receipt.event rest → Reached os before (ls ++ l ∷ []) (with_stopped l.receipt.outcome.image rest)
+  pub next : (ls : List Line) (l : Line) (untaken rest : List ContextImage) → Reached os start ls untaken → IsFairLine os ls l → Takes untaken l.receipt.event rest → Reached os start (ls ++ l ∷ []) (with_stopped l.receipt.outcome.image rest)
   next ls l untaken rest r f takes =
       next_from ls l untaken rest r f takes
-      (ready r.world (after empty r.steps) (device_after os ls l.receipt.device) l.receipt.event (flown os ls) copies r.stands r.sent
+      (ready r.world (after start r.steps) (device_after os ls l.receipt.device) l.receipt.event (flown os ls) copies r.stands r.sent
       (subst (λ a. IsInTime (flown os ls) a (device_after os ls l.receipt.device) l.receipt.event) (sym (address_after os ls l.receipt.device)) f.in_time))
 
   -- ---- all lines
 
-  pub walks : (ls more : List Line) (untaken left : List ContextImage) → Each (λ xs l. IsFairLine os (ls ++ xs) l) more → AreRestored untaken more left → Reached os before ls untaken → Reached os before (ls ++ more) left
-  walks ls [] untaken left each restored r = subst (λ xs. Reached os before xs left) (sym (append-nil ls)) (subst (Reached os before ls) (sym restored) r)
+  pub walks : (ls more : List Line) (untaken left : List ContextImage) → Each (λ xs l. IsFairLine os (ls ++ xs) l) more → AreRestored untaken more left → Reached os start ls untaken → Reached os start (ls ++ more) left
+  walks ls [] untaken left each restored r = subst (λ xs. Reached os start xs left) (sym (append-nil ls)) (subst (Reached os start ls) (sym restored) r)
   walks ls (l ∷ more) untaken left each restored r =
       let fair : IsFairLine os ls l = subst (λ xs. IsFairLine os xs l) (append-nil ls) (each 0 l refl) in
-      subst (λ xs. Reached os before xs left) (append_assoc ls (l ∷ []) more)
+      subst (λ xs. Reached os start xs left) (append_assoc ls (l ∷ []) more)
       (walks (ls ++ l ∷ []) more (with_stopped l.receipt.outcome.image restored.0) left
       (λ j x at. subst (λ xs. IsFairLine os xs x) (sym (append_assoc ls (l ∷ []) (take j more))) (each (suc j) x at))
       restored.2

@@ -31,7 +31,7 @@ use Rattle.protocol.specs.Images as images
 use Rattle.protocol.specs.Refusals.{has_context, has_end, has_husk, refusal_of}
 use Rattle.protocol.specs.State.{Context, Device, End, Link, Phase, Running, Paused, Resuming, World, context_at, device_at, end_at, no_context, no_device}
 use Rattle.protocol.specs.WorldStep.{has_device, is_carried_end, is_done, is_linked_image, is_resuming_end, partner_moves}
-use Rattle.packetless_machine.specs.Machine.{Machine, empty}
+use Rattle.packetless_machine.specs.Machine.{Machine}
 use Rattle.packetless_machine.specs.Legal.{after}
 use Rattle.law_simulation.specs.Kept.{is_unmade, kept_verb, verb_in}
 use Rattle.law_simulation.specs.Law.{AlwaysFollows}
@@ -48,7 +48,7 @@ use Rattle.law_orders.proofs.Devices.{IsNoStop, step_plain}
 use Rattle.law_orders.proofs.Found.{IsHome, home_is}
 use Rattle.law_orders.proofs.Images.{AreUntaken, image_in, untaken_less}
 use Rattle.law_orders.proofs.Orders.{AreBegun, after_all, after_here, after_line, after_other, at_after, carried-push, has_after, heard-push}
-use Rattle.law_orders.proofs.Posted.{heard_grows, span_answered, span_heard, spans, spans-both}
+use Rattle.law_orders.proofs.Posted.{numbers_of, run_grows, span_answered, span_heard, spans, spans-both}
 use Rattle.law_orders.proofs.Tame.{AllOf, IsTame, IsTameEnd, IsTameLink, of_two}
 use Rattle.law_orders.proofs.TameSteps.{ExpectsFew, IsTameDevice, IsTameFound, IsTameHere, IsTameImage, Keeps, contexts_found, end_tame, here_holds, is_mover, work_keeps}
 use Rattle.law_orders.proofs.Playing.{still_stops}
@@ -304,8 +304,8 @@ context_there d c x there = by (has_context d c) refl
     by true h = h
     by false h = absurd (cc (ap (λ (y : Context). has_end y x) (named-absent (λ z. z.name) no_context c d.contexts h), there))
 
-module _ (os : List Device) (before : List (Verb × Answer)) (begun : AreBegun os) (quiet : (t : ℕ) → spans t before ≡ 0) where
-  module _ (ls : List Line) (l : Line) (untaken rest : List ContextImage) (r : Reached os before ls untaken) (kept : IsKept os ls) (line : IsLine os ls l) (work : IsWorkLine l) (low : accepted ls ≤ latest) (takes : Takes untaken l.receipt.event rest) where
+module _ (os : List Device) (start : Machine) (begun : AreBegun os) (unposted : (q : ObjName) (t : ℕ) → numbers_of t start q ≡ 0) where
+  module _ (ls : List Line) (l : Line) (untaken rest : List ContextImage) (r : Reached os start ls untaken) (kept : IsKept os ls) (line : IsLine os ls l) (work : IsWorkLine l) (low : accepted ls ≤ latest) (takes : Takes untaken l.receipt.event rest) where
     abbrev k : ℕ
     k = l.receipt.device
 
@@ -316,7 +316,7 @@ module _ (os : List Device) (before : List (Verb × Answer)) (begun : AreBegun o
     n = accepted ls
 
     abbrev m : Machine
-    m = after empty r.steps
+    m = after start r.steps
 
     abbrev w : World
     w = r.world
@@ -334,7 +334,7 @@ module _ (os : List Device) (before : List (Verb × Answer)) (begun : AreBegun o
     tame = subst (IsTameDevice n) (at_after os ls k begun line.known) (all_at (IsTameDevice n) (λ x. x.id) no_device k (after_all os ls) kept.devices (has_after os ls k begun line.known))
 
     has_few : HasFew m n
-    has_few q t = omega (arith, heard_grows r.steps q t, ap (spans t) r.heard_all, spans-both t before (heard ls), quiet t, kept.heard t)
+    has_few q t = omega (arith, run_grows start r.steps q t, unposted q t, ap (spans t) r.heard_all, kept.heard t)
 
     -- what a packet finds
     first_few : (number : ℕ) (f : Found) (fs : List Found) → found_in number d.contexts ≡ f ∷ fs → (f.link.sender.top ≤ n) × (f.link.receiver.expected ≤ n)
@@ -518,7 +518,7 @@ module _ (os : List Device) (before : List (Verb × Answer)) (begun : AreBegun o
     each_cons xs x ys first rest (suc j) y at = subst (λ zs. IsFairLine os zs y) (append_assoc xs (x ∷ []) (take j ys)) (rest j y at)
 
     pub works : (ls more : List Line) (untaken left : List ContextImage) → ((k : ℕ) (l : Line) → slice_get more k ≡ Some l → IsWorkLine l) → Each (λ xs l. IsLine os (ls ++ xs) l) more → accepted (ls ++ more) ≤ latest → AreRestored untaken more left →
-        Reached os before ls untaken → IsKept os ls → Each (λ xs l. IsFairLine os (ls ++ xs) l) more
+        Reached os start ls untaken → IsKept os ls → Each (λ xs l. IsFairLine os (ls ++ xs) l) more
     works ls [] untaken left work lines low restored r kept = λ k l at. absurd (cc)
     works ls (l ∷ more) untaken left work lines low restored r kept =
         let line : IsLine os ls l = subst (λ xs. IsLine os xs l) (append-nil ls) (lines 0 l refl) in
@@ -528,6 +528,6 @@ module _ (os : List Device) (before : List (Verb × Answer)) (begun : AreBegun o
         works (ls ++ l ∷ []) more (with_stopped l.receipt.outcome.image restored.0) left (λ j x at. work (suc j) x at)
         (λ j x at. subst (λ xs. IsLine os xs x) (sym (append_assoc ls (l ∷ []) (take j more))) (lines (suc j) x at))
         (subst (λ xs. accepted xs ≤ latest) (sym (append_assoc ls (l ∷ []) more)) low) restored.2
-        (next always runs copies os before begun ls l untaken restored.0 r is restored.1)
+        (next always runs copies os start begun ls l untaken restored.0 r is restored.1)
         (next_kept ls l untaken restored.0 r kept line (work 0 l refl) few restored.1) in
         each_cons ls l more is later

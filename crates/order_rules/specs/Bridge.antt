@@ -42,12 +42,16 @@ pub record IsAskedLine (openings : List Device) (earlier : List Line) (l : Line)
   pub askable : IsAskable l.receipt.event
   pub at_home : is_at_home (device_after openings earlier l.receipt.device) l.receipt.event (verb_in l.receipt.event) ≡ true
 
--- an order that the law speaks of: one-sided, in time, and asked so
-pub record IsFair (workers : ℕ) (ls : List Line) : Type 0 where
-  pub order : IsWorldOrder (openings workers) ls
-  pub one_sided : IsOneSided (openings workers) ls
-  pub in_time : IsNeverAged (openings workers) ls
-  pub asked : Each (IsAskedLine (openings workers)) ls
+-- an order of the steps of these devices that the laws speak of: one-sided, in time, and asked so
+pub record IsFairOrder (openings : List Device) (ls : List Line) : Type 0 where
+  pub order : IsWorldOrder openings ls
+  pub one_sided : IsOneSided openings ls
+  pub in_time : IsNeverAged openings ls
+  pub asked : Each (IsAskedLine openings) ls
+
+-- .. that begins with the opening devices of that many workers
+abbrev pub IsFair : ℕ → List Line → Type 0
+IsFair workers ls = IsFairOrder (openings workers) ls
 
 -- ---- orders of which this can be seen
 
@@ -121,11 +125,15 @@ pub record IsWorldAfter (openings : List Device) (ls : List Line) (w : World) : 
   pub count : length w.sent ≡ length (flown openings ls)
   pub sent : (k : ℕ) (f g : Flight) → slice_get (flown openings ls) k ≡ Some f → slice_get w.sent k ≡ Some g → IsSameFlight f g
 
--- the order is a run of world events, in which applications hear the same
-pub record IsRunOfWorld (workers : ℕ) (ls : List Line) : Type 0 where
+-- the order is a run of world events from this world, in which applications hear the same
+pub record IsRunFrom (w : World) (ls : List Line) : Type 0 where
   pub number : ℕ → ℕ
-  pub reached : IsWorldAfter (openings workers) ls (world_after (opening_world workers) (events_of (openings workers) number [] ls))
-  pub heard_same : kept (opening_world workers) (events_of (openings workers) number [] ls) ≡ heard ls
+  pub reached : IsWorldAfter w.devices ls (world_after w (events_of w.devices number [] ls))
+  pub heard_same : kept w (events_of w.devices number [] ls) ≡ heard ls
+
+-- .. from the opening world of that many workers
+abbrev pub IsRunOfWorld : ℕ → List Line → Type 0
+IsRunOfWorld workers ls = IsRunFrom (opening_world workers) ls
 
 -- a datagram that was sent may be sent again: the world stands for the same state of the machine. So a datagram that the
 -- store no longer keeps may be delivered by its copy

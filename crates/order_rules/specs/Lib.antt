@@ -6,4 +6,5 @@ pub mod Opened
 pub mod Hears
 pub mod Work
 pub mod Bridge
+pub mod AnyOpening
 pub mod Evaluate
