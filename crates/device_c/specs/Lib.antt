@@ -1,0 +1,5 @@
+pub mod Owned
+pub mod Told
+pub mod Steps
+pub mod Readers
+pub mod Images
