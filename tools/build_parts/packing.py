@@ -12,10 +12,15 @@ import tempfile
 from .sources import BUILT, PROGRAM, TOP, BuildError, crates_below, kit_folder, kit_identity, static_library
 from .trials import trials, unpack
 
-HEADERS = TOP / "bindings" / "c"
+BINDINGS = TOP / "bindings"
 PLATFORM = "x86_64-linux"
-# Where the program and the library stand in the tarball.
-IN_BIN, IN_LIB = "bin/jichurpa", "lib/libjichurpa.a"
+# Where the program stands in the tarball, and where each file of the library does.
+IN_BIN = "bin/jichurpa"
+IN_LIB = {"jichurpa.h": "include/jichurpa.h", "libjichurpa.a": "lib/libjichurpa.a", "libjichurpa.so": "lib/libjichurpa.so"}
+# The files of the bindings that tell a version, and how.
+VERSIONS = {
+    "bindings/c/*.h": r'^#define JICHURPA_VERSION "(\S+)"', "bindings/c/*.pc": r"^Version: (\S+)$", "bindings/rust/Cargo.toml": r'^version = "(\S+)"$',
+    "bindings/python/pyproject.toml": r'^version = "(\S+)"$', "bindings/python/jichurpa/__init__.py": r'^__version__ = "(\S+)"$'}
 
 
 def git(*words):
@@ -43,7 +48,7 @@ def versions_in(top):
     places = [
         ("docs/jichurpa.1", r'^\.Os "Jichurpa (\S+)"$'), ("CHANGELOG.md", r"^## (\d\S*)"), ("README.md", r"tar xzf jichurpa-(\d+\.\d+\.\d+)-"),
         ("docs/scripts.md", r"the program of version (\d+\.\d+\.\d+) plays")]
-    places += [(str(it.relative_to(top)), r'^#define JICHURPA_VERSION "(\S+)"') for it in sorted((top / "bindings" / "c").glob("*.h"))]
+    places += [(str(it.relative_to(top)), form) for files, form in VERSIONS.items() for it in sorted(top.glob(files))]
     for name, form in places:
         found = re.search(form, (top / name).read_text(encoding="utf-8"), re.MULTILINE)
         yield name, found and found[1]
@@ -89,12 +94,16 @@ def licences():
 
 
 def library_files():
-    """The C library and its headers, where the library is built."""
+    """The C library and its header, where the crate below it is built."""
     library = static_library()
-    if library and library.is_file():
-        yield IN_LIB, False, library.read_bytes()
-        for header in sorted(HEADERS.glob("*.h")):
-            yield f"include/{header.name}", False, header.read_bytes()
+    if not library or not library.is_file():
+        return
+    with tempfile.TemporaryDirectory(prefix="jichurpa-library-") as place:
+        told = subprocess.run([BINDINGS / "c" / "build", place], stdout=subprocess.PIPE, stderr=subprocess.STDOUT, text=True, check=False)
+        if told.returncode:
+            raise BuildError(f"bindings/c/build ended with status {told.returncode}: {told.stdout.strip()}")
+        for name, target in IN_LIB.items():
+            yield target, False, pathlib.Path(place, name).read_bytes()
 
 
 def needed_glibc(program):
@@ -126,12 +135,10 @@ def all_files(version, program, trial):
 
 
 def links(files):
-    """Links from where the gate builds the program and the library, since tools look for them there."""
-    names = {name for name, _, _ in files}
-    for target, built in ((IN_BIN, BUILT), (IN_LIB, static_library())):
-        if target in names and built:
-            place = built.relative_to(TOP)
-            yield str(place), os.path.relpath(target, place.parent)
+    """A link from where the gate builds the program, since tools look for it there."""
+    if IN_BIN in {name for name, _, _ in files}:
+        place = BUILT.relative_to(TOP)
+        yield str(place), os.path.relpath(IN_BIN, place.parent)
 
 
 def entries(head, files):

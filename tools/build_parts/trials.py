@@ -114,7 +114,19 @@ def try_install(top):
             raise BuildError(f"tools/install ended with status {status}: {said.decode(errors='replace').strip()}")
         if run([f"{prefix}/bin/jichurpa", "--version"], env={})[:2] != run([top / "bin" / "jichurpa", "--version"], env={})[:2]:
             raise BuildError("what tools/install installs tells another version")
+        if (top / "lib").is_dir():
+            try_install_library(top, prefix)
     return "release: tools/install installs it"
+
+
+def try_install_library(top, prefix):
+    """Installs the library of the release, and compares it."""
+    status, _, said = run(["tools/install", prefix, "--library"], cwd=top, env=EMPTY)
+    if status:
+        raise BuildError(f"tools/install --library ended with status {status}: {said.decode(errors='replace').strip()}")
+    for file in (*(top / "lib").iterdir(), *(top / "include").iterdir()):
+        if pathlib.Path(prefix, file.relative_to(top)).read_bytes() != file.read_bytes():
+            raise BuildError(f"tools/install --library installs another {file.name}")
 
 
 def calls_of(top, library):
@@ -135,14 +147,27 @@ def try_library(top):
     if not calls:
         raise BuildError("the library defines no call of its headers")
     with tempfile.TemporaryDirectory(prefix="jichurpa-c-") as place:
-        source = pathlib.Path(place, "all.c")
         headers = "".join(f"#include <{it.name}>\n" for it in sorted((top / "include").glob("*.h")))
         table = ", ".join(f"(call){it}" for it in calls)
-        source.write_text(f"{headers}typedef void (*call)(void);\nstatic call calls[] = {{{table}}};\nint main(void) {{ return calls[0] == 0; }}\n", encoding="utf-8")
-        status, _, said = run([compiler, "-std=c11", "-Wall", "-Werror", "-o", f"{place}/all", source, f"-I{top}/include", library, "-lpthread", "-lm"], env=EMPTY)
-        if status or run([f"{place}/all"], env={})[0]:
-            raise BuildError(f"a C program over the library is not built, or does not run: {said.decode(errors='replace').strip()}")
+        everything = f"{headers}typedef void (*call)(void);\nstatic call calls[] = {{{table}}};\nint main(void) {{ return calls[0] == 0; }}\n"
+        run_in_c(top, compiler, pathlib.Path(place, "all.c"), everything)
+        for example in sorted((top / "bindings" / "c").glob("*.expected")):
+            written = run_in_c(top, compiler, pathlib.Path(place, f"{example.stem}.c"), example.with_suffix(".c").read_text(encoding="utf-8"))
+            if written != example.read_bytes():
+                raise BuildError(f"bindings/c/{example.stem}.c writes something else over the library")
     return f"release: a C program with the {len(calls)} calls of the library runs"
+
+
+def run_in_c(top, compiler, source, text):
+    """Compiles a C program over the release's library, and gives what it writes."""
+    source.write_text(text, encoding="utf-8")
+    built = source.with_suffix("")
+    words = [compiler, "-std=c11", "-Wall", "-Werror", "-o", built, source, f"-I{top}/include", top / "lib" / "libjichurpa.a", "-lpthread", "-lm"]
+    status, _, said = run(words, env=EMPTY)
+    ended = run([built], env={}) if not status else (status, b"", b"")
+    if ended[0]:
+        raise BuildError(f"a C program over the library is not built, or does not run: {said.decode(errors='replace').strip()}")
+    return ended[1]
 
 
 def trials(top):
