@@ -35,6 +35,9 @@ CHECK = (
 UNFOLD = (
     "Writes the script with lines `go`, `deliver`, `rnr` and `expire` in the place of each `settle`, as far as the program "
     "confirms them: the same answers, and the same datagrams byte for byte.")
+GENERATE = (
+    "Writes the generated script that the command `bulk` plays for the same numbers. With --hostile, lines before each `settle` lose, repeat, "
+    "reorder and delay PERCENT of the datagrams, and let timers expire. The same words give the same script.")
 DUMP = (
     "Shows every field of a dump: the place where it begins, its bytes and its value. The dump is a file of a depot, a line "
     "`dump N HEX` of answers, or hexadecimal digits. Of several dumps each is shown.")
@@ -48,7 +51,7 @@ def parser():
         "-i", dest="prompt", nargs="?", const="", metavar="SCRIPT",
         help="a prompt that answers line by line, behind the lines of a script if one is named")
     kinds = top.add_subparsers(dest="kind", metavar="SUBCOMMAND")
-    for add in (add_side, add_ladder, add_pcap, add_stats, add_check, add_unfold, add_dump):
+    for add in (add_side, add_ladder, add_pcap, add_stats, add_check, add_unfold, add_generate, add_dump):
         add(kinds)
     return top
 
@@ -121,6 +124,14 @@ def add_unfold(kinds):
     words.add_argument("script", help=SCRIPT_HELP)
     words.add_argument("file", nargs="?", default="-", help="the file to write (else standard output)")
     add_evacuate(words)
+
+
+def add_generate(kinds):
+    words = subcommand(kinds, "generate", "hostile", "the script that bulk plays, also over a hostile network", GENERATE)
+    for name in ("seed", "connections", "messages", "moves"):
+        words.add_argument(name, type=int, metavar=name.upper(), help="as of bulk")
+    words.add_argument("--hostile", type=int, metavar="PERCENT", help="how many of a hundred datagrams meet another fate than to be delivered in order")
+    words.add_argument("--out", dest="file", default="-", metavar="FILE", help="the file to write (else standard output)")
 
 
 def add_dump(kinds):

@@ -183,7 +183,7 @@ class Errors(LookTest):
         self.assertEqual(self.look_alone()[0], 2)
 
     def test_each_subcommand_has_help(self):
-        for name in ("side", "ladder", "pcap", "stats", "check", "unfold", "dump"):
+        for name in ("side", "ladder", "pcap", "stats", "check", "unfold", "generate", "dump"):
             self.assertIn("usage: look " + name, self.look(name, "--help"))
 
 
