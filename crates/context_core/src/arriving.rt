@@ -28,7 +28,7 @@ ghost use Rattle.context_core.specs.Sending.{addressed};
 use crate::datagrams::{answer, moving, written};
 use crate::kept::ReplyBuffers;
 use crate::sending::MOST_HEADERS;
-use crate::{Buffers, ContextState};
+use crate::{Buffers, ContextState, Draft};
 use endpoint_core::{DueRead, EndLink, EndMemory, EndReply, Endpoint};
 use memory_keys::{RegionRange, Regions};
 use page_pool::PagePool;
@@ -334,7 +334,7 @@ impl ContextState {
     pub fn take(
         &mut self,
         alloc: Global,
-        buffers: &mut Buffers,
+        draft: &mut Draft,
         pool: &mut PagePool,
         place: usize,
         d: &Datagram<'_>,
@@ -365,6 +365,7 @@ impl ContextState {
             return Ok(None);
         };
         let domain = slot.endpoint.domain;
+        let buffers = &mut draft.buffers;
         let read = replies_for(alloc, buffers, pool, &self.regions, domain, link, d)?;
         let slot = self.ends.get_index_mut(place).unwrap();
         let memory = EndMemory {

@@ -2,10 +2,12 @@
 
 ghost use Rattle.std.specs.Prelude.{◌≡◌, ◌≢◌, ◌<◌, ◌≤◌, ◌-◌, ◌||◌, [], IfOk, IfSome, IsOk, OnOk, nat_lt, slice_get, vec_capacity, vec_len};
 ghost use Rattle.context_core.specs.Buffers.{IsPut, nothing_kept};
+ghost use Rattle.context_core.specs.Rooms.{HasRoomFor, HoldsBytes};
 ghost use Rattle.context_core.specs.Sending.{IsPrepared};
 
 use crate::datagrams::{FEW_BYTES, FEWEST_BYTES};
 use crate::kept::ReplyBuffers;
+use crate::rooms::DatagramRoom;
 use page_pool::PAGE;
 use rdma_types::Sent;
 use std::alloc::{AllocError, Global};
@@ -14,7 +16,7 @@ use std::alloc::{AllocError, Global};
 const MOST_SPARE: usize = 1024;
 
 /// Memory for datagrams that is filled again: large, small and tiny buffers that datagrams were in before, memory for one
-/// datagram of few bytes, and room for a payload that spans two pages. A small buffer has room for 256 bytes, a large one
+/// datagram, and room for a payload that spans two pages. A small buffer has room for 256 bytes, a large one
 /// for more, and a tiny one for 64.
 #[derive(Drop)]
 pub struct Buffers {
@@ -22,6 +24,7 @@ pub struct Buffers {
     small: Vec<Vec<u8>>,
     tiny: Vec<Vec<u8>>,
     pub(crate) kept: ReplyBuffers,
+    pub(crate) room: DatagramRoom,
     pub(crate) payload: Box<[u8; PAGE]>,
 }
 
@@ -39,6 +42,24 @@ fn taken(spare: &mut Vec<Vec<u8>>, alloc: Global, most: usize) -> Result<Vec<u8>
         }
     }
     Vec::with_capacity(alloc, most)
+}
+
+/// A buffer for at least so many bytes is there from now on. Errors: `AllocError` when out of memory.
+fn keep(
+    slot: &mut Option<Vec<u8>>,
+    spare: &mut Vec<Vec<u8>>,
+    alloc: Global,
+    most: usize,
+) -> Result<(), AllocError>
+    ensures { OnOk result (HoldsBytes slot.new most) }
+{
+    if let Some(buffer) = slot {
+        if buffer.capacity() >= most {
+            return Ok(());
+        }
+    }
+    *slot = Some(taken(spare, alloc, most)?);
+    Ok(())
 }
 
 /// Keeps a buffer behind the others, where there is room for it, and else frees it. It takes no memory.
@@ -62,6 +83,7 @@ impl Buffers {
             small: Vec::with_capacity(alloc, MOST_SPARE)?,
             tiny: Vec::with_capacity(alloc, MOST_SPARE)?,
             kept: ReplyBuffers::none(),
+            room: DatagramRoom::none(),
             payload: Box::new(alloc, [0; PAGE])?,
         })
     }
@@ -100,6 +122,19 @@ impl Buffers {
         Ok(())
     }
 
+    /// Memory for one datagram of at most so many bytes is there from now on. Errors: `AllocError` when out of memory.
+    #[inline(always)]
+    pub(crate) fn make_room(&mut self, alloc: Global, most: usize) -> Result<(), AllocError>
+        ensures { OnOk result (HasRoomFor self.new.room most) }
+    {
+        keep(&mut self.room.tiny, &mut self.tiny, alloc, FEWEST_BYTES)?;
+        keep(&mut self.room.small, &mut self.small, alloc, FEW_BYTES)?;
+        if most > FEW_BYTES {
+            keep(&mut self.room.large, &mut self.large, alloc, most)?;
+        }
+        Ok(())
+    }
+
     /// An empty list with room for so many datagrams: the one that is kept, if it has room for them, and else a new one.
     /// Errors: `AllocError` when out of memory.
     pub(crate) fn take_list(&mut self, alloc: Global, count: usize) -> Result<Vec<Sent>, AllocError>
@@ -128,7 +163,8 @@ impl Buffers {
             → IsPut self.old.tiny self.new.tiny buffer × (self.new.large ≡ self.old.large)
             × (self.new.small ≡ self.old.small) }
         ensures other { vec_capacity buffer < 256 → vec_capacity buffer ≢ 64 → self.new ≡ self.old }
-        ensures rest { (self.new.kept ≡ self.old.kept) × (self.new.payload ≡ self.old.payload) }
+        ensures rest { (self.new.kept ≡ self.old.kept) × (self.new.room ≡ self.old.room)
+            × (self.new.payload ≡ self.old.payload) }
     {
         if buffer.capacity() > FEW_BYTES {
             put(&mut self.large, buffer);
@@ -146,7 +182,8 @@ impl Buffers {
         ensures tiny { self.new.kept.tiny ≡ self.old.kept.tiny }
         ensures small { self.new.kept.small ≡ self.old.kept.small }
         ensures rest { (self.new.large ≡ self.old.large) × (self.new.small ≡ self.old.small)
-            × (self.new.tiny ≡ self.old.tiny) × (self.new.payload ≡ self.old.payload) }
+            × (self.new.tiny ≡ self.old.tiny) × (self.new.room ≡ self.old.room)
+            × (self.new.payload ≡ self.old.payload) }
     {
         self.kept.keep_list(list);
     }

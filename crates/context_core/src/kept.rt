@@ -6,7 +6,7 @@ ghost use Rattle.roce_headers.specs.Packets.{packet};
 ghost use Rattle.context_core.specs.Buffers.{nothing_kept};
 ghost use Rattle.context_core.specs.Sending.{IsPrepared};
 
-use crate::datagrams::{FEW_BYTES, FEWEST_BYTES, written};
+use crate::datagrams::{FEWEST_BYTES, written};
 use rdma_types::{Address, Items, Sent};
 use roce_headers::{Datagram, encoded_len};
 use std::marker::Model;
@@ -29,13 +29,6 @@ impl Model for ReplyBuffers {
     ghost view = { λ k. record { list = is_some k.list; tiny = is_some k.tiny; small = is_some k.small } };
 
     ghost invariant = { λ k. IfSome k.list (λ l. (l.items ≡ []) × (0 < vec_capacity l)) × IfSome k.tiny (λ v. (v.items ≡ []) × (64 ≤ vec_capacity v)) × IfSome k.small (λ v. (v.items ≡ []) × (256 ≤ vec_capacity v)) };
-}
-
-/// What is sent, and the large buffer where it was not used.
-#[derive(Drop)]
-pub struct Filled {
-    pub sent: Items<Sent>,
-    pub unused: Option<Vec<u8>>,
 }
 
 /// One datagram in this list. It takes no memory.
@@ -151,36 +144,5 @@ impl ReplyBuffers {
         let memory = self.take_buffer(encoded_len(d));
         let list = self.list.take().unwrap();
         one(list, to, number, written(d, memory))
-    }
-
-    /// A datagram of at most so many bytes in this memory, or in the large buffer where they are not few. It takes no
-    /// other.
-    #[inline(always)]
-    pub fn fill_large(
-        &mut self,
-        large: Vec<u8>,
-        most: usize,
-        to: Address,
-        number: Option<u64>,
-        d: &Datagram<'_>,
-    ) -> Filled
-        requires prepared { IsPrepared self.old }
-        requires empty { large.items ≡ [] }
-        requires room { most ≤ vec_capacity large }
-        requires fits { Fits (packet d.now) }
-        requires short { length (wire_of (packet d.now)) ≤ most }
-        ensures { result.sent ≡ record { to = to; number = number; bytes = wire_of (packet d.now) }
-            ∷ [] }
-    {
-        if encoded_len(d) <= FEW_BYTES {
-            let sent = self.fill(to, number, d);
-            return Filled {
-                sent,
-                unused: Some(large),
-            };
-        }
-        let list = self.list.take().unwrap();
-        let sent = one(list, to, number, written(d, large));
-        Filled { sent, unused: None }
     }
 }

@@ -224,8 +224,8 @@ impl Device {
             return self.answer_absent(alloc, from, &d);
         };
         let state = &mut self.contexts[end.context];
-        let (buffers, pool) = (&mut self.buffers, &mut self.pool);
-        let taken = state.take(alloc, buffers, pool, end.place, &d);
+        let (draft, pool) = (&mut self.draft, &mut self.pool);
+        let taken = state.take(alloc, draft, pool, end.place, &d);
         told_taken(alloc, taken)
     }
 }
