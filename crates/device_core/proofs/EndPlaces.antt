@@ -160,10 +160,10 @@ module _ {pool : Pool} {es : List (Name × Holding)} {index : ℕ → Option End
       (record { found = by.0; stored = by.1; there = subst (λ (c : Context). IsConnectedAt c o.name at.place) owner e.there })
 
   -- .. and the other way: an end of a context that is found by its name
-  pub at-name : (o : ObjName) {i : ℕ} {m : Name} {s : Holding} (place : ℕ) → position (bytes_eq o.context) (keys_of es) ≡ Some i → slice_get es i ≡ Some (m, s) → IsConnectedAt (context_in pool m s) o.name place → IsAt d o (record { context = i; place = place })
+  pub at-name : (o : ObjName) {i : ℕ} {m : Name} {s : Holding} (place : ℕ) → position (bytes_eq o.context) (keys_of es) ≡ Some i → slice_get es i ≡ Some (m, s) → IsConnectedAt (context_in pool o.context s) o.name place → IsAt d o (record { context = i; place = place })
   at-name o {i} {m} {s} place found at there = record {
     owner = context_in pool m s;
     here = ap (λ (cs : List Context). slice_get cs i) here ∙ map-at (held_in pool) es i (m, s) at;
     owned = laws.name pool s m ∙ name-found o.context es i (m, s) found at;
-    there = there;
+    there = connected-same pool o.context m s o.name place there;
   }

@@ -33,7 +33,7 @@ transmit_at-requires-clause-at c =
     (c.requires.0.context, c.requires.0.name, here.there)
 
 -- the end sends its next packet, where it may
-sent_here : (c : goal.After-transmit_at) (o : ObjName) → IsAt c.args.self.now o c.args.at → let x = c.self.inside in let es' = set_value_at x.contexts.entries c.args.at.context c.transmit_at.new.self in
+sent_here : (c : goal.After-self-1) (o : ObjName) → IsAt c.args.self.now o c.args.at → let x = c.self.inside in let es' = set_value_at x.contexts.entries c.args.at.context c.transmit_at.new.self in
     Stepped (device_of x.id x.address x.qp_count x.key_count x.pool x.contexts.entries x.husks.entries) (event.Transmit o) x.pool es' (λ k. lookup (nat_eq k) x.index.entries) (device_of x.id x.address x.qp_count x.key_count x.pool es' x.husks.entries) (told_by sending (answered_with (option_to_list c.transmit_at.new.draft) c.transmit_at.result))
 sent_here c o at =
     let x = c.self.inside in
