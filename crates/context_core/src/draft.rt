@@ -1,6 +1,6 @@
 //! A datagram of a step, in memory that the caller lends.
 
-ghost use Rattle.std.specs.Prelude.{◌≡◌, IfOk, None};
+ghost use Rattle.std.specs.Prelude.{◌≡◌, IfOk, None, is_some};
 
 use crate::Buffers;
 use rdma_types::{Items, Sent};
@@ -33,6 +33,14 @@ impl Draft {
             sent: None,
             buffers: Buffers::make(alloc)?,
         })
+    }
+
+    /// Whether there is a datagram.
+    #[inline(always)]
+    pub fn is_filled(&self) -> bool
+        ensures { result ≡ is_some self.now }
+    {
+        self.sent.is_some()
     }
 
     /// Takes the datagram out. It takes no memory.

@@ -21,7 +21,6 @@ mod image_queues;
 mod image_regions;
 mod image_work;
 mod images;
-mod kept;
 mod laws;
 mod leaving;
 mod links;
@@ -42,7 +41,7 @@ mod sending;
 mod state;
 mod timers;
 
-pub use arriving::ArrivalOutcome;
+pub use arriving::{ArrivalOutcome, TakenDatagram};
 pub use buffers::Buffers;
 pub use draft::Draft;
 pub use laws::a_context_looks_at_its_own_lists;

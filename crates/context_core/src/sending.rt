@@ -1,6 +1,6 @@
 //! What an end sends by itself.
 
-ghost use Rattle.std.specs.Prelude.{ℕ, ◌≡◌, ◌+◌, ◌-◌, ◌<◌, ◌≤◌, ◌^◌, [], IfOk, IfSome, IsSome, None, OnErr, Some, length, map, min, slice_get, vec_capacity};
+ghost use Rattle.std.specs.Prelude.{ℕ, ◌≡◌, ◌+◌, ◌-◌, ◌<◌, ◌≤◌, ◌^◌, ◌++◌, ◌⊎◌, [], IfOk, IfSome, IsSome, None, OnErr, Some, is_some, true, length, map, min, slice_get, vec_capacity};
 ghost use Rattle.std.specs.Option.{option_to_list};
 ghost use Rattle.std.specs.Result.{result_err};
 ghost use Rattle.rdma_types.specs.Causes.{first_cause};
@@ -278,6 +278,19 @@ fn listed(draft: &mut Draft, mut list: Vec<Sent>) -> Items<Sent>
         list.push(sent).unwrap();
     }
     Items::new(list)
+}
+
+/// The datagram of a step in this list, or those that there are besides. It takes no memory.
+pub fn joined(draft: &mut Draft, list: Vec<Sent>, more: Items<Sent>) -> Items<Sent>
+    requires empty { list.items ≡ [] }
+    requires room { is_some draft.old ≡ true → 0 < vec_capacity list }
+    requires alone { (draft.old ≡ None) ⊎ (more ≡ []) }
+    ensures { result ≡ option_to_list draft.old ++ more }
+{
+    if draft.is_filled() {
+        return listed(draft, list);
+    }
+    more
 }
 
 impl ContextState {

@@ -49,9 +49,9 @@ transmitted id address qp key pool es husks index held o s found s' turn es' set
 -- ---- by the place of an end
 
 -- an answer and what was sent, of a call that is not refused
-abbrev pub answered_with : List Sent → Result Answer AllocError → Result Answered ContextFault
-answered_with sent (Ok a) = Ok (record { answer = a; sent = sent })
-answered_with sent (Err e) = Err OutOfMemory
+abbrev pub answered_as : List Sent → Result Answer AllocError → Result Answered ContextFault
+answered_as sent (Ok a) = Ok (record { answer = a; sent = sent })
+answered_as sent (Err e) = Err OutOfMemory
 
 pub transmitted-at : (id : ℕ) (address : Address) (qp key : ℕ) (pool : Pool) (es : List (Name × Holding)) (husks : List (Name × List HuskEntry)) (index : ℕ → Option EndLocation) (held : IsHeld pool es index (device_of id address qp key pool es husks))
     → (o : ObjName) (place : ℕ) (s : Holding) (found : lookup (bytes_eq o.context) es ≡ Some s) → IsConnectedAt (context_in pool o.context s) o.name place
@@ -59,9 +59,9 @@ pub transmitted-at : (id : ℕ) (address : Address) (qp key : ℕ) (pool : Pool)
     → (r : Result Answer AllocError) (sent : List Sent)
     → ((d : Device) → d.address ≡ address → with_context d (context_in pool o.context s) ≡ d → IfOk r (λ a. transmits d (context_in pool o.context s) (end_at (context_in pool o.context s) o.name) ≡ gives (with_context d (context_in pool o.context s')) a sent))
     → OnErr r (s' ≡ s)
-    → Stepped (device_of id address qp key pool es husks) (event.Transmit o) pool es' index (device_of id address qp key pool es' husks) (told_by sending (answered_with sent r))
+    → Stepped (device_of id address qp key pool es husks) (event.Transmit o) pool es' index (device_of id address qp key pool es' husks) (told_by sending (answered_as sent r))
 transmitted-at id address qp key pool es husks index held o place s found there s' turn es' set r sent sends err =
-    transmitted id address qp key pool es husks index held o s found s' turn es' set (answered_with sent r) (refused r) (λ d at same. by_ok d r (sends d at same)) (by_err r err)
+    transmitted id address qp key pool es husks index held o s found s' turn es' set (answered_as sent r) (refused r) (λ d at same. by_ok d r (sends d at same)) (by_err r err)
   where
     is : IsContext pool s
     is = is-context id address qp key pool es husks index held o.context s found
@@ -69,16 +69,16 @@ transmitted-at id address qp key pool es husks index held o place s found there 
     free : None ≡ first_cause (connected_causes (context_in pool o.context s) o.name)
     free = sym (not-refused pool o.context s o.name place is.is.end_names (held-at pool o.context s o.name place there))
 
-    refused : (x : Result Answer AllocError) → refusal_of (answered_with sent x) ≡ first_cause (connected_causes (context_in pool o.context s) o.name)
+    refused : (x : Result Answer AllocError) → refusal_of (answered_as sent x) ≡ first_cause (connected_causes (context_in pool o.context s) o.name)
     refused (Ok a) = free
     refused (Err e) = free
 
     by_ok : (d : Device) (x : Result Answer AllocError) → IfOk x (λ a. transmits d (context_in pool o.context s) (end_at (context_in pool o.context s) o.name) ≡ gives (with_context d (context_in pool o.context s')) a sent)
-        → IfOk (answered_with sent x) (λ a. transmits d (context_in pool o.context s) (end_at (context_in pool o.context s) o.name) ≡ gives (with_context d (context_in pool o.context s')) a.answer a.sent)
+        → IfOk (answered_as sent x) (λ a. transmits d (context_in pool o.context s) (end_at (context_in pool o.context s) o.name) ≡ gives (with_context d (context_in pool o.context s')) a.answer a.sent)
     by_ok d (Ok a) h = h
     by_ok d (Err e) h = tt
 
-    by_err : (x : Result Answer AllocError) → OnErr x (s' ≡ s) → OnErr (answered_with sent x) (s' ≡ s)
+    by_err : (x : Result Answer AllocError) → OnErr x (s' ≡ s) → OnErr (answered_as sent x) (s' ≡ s)
     by_err (Ok a) h = tt
     by_err (Err e) h = h
 
@@ -89,10 +89,10 @@ pub record ToldAt (d new : Device) (o : ObjName) (sent : List Sent) (r : Result 
   pub address : new.address ≡ d.address
   pub err : OnErr r (new ≡ d)
 
-pub told-at : {d d' new : Device} {pool : Pool} {es : List (Name × Holding)} {index : ℕ → Option EndLocation} {o : ObjName} {sent : List Sent} {r : Result Answer AllocError} → d ≡ d' → Stepped d (event.Transmit o) pool es index new (told_by sending (answered_with sent r)) → ToldAt d' new o sent r
-told-at {d} {d'} {new} {pool} {es} {index} {o} {sent} {r} same step = by r (told-transmitted d' new o (answered_with sent r) (told_transmission (answered_with sent r)) refl (done-at same step))
+pub told-at : {d d' new : Device} {pool : Pool} {es : List (Name × Holding)} {index : ℕ → Option EndLocation} {o : ObjName} {sent : List Sent} {r : Result Answer AllocError} → d ≡ d' → Stepped d (event.Transmit o) pool es index new (told_by sending (answered_as sent r)) → ToldAt d' new o sent r
+told-at {d} {d'} {new} {pool} {es} {index} {o} {sent} {r} same step = by r (told-transmitted d' new o (answered_as sent r) (told_transmission (answered_as sent r)) refl (done-at same step))
   where
-    by : (x : Result Answer AllocError) → ToldAnswered d' new (event.Transmit o) (told_transmission (answered_with sent x)) → ToldAt d' new o sent x
+    by : (x : Result Answer AllocError) → ToldAnswered d' new (event.Transmit o) (told_transmission (answered_as sent x)) → ToldAt d' new o sent x
     by (Ok a) t = record { ok = t.ok; id = t.id; address = t.address; err = tt }
     by (Err e) t = record { ok = tt; id = t.id; address = t.address; err = t.err }
 

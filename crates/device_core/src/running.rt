@@ -1,6 +1,6 @@
 //! One step of a device.
 
-ghost use Rattle.std.specs.Prelude.{◌≡◌, ◌≤◌, ◌^◌, length, IfOk, IfSome, IsOk, None, OnErr};
+ghost use Rattle.std.specs.Prelude.{◌≡◌, ◌≤◌, ◌^◌, ◌++◌, length, IfOk, IfSome, IsOk, None, OnErr};
 ghost use Rattle.std.specs.Option.{option_to_list};
 ghost use Rattle.rdma_types.specs.declared.names.ObjName as names;
 ghost use Rattle.protocol.specs.declared.events.Event.{Event};
@@ -17,9 +17,12 @@ ghost use Rattle.device_core.specs.Finding.{IsAt, IsFound};
 ghost use Rattle.device_core.specs.Readings.{DoNothing, TakesNoMemoryAt};
 
 use crate::Device;
+use crate::arriving::Arrived;
 use crate::device::answered;
 use crate::finding::{EndPlace, FoundEnd, destination};
-use crate::telling::{refused, told_arrival, told_memory, told_sent, told_transmission};
+use crate::telling::{
+    refused, told_arrival, told_memory, told_sent, told_taken_into, told_transmission,
+};
 use context_core::{Answered, ContextFault, Draft, NewEnd};
 use law_arrivals::turns_change_what_arrivals_may;
 use protocol::{ContextImage, Event, Outcome};
@@ -200,6 +203,38 @@ impl Device {
         self.bounds_turns();
         let arrived = self.take_bytes(alloc, from, bytes, found);
         told_arrival(arrived)
+    }
+
+    /// What `arrive_at` does, and what answers the bytes is in the draft: a reply without bytes. What was there before is
+    /// gone. READ responses and the answer of a husk are handed up in a list. Errors: `AllocError` when out of memory; the
+    /// device is then as before, and nothing is in the draft.
+    #[inline(always)]
+    pub fn arrive_into(
+        &mut self,
+        alloc: Global,
+        draft: &mut Draft,
+        from: Address,
+        bytes: &[u8],
+        found: Option<FoundEnd>,
+    ) -> Result<Arrived, AllocError>
+        requires { IsFound self.old (number_at 5 3 bytes.now) found }
+        ensures ok { IfOk result (λ a. device_step self.old (Event.Arrive from bytes.now)
+            ≡ record {
+              device = self.new;
+              outcome = record
+                  { answer = a.answer; sent = option_to_list draft.new ++ a.more; image = None };
+            }) }
+        ensures bounded { IfOk result (λ a. length (option_to_list draft.new ++ a.more) ≤ 2 ^ 32) }
+        ensures id { self.new.id ≡ self.old.id }
+        ensures address { self.new.address ≡ self.old.address }
+        ensures never_out_of_memory { DoNothing self.old (packet_of bytes.now) → IsOk result }
+        ensures touched { ChangesOnly (is_touched self.old bytes.now) self.old self.new }
+        ensures err { OnErr result (self.new ≡ self.old) }
+        ensures err_draft { OnErr result (draft.new ≡ None) }
+    {
+        self.bounds_turns();
+        let taken = self.take_bytes_into(alloc, draft, from, bytes, found);
+        told_taken_into(draft, taken)
     }
 
     /// The step on `Event::Transmit`: the next packet of an end, where it may send one. A refusal is an answer, and the

@@ -15,7 +15,7 @@ use Rattle.device_core.proofs.Acting.{plain-turn}
 use Rattle.device_core.proofs.EndPlaces.{inside, named-at}
 use Rattle.device_core.proofs.Helds.{is-context}
 use Rattle.device_core.proofs.Stepping.{Stepped}
-use Rattle.device_core.proofs.Transmissions.{answered_with, told-at, transmitted-at}
+use Rattle.device_core.proofs.Transmissions.{answered_as, told-at, transmitted-at}
 use Rattle.device_core.proofs.device.Device.transmit_at.Goals as goal
 
 pub index_mut-state-requires : goal.index_mut-state-requires
@@ -34,7 +34,7 @@ transmit_at-requires-clause-at c =
 
 -- the end sends its next packet, where it may
 sent_here : (c : goal.After-self-1) (o : ObjName) → IsAt c.args.self.now o c.args.at → let x = c.self.inside in let es' = set_value_at x.contexts.entries c.args.at.context c.transmit_at.new.self in
-    Stepped (device_of x.id x.address x.qp_count x.key_count x.pool x.contexts.entries x.husks.entries) (event.Transmit o) x.pool es' (λ k. lookup (nat_eq k) x.index.entries) (device_of x.id x.address x.qp_count x.key_count x.pool es' x.husks.entries) (told_by sending (answered_with (option_to_list c.transmit_at.new.draft) c.transmit_at.result))
+    Stepped (device_of x.id x.address x.qp_count x.key_count x.pool x.contexts.entries x.husks.entries) (event.Transmit o) x.pool es' (λ k. lookup (nat_eq k) x.index.entries) (device_of x.id x.address x.qp_count x.key_count x.pool es' x.husks.entries) (told_by sending (answered_as (option_to_list c.transmit_at.new.draft) c.transmit_at.result))
 sent_here c o at =
     let x = c.self.inside in
     let s = c.index_mut-state.result.now in
