@@ -11,3 +11,6 @@ mod Networks
 mod Connecting
 mod LiveEnds
 mod Delivering
+mod Marks
+mod Lacking
+mod Refusals

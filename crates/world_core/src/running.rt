@@ -1,22 +1,27 @@
 //! What a device's step does to a world.
 
-ghost use Rattle.std.specs.Prelude.{◌≡◌, ℕ, ◌+◌, ◌≤◌, ◌<◌, ◌^◌, ◌++◌, ◌∷◌, [], length, slice_get, IfOk, OnErr, Option, Some, None};
-ghost use Rattle.std.specs.Vec.{vec_capacity};
+ghost use Rattle.std.specs.Prelude.{◌≡◌, ℕ, ◌+◌, ◌≤◌, ◌<◌, ◌^◌, ◌++◌, ◌∷◌, [], length, reverse, slice_get, true, IfOk, IsOk, OnErr, OnOk, Option, Some, None};
 ghost use Rattle.protocol.specs.Events.{IsLawfulEvent};
 ghost use Rattle.protocol.specs.Fabric.{forgetting, sending};
 ghost use Rattle.protocol.specs.State.{Device};
 ghost use Rattle.protocol.specs.declared.events.Event.TheVariants as event;
+ghost use Rattle.protocol.specs.Refusals.{refusal_of};
 ghost use Rattle.protocol.specs.WorldStep.{numbered, runs};
+ghost use Rattle.device_core.specs.Readings.{TakesNoMemory};
+ghost use Rattle.indexmap.specs.IndexMap.{spare};
+ghost use Rattle.world_core.specs.Causes.{told_due};
+ghost use Rattle.world_core.specs.Homes.{MakesOrStops, mover};
 ghost use Rattle.world_core.specs.Kept.{IsReady, Makes};
 ghost use Rattle.world_core.specs.Places.{images_of, names_of};
 
 use crate::World;
 use crate::index::{moved_context, note_home};
+use crate::stops::Stops;
 use device_core::{Answered, ContextImage, Device};
 use fabric::{Fabric, Flight};
 use indexmap::IndexMap;
 use protocol::{Event, Outcome};
-use rdma_types::{Address, Answer, Items, Name, ObjName, Sent};
+use rdma_types::{Address, Answer, Items, Name, ObjName, Refusal, Sent};
 use std::alloc::{AllocError, Global};
 
 /// A device that sends: its place and its address.
@@ -124,22 +129,54 @@ pub(crate) fn send_outcome(
     number(answer, next)
 }
 
-/// An image is carried, behind all others, and its context was stopped.
-fn carry(carried: &mut Vec<ContextImage>, stopped: &mut Vec<Name>, image: Option<ContextImage>)
-    requires carried { length carried.old.items < vec_capacity carried.old }
-    requires stopped { length stopped.old.items < vec_capacity stopped.old }
-    ensures carried { carried.new.items ≡ carried.old.items ++ images_of image }
-    ensures stopped { stopped.new.items ≡ stopped.old.items ++ names_of image }
+/// An image is carried, behind all others, and its context was stopped. There must be room for it.
+fn carry(stops: &mut Stops, image: Option<ContextImage>)
+    requires { stops.old.has_room ≡ true }
+    ensures carried { stops.new.carried ≡ stops.old.carried ++ images_of image }
+    ensures stopped { stops.new.stopped ≡ reverse (names_of image) ++ stops.old.stopped }
 {
     if let Some(image) = image {
-        stopped.push_reserved(image.name);
-        carried.push_reserved(image);
+        stops.carry(image);
+    }
+}
+
+/// Makes room for a context that is made or stopped: for where it lives, and for its image. Errors: `AllocError` when out
+/// of memory.
+fn make_room(homes: &mut IndexMap<Name, usize>, stops: &mut Stops) -> Result<(), AllocError>
+    ensures home { OnOk result (0 < spare homes.new) }
+    ensures image { OnOk result (stops.new.has_room ≡ true) }
+    ensures homes { homes.new.entries ≡ homes.old.entries }
+    ensures carried { stops.new.carried ≡ stops.old.carried }
+    ensures stopped { stops.new.stopped ≡ stops.old.stopped }
+{
+    homes.reserve(1)?;
+    stops.reserve()
+}
+
+/// Why a device does not make or stop a context.
+fn move_refusal(device: &Device, event: &Event) -> Option<Refusal>
+    requires { MakesOrStops event.now }
+    ensures { result ≡ refusal_of device.now event.now }
+{
+    match event {
+        Event::MakeContext { name } => device.context_refusal(*name),
+        Event::Stop { context, alone } => device.stop_refusal(*context, *alone),
+        _ => unreachable!(),
+    }
+}
+
+/// What is answered where there is no memory: the refusal that is due. Errors: `AllocError` where none is.
+pub(crate) fn refused_or_lacking(due: Option<Refusal>) -> Result<Answer, AllocError>
+    ensures { result ≡ told_due due }
+{
+    match due {
+        Some(refusal) => Ok(Answer::Refused(refusal)),
+        None => Err(AllocError),
     }
 }
 
 impl World {
-    /// The device at a place makes a step, and what it did is done to the world: its datagrams are sent, and the image of
-    /// a stopped context is carried.
+    /// The device at a place makes a step that makes, stops and restores no context, and its datagrams are sent.
     #[inline(always)]
     pub(crate) fn run(
         &mut self,
@@ -149,14 +186,58 @@ impl World {
     ) -> Result<Answer, AllocError>
         requires place { place < length self.old.devices }
         requires event { IsLawfulEvent event.now }
+        requires stays { mover event.now ≡ None }
         requires ready { IsReady self.old }
         ensures ok { IfOk result (λ answer. (d : Device) → slice_get self.old.devices place ≡ Some d
             → Makes (runs self.old d event.now) answer self.new) }
+        ensures never_out_of_memory { TakesNoMemory event.now → IsOk result }
+        ensures refused_first { OnErr result ((d : Device) → slice_get self.old.devices place
+            ≡ Some d → refusal_of d event.now ≡ None) }
         ensures err { OnErr result (self.new ≡ self.old) }
     {
-        self.homes.reserve(1)?;
-        self.carried.reserve(1)?;
-        self.stopped.reserve(1)?;
+        match self.devices[place].step(alloc, event) {
+            Ok(
+                Outcome {
+                    answer,
+                    sent,
+                    image: _,
+                },
+            ) => {
+                let address = self.devices[place].address();
+                Ok(send_outcome(
+                    &mut self.fabric,
+                    &mut self.devices,
+                    &self.ports,
+                    SendingDevice { place, address },
+                    answer,
+                    sent,
+                ))
+            }
+            Err(fault) => Err(fault),
+        }
+    }
+
+    /// The device at a place makes or stops a context, and what it did is done to the world: its datagrams are sent, and the
+    /// image of a stopped context is carried.
+    pub(crate) fn run_moving(
+        &mut self,
+        alloc: Global,
+        place: usize,
+        event: &Event,
+    ) -> Result<Answer, AllocError>
+        requires place { place < length self.old.devices }
+        requires event { IsLawfulEvent event.now }
+        requires moves { MakesOrStops event.now }
+        requires ready { IsReady self.old }
+        ensures ok { IfOk result (λ answer. (d : Device) → slice_get self.old.devices place ≡ Some d
+            → Makes (runs self.old d event.now) answer self.new) }
+        ensures refused_first { OnErr result ((d : Device) → slice_get self.old.devices place
+            ≡ Some d → refusal_of d event.now ≡ None) }
+        ensures err { OnErr result (self.new ≡ self.old) }
+    {
+        if make_room(&mut self.homes, &mut self.stops).is_err() {
+            return refused_or_lacking(move_refusal(&self.devices[place], event));
+        }
         match self.devices[place].step(alloc, event) {
             Ok(
                 Outcome {
@@ -174,7 +255,7 @@ impl World {
                     answer,
                     sent,
                 );
-                carry(&mut self.carried, &mut self.stopped, image);
+                carry(&mut self.stops, image);
                 note_home(
                     &mut self.homes,
                     self.devices.as_slice(),
@@ -197,6 +278,8 @@ impl World {
         requires ready { IsReady self.old }
         ensures ok { IfOk result (λ answer. (d : Device) → slice_get self.old.devices place ≡ Some d
             → Makes (runs self.old d (event.Transmit end.now)) answer self.new) }
+        ensures refused_first { OnErr result ((d : Device) → slice_get self.old.devices place
+            ≡ Some d → refusal_of d (event.Transmit end.now) ≡ None) }
         ensures err { OnErr result (self.new ≡ self.old) }
     {
         match self.devices[place].transmit(alloc, end) {

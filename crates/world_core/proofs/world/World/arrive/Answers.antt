@@ -24,7 +24,7 @@ invariant_of-self c =
     let kept : is_some (kept_flight c.self.inside.fabric c.args.k) ≡ true = ap (λ (w : World). is_some (kept_flight w.sent c.args.k)) c.self.view_is ∙ c.requires.kept in
     let f : (f : Flight) × (kept_flight c.self.inside.fabric c.args.k ≡ Some f) = some_there _ kept in
     parts_same _ _ _ _ _ _ c.send_outcome.ensures.devices
-    (parts_after _ _ _ _ ds c.self.inside.carried.items c.args.place c.index_mut.result.now c.reach.new.device (event.Arrive f.0.from f.0.bytes) o c.self.invariant here c.reach.ensures.same.0 c.reach.ensures.same.1 (step f.0 f.1) (λ m. refl))
+    (parts_after _ _ _ _ ds c.self.inside.stops.carried c.args.place c.index_mut.result.now c.reach.new.device (event.Arrive f.0.from f.0.bytes) o c.self.invariant here c.reach.ensures.same.0 c.reach.ensures.same.1 (step f.0 f.1) (λ m. refl))
 
 pub returns-in-Ok-clause-ok : goal.returns-in-Ok-clause-ok
 returns-in-Ok-clause-ok c = λ f d kept h.
@@ -55,3 +55,11 @@ reach-requires-clause-found c = λ f kept.
     let lt : c.args.place < length ds = subst (λ (w : World). c.args.place < length w.devices) (sym c.self.view_is) c.requires.place in
     let here : slice_get ds c.args.place ≡ Some c.index_mut.result.now = slice_get_read ds (length ds) c.args.place c.index_mut.result.now refl lt c.index_mut.ensures.value in
     c.requires.found f c.index_mut.result.now (ap (λ (w : World). kept_flight w.sent c.args.k) (sym c.self.view_is) ∙ kept) (ap (λ (w : World). slice_get w.devices c.args.place) (sym c.self.view_is) ∙ here)
+
+pub returns-in-Err-clause-never_out_of_memory : goal.returns-in-Err-clause-never_out_of_memory
+returns-in-Err-clause-never_out_of_memory c = λ nothing.
+    let ds = c.self.inside.devices.items in
+    let lt : c.args.place < length ds = subst (λ (w : World). c.args.place < length w.devices) (sym c.self.view_is) c.requires.place in
+    let here : slice_get ds c.args.place ≡ Some c.index_mut.result.now = slice_get_read ds (length ds) c.args.place c.index_mut.result.now refl lt c.index_mut.ensures.value in
+    c.in-Err.ensures.never_out_of_memory (λ f kept.
+    nothing f c.index_mut.result.now (ap (λ (w : World). kept_flight w.sent c.args.k) (sym c.self.view_is) ∙ kept) (ap (λ (w : World). slice_get w.devices c.args.place) (sym c.self.view_is) ∙ here))
