@@ -194,8 +194,12 @@ int poll_cq(struct ibv_cq *ibv, int room, struct ibv_wc *wc)
 {
     struct queue *queue = (struct queue *)ibv;
     int taken = 0;
+    if (node.forked)
+        return -ENODEV;
     if (atomic_load(&queue->count) == 0)
-        return node.forked ? -ENODEV : 0;
+        progress();
+    if (atomic_load(&queue->count) == 0)
+        return 0;
     pthread_mutex_lock(&queue->lock);
     unsigned count = atomic_load(&queue->count);
     for (; taken < room && count > 0; count--) {
@@ -313,7 +317,6 @@ struct ibv_cq *ibv_create_cq(struct ibv_context *ibv, int cqe, void *cq_context,
     int error = cqe < 1 || cqe > MOST_CQE || comp_vector < 0 || comp_vector >= ibv->num_comp_vectors ? EINVAL : ENODEV;
     if (error == ENODEV && node_enter()) {
         queue = queue_make(context, &error);
-        context->users += queue != NULL;
         node_leave();
     }
     if (!queue) {
@@ -366,7 +369,6 @@ int ibv_destroy_cq(struct ibv_cq *cq)
     atomic_store(&queue->count, 0);
     queue->next_idle = context->idle;
     context->idle = queue;
-    context->users -= 1;
     node_leave();
     return 0;
 }

@@ -138,7 +138,10 @@ struct ibv_context *ibv_open_device(struct ibv_device *device)
     return NULL;
 }
 
-/* The device has no way to drop a context but to stop it, and to forget its husk. */
+/*
+ * The device has no way to drop a context but to stop it, and to forget its husk. What the program has not destroyed before is gone
+ * from the device then; its memory stays the program's to give back.
+ */
 static void context_drop(struct context *context)
 {
     jichurpa_image image = JICHURPA_NOTHING;
@@ -147,6 +150,8 @@ static void context_drop(struct context *context)
     while (*at != context)
         at = &(*at)->next;
     *at = context->next;
+    pairs_drop(context);
+    memories_drop(context);
     jichurpa_stop(&node.here.device, &context->name, 0, &image, &out);
     jichurpa_image_free(&image);
     jichurpa_release(&node.here.device, &context->name, &out);
@@ -157,16 +162,12 @@ int ibv_close_device(struct ibv_context *ibv)
     struct context *context = context_of(ibv);
     if (!node_enter())
         return ENODEV;
-    bool used = context->users > 0;
-    if (!used)
-        context_drop(context);
+    context_drop(context);
     node_leave();
-    if (used)
-        return EBUSY;
     for (struct domain *domain = context->spare; domain; domain = context->spare) {
         context->spare = domain->next_spare;
         if (domain->staging)
-            free(domain->staging->ibv.addr);
+            free(domain->staging);
         free(domain);
     }
     for (struct queue *queue = context->idle; queue; queue = context->idle) {

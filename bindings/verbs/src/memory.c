@@ -100,7 +100,6 @@ struct ibv_pd *ibv_alloc_pd(struct ibv_context *ibv)
     } else {
         error = ENOMEM;
     }
-    context->users += error == 0;
     node_leave();
     if (error == 0)
         return &domain->ibv;
@@ -119,7 +118,6 @@ int ibv_dealloc_pd(struct ibv_pd *pd)
     if (error == 0) { /* the device has no way to drop a domain, so the next one that is asked for is this */
         domain->next_spare = context->spare;
         context->spare = domain;
-        context->users -= 1;
     }
     node_leave();
     return error;
@@ -174,8 +172,8 @@ struct memory *memory_make(struct domain *domain, void *at, size_t length, uint6
     return memory;
 }
 
-/* Takes a region out of the tables, and frees what the layer holds of it. */
-void memory_forget(struct memory *memory)
+/* Takes a region out of the tables. */
+static void memory_unlist(struct memory *memory)
 {
     struct memory **at = &node.by_local[memory->ibv.lkey / 2 % BUCKETS];
     while (*at != memory)
@@ -185,7 +183,19 @@ void memory_forget(struct memory *memory)
     while (*at != memory)
         at = &(*at)->next_remote;
     *at = memory->next_remote;
-    free(memory);
+}
+
+/* The regions of a context that goes. */
+void memories_drop(struct context *context)
+{
+    for (unsigned i = 0; i < BUCKETS; i++) {
+        struct memory *next;
+        for (struct memory *memory = node.by_local[i]; memory; memory = next) {
+            next = memory->next_local;
+            if (memory->ibv.context == &context->verbs.context)
+                memory_unlist(memory);
+        }
+    }
 }
 
 struct ibv_mr *ibv_reg_mr_iova2(struct ibv_pd *pd, void *addr, size_t length, uint64_t iova, unsigned int access)
@@ -223,7 +233,8 @@ int ibv_dereg_mr(struct ibv_mr *mr)
     int error = memory->waiting ? EBUSY : refused(jichurpa_drop_region(&node.here.device, &memory->name, &out), &out);
     if (error == 0) {
         ((struct domain *)mr->pd)->users -= 1;
-        memory_forget(memory);
+        memory_unlist(memory);
+        free(memory);
     }
     node_leave();
     return error;

@@ -33,7 +33,6 @@ struct queue;
 struct context {
     jichurpa_name name;
     unsigned named;       /* names that were given to things of the context */
-    unsigned users;       /* domains, completion queues and channels that live */
     struct domain *spare; /* domains of the device whose owner gave them back */
     struct queue *idle;   /* completion queues, likewise */
     struct context *next;
@@ -44,7 +43,7 @@ struct domain {
     struct ibv_pd ibv;
     jichurpa_object name;
     unsigned users;            /* regions and queue pairs that live */
-    struct memory *staging;    /* a region of the layer's own, for bytes that are sent inline */
+    struct memory *staging;    /* a region of the layer's own, for bytes that are sent inline; its bytes are in the device alone */
     struct domain *next_spare; /* where it was given back */
 };
 
@@ -201,7 +200,7 @@ int refused(jichurpa_result result, const jichurpa_outcome *out); /* the errno o
 
 /* ---- memory.c */
 struct memory *memory_make(struct domain *domain, void *at, size_t length, uint64_t base, unsigned access, int *error);
-void memory_forget(struct memory *memory);
+void memories_drop(struct context *context);
 bool is_in(const struct memory *memory, uint64_t at, uint64_t length);
 bool copy_in(struct memory *memory, uint64_t at, uint64_t length);
 void copy_out(struct memory *memory, uint64_t at, uint64_t length);
@@ -221,6 +220,7 @@ int req_notify_cq(struct ibv_cq *ibv, int solicited_only);
 int pair_connect(struct pair *pair, bool passive);
 void pair_fail(struct pair *pair);
 void fail_late(void);
+void pairs_drop(struct context *context);
 int64_t timeout_of(const struct pair *pair);
 int64_t rnr_wait_of(const struct pair *pair);
 struct ibv_qp *pair_make(struct ibv_pd *pd, struct ibv_qp_init_attr *init, int *error);
@@ -238,6 +238,7 @@ struct ibv_qp *create_qp_ex(struct ibv_context *context, struct ibv_qp_init_attr
 void *serve(void *unused);
 void pump(struct pair *pair); /* sends what may be sent */
 void observe(struct pair *pair);
+void progress(void);
 
 /* ---- moving.c */
 void control_open(void);

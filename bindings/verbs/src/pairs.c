@@ -368,6 +368,17 @@ void fail_late(void)
     }
 }
 
+/* The queue pairs of a context that goes. */
+void pairs_drop(struct context *context)
+{
+    struct pair *next;
+    for (struct pair *pair = node.pairs; pair; pair = next) {
+        next = pair->next;
+        if (pair->ex.qp_base.context == &context->verbs.context)
+            pair_unlist(pair);
+    }
+}
+
 int ibv_destroy_qp(struct ibv_qp *qp)
 {
     struct pair *pair = (struct pair *)qp;

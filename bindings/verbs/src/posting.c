@@ -2,8 +2,9 @@
 #include "node.h"
 #include <arpa/inet.h>
 #include <errno.h>
-#include <stdlib.h>
 #include <string.h>
+
+#define STAGING_BASE 4096 /* the address of a region of the layer's own; no request of a program names it */
 
 /* ---- requests ---- */
 
@@ -188,12 +189,8 @@ int post_recv(struct ibv_qp *ibv, struct ibv_recv_wr *wr, struct ibv_recv_wr **b
 static struct memory *staging(struct domain *domain)
 {
     int error;
-    if (!domain->staging) {
-        void *bytes = calloc(1, MOST_INLINE);
-        domain->staging = bytes ? memory_make(domain, bytes, MOST_INLINE, 4096, 0, &error) : NULL;
-        if (!domain->staging)
-            free(bytes);
-    }
+    if (!domain->staging)
+        domain->staging = memory_make(domain, NULL, MOST_INLINE, STAGING_BASE, 0, &error);
     return domain->staging;
 }
 
@@ -210,10 +207,10 @@ static bool bring(struct pair *pair, struct work *work)
     if (!place)
         return false;
     const uint8_t *bytes = pair->inlined + (request->id % pair->sq.room) * pair->init.cap.max_inline_data;
-    memcpy(place->ibv.addr, bytes, request->length);
+    jichurpa_outcome out;
     request->local = place->base;
     request->local_key = place->ibv.lkey;
-    return copy_in(place, place->base, request->length);
+    return refused(jichurpa_store(&node.here.device, &place->name, place->base, bytes, request->length, &out), &out) == 0;
 }
 
 /* Whether a READ may go now: the socket has room for what is in flight. One READ always may. */

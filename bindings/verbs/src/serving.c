@@ -3,6 +3,7 @@
 #include <endian.h>
 #include <errno.h>
 #include <poll.h>
+#include <sched.h>
 #include <string.h>
 #include <time.h>
 #include <unistd.h>
@@ -10,6 +11,9 @@
 #define MOST_DOUBLINGS 4             /* the retransmission timer is doubled at each expiry, up to 16 times its base */
 #define SHORT_SLEEP (20 * MILLISECOND) /* while queue pairs are busy the thread sleeps no longer, so that setting a timer need not wake it */
 #define BUSY (1000 * MILLISECOND)
+#define POLLED (MILLISECOND / 5) /* so long after such a poll the thread leaves the socket to the program that polls */
+#define POLLS 16                 /* polls in a row that found nothing, of a program that does nothing else */
+#define PATIENCE 64              /* polls in a row that found nothing, before others may run */
 #define TURNS 8 /* batches of datagrams that are taken before the timers are looked at */
 
 /* Opcodes of reliable connections. */
@@ -30,6 +34,7 @@ enum {
 #define ICRC 4
 
 static int64_t busy_until;
+static int64_t polled_until; /* until then a program polls, and takes what comes */
 
 /* ---- timers ---- */
 
@@ -327,6 +332,28 @@ static bool take_batch(const struct link *link)
     return count == BATCH;
 }
 
+/*
+ * A program that polls and finds nothing takes what has come, so that nothing waits for the thread to be scheduled. Where it does so
+ * again and again, the thread leaves the socket to it for a while.
+ */
+void progress(void)
+{
+    static unsigned idle;
+    if (pthread_mutex_trylock(&node.lock) != 0)
+        return;
+    int64_t before = busy_until;
+    if (node.left.socket >= 0)
+        take_batch(&node.left);
+    take_batch(&node.here);
+    idle = busy_until != before ? 0 : idle + 1;
+    bool patient = idle < PATIENCE;
+    if (idle >= POLLS)
+        polled_until = now() + POLLED;
+    node_leave();
+    if (!patient)
+        sched_yield();
+}
+
 /* ---- the thread ---- */
 
 static void sleep_until(int64_t due, struct pollfd *fds, nfds_t count)
@@ -346,7 +373,9 @@ void *serve(void *unused)
         fail_late();
         move_go_on();
         int64_t due = run_timers();
-        struct pollfd fds[] = {{.fd = node.here.socket, .events = POLLIN},
+        bool polled = now() < polled_until;
+        due = polled ? earlier(due, polled_until + MILLISECOND / 10) : due;
+        struct pollfd fds[] = {{.fd = polled ? -1 : node.here.socket, .events = POLLIN},
                                {.fd = node.left.socket, .events = POLLIN},
                                {.fd = node.wake, .events = POLLIN},
                                {.fd = node.control, .events = POLLIN}};
