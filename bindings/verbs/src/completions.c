@@ -8,8 +8,8 @@
 #include <sys/eventfd.h>
 #include <unistd.h>
 
-#define POLLED 64       /* completions that are taken out of the device at once */
-#define FIRST_ROOM 64   /* entries of a queue that nobody asked for more of */
+#define POLLED 64                        /* completions that are taken out of the device at once */
+#define FIRST_ROOM 64                    /* entries of a queue that nobody asked for more of */
 #define DEVICE_CQE JICHURPA_MAX_CAPACITY /* of each completion queue in the device, which the layer empties at each step */
 
 /* ---- events ---- */
@@ -212,9 +212,12 @@ int poll_cq(struct ibv_cq *ibv, int room, struct ibv_wc *wc)
 }
 
 static const enum ibv_wc_opcode opcodes[] = {
-    [JICHURPA_WC_WRITE] = IBV_WC_RDMA_WRITE,        [JICHURPA_WC_SEND] = IBV_WC_SEND,
-    [JICHURPA_WC_READ] = IBV_WC_RDMA_READ,          [JICHURPA_WC_COMPARE_SWAP] = IBV_WC_COMP_SWAP,
-    [JICHURPA_WC_FETCH_ADD] = IBV_WC_FETCH_ADD,     [JICHURPA_WC_RECV] = IBV_WC_RECV,
+    [JICHURPA_WC_WRITE] = IBV_WC_RDMA_WRITE,
+    [JICHURPA_WC_SEND] = IBV_WC_SEND,
+    [JICHURPA_WC_READ] = IBV_WC_RDMA_READ,
+    [JICHURPA_WC_COMPARE_SWAP] = IBV_WC_COMP_SWAP,
+    [JICHURPA_WC_FETCH_ADD] = IBV_WC_FETCH_ADD,
+    [JICHURPA_WC_RECV] = IBV_WC_RECV,
     [JICHURPA_WC_RECV_IMM] = IBV_WC_RECV_RDMA_WITH_IMM,
 };
 
@@ -310,7 +313,8 @@ static struct queue *queue_make(struct context *context, int *error)
     return NULL;
 }
 
-struct ibv_cq *ibv_create_cq(struct ibv_context *ibv, int cqe, void *cq_context, struct ibv_comp_channel *channel, int comp_vector)
+struct ibv_cq *ibv_create_cq(struct ibv_context *ibv, int cqe, void *cq_context, struct ibv_comp_channel *channel,
+                             int comp_vector)
 {
     struct context *context = context_of(ibv);
     struct queue *queue = NULL;

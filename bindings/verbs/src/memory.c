@@ -164,7 +164,8 @@ struct memory *memory_make(struct domain *domain, void *at, size_t length, uint6
     memory->ibv = (struct ibv_mr){.context = domain->ibv.context, .pd = &domain->ibv, .addr = at, .length = length};
     memory->ibv.lkey = out.local_key;
     memory->ibv.rkey = out.remote_key;
-    struct memory **local = &node.by_local[out.local_key / 2 % BUCKETS], **remote = &node.by_remote[out.remote_key / 2 % BUCKETS];
+    struct memory **local = &node.by_local[out.local_key / 2 % BUCKETS],
+                  **remote = &node.by_remote[out.remote_key / 2 % BUCKETS];
     memory->next_local = *local;
     *local = memory;
     memory->next_remote = *remote;

@@ -9,8 +9,8 @@
 #include <sys/un.h>
 #include <unistd.h>
 
-#define SECONDS 10 /* for the answer of a process */
-#define TRIES 500  /* where a partner moves, or the move before is not over */
+#define SECONDS 10  /* for the answer of a process */
+#define TRIES 500   /* where a partner moves, or the move before is not over */
 #define PAUSE 10000 /* microseconds between two tries */
 
 static int fail(const char *what, const char *why)
@@ -55,7 +55,7 @@ int main(int count, char **words)
     for (int i = 0; i < TRIES; i++) {
         if (sendto(own, words[2], strlen(words[2]), 0, (struct sockaddr *)&process, sizeof process) < 0)
             return fail(words[1], errno == ENOENT || errno == ECONNREFUSED ? "no such process, or it has not opened the device"
-                                                                             : strerror(errno));
+                                                                           : strerror(errno));
         ssize_t length = recv(own, text, sizeof text - 1, 0);
         if (length < 0)
             return fail(words[1], "no answer: a partner may not have answered yet");

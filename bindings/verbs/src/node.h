@@ -15,14 +15,14 @@
 #include <sys/socket.h>
 
 /* What a program can name is exported; all else of the layer is hidden by its version script. */
-#define PORT_NUMBER 1           /* the one port of the device, as libibverbs counts them */
-#define MOST_WORK 16384         /* requests of a queue of a queue pair; the device holds up to JICHURPA_MAX_DEPTH of them */
-#define MOST_CQE 65536          /* entries that may be asked of a completion queue */
-#define MOST_INLINE 1024        /* bytes that may be sent inline */
-#define MOST_READS 16           /* READs and atomics in flight of a queue pair */
-#define MILLISECOND 1000000LL   /* in nanoseconds, as all times of the layer */
-#define BUCKETS 256             /* of each table by numbers or keys */
-#define BATCH 32                /* datagrams that are sent or taken by one call of the system */
+#define PORT_NUMBER 1         /* the one port of the device, as libibverbs counts them */
+#define MOST_WORK 16384       /* requests of a queue of a queue pair; the device holds up to JICHURPA_MAX_DEPTH of them */
+#define MOST_CQE 65536        /* entries that may be asked of a completion queue */
+#define MOST_INLINE 1024      /* bytes that may be sent inline */
+#define MOST_READS 16         /* READs and atomics in flight of a queue pair */
+#define MILLISECOND 1000000LL /* in nanoseconds, as all times of the layer */
+#define BUCKETS 256           /* of each table by numbers or keys */
+#define BATCH 32              /* datagrams that are sent or taken by one call of the system */
 #define ROOM (JICHURPA_MAX_DATAGRAM + 4)
 #define NO_TIME INT64_MAX
 
@@ -42,8 +42,8 @@ struct context {
 struct domain {
     struct ibv_pd ibv;
     jichurpa_object name;
-    unsigned users;            /* regions and queue pairs that live */
-    struct memory *staging;    /* a region of the layer's own, for bytes that are sent inline; its bytes are in the device alone */
+    unsigned users;         /* regions and queue pairs that live */
+    struct memory *staging; /* a region of the layer's own, for bytes that are sent inline; its bytes are in the device alone */
     struct domain *next_spare; /* where it was given back */
 };
 
@@ -72,8 +72,8 @@ struct queue {
     unsigned room, first;
     atomic_uint count; /* changed with the lock held, and read without it too */
     enum { UNARMED, ARMED_SOLICITED, ARMED } armed;
-    unsigned events;   /* events that wait in the channel; with the channel's lock held */
-    uint32_t told;     /* events that were handed out; with the channel's lock held */
+    unsigned events; /* events that wait in the channel; with the channel's lock held */
+    uint32_t told;   /* events that were handed out; with the channel's lock held */
     struct queue *next_event;
     struct queue *next_idle;
 };
@@ -121,12 +121,12 @@ struct pair {
     jichurpa_object name;
     struct ibv_qp_attr attr; /* as modified so far */
     struct ibv_qp_init_attr init;
-    bool connected;    /* the device's queue pair is connected */
-    bool failing;      /* it is to be put in Error once its partner has moved */
-    bool leaving;      /* it is being destroyed: what completes is dropped */
-    bool lost;         /* something was lost on the way to or from its partner */
-    uint32_t shift;    /* what is added to packet sequence numbers of its own requests */
-    jichurpa_end end;  /* what the device told of it last */
+    bool connected;   /* the device's queue pair is connected */
+    bool failing;     /* it is to be put in Error once its partner has moved */
+    bool leaving;     /* it is being destroyed: what completes is dropped */
+    bool lost;        /* something was lost on the way to or from its partner */
+    uint32_t shift;   /* what is added to packet sequence numbers of its own requests */
+    jichurpa_end end; /* what the device told of it last */
     struct timers timers;
     struct work *sends;
     uint8_t *inlined; /* MOST_INLINE bytes for each place, or as many as were asked for */
@@ -178,11 +178,11 @@ struct node {
 extern struct node node;
 
 /* ---- node.c: the device, its link and its locks */
-int node_start(void);            /* 0, or why the device is not there */
-bool node_enter(void);           /* takes the lock; false in a child of a fork, and then it is not taken */
-void node_leave(void);           /* sends what waits, and gives the lock back */
-void node_wake(int64_t due);     /* the thread looks again at its timers, where it would sleep longer than that */
-int64_t now(void);               /* of a clock that only goes on */
+int node_start(void);        /* 0, or why the device is not there */
+bool node_enter(void);       /* takes the lock; false in a child of a fork, and then it is not taken */
+void node_leave(void);       /* sends what waits, and gives the lock back */
+void node_wake(int64_t due); /* the thread looks again at its timers, where it would sleep longer than that */
+int64_t now(void);           /* of a clock that only goes on */
 bool env_address(jichurpa_address *address);
 bool parse_address(const char *text, jichurpa_address *address);
 int link_open(struct link *link, unsigned id, const jichurpa_address *address);

@@ -6,8 +6,8 @@
 #include <string.h>
 #include <time.h>
 
-#define LEAST_TIMEOUT (20 * MILLISECOND)     /* a smaller timeout counts as this */
-#define DEFAULT_TIMEOUT (100 * MILLISECOND)  /* where the program asks for none */
+#define LEAST_TIMEOUT (20 * MILLISECOND)    /* a smaller timeout counts as this */
+#define DEFAULT_TIMEOUT (100 * MILLISECOND) /* where the program asks for none */
 #define LONGEST_LINGER (1000 * MILLISECOND)
 #define PSN_MASK JICHURPA_MAX_PSN
 
@@ -105,8 +105,13 @@ struct ibv_qp *pair_make(struct ibv_pd *pd, struct ibv_qp_init_attr *init, int *
     pair->init = *init;
     pair->attr.cap = init->cap;
     pair->timers = (struct timers){.retransmission = NO_TIME, .rnr = NO_TIME};
-    pair->ex.qp_base = (struct ibv_qp){.context = pd->context, .qp_context = init->qp_context, .pd = pd, .send_cq = init->send_cq,
-                                       .recv_cq = init->recv_cq, .state = IBV_QPS_RESET, .qp_type = init->qp_type};
+    pair->ex.qp_base = (struct ibv_qp){.context = pd->context,
+                                       .qp_context = init->qp_context,
+                                       .pd = pd,
+                                       .send_cq = init->send_cq,
+                                       .recv_cq = init->recv_cq,
+                                       .state = IBV_QPS_RESET,
+                                       .qp_type = init->qp_type};
     pthread_mutex_init(&pair->ex.qp_base.mutex, NULL);
     pthread_cond_init(&pair->ex.qp_base.cond, NULL);
     *error = node_enter() ? pair_name(pair, domain) : ENODEV;
@@ -167,7 +172,8 @@ int pair_connect(struct pair *pair, bool passive)
     if (!partner_of(pair, &partner))
         return EINVAL;
     int error = refused(
-        jichurpa_connect(&node.here.device, &pair->name, attr->dest_qp_num & JICHURPA_MAX_QP_NUMBER, &partner, &terms, &out), &out);
+        jichurpa_connect(&node.here.device, &pair->name, attr->dest_qp_num & JICHURPA_MAX_QP_NUMBER, &partner, &terms, &out),
+        &out);
     pair->connected = error == 0;
     return error;
 }
@@ -330,8 +336,9 @@ int ibv_query_qp(struct ibv_qp *qp, struct ibv_qp_attr *attr, int attr_mask, str
 /* The time that a sender waits where its partner has no receive; 0 stands for 655.36 milliseconds (IBA). */
 int64_t rnr_wait_of(const struct pair *pair)
 {
-    static const int hundredths[32] = {65536, 1,   2,   3,   4,   6,    8,    12,   16,   24,   32,   48,   64,    96,    128,   192,
-                                       256,   384, 512, 768, 1024, 1536, 2048, 3072, 4096, 6144, 8192, 12288, 16384, 24576, 32768, 49152};
+    static const int hundredths[32] = {65536, 1,    2,    3,    4,    6,     8,     12,    16,    24,   32,
+                                       48,    64,   96,   128,  192,  256,   384,   512,   768,   1024, 1536,
+                                       2048,  3072, 4096, 6144, 8192, 12288, 16384, 24576, 32768, 49152};
     int64_t wait = hundredths[pair->attr.min_rnr_timer & 31] * (MILLISECOND / 100);
     return wait < MILLISECOND ? MILLISECOND : wait;
 }

@@ -76,7 +76,8 @@ static int locate(struct work *work, const struct pair *pair, const struct ibv_s
     if (request->length > JICHURPA_MAX_MESSAGE || (is_atomic(request->kind) && request->length != 8))
         return EINVAL;
     if (work->is_inline) {
-        if (request->length > pair->init.cap.max_inline_data || (request->kind != JICHURPA_SEND && request->kind != JICHURPA_WRITE))
+        if (request->length > pair->init.cap.max_inline_data ||
+            (request->kind != JICHURPA_SEND && request->kind != JICHURPA_WRITE))
             return EINVAL;
         if (request->length > 0)
             memcpy(pair->inlined + (pair->sq.last % pair->sq.room) * pair->init.cap.max_inline_data,
@@ -267,7 +268,8 @@ static void flush_rest(struct pair *pair)
         finish(&(jichurpa_completion){.qp = number, .kind = JICHURPA_WC_RECV, .status = JICHURPA_WC_FLUSH});
     }
     while (pair->sq.first == pair->sq.given && pair->sq.given < pair->sq.last) {
-        uint32_t kind = pair->sends[pair->sq.given % pair->sq.room].request.kind; /* completions of requests have these numbers too */
+        uint32_t kind =
+            pair->sends[pair->sq.given % pair->sq.room].request.kind; /* completions of requests have these numbers too */
         pair->sq.given += 1;
         finish(&(jichurpa_completion){.qp = number, .kind = kind, .status = JICHURPA_WC_FLUSH});
     }

@@ -8,13 +8,14 @@
 #include <time.h>
 #include <unistd.h>
 
-#define MOST_DOUBLINGS 4             /* the retransmission timer is doubled at each expiry, up to 16 times its base */
-#define SHORT_SLEEP (20 * MILLISECOND) /* while queue pairs are busy the thread sleeps no longer, so that setting a timer need not wake it */
+#define MOST_DOUBLINGS 4 /* the retransmission timer is doubled at each expiry, up to 16 times its base */
+#define SHORT_SLEEP                                                                                                            \
+    (20 * MILLISECOND) /* while queue pairs are busy the thread sleeps no longer, so that setting a timer need not wake it */
 #define BUSY (1000 * MILLISECOND)
 #define POLLED (MILLISECOND / 5) /* so long after such a poll the thread leaves the socket to the program that polls */
 #define POLLS 16                 /* polls in a row that found nothing, of a program that does nothing else */
 #define PATIENCE 64              /* polls in a row that found nothing, before others may run */
-#define TURNS 8 /* batches of datagrams that are taken before the timers are looked at */
+#define TURNS 8                  /* batches of datagrams that are taken before the timers are looked at */
 
 /* Opcodes of reliable connections. */
 enum {
@@ -28,10 +29,10 @@ enum {
     FETCH_ADD = 0x14,
 };
 
-#define BTH 12
-#define RETH 16
-#define IMM 4
-#define ICRC 4
+#define BTH 12U
+#define RETH 16U
+#define IMM 4U
+#define ICRC 4U
 
 static int64_t busy_until;
 static int64_t polled_until; /* until then a program polls, and takes what comes */
@@ -200,10 +201,11 @@ static struct arrival arrival_of(uint8_t *bytes, size_t count)
 /* A request of a kind that the queue pair does not allow loses its key, and so is refused as one that is not granted. */
 static void check_access(const struct arrival *it)
 {
-    unsigned needed = is_atomic(it->opcode)           ? IBV_ACCESS_REMOTE_ATOMIC
+    unsigned needed = is_atomic(it->opcode)        ? IBV_ACCESS_REMOTE_ATOMIC
                       : it->opcode == READ_REQUEST ? IBV_ACCESS_REMOTE_READ
-                                                     : IBV_ACCESS_REMOTE_WRITE;
-    if ((has_reth(it->opcode) || is_atomic(it->opcode)) && it->count >= BTH + RETH && !(it->pair->attr.qp_access_flags & needed))
+                                                   : IBV_ACCESS_REMOTE_WRITE;
+    if ((has_reth(it->opcode) || is_atomic(it->opcode)) && it->count >= BTH + RETH &&
+        !(it->pair->attr.qp_access_flags & needed))
         memset(it->bytes + BTH + 8, 0, 4);
 }
 
