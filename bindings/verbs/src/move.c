@@ -9,7 +9,8 @@
 #include <sys/un.h>
 #include <unistd.h>
 
-#define SECONDS 10  /* for the answer of a process */
+#define WAIT 100000 /* microseconds for an answer, before it is looked whether the process is still there */
+#define WAITS 100
 #define TRIES 500   /* where a partner moves, or the move before is not over */
 #define PAUSE 10000 /* microseconds between two tries */
 
@@ -23,12 +24,29 @@ static int fail(const char *what, const char *why)
 static int open_socket(void)
 {
     const struct sockaddr_un any = {.sun_family = AF_UNIX};
-    const struct timeval limit = {.tv_sec = SECONDS};
+    const struct timeval limit = {.tv_usec = WAIT};
     int made = socket(AF_UNIX, SOCK_DGRAM | SOCK_CLOEXEC, 0);
     if (made < 0 || bind(made, (const struct sockaddr *)&any, sizeof any.sun_family) != 0 ||
         setsockopt(made, SOL_SOCKET, SO_RCVTIMEO, &limit, sizeof limit) != 0)
         return -1;
     return made;
+}
+
+/* The answer of a process. Answers null, or why there is none. */
+static const char *answer(int own, const char *path, char *text)
+{
+    for (int i = 0; i < WAITS; i++) {
+        ssize_t length = recv(own, text, CONTROL_ROOM - 1, 0);
+        if (length >= 0) {
+            text[length] = 0;
+            return NULL;
+        }
+        if (errno != EAGAIN && errno != EINTR)
+            return strerror(errno);
+        if (access(path, F_OK) != 0)
+            return "the process ended";
+    }
+    return "it moves, but a partner has not answered yet";
 }
 
 static bool begins(const char *text, const char *with)
@@ -56,10 +74,9 @@ int main(int count, char **words)
         if (sendto(own, words[2], strlen(words[2]), 0, (struct sockaddr *)&process, sizeof process) < 0)
             return fail(words[1], errno == ENOENT || errno == ECONNREFUSED ? "no such process, or it has not opened the device"
                                                                            : strerror(errno));
-        ssize_t length = recv(own, text, sizeof text - 1, 0);
-        if (length < 0)
-            return fail(words[1], "no answer: a partner may not have answered yet");
-        text[length] = 0;
+        why = answer(own, process.sun_path, text);
+        if (why)
+            return fail(words[1], why);
         if (!begins(text, CONTROL_LATER))
             break;
         usleep(PAUSE);

@@ -66,6 +66,15 @@ static bool is_any(uint32_t state)
     return false;
 }
 
+/* Whether a queue pair is on its way to its partner, whom the program has told this address. */
+static bool is_connecting(void)
+{
+    for (struct pair *pair = node.pairs; pair; pair = pair->next)
+        if (!pair->connected && pair->attr.qp_state != IBV_QPS_ERR)
+            return true;
+    return false;
+}
+
 /* Puts contexts back on the device that they were stopped on. They resume there. */
 static void put_back(struct context *end, jichurpa_image *images)
 {
@@ -129,6 +138,8 @@ static const char *move_to(const jichurpa_address *to)
         return "the device is there already";
     if (is_any(JICHURPA_PAUSED))
         return CONTROL_LATER "a partner moves";
+    if (is_connecting())
+        return CONTROL_LATER "a queue pair is not connected yet, and its program has told this address";
     flush(&node.here);
     int error = link_open(&target, node.id % MOST_IDS + 1, to);
     if (error != 0)

@@ -171,7 +171,8 @@ int node_start(void)
         return ENODEV;
     pthread_mutex_lock(&node.lock);
     int error = node.started ? 0 : start();
-    node.started = node.started || error == 0;
+    if (error == 0)
+        node.started = true;
     pthread_mutex_unlock(&node.lock);
     if (error != 0 && error != ENODEV)
         fprintf(stderr, "jichurpa-verbs: the device at %s cannot be made: %s\n", getenv("JICHURPA_ADDRESS"), strerror(error));

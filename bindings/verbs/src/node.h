@@ -156,9 +156,9 @@ struct outbox {
 
 struct node {
     pthread_mutex_t lock;
-    bool started;
-    bool forked; /* this is a child of a fork: it has no thread, and its calls are refused */
-    unsigned id; /* of the device now */
+    atomic_bool started;
+    atomic_bool forked; /* this is a child of a fork: it has no thread, and its calls are refused */
+    unsigned id;        /* of the device now */
     struct link here;
     struct link left; /* the device that was left, with husks; its socket is -1 where there is none */
     int wake, control;

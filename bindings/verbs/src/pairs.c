@@ -344,12 +344,17 @@ int64_t rnr_wait_of(const struct pair *pair)
 }
 
 /* Where something was lost, the partner may still lack an acknowledgement: it is answered for a while before the end. */
-static void linger(struct pair *pair)
+static void linger(const struct pair *pair)
 {
     const struct timespec step = {.tv_nsec = 10 * MILLISECOND};
     int64_t base = 4 * timeout_of(pair), end = now() + (base < LONGEST_LINGER ? base : LONGEST_LINGER);
-    while (pair->lost && pair->attr.qp_state == IBV_QPS_RTS && now() < end)
-        nanosleep(&step, NULL);
+    bool owes = true;
+    while (owes && now() < end && node_enter()) {
+        owes = pair->lost && pair->attr.qp_state == IBV_QPS_RTS;
+        node_leave();
+        if (owes)
+            nanosleep(&step, NULL);
+    }
 }
 
 /* The base of its retransmission timer: 4.096 microseconds, doubled as often as the program says. */
