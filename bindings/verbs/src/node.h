@@ -228,10 +228,11 @@ struct ibv_qp *pair_make(struct ibv_pd *pd, struct ibv_qp_init_attr *init, int *
 /* ---- posting.c */
 int post_send(struct ibv_qp *ibv, struct ibv_send_wr *wr, struct ibv_send_wr **bad);
 int post_recv(struct ibv_qp *ibv, struct ibv_recv_wr *wr, struct ibv_recv_wr **bad);
-void feed(struct pair *pair); /* gives the device what was posted, as much as it takes */
+int post_all(struct pair *pair, struct ibv_send_wr *first); /* all of a list, or none */
+void feed(struct pair *pair);                               /* gives the device what was posted, as much as it takes */
 
 /* ---- extended.c: requests by ibv_wr_start and its kin */
-void extended_init(struct pair *pair);
+void extended_free(struct extended *extended);
 struct ibv_qp *create_qp_ex(struct ibv_context *context, struct ibv_qp_init_attr_ex *init);
 
 /* ---- serving.c: the thread */

@@ -39,7 +39,7 @@ static void pair_free(struct pair *pair)
     free(pair->sends);
     free(pair->inlined);
     free(pair->receives);
-    free(pair->extended);
+    extended_free(pair->extended);
     free(pair);
 }
 

@@ -119,23 +119,42 @@ static int take_send(struct pair *pair, const struct ibv_send_wr *wr)
     return error;
 }
 
+/* A list into the send queue, up to the first that is refused, which `bad` is then. */
+static int take_list(struct pair *pair, struct ibv_send_wr *wr, struct ibv_send_wr **bad)
+{
+    int error = pair->attr.qp_state == IBV_QPS_RTS || pair->attr.qp_state == IBV_QPS_ERR ? 0 : EINVAL;
+    for (; error == 0 && wr; wr = error == 0 ? wr->next : wr)
+        error = take_send(pair, wr);
+    if (error != 0)
+        *bad = wr;
+    return error;
+}
+
 int post_send(struct ibv_qp *ibv, struct ibv_send_wr *wr, struct ibv_send_wr **bad)
 {
     struct pair *pair = (struct pair *)ibv;
-    int error = node_enter() ? 0 : ENODEV;
-    if (error != 0) {
+    if (!node_enter()) {
         *bad = wr;
-        return error;
+        return ENODEV;
     }
-    if (pair->attr.qp_state != IBV_QPS_RTS && pair->attr.qp_state != IBV_QPS_ERR)
-        error = EINVAL;
-    for (; error == 0 && wr; wr = wr->next) {
-        error = take_send(pair, wr);
-        if (error != 0)
-            break;
+    int error = take_list(pair, wr, bad);
+    pump(pair);
+    node_leave();
+    return error;
+}
+
+int post_all(struct pair *pair, struct ibv_send_wr *first)
+{
+    struct ibv_send_wr *bad;
+    if (!node_enter())
+        return ENODEV;
+    uint64_t before = pair->sq.last;
+    int error = take_list(pair, first, &bad);
+    for (; error != 0 && pair->sq.last > before; pair->sq.last--) {
+        struct work *work = &pair->sends[(pair->sq.last - 1) % pair->sq.room];
+        if (work->memory)
+            work->memory->waiting -= 1;
     }
-    if (error != 0)
-        *bad = wr;
     pump(pair);
     node_leave();
     return error;

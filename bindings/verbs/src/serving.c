@@ -8,14 +8,14 @@
 #include <time.h>
 #include <unistd.h>
 
-#define MOST_DOUBLINGS 4 /* the retransmission timer is doubled at each expiry, up to 16 times its base */
-#define SHORT_SLEEP                                                                                                            \
-    (20 * MILLISECOND) /* while queue pairs are busy the thread sleeps no longer, so that setting a timer need not wake it */
+#define MOST_DOUBLINGS 4               /* the retransmission timer is doubled at each expiry, up to 16 times its base */
+#define SHORT_SLEEP (20 * MILLISECOND) /* the thread's, while datagrams come: then setting a timer need not wake it */
 #define BUSY (1000 * MILLISECOND)
 #define POLLED (MILLISECOND / 5) /* so long after such a poll the thread leaves the socket to the program that polls */
-#define POLLS 16                 /* polls in a row that found nothing, of a program that does nothing else */
-#define PATIENCE 64              /* polls in a row that found nothing, before others may run */
-#define TURNS 8                  /* batches of datagrams that are taken before the timers are looked at */
+#define WATCHED (100 * MILLISECOND)
+#define POLLS 16    /* polls in a row that found nothing, of a program that does nothing else */
+#define PATIENCE 64 /* polls in a row that found nothing, before others may run */
+#define TURNS 8     /* batches of datagrams that are taken before the timers are looked at */
 
 /* Opcodes of reliable connections. */
 enum {
@@ -35,7 +35,8 @@ enum {
 #define ICRC 4U
 
 static int64_t busy_until;
-static int64_t polled_until; /* until then a program polls, and takes what comes */
+static int64_t polled_until;  /* until then a program polls, and takes what comes */
+static int64_t watched_until; /* until then the thread watches the socket all the same, since a program stopped polling */
 
 /* ---- timers ---- */
 
@@ -349,8 +350,9 @@ void progress(void)
     take_batch(&node.here);
     idle = busy_until != before ? 0 : idle + 1;
     bool patient = idle < PATIENCE;
-    if (idle >= POLLS)
-        polled_until = now() + POLLED;
+    int64_t time = now();
+    if (idle >= POLLS && time >= watched_until)
+        polled_until = time + POLLED;
     node_leave();
     if (!patient)
         sched_yield();
@@ -364,6 +366,17 @@ static void sleep_until(int64_t due, struct pollfd *fds, nfds_t count)
     struct timespec time = {.tv_sec = rest > 0 ? rest / 1000000000 : 0, .tv_nsec = rest > 0 ? rest % 1000000000 : 0};
     ppoll(fds, count, due == NO_TIME ? NULL : &time, NULL);
     atomic_store(&node.asleep_until, 0);
+}
+
+/* Where a program polled, and does so no more, what came meanwhile is taken, and the thread watches the socket for a while. */
+static void take_over(void)
+{
+    int64_t before = busy_until, time = now();
+    if (time < polled_until)
+        return;
+    take_batch(&node.here);
+    if (busy_until != before)
+        watched_until = time + WATCHED;
 }
 
 void *serve(void *unused)
@@ -391,6 +404,8 @@ void *serve(void *unused)
             control_serve();
         for (int i = 0; i < TURNS && node.left.socket >= 0 && fds[1].revents && take_batch(&node.left); i++)
             ;
+        if (polled)
+            take_over();
         for (int i = 0; i < TURNS && fds[0].revents && take_batch(&node.here); i++)
             ;
         node_leave();

@@ -92,15 +92,20 @@ struct couple {
     struct ibv_qp *a, *b;
 };
 
-static struct couple connect_two(const struct options *options)
+static void connect_made(struct couple two, const struct options *options)
 {
-    struct couple two = {make(options), make(options)};
     to_init(two.a, options);
     to_init(two.b, options);
     to_rtr(two.a, two.b->qp_num, options->psn + 1000, options);
     to_rtr(two.b, two.a->qp_num, options->psn, options);
     to_rts(two.a, options->psn, options);
     to_rts(two.b, options->psn + 1000, options);
+}
+
+static struct couple connect_two(const struct options *options)
+{
+    struct couple two = {make(options), make(options)};
+    connect_made(two, options);
     return two;
 }
 
@@ -357,6 +362,55 @@ static void try_events(void)
     CHECK(poll(&ready, 1, 0) == 0);
     CHECK(ibv_destroy_comp_channel(channel) == EBUSY);
     part(two);
+}
+
+/* Requests by ibv_wr_start and its kin, all or none of them. */
+static void try_extended(void)
+{
+    struct ibv_qp_init_attr_ex init = {.send_cq = cq,
+                                       .recv_cq = cq,
+                                       .cap = {8, 8, 1, 1, 64},
+                                       .qp_type = IBV_QPT_RC,
+                                       .comp_mask = IBV_QP_INIT_ATTR_PD | IBV_QP_INIT_ATTR_SEND_OPS_FLAGS,
+                                       .pd = pd,
+                                       .send_ops_flags = IBV_QP_EX_WITH_SEND | IBV_QP_EX_WITH_RDMA_WRITE_WITH_IMM};
+    struct couple two = {ibv_create_qp_ex(context, &init), make(&usual)};
+    CHECK(two.a && ibv_qp_to_qp_ex(two.a) && !ibv_qp_to_qp_ex(two.b));
+    struct ibv_qp_ex *ex = ibv_qp_to_qp_ex(two.a);
+    uint8_t words[8] = "inline";
+    connect_made(two, &usual);
+    fill(bytes, 100, 4);
+    receive(two.b, 1, bytes + HALF + 4096, 64);
+    receive(two.b, 2, bytes + HALF + 8192, 64);
+    ibv_wr_start(ex);
+    ex->wr_id = 10;
+    ex->wr_flags = 0;
+    ibv_wr_send(ex);
+    ibv_wr_set_inline_data(ex, words, sizeof words);
+    memset(words, 0, sizeof words);
+    ex->wr_id = 11;
+    ex->wr_flags = IBV_SEND_SIGNALED;
+    ibv_wr_rdma_write_imm(ex, theirs->rkey, (uintptr_t)bytes + HALF, htonl(6));
+    ibv_wr_set_sge(ex, mine->lkey, (uintptr_t)bytes, 100);
+    CHECK(ibv_wr_complete(ex) == 0);
+    for (unsigned sent = 0, received = 0; sent + received < 3;) {
+        struct ibv_wc wc = next();
+        CHECK(wc.status == IBV_WC_SUCCESS && wc.wr_id == (wc.opcode & IBV_WC_RECV ? ++received : 11 + sent++));
+    }
+    CHECK(memcmp(bytes + HALF + 4096, "inline", 7) == 0 && memcmp(bytes, bytes + HALF, 100) == 0);
+    ibv_wr_start(ex);
+    ibv_wr_send(ex);
+    ibv_wr_set_sge(ex, mine->lkey, (uintptr_t)bytes, 8);
+    ibv_wr_send(ex);
+    ibv_wr_set_sge(ex, mine->lkey + 2, (uintptr_t)bytes, 8); /* granted to nobody */
+    CHECK(ibv_wr_complete(ex) == EINVAL);
+    ibv_wr_start(ex);
+    ibv_wr_send(ex);
+    ibv_wr_abort(ex);
+    CHECK(ibv_poll_cq(cq, 1, &(struct ibv_wc){0}) == 0);
+    part(two);
+    init.send_ops_flags |= IBV_QP_EX_WITH_BIND_MW;
+    CHECK(!ibv_create_qp_ex(context, &init) && errno == EOPNOTSUPP);
 }
 
 /* A side that is only in RTR receives; when it goes to RTS its requests have the packet sequence numbers that it told. */
@@ -626,6 +680,7 @@ int main(void)
     try_flags();
     try_depth();
     try_events();
+    try_extended();
     try_passive_side();
     close_all();
     open_all(); /* the queue pairs of a context that were destroyed count until it is closed */
