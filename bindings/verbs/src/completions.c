@@ -221,13 +221,11 @@ static const enum ibv_wc_opcode opcodes[] = {
     [JICHURPA_WC_RECV_IMM] = IBV_WC_RECV_RDMA_WITH_IMM,
 };
 
-/* A request is finished: what it brought comes out, and it is told where the program asked for that or it failed. */
+/* A request is finished: the old word of an atomic comes out, and it is told where the program asked for that or it failed. */
 static void finish_send(struct pair *pair, const jichurpa_completion *done, struct ibv_wc *wc)
 {
     struct work *work = &pair->sends[pair->sq.first % pair->sq.room];
     bool good = done->status == JICHURPA_WC_SUCCESS;
-    if (good && work->memory && work->request.kind == JICHURPA_READ)
-        copy_out(work->memory, work->request.local, work->request.length);
     if (good && work->memory && (work->request.kind == JICHURPA_COMPARE_SWAP || work->request.kind == JICHURPA_FETCH_ADD))
         old_word_out(work->memory, work->request.local);
     if (work->request.kind == JICHURPA_READ && work->given)
@@ -235,18 +233,17 @@ static void finish_send(struct pair *pair, const jichurpa_completion *done, stru
     if (work->memory)
         work->memory->waiting -= 1;
     pair->sq.first += 1;
+    node.freed += 1;
     wc->wr_id = work->id;
     wc->byte_len = good ? work->request.length : 0;
     if ((work->signaled || !good) && !pair->leaving)
         complete((struct queue *)pair->ex.qp_base.send_cq, pair, wc, false);
 }
 
-/* A receive is used or flushed. The bytes of a WRITE with immediate are out already, and land elsewhere. */
+/* A receive is used or flushed. Its bytes came out packet by packet. */
 static void finish_receive(struct pair *pair, const jichurpa_completion *done, struct ibv_wc *wc)
 {
     struct receive *receive = &pair->receives[pair->rq.first % pair->rq.room];
-    if (done->status == JICHURPA_WC_SUCCESS && done->kind == JICHURPA_WC_RECV && receive->memory)
-        copy_out(receive->memory, receive->local, done->length);
     if (receive->memory)
         receive->memory->waiting -= 1;
     pair->rq.first += 1;

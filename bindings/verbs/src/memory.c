@@ -236,6 +236,8 @@ int ibv_dereg_mr(struct ibv_mr *mr)
         ((struct domain *)mr->pd)->users -= 1;
         memory_unlist(memory);
         free(memory);
+        node.freed += 1;
+        feed_starved();
     }
     node_leave();
     return error;

@@ -91,7 +91,8 @@ struct work {
     struct memory *memory; /* that of its local bytes; null where there are none, or they are inline */
     bool signaled;
     bool is_inline;
-    bool given; /* the device has it */
+    bool given;      /* the device has it */
+    uint32_t landed; /* bytes of a READ that have landed */
 };
 
 /* A receive that is not used. */
@@ -132,6 +133,9 @@ struct pair {
     uint8_t *inlined; /* MOST_INLINE bytes for each place, or as many as were asked for */
     struct receive *receives;
     struct positions sq, rq;
+    uint32_t received;      /* bytes of the message in progress that are in its receive */
+    bool starved;           /* a request waits for what is not free; it is tried again when .. */
+    uint64_t starved_at;    /* .. node.freed is larger than this */
     struct memory *landing; /* of the WRITE in progress: its region, and the next address */
     uint64_t landing_at;
     struct extended *extended; /* requests between wr_start and wr_complete */
@@ -168,6 +172,8 @@ struct node {
     struct pair *by_number[BUCKETS];
     struct memory *by_local[BUCKETS], *by_remote[BUCKETS];
     uint64_t read_room; /* bytes of READs that may be in flight: what the socket's buffer holds of their responses */
+    uint64_t freed;     /* how often pages, or room for READs, may have become free */
+    uint64_t fed;       /* that number when queue pairs that wait were looked at */
     uint64_t reading;   /* bytes of the READs in the device */
     unsigned window;    /* request packets of a queue pair that may be in flight, for the same reason */
     int64_t stopped_at, restored_at; /* of the move that is not over */
@@ -239,6 +245,7 @@ struct ibv_qp *create_qp_ex(struct ibv_context *context, struct ibv_qp_init_attr
 void *serve(void *unused);
 void pump(struct pair *pair); /* sends what may be sent */
 void observe(struct pair *pair);
+void feed_starved(void);
 void progress(void);
 
 /* ---- moving.c */

@@ -208,8 +208,8 @@ void pair_fail(struct pair *pair)
     memcpy(bytes + 4, &(uint32_t){htobe32(number)}, 4);
     memcpy(bytes + 8, &psn, 4);
     jichurpa_arrive(&node.here.device, &node.here.address, bytes, sizeof bytes, &out);
-    feed(pair);
     observe(pair);
+    feed(pair);
 }
 
 /* ---- from state to state ---- */

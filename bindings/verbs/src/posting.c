@@ -294,6 +294,12 @@ static void flush_rest(struct pair *pair)
     }
 }
 
+/* Whether something waits for which the device has a place. */
+static bool has_place(const struct positions *queue)
+{
+    return queue->given < queue->last && queue->given - queue->first < queue->depth;
+}
+
 /*
  * Gives the device what was posted, in order, as much as it takes: it has places for 256 requests and 256 receives of a queue pair,
  * and pages for 32 MiB. What it does not take now waits for something to complete.
@@ -301,11 +307,16 @@ static void flush_rest(struct pair *pair)
 void feed(struct pair *pair)
 {
     if (pair->end.state == JICHURPA_ERROR) {
+        pair->starved = false;
         flush_rest(pair);
         return;
     }
-    while (pair->rq.given < pair->rq.last && pair->rq.given - pair->rq.first < pair->rq.depth && give_receive(pair))
+    while (has_place(&pair->rq) && give_receive(pair))
         ;
-    while (pair->sq.given < pair->sq.last && pair->sq.given - pair->sq.first < pair->sq.depth && give_send(pair))
+    if (pair->starved && pair->starved_at == node.freed)
+        return;
+    pair->starved_at = node.freed;
+    while (has_place(&pair->sq) && give_send(pair))
         ;
+    pair->starved = has_place(&pair->sq);
 }

@@ -19,11 +19,18 @@
 
 /* Opcodes of reliable connections. */
 enum {
+    SEND_FIRST = 0x00,
+    SEND_LAST_IMM = 0x03,
+    SEND_ONLY = 0x04,
+    SEND_ONLY_IMM = 0x05,
     WRITE_FIRST = 0x06,
+    WRITE_LAST_IMM = 0x09,
     WRITE_ONLY = 0x0a,
     WRITE_ONLY_IMM = 0x0b,
     READ_REQUEST = 0x0c,
     FIRST_RESPONSE = 0x0d,
+    MIDDLE_RESPONSE = 0x0e,
+    ONLY_RESPONSE = 0x10,
     LAST_RESPONSE = 0x12,
     COMPARE_SWAP = 0x13,
     FETCH_ADD = 0x14,
@@ -32,6 +39,7 @@ enum {
 #define BTH 12U
 #define RETH 16U
 #define IMM 4U
+#define AETH 4U
 #define ICRC 4U
 
 static int64_t busy_until;
@@ -101,6 +109,7 @@ static void expire(struct pair *pair, int64_t time)
     drain((struct queue *)pair->ex.qp_base.send_cq);
     drain((struct queue *)pair->ex.qp_base.recv_cq);
     pump(pair);
+    feed_starved();
 }
 
 static int64_t earlier(int64_t a, int64_t b)
@@ -158,6 +167,17 @@ void pump(struct pair *pair)
     for (unsigned i = 0; i < node.window && transmit(pair); i++)
         ;
     observe(pair);
+}
+
+/* Queue pairs whose work waited for pages, or for READs of others to land, try again. */
+void feed_starved(void)
+{
+    if (node.fed == node.freed)
+        return;
+    node.fed = node.freed;
+    for (struct pair *pair = node.pairs; pair; pair = pair->next)
+        if (pair->starved)
+            pump(pair);
 }
 
 /* ---- what arrives ---- */
@@ -228,22 +248,60 @@ static void bring(struct arrival *it)
     }
 }
 
-/* Bytes of a WRITE that was taken come out. */
+/* The bytes of payload of a datagram; 0 where it is too short to have any. */
+static uint32_t payload_of(const struct arrival *it)
+{
+    uint8_t opcode = it->opcode;
+    bool immediate = opcode == SEND_LAST_IMM || opcode == SEND_ONLY_IMM || opcode == WRITE_LAST_IMM || opcode == WRITE_ONLY_IMM;
+    bool acknowledges = opcode >= FIRST_RESPONSE && opcode <= ONLY_RESPONSE && opcode != MIDDLE_RESPONSE;
+    size_t rest = BTH + (has_reth(opcode) ? RETH : 0) + (immediate ? IMM : 0) + (acknowledges ? AETH : 0) + ICRC +
+                  (it->bytes[1] >> 4 & 3);
+    return it->count > rest ? (uint32_t)(it->count - rest) : 0;
+}
+
+/*
+ * Bytes of a SEND or WRITE that was taken come out, packet by packet: the program's memory has all that the device has, before
+ * anything of it goes in again for a READ or a request that is posted.
+ */
 static void land(const struct arrival *it)
 {
     struct pair *pair = it->pair;
-    bool immediate = it->opcode == 0x09 || it->opcode == WRITE_ONLY_IMM;
-    size_t headers = BTH + (has_reth(it->opcode) ? RETH : 0) + (immediate ? IMM : 0) + ICRC + (it->bytes[1] >> 4 & 3);
-    if (it->opcode < WRITE_FIRST || it->opcode > WRITE_ONLY_IMM || it->count < headers)
-        return;
-    if (has_reth(it->opcode)) {
-        pair->landing = memory_remote((uint32_t)number_at(it->bytes + BTH + 8, 4));
-        pair->landing_at = number_at(it->bytes + BTH, 8);
+    uint32_t length = payload_of(it);
+    if (it->opcode <= SEND_ONLY_IMM) {
+        const struct receive *receive = &pair->receives[pair->rq.first % pair->rq.room];
+        if (it->opcode == SEND_FIRST || it->opcode == SEND_ONLY || it->opcode == SEND_ONLY_IMM)
+            pair->received = 0;
+        if (receive->memory && length <= receive->length - pair->received)
+            copy_out(receive->memory, receive->local + pair->received, length);
+        pair->received += length;
+    } else if (it->opcode <= WRITE_ONLY_IMM) {
+        if (has_reth(it->opcode)) {
+            pair->landing = memory_remote((uint32_t)number_at(it->bytes + BTH + 8, 4));
+            pair->landing_at = number_at(it->bytes + BTH, 8);
+        }
+        if (pair->landing && is_in(pair->landing, pair->landing_at, length))
+            copy_out(pair->landing, pair->landing_at, length);
+        pair->landing_at += length;
     }
-    size_t length = it->count - headers;
-    if (pair->landing && is_in(pair->landing, pair->landing_at, length))
-        copy_out(pair->landing, pair->landing_at, length);
-    pair->landing_at += length;
+}
+
+/* Bytes of a response that was taken come out. Responses are taken in order, so they are of the oldest READ that lacks some. */
+static void land_response(const struct arrival *it)
+{
+    struct pair *pair = it->pair;
+    uint32_t length = payload_of(it);
+    if (it->opcode > ONLY_RESPONSE)
+        return; /* that of an atomic, whose word comes out when it is finished */
+    for (uint64_t i = pair->sq.first; i < pair->sq.given; i++) {
+        struct work *work = &pair->sends[i % pair->sq.room];
+        uint32_t rest = work->request.length - work->landed;
+        if (work->request.kind != JICHURPA_READ || rest == 0)
+            continue;
+        if (length <= rest)
+            copy_out(work->memory, work->request.local + work->landed, length);
+        work->landed += length <= rest ? length : rest;
+        return;
+    }
 }
 
 /* What the device did with a datagram, for the program's memory. */
@@ -255,6 +313,9 @@ static void follow(const struct arrival *it, const jichurpa_outcome *out)
     case JICHURPA_TOOK_ACTED:
     case JICHURPA_TOOK_ACK:
         land(it);
+        break;
+    case JICHURPA_TOOK_LANDED:
+        land_response(it);
         break;
     case JICHURPA_TOOK_OLD:
         if (it->memory)
@@ -296,6 +357,7 @@ static void arrive(const jichurpa_address *from, uint8_t *bytes, size_t count)
     if (pair->ex.qp_base.recv_cq != pair->ex.qp_base.send_cq)
         drain((struct queue *)pair->ex.qp_base.recv_cq);
     pump(pair);
+    feed_starved();
 }
 
 /* A datagram for the device that was left: its husks tell partners to wait. */

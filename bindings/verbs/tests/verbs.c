@@ -144,11 +144,11 @@ static void post(struct ibv_qp *qp, struct ibv_send_wr *wr)
     CHECK(ibv_post_send(qp, wr, &bad) == 0);
 }
 
-/* The next completion, within ten seconds. */
+/* The next completion, within half a minute. */
 static struct ibv_wc next(void)
 {
     struct ibv_wc wc;
-    time_t end = time(NULL) + 10;
+    time_t end = time(NULL) + 30;
     int count;
     while ((count = ibv_poll_cq(cq, 1, &wc)) == 0)
         CHECK(time(NULL) < end);
@@ -308,6 +308,94 @@ static void try_flags(void)
     CHECK(sent.wr_id == 3 && sent.status == IBV_WC_SUCCESS && received.wr_id == 6);
     CHECK(bytes[4096] == 1); /* the unsignaled READ landed before the fenced WRITE was finished */
     part(two);
+}
+
+/* What is read or sent of a place where a message is arriving may be old or new, and the message is whole all the same. */
+static void try_overlaps(void)
+{
+    struct couple two = connect_two(&usual), others = connect_two(&usual);
+    for (unsigned round = 0; round < 4; round++) {
+        struct ibv_sge whole = {(uintptr_t)bytes, 1 << 20, mine->lkey},
+                       part_of = {(uintptr_t)bytes + (1 << 20), 1 << 19, mine->lkey};
+        struct ibv_send_wr wr = request(round % 2 ? IBV_WR_RDMA_READ : IBV_WR_SEND, &whole, 1);
+        struct ibv_send_wr read = request(IBV_WR_RDMA_READ, &part_of, 2);
+        uint8_t *from = round % 2 ? bytes + HALF : bytes, *to = round % 2 ? bytes : bytes + HALF;
+        unsigned left = round % 2 ? 1 : 2, reads = 0;
+        fill(from, 1 << 20, round);
+        memset(to, 0, 1 << 20);
+        wr.wr.rdma.remote_addr = (uintptr_t)from;
+        wr.wr.rdma.rkey = theirs->rkey;
+        read.wr.rdma.remote_addr = (uintptr_t)to;
+        read.wr.rdma.rkey = to < bytes + HALF ? mine->rkey : theirs->rkey;
+        receive(two.b, 3, bytes + HALF, round % 2 ? 8 : 1 << 20);
+        post(two.a, &wr);
+        while (left > 0 || reads > 0) {
+            struct ibv_wc wc;
+            if (left > 0 && reads == 0) {
+                post(others.a, &read);
+                reads = 1;
+            }
+            wc = next();
+            CHECK(wc.status == IBV_WC_SUCCESS);
+            *(wc.wr_id == 2 ? &reads : &left) -= 1;
+        }
+        CHECK(memcmp(from, to, 1 << 20) == 0);
+        if (round % 2) {
+            part(two);
+            two = connect_two(&usual);
+        }
+    }
+    part(two);
+    part(others);
+}
+
+/* Queue pairs that read at once, more than is let into flight. */
+static void try_reads_at_once(void)
+{
+    enum { PAIRS = 6, EACH = 8 };
+    struct couple two[PAIRS];
+    fill(bytes + HALF, 1 << 20, 5);
+    memset(bytes, 0, 1 << 20);
+    for (unsigned i = 0; i < PAIRS; i++)
+        two[i] = connect_two(&usual);
+    for (unsigned k = 0; k < EACH; k++)
+        for (unsigned i = 0; i < PAIRS; i++) {
+            struct ibv_sge sge = {(uintptr_t)bytes, 1 << 20, mine->lkey};
+            struct ibv_send_wr wr = request(IBV_WR_RDMA_READ, &sge, i);
+            wr.wr.rdma.remote_addr = (uintptr_t)bytes + HALF;
+            wr.wr.rdma.rkey = theirs->rkey;
+            post(two[i].a, &wr);
+        }
+    for (unsigned k = 0; k < PAIRS * EACH; k++)
+        CHECK(next().status == IBV_WC_SUCCESS);
+    CHECK(memcmp(bytes, bytes + HALF, 1 << 20) == 0);
+    for (unsigned i = 0; i < PAIRS; i++)
+        part(two[i]);
+}
+
+/* More work than the device has pages for, of several queue pairs: what does not fit waits for what is finished. */
+static void try_pages(void)
+{
+    enum { PAIRS = 4, EACH = 12 };
+    struct couple two[PAIRS];
+    unsigned left = 2 * PAIRS * EACH;
+    fill(bytes, 1 << 20, 6);
+    for (unsigned i = 0; i < PAIRS; i++) {
+        two[i] = connect_two(&usual);
+        for (unsigned k = 0; k < EACH; k++)
+            receive(two[i].b, k, bytes + HALF, 1 << 20);
+    }
+    for (unsigned k = 0; k < EACH; k++)
+        for (unsigned i = 0; i < PAIRS; i++) {
+            struct ibv_sge sge = {(uintptr_t)bytes, 1 << 20, mine->lkey};
+            struct ibv_send_wr wr = request(IBV_WR_SEND, &sge, k);
+            post(two[i].a, &wr);
+        }
+    for (; left > 0; left--)
+        CHECK(next().status == IBV_WC_SUCCESS);
+    CHECK(memcmp(bytes, bytes + HALF, 1 << 20) == 0);
+    for (unsigned i = 0; i < PAIRS; i++)
+        part(two[i]);
 }
 
 /* More requests than the device has places for, posted at once; their bytes are taken when their turn comes. */
@@ -679,6 +767,8 @@ int main(void)
     try_atomics();
     try_flags();
     try_depth();
+    try_overlaps();
+    try_reads_at_once();
     try_events();
     try_extended();
     try_passive_side();
@@ -687,6 +777,7 @@ int main(void)
     try_failures();
     try_access_flags();
     try_flush();
+    try_pages();
     try_refused_calls();
     try_refused_requests();
     try_fork();
