@@ -3,7 +3,9 @@
 ghost use Rattle.std.specs.Prelude.{◌≡◌, ◌≤◌, None, IfOk, length};
 ghost use Rattle.host_ports.specs.Streams.{FaultsCounted};
 
+use crate::tail::Tail;
 use host_ports::{Failed, Sink, Source};
+use std::alloc::Global;
 use std::io;
 use std::io::{Read, Write};
 
@@ -12,6 +14,15 @@ use std::io::{Read, Write};
 pub struct StdSource<R> {
     inner: R,
     fault_count: u64,
+    last_fault: Option<io::Error>,
+}
+
+/// What the system said of a fault. None where there was none, and where memory runs out.
+fn told(alloc: Global, fault: &Option<io::Error>) -> Option<String> {
+    match fault {
+        None => None,
+        Some(error) => format!(in alloc; "{error}").ok(),
+    }
 }
 
 impl<R: Read> StdSource<R> {
@@ -20,7 +31,15 @@ impl<R: Read> StdSource<R> {
         StdSource {
             inner,
             fault_count: 0,
+            last_fault: None,
         }
+    }
+}
+
+impl<R> StdSource<R> {
+    /// What the system said of the last fault. None where there was none, and where memory runs out.
+    pub fn reason(&self, alloc: Global) -> Option<String> {
+        told(alloc, &self.last_fault)
     }
 }
 
@@ -34,8 +53,9 @@ impl<R: Read> Source for StdSource<R> {
     fn read(&mut self, out: &mut [u8]) -> Result<usize, Failed> {
         match self.inner.read(out) {
             Ok(n) => Ok(n),
-            Err(_) => {
+            Err(error) => {
                 self.fault_count = self.fault_count.saturating_add(1);
+                self.last_fault = Some(error);
                 Err(Failed)
             }
         }
@@ -48,6 +68,8 @@ pub struct StdSink<W> {
     inner: W,
     is_prompt: bool,
     fault_count: u64,
+    last_fault: Option<io::Error>,
+    tail: Tail,
 }
 
 impl<W: Write> StdSink<W> {
@@ -57,6 +79,8 @@ impl<W: Write> StdSink<W> {
             inner,
             is_prompt: false,
             fault_count: 0,
+            last_fault: None,
+            tail: Tail::new(),
         }
     }
 
@@ -66,6 +90,8 @@ impl<W: Write> StdSink<W> {
             inner,
             is_prompt: true,
             fault_count: 0,
+            last_fault: None,
+            tail: Tail::new(),
         }
     }
 
@@ -77,7 +103,7 @@ impl<W: Write> StdSink<W> {
     pub fn flush(&mut self) -> Result<(), Failed> {
         match self.inner.flush() {
             Ok(()) => Ok(()),
-            Err(_) => Err(self.failed()),
+            Err(error) => Err(self.failed(error)),
         }
     }
 
@@ -94,12 +120,25 @@ impl<W: Write> StdSink<W> {
     }
 
     /// Counts a fault.
-    fn failed(&mut self) -> Failed
+    fn failed(&mut self, error: io::Error) -> Failed
         ensures counted { FaultsCounted self.old.fault_count self.new.fault_count }
         ensures monotone { self.old.fault_count ≤ self.new.fault_count }
     {
         self.fault_count = self.fault_count.saturating_add(1);
+        self.last_fault = Some(error);
         Failed
+    }
+}
+
+impl<W> StdSink<W> {
+    /// What the system said of the last fault. None where there was none, and where memory runs out.
+    pub fn reason(&self, alloc: Global) -> Option<String> {
+        told(alloc, &self.last_fault)
+    }
+
+    /// The last line that was written, without its end; of a line of over 63 bytes the last ones.
+    pub fn last_line(&self) -> &[u8] {
+        self.tail.last_line()
     }
 }
 
@@ -112,9 +151,12 @@ impl<W: Write> Sink for StdSink<W> {
 
     fn write(&mut self, bytes: &[u8]) -> Result<usize, Failed> {
         match self.put(bytes) {
-            Ok(0) if !bytes.is_empty() => Err(self.failed()),
-            Ok(n) => Ok(n),
-            Err(_) => Err(self.failed()),
+            Ok(0) if !bytes.is_empty() => Err(self.failed(io::ErrorKind::WriteZero.into())),
+            Ok(n) => {
+                self.tail.note(&bytes[..n]);
+                Ok(n)
+            }
+            Err(error) => Err(self.failed(error)),
         }
     }
 }
@@ -171,6 +213,7 @@ mod tests {
         assert_eq!(rt; source.read(&mut out)?, 2);
         assert_eq!(rt; source.read(&mut out)?, 0);
         assert_eq!(rt; source.fault_count, 0);
+        assert!(rt; source.reason(rt.alloc()).is_none());
         Ok(())
     }
 
@@ -182,6 +225,7 @@ mod tests {
             assert!(rt; source.read(&mut out).is_err());
             assert_eq!(rt; source.fault_count, count);
         }
+        assert_eq!(rt; source.reason(rt.alloc()).is_some(), true);
     }
 
     #[test]

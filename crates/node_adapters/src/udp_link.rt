@@ -5,6 +5,7 @@ ghost use Rattle.host_ports.specs.Streams.{FaultsCounted};
 
 use host_ports::{Failed, Got, LONGEST_DATAGRAM, Link};
 use rdma_types::Address;
+use std::alloc::Global;
 use std::io;
 use std::io::ErrorKind;
 use std::net::{Ipv4Addr, Net, SocketAddr, UdpSocket};
@@ -25,6 +26,14 @@ pub struct UdpLink<'a, R> {
     socket: Option<UdpSocket>,
     buffer: [u8; ROOM],
     fault_count: u64,
+    last_fault: Option<LinkFault>,
+}
+
+/// The address that a call was about, where it was about one, and what the system said of it.
+#[derive(Drop)]
+struct LinkFault {
+    about: Option<Address>,
+    error: io::Error,
 }
 
 /// The address of a socket.
@@ -59,6 +68,25 @@ impl<'a, R: Net> UdpLink<'a, R> {
             socket: None,
             buffer: [0; ROOM],
             fault_count: 0,
+            last_fault: None,
+        }
+    }
+
+    /// The address that the last call that failed was about, and what the system said of it. None where no call failed, and
+    /// where memory runs out.
+    pub fn reason(&self, alloc: Global) -> Option<String> {
+        match &self.last_fault {
+            None => None,
+            Some(
+                LinkFault {
+                    about: Some(address),
+                    error,
+                },
+            ) => {
+                let (ip, port) = host_of(*address);
+                format!(in alloc; "{ip}:{port}: {error}").ok()
+            }
+            Some(LinkFault { about: None, error }) => format!(in alloc; "{error}").ok(),
         }
     }
 
@@ -78,11 +106,12 @@ impl<'a, R: Net> UdpLink<'a, R> {
     }
 
     /// Counts a fault.
-    fn failed(&mut self) -> Failed
+    fn failed(&mut self, about: Option<Address>, error: io::Error) -> Failed
         ensures counted { FaultsCounted self.old.fault_count self.new.fault_count }
         ensures monotone { self.old.fault_count ≤ self.new.fault_count }
     {
         self.fault_count = self.fault_count.saturating_add(1);
+        self.last_fault = Some(LinkFault { about, error });
         Failed
     }
 }
@@ -112,7 +141,7 @@ impl<'a, R: Net> Link for UdpLink<'a, R> {
                 self.socket = Some(socket);
                 Ok(())
             }
-            Err(_) => Err(self.failed()),
+            Err(error) => Err(self.failed(Some(own), error)),
         }
     }
 
@@ -123,7 +152,7 @@ impl<'a, R: Net> Link for UdpLink<'a, R> {
         match self.send(to, bytes) {
             Ok(_) => Ok(()),
             Err(error) if is_nowhere(&error) => Ok(()),
-            Err(_) => Err(self.failed()),
+            Err(error) => Err(self.failed(Some(to), error)),
         }
     }
 
@@ -139,7 +168,7 @@ impl<'a, R: Net> Link for UdpLink<'a, R> {
             }
             Ok(_) => Ok(Got::Nothing),
             Err(error) if is_nothing(&error) => Ok(Got::Nothing),
-            Err(_) => Err(self.failed()),
+            Err(error) => Err(self.failed(None, error)),
         }
     }
 }
@@ -231,6 +260,11 @@ mod tests {
         assert!(rt; link.take(&mut out).is_err());
         assert!(rt; link.send_to(place, b"datagram").is_err());
         assert_eq!(rt; link.fault_count, 3);
+        assert!(rt;
+            link.reason(rt.alloc())
+                .is_some_and(|told| told.as_bytes().starts_with(b"127.0.0.1:"))
+        );
+        assert!(rt; first.reason(rt.alloc()).is_none());
         Ok(())
     }
 }

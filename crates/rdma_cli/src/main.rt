@@ -2,28 +2,33 @@
 #![tactic(auto)]
 
 mod help;
+mod standard_error;
 
+use error_sentences::Ending;
 use help::about;
 use host_ports::{Failed, write_all_of};
 use node_adapters::{ClockTicks, FolderDepot, StdSink, StdSource, UdpLink};
 use node_engine::NodePorts;
+use standard_error::{Progress, tell, tell_no_memory, tell_no_text};
 use std::io::{BufReader, BufWriter};
+use std::net::Net;
 use std::process::ExitCode;
+use std::rt::Files;
 use std::sync::Wait;
 use std::thread::Threads;
 use std::{env, io};
 use tools::tool::run_words;
 
-/// The words of the command, without the program's name. Words that are no text are of no command.
+/// The words of the command, without the program's name. None where one is no text: then they are of no command.
 ///
 /// # Errors
 ///
 /// When out of memory.
-fn words_of(rt: &HostRuntime) -> io::Result<Vec<String>> {
+fn words_of(rt: &HostRuntime) -> io::Result<Option<Vec<String>>> {
     match env::args(rt) {
-        Ok(words) => Ok(words.skip(1).collect(rt.alloc())?),
+        Ok(words) => Ok(Some(words.skip(1).collect(rt.alloc())?)),
         Err(error) if error.kind() == io::ErrorKind::OutOfMemory => Err(error),
-        Err(_) => Ok(Vec::new(rt.alloc())),
+        Err(_) => Ok(None),
     }
 }
 
@@ -32,15 +37,33 @@ fn is_node(words: &[String]) -> bool {
     words.first().is_some_and(|word| word.as_str() == "node")
 }
 
-/// Does what the words ask for, and gives the status. No socket is opened but by a node, and no thread is started but by
-/// `threads` and `fanout`.
+/// What the system said of the call for which a run ended with this status. None where it said nothing, and where memory runs
+/// out.
+fn reason_of<I, L: Net, W, D: Files, C>(
+    rt: &HostRuntime,
+    status: u8,
+    input: &StdSource<I>,
+    ports: &NodePorts<UdpLink<'_, L>, StdSink<W>, FolderDepot<'_, D>, C>,
+) -> Option<String> {
+    match status {
+        4 => input.reason(rt.alloc()),
+        5 => ports.output.reason(rt.alloc()),
+        6 => ports.link.reason(rt.alloc()),
+        7 => ports.depot.reason(rt.alloc()),
+        _ => None,
+    }
+}
+
+/// Does what the words ask for, and gives the status; where that is not 0, a sentence on standard error says why. No socket is
+/// opened but by a node, and no thread is started but by `threads` and `fanout`.
 fn run<R: Threads + Wait + Sync>(rt: &HostRuntime, threads: &R) -> io::Result<u8> {
-    let words = words_of(rt)?;
+    let given = words_of(rt)?;
+    let words = given.as_ref().map_or(&[], |words| words.as_slice());
     let writer = BufWriter::new(rt.alloc(), io::writer(rt))?;
     let mut input = StdSource::new(BufReader::new(rt.alloc(), rt.reader())?);
     let mut ports = NodePorts {
         link: UdpLink::new(rt),
-        output: if is_node(&words) {
+        output: if is_node(words) {
             StdSink::prompt(writer)
         } else {
             StdSink::new(writer)
@@ -48,15 +71,30 @@ fn run<R: Threads + Wait + Sync>(rt: &HostRuntime, threads: &R) -> io::Result<u8
         depot: FolderDepot::new(rt),
         ticks: ClockTicks::new(rt),
     };
-    let status = match about(&words) {
+    let mut status = match about(words) {
         Some(text) if write_all_of(&mut ports.output, text.as_bytes()).is_ok() => 0,
         Some(_) => 5,
-        None => run_words(threads, rt.alloc(), &words, &mut input, &mut ports),
+        None => {
+            let progress = Progress::show(rt, words);
+            let status = run_words(threads, rt.alloc(), words, &mut input, &mut ports);
+            progress.clear(rt);
+            status
+        }
     };
-    match ports.output.flush() {
-        Ok(()) => Ok(status),
-        Err(Failed) => Ok(5),
+    if let Err(Failed) = ports.output.flush() {
+        status = 5;
     }
+    let reason = reason_of(rt, status, &input, &ports);
+    let ending = Ending {
+        status,
+        last: ports.output.last_line(),
+        reason: reason.as_ref().map_or(b"", |told| told.as_bytes()),
+    };
+    match given {
+        None if status == 2 => tell_no_text(rt),
+        _ => tell(rt, words, &ending),
+    }
+    Ok(status)
 }
 
 fn main(rt: HostRuntime) -> ExitCode {
@@ -66,6 +104,7 @@ fn main(rt: HostRuntime) -> ExitCode {
             // It only was out of memory; the last line is written where that can be done.
             let mut output = StdSink::new(io::writer(&rt));
             let _ = write_all_of(&mut output, b"out of memory\n");
+            tell_no_memory(&rt);
             ExitCode::from(8)
         }
     }

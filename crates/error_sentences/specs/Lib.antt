@@ -1,0 +1,4 @@
+pub mod Forms
+pub mod Wrong
+pub mod Meanings
+pub mod Sentences
