@@ -40,7 +40,8 @@ fn failed(alloc: Global, what: &[u8], reason: &[u8]) -> Result<Vec<u8>, AllocErr
 /// Why the run ended. Errors: `AllocError` when out of memory.
 #[tactic(auto, unfolding(crate::specs::Sentences::cause))]
 pub(crate) fn cause(alloc: Global, ending: &Ending<'_>) -> Result<Vec<u8>, AllocError>
-    ensures { IfOk result (λ text. text.items ≡ spec.cause (ended_as ending.now.status ending.now.last.now ending.now.reason.now)) }
+    ensures { IfOk result (λ text. text.items
+        ≡ spec.cause (ended_as ending.now.status ending.now.last.now ending.now.reason.now)) }
 {
     match ending.status {
         4 => failed(alloc, b"standard input could not be read", ending.reason),

@@ -13,7 +13,8 @@ use std::alloc::{AllocError, Global};
 
 /// A first word that cannot stand there, for a reason.
 fn first_word(alloc: Global, words: &[String], why: &[u8]) -> Result<Vec<u8>, AllocError>
-    ensures { IfOk result (λ text. text.items ≡ spec.on_the_first why.now (map string_bytes words.now)) }
+    ensures { IfOk result (λ text. text.items
+        ≡ spec.on_the_first why.now (map string_bytes words.now)) }
 {
     let word = shown(alloc, word_at(words, 1))?;
     joined(alloc, &[b"word 1 is ", word.as_slice(), why])

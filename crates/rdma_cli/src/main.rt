@@ -58,7 +58,10 @@ fn reason_of<I, L: Net, W, D: Files, C>(
 /// opened but by a node, and no thread is started but by `threads` and `fanout`.
 fn run<R: Threads + Wait + Sync>(rt: &HostRuntime, threads: &R) -> io::Result<u8> {
     let given = words_of(rt)?;
-    let words = given.as_ref().map_or(&[], |words| words.as_slice());
+    let words = match &given {
+        Some(words) => words.as_slice(),
+        None => &[],
+    };
     let writer = BufWriter::new(rt.alloc(), io::writer(rt))?;
     let mut input = StdSource::new(BufReader::new(rt.alloc(), rt.reader())?);
     let mut ports = NodePorts {
@@ -88,7 +91,10 @@ fn run<R: Threads + Wait + Sync>(rt: &HostRuntime, threads: &R) -> io::Result<u8
     let ending = Ending {
         status,
         last: ports.output.last_line(),
-        reason: reason.as_ref().map_or(b"", |told| told.as_bytes()),
+        reason: match &reason {
+            Some(told) => told.as_bytes(),
+            None => b"",
+        },
     };
     match given {
         None if status == 2 => tell_no_text(rt),

@@ -43,6 +43,7 @@ pub(crate) fn tell(rt: &HostRuntime, words: &[String], ending: &Ending<'_>) {
 }
 
 /// The line on what is under way, which is taken away when the run ends.
+#[derive(Drop)]
 pub(crate) struct Progress {
     is_shown: bool,
 }
