@@ -6,7 +6,7 @@ mod standard_error;
 
 use error_sentences::Ending;
 use help::about;
-use host_ports::{Failed, write_all_of};
+use host_ports::{Depot, Failed, Link, Sink, Source, Ticks, WriteFault, write_all_of};
 use node_adapters::{ClockTicks, FolderDepot, StdSink, StdSource, UdpLink};
 use node_engine::NodePorts;
 use standard_error::{Progress, tell, tell_no_memory, tell_no_text};
@@ -32,6 +32,22 @@ fn words_of(rt: &HostRuntime) -> io::Result<Option<Vec<String>>> {
     }
 }
 
+/// The words, and none where one is no text.
+fn words_in(given: &Option<Vec<String>>) -> &[String] {
+    match given {
+        Some(words) => words.as_slice(),
+        None => &[],
+    }
+}
+
+/// The bytes of a text, and none where there is no text.
+fn bytes_of(text: &Option<String>) -> &[u8] {
+    match text {
+        Some(text) => text.as_bytes(),
+        None => b"",
+    }
+}
+
 /// Whether the words ask for a node, whose answers are to be seen as they come.
 fn is_node(words: &[String]) -> bool {
     words.first().is_some_and(|word| word.as_str() == "node")
@@ -54,14 +70,31 @@ fn reason_of<I, L: Net, W, D: Files, C>(
     }
 }
 
+/// Says what the words ask of the program itself, or does their command, and gives the status.
+fn answer<S: Source, L: Link, K: Sink, D: Depot, C: Ticks, R: Threads + Wait + Sync>(
+    rt: &HostRuntime,
+    threads: &R,
+    words: &[String],
+    input: &mut S,
+    ports: &mut NodePorts<L, K, D, C>,
+) -> u8 {
+    if let Some(text) = about(words) {
+        return match write_all_of(&mut ports.output, text.as_bytes()) {
+            Ok(()) => 0,
+            Err(WriteFault) => 5,
+        };
+    }
+    let progress = Progress::show(rt, words);
+    let status = run_words(threads, rt.alloc(), words, input, ports);
+    progress.clear(rt);
+    status
+}
+
 /// Does what the words ask for, and gives the status; where that is not 0, a sentence on standard error says why. No socket is
 /// opened but by a node, and no thread is started but by `threads` and `fanout`.
 fn run<R: Threads + Wait + Sync>(rt: &HostRuntime, threads: &R) -> io::Result<u8> {
     let given = words_of(rt)?;
-    let words = match &given {
-        Some(words) => words.as_slice(),
-        None => &[],
-    };
+    let words = words_in(&given);
     let writer = BufWriter::new(rt.alloc(), io::writer(rt))?;
     let mut input = StdSource::new(BufReader::new(rt.alloc(), rt.reader())?);
     let mut ports = NodePorts {
@@ -74,16 +107,7 @@ fn run<R: Threads + Wait + Sync>(rt: &HostRuntime, threads: &R) -> io::Result<u8
         depot: FolderDepot::new(rt),
         ticks: ClockTicks::new(rt),
     };
-    let mut status = match about(words) {
-        Some(text) if write_all_of(&mut ports.output, text.as_bytes()).is_ok() => 0,
-        Some(_) => 5,
-        None => {
-            let progress = Progress::show(rt, words);
-            let status = run_words(threads, rt.alloc(), words, &mut input, &mut ports);
-            progress.clear(rt);
-            status
-        }
-    };
+    let mut status = answer(rt, threads, words, &mut input, &mut ports);
     if let Err(Failed) = ports.output.flush() {
         status = 5;
     }
@@ -91,10 +115,7 @@ fn run<R: Threads + Wait + Sync>(rt: &HostRuntime, threads: &R) -> io::Result<u8
     let ending = Ending {
         status,
         last: ports.output.last_line(),
-        reason: match &reason {
-            Some(told) => told.as_bytes(),
-            None => b"",
-        },
+        reason: bytes_of(&reason),
     };
     match given {
         None if status == 2 => tell_no_text(rt),
