@@ -94,6 +94,7 @@ fn answer<S: Source, L: Link, K: Sink, D: Depot, C: Ticks, R: Threads + Wait + S
 /// opened but by a node, and no thread is started but by `threads` and `fanout`.
 fn run<R: Threads + Wait + Sync>(rt: &HostRuntime, threads: &R) -> io::Result<u8> {
     let given = words_of(rt)?;
+    let is_text = given.is_some();
     let words = words_in(&given);
     let writer = BufWriter::new(rt.alloc(), io::writer(rt))?;
     let mut input = StdSource::new(BufReader::new(rt.alloc(), rt.reader())?);
@@ -117,9 +118,10 @@ fn run<R: Threads + Wait + Sync>(rt: &HostRuntime, threads: &R) -> io::Result<u8
         last: ports.output.last_line(),
         reason: bytes_of(&reason),
     };
-    match given {
-        None if status == 2 => tell_no_text(rt),
-        _ => tell(rt, words, &ending),
+    if status == 2 && !is_text {
+        tell_no_text(rt);
+    } else {
+        tell(rt, words, &ending);
     }
     Ok(status)
 }
