@@ -15,7 +15,7 @@ ghost use Rattle.world_core.specs.Sites.{is_rts, put_back, view_moves};
 
 use crate::World;
 use crate::index::note_home;
-use crate::running::{SendingDevice, refused_or_lacking, send_outcome};
+use crate::running::{refused_or_lacking, send_outcome};
 use device_core::{ContextImage, Device, Event, Outcome};
 use protocol::EndImage;
 use rdma_types::{Answer, EndState, EndView, Name, Refusal};
@@ -173,14 +173,7 @@ impl World {
             image: _,
         } = outcome;
         let address = self.devices[place].address();
-        let answer = send_outcome(
-            &mut self.fabric,
-            &mut self.devices,
-            &self.ports,
-            SendingDevice { place, address },
-            answer,
-            sent,
-        );
+        let answer = send_outcome(&mut self.fabric, &mut self.draft, address, answer, sent);
         note_home(&mut self.homes, self.devices.as_slice(), Some(name));
         if let Answer::Done = answer {
             self.stops.remove(spot);

@@ -15,7 +15,7 @@ ghost use Rattle.world_core.specs.Places.{HaveOwnIds};
 
 use crate::laws::steps_are_followed;
 use crate::stops::Stops;
-use device_core::Device;
+use device_core::{Device, Draft};
 use fabric::Fabric;
 use indexmap::IndexMap;
 use protocol::WorldEvent;
@@ -39,6 +39,8 @@ pub struct World {
     pub(crate) homes: IndexMap<Name, usize>,
     pub(crate) fabric: Fabric,
     pub(crate) stops: Stops,
+    /// What a step of a device sends, and memory for datagrams.
+    pub(crate) draft: Draft,
 }
 
 impl Model for World {
@@ -67,6 +69,7 @@ impl World {
             homes: IndexMap::new(alloc),
             fabric,
             stops: Stops::make(alloc),
+            draft: Draft::make(alloc)?,
         })
     }
 

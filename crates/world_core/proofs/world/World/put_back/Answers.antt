@@ -27,8 +27,8 @@ invariant_of-self-in-Done c =
     let ds = c.self.inside.devices.items in
     let lt : c.args.place < length ds = subst (λ (w : World). c.args.place < length w.devices) (sym c.self.view_is) c.requires.place in
     let here : slice_get ds c.args.place ≡ Some c.index_mut.result.now = slice_get_read ds (length ds) c.args.place c.index_mut.result.now refl lt c.index_mut.ensures.value in
-    let devices : c.as_slice.result.now ≡ set ds c.args.place c.restore.new.self = c.as_slice.ensures.value ∙ c.send_outcome-answer.ensures.devices in
-    parts_same _ _ _ _ _ _ c.send_outcome-answer.ensures.devices
+    let devices : c.as_slice.result.now ≡ set ds c.args.place c.restore.new.self = c.as_slice.ensures.value in
+    parts_same _ _ _ _ _ _ refl
     (parts_less _ _ _ _ c.self.inside.stops.carried c.remove.new.self.carried c.args.spot
     (parts_after _ _ _ _ ds c.self.inside.stops.carried c.args.place c.index_mut.result.now c.restore.new.self (event.Restore c.index-images-spot.result) c.in_ok-outcome.outcome c.self.invariant here c.restore.ensures.id c.restore.ensures.address c.in_ok-outcome.ensures.ok
     (homes_noted (Some c.index-images-spot.result.name) _ _ _ _ _ _ c.note_home.ensures refl devices c.reserve.ensures.entries)) c.remove.ensures.carried)
@@ -38,8 +38,8 @@ invariant_of-self-in_default c =
     let ds = c.self.inside.devices.items in
     let lt : c.args.place < length ds = subst (λ (w : World). c.args.place < length w.devices) (sym c.self.view_is) c.requires.place in
     let here : slice_get ds c.args.place ≡ Some c.index_mut.result.now = slice_get_read ds (length ds) c.args.place c.index_mut.result.now refl lt c.index_mut.ensures.value in
-    let devices : c.as_slice.result.now ≡ set ds c.args.place c.restore.new.self = c.as_slice.ensures.value ∙ c.send_outcome-answer.ensures.devices in
-    parts_same _ _ _ _ _ _ c.send_outcome-answer.ensures.devices
+    let devices : c.as_slice.result.now ≡ set ds c.args.place c.restore.new.self = c.as_slice.ensures.value in
+    parts_same _ _ _ _ _ _ refl
     (parts_after _ _ _ _ ds c.self.inside.stops.carried c.args.place c.index_mut.result.now c.restore.new.self (event.Restore c.index-images-spot.result) c.in_ok-outcome.outcome c.self.invariant here c.restore.ensures.id c.restore.ensures.address c.in_ok-outcome.ensures.ok
     (homes_noted (Some c.index-images-spot.result.name) _ _ _ _ _ _ c.note_home.ensures refl devices c.reserve.ensures.entries))
 
@@ -55,11 +55,11 @@ returns-clause-ok c = λ d x h k.
     let image : c.index-images-spot.result ≡ x = same_thing c.index-images-spot.result x (sym (slice_get_read is (length is) c.args.spot c.index-images-spot.result refl within (c.index-images-spot.is ∙ ap (λ xs. get_or xs c.args.spot c.index-images-spot.result) c.images.ensures)) ∙ (ap (λ (w : World). slice_get w.carried c.args.spot) c.self.view_is ∙ k)) in
     let step : device_step c.index_mut.result.now (event.Restore x) ≡ record { device = c.restore.new.self; outcome = o } = subst (λ y. device_step c.index_mut.result.now (event.Restore y) ≡ record { device = c.restore.new.self; outcome = o }) image c.in_ok-outcome.ensures.ok in
     let bare : o.image ≡ None = sym (ap (λ (s : device.Step). s.outcome.image) step) ∙ handing.bare c.index_mut.result.now (event.Restore x) tt in
-    let mid : World = record { devices = c.send_outcome-answer.new.devices.items; sent = c.send_outcome-answer.new.fabric; carried = is; stopped = c.self.inside.stops.stopped } in
+    let mid : World = record { devices = set ds c.args.place c.restore.new.self; sent = c.send_outcome-answer.new.fabric; carried = is; stopped = c.self.inside.stops.stopped } in
     let made : Makes (runs c.args.self.now d (event.Restore x)) c.send_outcome-answer.result mid =
     ran_all _ c.args.self.now mid c.args.place d c.index_mut.result.now c.restore.new.self (event.Restore x) o c.send_outcome-answer.result c.address-address.result (length c.self.inside.fabric + 1)
     c.self.view_is c.self.invariant.ids here step c.restore.ensures.id
-    c.send_outcome-answer.ensures.devices (c.address-address.ensures ∙ ap (λ y. y.address) there) c.send_outcome-answer.ensures.sent
+    refl (c.address-address.ensures ∙ ap (λ y. y.address) there) c.send_outcome-answer.ensures.sent
     (bare_carried is o.image bare) (bare_stopped c.self.inside.stops.stopped o.image bare)
     refl c.send_outcome-answer.ensures.answer h in
     put_makes mid c.match-answer.self c.args.spot (runs c.args.self.now d (event.Restore x)) c.send_outcome-answer.result made

@@ -20,7 +20,7 @@ invariant_of-self c =
     let ds = c.self.inside.devices.items in
     let lt : c.args.place < length ds = subst (λ (w : World). c.args.place < length w.devices) (sym c.self.view_is) c.requires.place in
     let here : slice_get ds c.args.place ≡ Some c.index_mut.result.now = slice_get_read ds (length ds) c.args.place c.index_mut.result.now refl lt c.index_mut.ensures.value in
-    parts_same _ _ _ _ _ _ c.send_outcome.ensures.devices
+    parts_same _ _ _ _ _ _ refl
     (parts_after _ _ _ _ ds c.self.inside.stops.carried c.args.place c.index_mut.result.now c.step.new.self c.args.event.now c.in-Ok.field-0 c.self.invariant here c.step.ensures.id c.step.ensures.address c.in-Ok.ensures.ok
     (λ m. sym (ap (λ o. looked_up o (set ds c.args.place c.step.new.self) (λ n. get bytes_eq c.self.inside.homes n) m) c.requires.stays)))
 
@@ -35,7 +35,7 @@ returns-in-Ok-clause-ok c = λ d h.
     let bare : o.image ≡ None = sym (ap (λ (s : device.Step). s.outcome.image) c.in-Ok.ensures.ok) ∙ handing.bare c.index_mut.result.now e (no_stop e c.requires.stays) in
     ran_all _ c.args.self.now _ c.args.place d c.index_mut.result.now c.step.new.self e o c.send_outcome.result c.address-address.result (length c.self.inside.fabric + 1)
     c.self.view_is c.self.invariant.ids here c.in-Ok.ensures.ok c.step.ensures.id
-    c.send_outcome.ensures.devices (c.address-address.ensures ∙ ap (λ x. x.address) there) c.send_outcome.ensures.sent
+    refl (c.address-address.ensures ∙ ap (λ x. x.address) there) c.send_outcome.ensures.sent
     (bare_carried c.self.inside.stops.carried o.image bare) (bare_stopped c.self.inside.stops.stopped o.image bare)
     refl c.send_outcome.ensures.answer h
 

@@ -18,8 +18,8 @@ invariant_of-self-in-Ok c =
     let ds = c.self.inside.devices.items in
     let lt : c.args.place < length ds = subst (λ (w : World). c.args.place < length w.devices) (sym c.self.view_is) c.requires.place in
     let here : slice_get ds c.args.place ≡ Some c.index_mut.result.now = slice_get_read ds (length ds) c.args.place c.index_mut.result.now refl lt c.index_mut.ensures.value in
-    let devices : c.as_slice.result.now ≡ set ds c.args.place c.step.new.self = c.as_slice.ensures.value ∙ c.send_outcome-answer.ensures.devices in
-    parts_same _ _ _ _ _ _ c.send_outcome-answer.ensures.devices
+    let devices : c.as_slice.result.now ≡ set ds c.args.place c.step.new.self = c.as_slice.ensures.value in
+    parts_same _ _ _ _ _ _ refl
     (parts_carry _ _ _ _ c.self.inside.stops.carried c.carry.new.stops.carried c.in-Ok.field-0.image
     (parts_after _ _ _ _ ds c.self.inside.stops.carried c.args.place c.index_mut.result.now c.step.new.self c.args.event.now c.in-Ok.field-0 c.self.invariant here c.step.ensures.id c.step.ensures.address c.in-Ok.ensures.ok
     (homes_noted _ _ _ _ _ _ _ c.note_home.ensures c.moved_context.ensures devices c.make_room.ensures.homes))
@@ -33,7 +33,7 @@ returns-in-Ok-clause-ok c = λ d h.
     let there : c.index-in-Ok.result.now ≡ c.step.new.self = read_set ds c.args.place c.step.new.self c.index-in-Ok.result.now lt c.index-in-Ok.ensures in
     ran_all _ c.args.self.now _ c.args.place d c.index_mut.result.now c.step.new.self c.args.event.now c.in-Ok.field-0 c.send_outcome-answer.result c.address-address.result (length c.self.inside.fabric + 1)
     c.self.view_is c.self.invariant.ids here c.in-Ok.ensures.ok c.step.ensures.id
-    c.send_outcome-answer.ensures.devices (c.address-address.ensures ∙ ap (λ x. x.address) there) c.send_outcome-answer.ensures.sent
+    refl (c.address-address.ensures ∙ ap (λ x. x.address) there) c.send_outcome-answer.ensures.sent
     (c.carry.ensures.carried ∙ ap (λ xs. xs ++ images_of c.in-Ok.field-0.image) c.make_room.ensures.carried)
     (c.carry.ensures.stopped ∙ ap (λ xs. reverse (names_of c.in-Ok.field-0.image) ++ xs) c.make_room.ensures.stopped)
     refl c.send_outcome-answer.ensures.answer h
