@@ -27,10 +27,11 @@ static struct ibv_cq *cq;
 static struct ibv_mr *mine, *theirs;
 static uint8_t *bytes; /* the first half is one side's, the second the other's */
 static union ibv_gid gid;
+static const char *current = "open_all"; /* the test that runs */
 
 static void fail(const char *fact, int line)
 {
-    fprintf(stderr, "verbs.c:%d: %s (errno %d: %s)\n", line, fact, errno, strerror(errno));
+    fprintf(stderr, "verbs.c:%d: %s: %s (errno %d: %s)\n", line, current, fact, errno, strerror(errno));
     exit(1);
 }
 
@@ -352,7 +353,7 @@ static void try_overlaps(void)
 /* Queue pairs that read at once, more than is let into flight. */
 static void try_reads_at_once(void)
 {
-    enum { PAIRS = 6, EACH = 8 };
+    enum { PAIRS = 6, EACH = 2 };
     struct couple two[PAIRS];
     fill(bytes + HALF, 1 << 20, 5);
     memset(bytes, 0, 1 << 20);
@@ -376,7 +377,7 @@ static void try_reads_at_once(void)
 /* More work than the device has pages for, of several queue pairs: what does not fit waits for what is finished. */
 static void try_pages(void)
 {
-    enum { PAIRS = 4, EACH = 12 };
+    enum { PAIRS = 4, EACH = 9 };
     struct couple two[PAIRS];
     unsigned left = 2 * PAIRS * EACH;
     fill(bytes, 1 << 20, 6);
@@ -759,28 +760,47 @@ static void close_all(void)
     free(bytes);
 }
 
-int main(void)
+/* A test; with the argument `times` it is told how long it took. */
+static void run(const char *name, void (*test)(void), bool told)
 {
+    struct timespec begin, end;
+    current = name;
+    clock_gettime(CLOCK_MONOTONIC, &begin);
+    test();
+    clock_gettime(CLOCK_MONOTONIC, &end);
+    if (told)
+        printf("%s: %.3f s\n", name, (double)(end.tv_sec - begin.tv_sec) + (double)(end.tv_nsec - begin.tv_nsec) / 1e9);
+}
+
+#define RUN(test) run(#test, test, times)
+
+int main(int count, char **words)
+{
+    bool times = count > 1 && strcmp(words[1], "times") == 0;
+    bool light = count > 1 && strcmp(words[1], "light") == 0; /* where each step takes long */
+    setvbuf(stdout, NULL, _IOLBF, 0);
     open_all();
-    try_sends();
-    try_writes_and_reads();
-    try_atomics();
-    try_flags();
-    try_depth();
-    try_overlaps();
-    try_reads_at_once();
-    try_events();
-    try_extended();
-    try_passive_side();
+    RUN(try_sends);
+    RUN(try_writes_and_reads);
+    RUN(try_atomics);
+    RUN(try_flags);
+    RUN(try_depth);
+    RUN(try_overlaps);
+    if (!light)
+        RUN(try_reads_at_once);
+    RUN(try_events);
+    RUN(try_extended);
+    RUN(try_passive_side);
     close_all();
     open_all(); /* the queue pairs of a context that were destroyed count until it is closed */
-    try_failures();
-    try_access_flags();
-    try_flush();
-    try_pages();
-    try_refused_calls();
-    try_refused_requests();
-    try_fork();
+    RUN(try_failures);
+    RUN(try_access_flags);
+    RUN(try_flush);
+    if (!light)
+        RUN(try_pages);
+    RUN(try_refused_calls);
+    RUN(try_refused_requests);
+    RUN(try_fork);
     close_all();
     puts("verbs.c: all is as it must be");
     return 0;
