@@ -307,8 +307,8 @@ static void land_response(const struct arrival *it)
 /* What the device did with a datagram, for the program's memory. */
 static void follow(const struct arrival *it, const jichurpa_outcome *out)
 {
-    if (out->answer != JICHURPA_TOOK)
-        return;
+    if (out->answer != JICHURPA_TOOK || it->pair->leaving)
+        return; /* memory of a queue pair that is destroyed may be gone */
     switch (out->cause) {
     case JICHURPA_TOOK_ACTED:
     case JICHURPA_TOOK_ACK:
@@ -357,6 +357,8 @@ static void arrive(const jichurpa_address *from, uint8_t *bytes, size_t count)
     if (pair->ex.qp_base.recv_cq != pair->ex.qp_base.send_cq)
         drain((struct queue *)pair->ex.qp_base.recv_cq);
     pump(pair);
+    if (pair->failing)
+        pair_fail(pair); /* before anything else can act */
     feed_starved();
 }
 
