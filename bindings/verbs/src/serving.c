@@ -432,6 +432,23 @@ static void sleep_until(int64_t due, struct pollfd *fds, nfds_t count)
     atomic_store(&node.asleep_until, 0);
 }
 
+/*
+ * What has come is taken before a timer expires: it may be what the timer waits for, where the thread had no processor for a while. It
+ * is so much and no more, so that a partner that sends without end does not keep timers from expiring.
+ */
+static void take_before_timers(void)
+{
+    int64_t time = now(), before = 0;
+    bool due = false;
+    for (const struct pair *pair = node.pairs; pair && !due; pair = pair->next)
+        due = earlier(pair->timers.rnr, pair->timers.retransmission) <= time;
+    for (int i = 0; due && i < TURNS && busy_until != before; i++) {
+        before = busy_until;
+        take_batch(&node.here);
+        flush(&node.here);
+    }
+}
+
 /* Where a program polled, and does so no more, what came meanwhile is taken, and the thread watches the socket for a while. */
 static void take_over(void)
 {
@@ -449,6 +466,7 @@ void *serve(void *unused)
     (void)unused;
     for (;;) {
         pthread_mutex_lock(&node.lock);
+        take_before_timers();
         fail_late();
         move_go_on();
         int64_t due = run_timers();
