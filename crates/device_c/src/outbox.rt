@@ -1,6 +1,6 @@
 //! The datagrams of the last step of a device.
 
-ghost use Rattle.std.specs.Prelude.{◌≡◌, ◌++◌, [], length, slice_get, IfOk, None, OnErr, Option};
+ghost use Rattle.std.specs.Prelude.{◌≡◌, ◌<◌, ◌^◌, ◌++◌, [], length, slice_get, IfOk, IsSome, None, OnErr, Option};
 ghost use Rattle.std.specs.Option.{option_copied, option_to_list};
 ghost use Rattle.rdma_types.specs.declared.names.ObjName as names;
 ghost use Rattle.protocol.specs.DeviceStep.{device_step};
@@ -30,6 +30,15 @@ impl Model for Outbox {
     ghost view = { λ o. option_to_list o.first ++ o.more };
 }
 
+/// The memory of a datagram that was told is filled again.
+fn give_back(draft: &mut Draft, told: Option<Sent>)
+    ensures { draft.new ≡ draft.old }
+{
+    if let Some(sent) = told {
+        draft.give(sent.bytes);
+    }
+}
+
 impl Outbox {
     /// No datagram. Errors: `AllocError` when out of memory.
     pub(crate) fn make(alloc: Global) -> Result<Outbox, AllocError>
@@ -46,12 +55,14 @@ impl Outbox {
     pub(crate) fn count(&self) -> u64
         ensures { result ≡ length self.now }
     {
-        u64::from(self.first.is_some()) + self.more.len() as u64
+        let more = self.more.as_slice().len() as u64;
+        if self.first.is_some() { more + 1 } else { more }
     }
 
     /// Datagram `i`.
     pub(crate) fn get(&self, i: usize) -> Option<&Sent>
-        ensures { option_copied result ≡ slice_get self.now i }
+        ensures datagram { option_copied result ≡ slice_get self.now i }
+        ensures few { IsSome result → i < 2 ^ 63 }
     {
         match &self.first {
             None => self.more.as_slice().get(i),
@@ -64,10 +75,9 @@ impl Outbox {
     fn keep(&mut self, first: Option<Sent>, more: Items<Sent>)
         ensures { self.new ≡ option_to_list first ++ more }
     {
-        if let Some(told) = std::mem::replace(&mut self.first, first) {
-            self.draft.give(told.bytes);
-        }
+        let told = std::mem::replace(&mut self.first, first);
         self.more = more;
+        give_back(&mut self.draft, told);
     }
 
     /// The datagrams of a step, in place of those that were there.

@@ -35,9 +35,8 @@ impl HeldDevice {
         ensures held { self.new ≡ record { device = self.old.device; sent = sent; read = 0 } }
         ensures told { outcome.new ≡ told_of answer.now (length sent) }
     {
-        *outcome = outcome_told(answer, sent.len() as u64);
         self.sent.put(sent);
-        self.read = 0;
+        self.tell_sent(answer, outcome);
     }
 
     /// The datagrams that are kept are those of a step with this answer.
