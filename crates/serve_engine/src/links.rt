@@ -1,0 +1,87 @@
+//! Datagrams that are taken from a link, and those that leave over it.
+
+ghost use Rattle.std.specs.Prelude.{◌≤◌, length};
+ghost use Rattle.host_ports.specs.Links.{longest_datagram};
+
+use crate::state::Server;
+use host_ports::{Failed, Got, Link};
+use rdma_types::Items;
+use std::alloc::{AllocError, Global};
+
+/// Datagrams that are taken in a turn at most.
+const TAKES: usize = 64;
+
+/// Datagrams that leave in a turn at most.
+const LEAVES: usize = 32;
+
+impl Server {
+    /// The link is asked once for a datagram, and whether it gave one. A call that fails gives none. `buffer` has room for
+    /// the longest. Errors: `AllocError` when out of memory.
+    fn take<L: Link>(
+        &mut self,
+        alloc: Global,
+        link: &mut L,
+        buffer: &mut [u8],
+    ) -> Result<bool, AllocError>
+        requires { longest_datagram ≤ length buffer.old }
+    {
+        match link.take(buffer) {
+            Ok(Got::Datagram { from, length }) => {
+                let bytes = buffer[..length].to_vec(alloc)?;
+                self.inbox.push_back((from, Items::new(bytes)))?;
+                Ok(true)
+            }
+            Ok(Got::Nothing) | Err(Failed) => Ok(false),
+        }
+    }
+
+    /// Takes up to 64 datagrams, until none waits. Errors: `AllocError` when out of memory.
+    fn take_many<L: Link>(
+        &mut self,
+        alloc: Global,
+        link: &mut L,
+        buffer: &mut [u8],
+    ) -> Result<(), AllocError>
+        requires { longest_datagram ≤ length buffer.old }
+    {
+        for _ in 0..TAKES {
+            if !self.take(alloc, link, buffer)? {
+                return Ok(());
+            }
+        }
+        Ok(())
+    }
+
+    /// Takes up to 64 datagrams, where all that were taken before have arrived. `buffer` has room for the longest. Errors:
+    /// `AllocError` when out of memory.
+    pub(crate) fn take_all<L: Link>(
+        &mut self,
+        alloc: Global,
+        link: &mut L,
+        buffer: &mut [u8],
+    ) -> Result<(), AllocError>
+        requires { longest_datagram ≤ length buffer.old }
+    {
+        if self.inbox.len() > 0 {
+            return Ok(());
+        }
+        self.take_many(alloc, link, buffer)
+    }
+
+    /// The first of the datagrams that wait leaves, if there is one. One that the link does not send is lost.
+    fn leave_first<L: Link>(&mut self, link: &mut L) {
+        let Some(datagram) = self.outgoing.pop_front() else {
+            return;
+        };
+        let went = link.send_to(datagram.to, datagram.bytes.as_slice()).is_ok();
+        self.tallies.count_left(went);
+        self.device.give_back(datagram.bytes);
+    }
+
+    /// Last part of a turn: up to 32 datagrams leave, the oldest first.
+    pub(crate) fn leave<L: Link>(&mut self, link: &mut L) {
+        for _ in 0..LEAVES {
+            self.leave_first(link);
+        }
+    }
+}
