@@ -1,0 +1,4 @@
+pub mod Turning
+pub mod Moves
+pub mod FromLink
+pub mod Restores

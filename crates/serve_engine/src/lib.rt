@@ -19,6 +19,9 @@ mod stopping;
 mod timers;
 mod waiting;
 
+#[cfg(test)]
+mod tests;
+
 pub use faults::ServeFault;
 pub use ports::ServePorts;
 pub use running::{ServeOptions, run_serve};

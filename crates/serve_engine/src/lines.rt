@@ -1,9 +1,11 @@
 //! What lines do.
 
-ghost use Rattle.std.specs.Prelude.{IfSome};
+ghost use Rattle.std.specs.Prelude.{◌≡◌, IfOk, IfSome, OnOk};
+ghost use Rattle.node_rules.specs.Lines as node;
 ghost use Rattle.protocol.specs.Events.{IsLawfulEvent};
 ghost use Rattle.script_lang.specs.Ranges.{IsLawfulNodeLine, IsLawfulVerb};
 ghost use Rattle.serve_lines.specs.Ranges.{IsLawfulServeLine};
+ghost use Rattle.serve_rules.specs.Lines as rules;
 
 use crate::state::Server;
 use device_core::Event;
@@ -18,6 +20,7 @@ use verb_events::event_of;
 
 /// The event of a verb at a device; a context and a connection of two ends have none.
 fn device_event_of(verb: Verb) -> Option<Event>
+    ensures event { result ≡ node.verb_event verb }
     ensures lawful { IsLawfulVerb verb → IfSome result IsLawfulEvent }
 {
     match event_of(verb) {
@@ -27,7 +30,9 @@ fn device_event_of(verb: Verb) -> Option<Event>
 }
 
 /// The queue pair that an event of a line may give something to send.
-fn end_of(event: &Event) -> Option<ObjName> {
+fn end_of(event: &Event) -> Option<ObjName>
+    ensures { result ≡ rules.end_of event.now }
+{
     match event {
         Event::Connect { end, .. }
         | Event::PostSend { end, .. }
@@ -39,7 +44,9 @@ fn end_of(event: &Event) -> Option<ObjName> {
 }
 
 /// An answer with the count of datagrams in the place of the number that a device does not know.
-fn counted(answer: Answer, made: u64) -> Answer {
+fn counted(answer: Answer, made: u64) -> Answer
+    ensures { result ≡ node.counting made answer }
+{
     match answer {
         Answer::Sent { .. } => Answer::Sent { first: made },
         other => other,
@@ -48,7 +55,9 @@ fn counted(answer: Answer, made: u64) -> Answer {
 
 impl Server {
     /// The queue pair of that name may have something to send, where there is one. Errors: `AllocError` when out of memory.
-    fn wake_end(&mut self, end: Option<ObjName>) -> Result<(), AllocError> {
+    fn wake_end(&mut self, end: Option<ObjName>) -> Result<(), AllocError>
+        ensures { OnOk result (self.new ≡ rules.woken_end self.old end) }
+    {
         match end {
             Some(end) => {
                 let view = self.device.end_named(&end);
@@ -60,8 +69,10 @@ impl Server {
 
     /// Steps an event, and answers it. Where memory runs out, all is as before. Errors: `AllocError` when out of memory
     /// behind the step.
+    #[tactic(auto, unfolding(serve_rules::specs::Lines::line_stepped, serve_rules::specs::Lines::line_reply))]
     fn step_line(&mut self, alloc: Global, event: &Event) -> Result<Reply, AllocError>
         requires { IsLawfulEvent event.now }
+        ensures { IfOk result (λ r. rules.IsLineOf event.now self.old r self.new) }
     {
         let Ok(outcome) = self.advance(alloc, event) else {
             return Ok(Reply::Memory);
@@ -132,7 +143,10 @@ impl Server {
     }
 
     /// The next line follows after a time. It has no answer yet.
-    fn wait(&mut self, time: u64) -> Reply {
+    fn wait(&mut self, time: u64) -> Reply
+        ensures server { self.new ≡ rules.waiting self.old time }
+        ensures reply { result ≡ Reply.Nothing }
+    {
         self.pending = Pending::Wait {
             until: self.clock.saturating_add(time),
         };
@@ -140,7 +154,10 @@ impl Server {
     }
 
     /// .. once an end has come so far. It has no answer yet.
-    fn wait_for(&mut self, end: ObjName, goal: Goal, limit: u64) -> Reply {
+    fn wait_for(&mut self, end: ObjName, goal: Goal, limit: u64) -> Reply
+        ensures server { self.new ≡ rules.waiting_for self.old end goal limit }
+        ensures reply { result ≡ Reply.Nothing }
+    {
         self.pending = Pending::Until {
             end,
             goal,

@@ -1,7 +1,8 @@
 //! Datagrams that are taken from a link, and those that leave over it.
 
-ghost use Rattle.std.specs.Prelude.{◌≤◌, length};
-ghost use Rattle.host_ports.specs.Links.{longest_datagram};
+ghost use Rattle.std.specs.Prelude.{◌≤◌, length, IfOk, OnOk};
+ghost use Rattle.host_ports.specs.Links.{FitsIn, TakesFirst, got_of, longest_datagram};
+ghost use Rattle.serve_rules.specs.Links.{HasTaken, LeavesAtMost};
 
 use crate::state::Server;
 use host_ports::{Failed, Got, Link};
@@ -24,6 +25,8 @@ impl Server {
         buffer: &mut [u8],
     ) -> Result<bool, AllocError>
         requires { longest_datagram ≤ length buffer.old }
+        ensures { OnOk result (HasTaken self.old (L.waiting link.old) self.new
+            (L.waiting link.new)) }
     {
         match link.take(buffer) {
             Ok(Got::Datagram { from, length }) => {
@@ -43,6 +46,8 @@ impl Server {
         buffer: &mut [u8],
     ) -> Result<(), AllocError>
         requires { longest_datagram ≤ length buffer.old }
+        ensures { OnOk result (HasTaken self.old (L.waiting link.old) self.new
+            (L.waiting link.new)) }
     {
         for _ in 0..TAKES {
             if !self.take(alloc, link, buffer)? {
@@ -61,6 +66,8 @@ impl Server {
         buffer: &mut [u8],
     ) -> Result<(), AllocError>
         requires { longest_datagram ≤ length buffer.old }
+        ensures { OnOk result (HasTaken self.old (L.waiting link.old) self.new
+            (L.waiting link.new)) }
     {
         if self.inbox.len() > 0 {
             return Ok(());
@@ -69,7 +76,9 @@ impl Server {
     }
 
     /// The first of the datagrams that wait leaves, if there is one. One that the link does not send is lost.
-    fn leave_first<L: Link>(&mut self, link: &mut L) {
+    fn leave_first<L: Link>(&mut self, link: &mut L)
+        ensures { LeavesAtMost 1 self.old self.new }
+    {
         let Some(datagram) = self.outgoing.pop_front() else {
             return;
         };
@@ -79,7 +88,9 @@ impl Server {
     }
 
     /// Last part of a turn: up to 32 datagrams leave, the oldest first.
-    pub(crate) fn leave<L: Link>(&mut self, link: &mut L) {
+    pub(crate) fn leave<L: Link>(&mut self, link: &mut L)
+        ensures { LeavesAtMost 32 self.old self.new }
+    {
         for _ in 0..LEAVES {
             self.leave_first(link);
         }

@@ -1,7 +1,12 @@
 //! Contexts that come. A restore is made on a copy of the device, which becomes the device once the dump is gone from the
 //! store; so all is as before where it is not, and the dump has its name again or is still claimed.
 
+ghost use Rattle.std.specs.Prelude.{◌≡◌, ◌++◌, IfOk, map};
+ghost use Rattle.protocol.specs.declared.events.Event.TheVariants as event;
+ghost use Rattle.protocol.specs.DeviceStep.{device_step};
 ghost use Rattle.protocol.specs.Lawful.{IsLawful};
+ghost use Rattle.serve_rules.specs.Moving as rules;
+ghost use Rattle.serve_engine.specs.Preparing.{ClaimLeaves, FinishLeaves, GaveBack, IsRestoreOf, IsRestoreOfImage};
 
 use crate::state::Server;
 use device_core::{ContextImage, Device, Outcome};
@@ -30,7 +35,9 @@ pub enum Restore {
 }
 
 /// The numbers of ends behind these. Errors: `AllocError` when out of memory.
-fn with_numbers(ready: &VecDeque<u32>, ends: &[EndImage]) -> Result<VecDeque<u32>, AllocError> {
+fn with_numbers(ready: &VecDeque<u32>, ends: &[EndImage]) -> Result<VecDeque<u32>, AllocError>
+    ensures { IfOk result (λ r. r.items ≡ ready.now.items ++ map (λ e. e.number) ends.now) }
+{
     let mut numbers = ready.clone()?;
     for end in ends {
         numbers.push_back(end.number)?;
@@ -45,6 +52,8 @@ fn restored(
     image: &ContextImage,
 ) -> Result<(Device, Outcome), AllocError>
     requires { IsLawful image.now }
+    ensures { IfOk result (λ d. device_step device.now (event.Restore image.now)
+        ≡ record { device = d.0; outcome = d.1 }) }
 {
     let mut copy = device.copy(alloc)?;
     let outcome = copy.restore(alloc, image)?;
@@ -52,7 +61,10 @@ fn restored(
 }
 
 /// Gives the last claim its name again, where that can be; else it stays claimed.
-fn give_back<S: Store>(store: &mut S) {
+fn give_back<S: Store>(store: &mut S)
+    ensures { GaveBack (record { dumps = S.dumps store.old; claims = S.claims store.old })
+        (record { dumps = S.dumps store.new; claims = S.claims store.new }) }
+{
     match store.give_back() {
         Ok(()) | Err(_) => (),
     }
@@ -60,8 +72,10 @@ fn give_back<S: Store>(store: &mut S) {
 
 impl Server {
     /// The restore of an image, on a copy of the device. Errors: `AllocError` when out of memory.
+    #[tactic(auto, unfolding(serve_rules::specs::Server::after, serve_rules::specs::Server::outcome_of))]
     fn restore_image(&self, alloc: Global, image: &ContextImage) -> Result<Restore, AllocError>
         requires { IsLawful image.now }
+        ensures { IfOk result (λ r. IsRestoreOfImage self.now image.now r) }
     {
         let (device, outcome) = restored(alloc, &self.device, image)?;
         match outcome.answer {
@@ -76,6 +90,7 @@ impl Server {
     /// The restore of an image, on a copy of the device.
     fn restore_or(&self, alloc: Global, image: &ContextImage) -> Restore
         requires { IsLawful image.now }
+        ensures { IsRestoreOfImage self.now image.now result }
     {
         match self.restore_image(alloc, image) {
             Ok(restore) => restore,
@@ -84,7 +99,9 @@ impl Server {
     }
 
     /// The restore of the context of which bytes are a dump.
-    fn prepare_restore(&self, alloc: Global, bytes: &[u8]) -> Restore {
+    fn prepare_restore(&self, alloc: Global, bytes: &[u8]) -> Restore
+        ensures { IsRestoreOf self.now bytes.now result }
+    {
         match decode_dump(alloc, bytes) {
             Err(DumpFault::BadDump { .. }) => Restore::BadDump,
             Err(DumpFault::OutOfMemory) => Restore::Memory,
@@ -93,7 +110,11 @@ impl Server {
     }
 
     /// A context comes, where its dump is gone from the store; else the dump is given back.
-    fn finish<S: Store>(&mut self, store: &mut S, coming: Coming) -> Reply {
+    fn finish<S: Store>(&mut self, store: &mut S, coming: Coming) -> Reply
+        ensures { FinishLeaves self.old coming result self.new
+            (record { dumps = S.dumps store.old; claims = S.claims store.old })
+            (record { dumps = S.dumps store.new; claims = S.claims store.new }) }
+    {
         if store.finish().is_ok() {
             self.device = coming.device;
             self.ready = coming.ready;
@@ -104,7 +125,11 @@ impl Server {
     }
 
     /// Restores the context whose dump was claimed, or gives the dump back.
-    fn restore_claimed<S: Store>(&mut self, alloc: Global, store: &mut S, bytes: &[u8]) -> Reply {
+    fn restore_claimed<S: Store>(&mut self, alloc: Global, store: &mut S, bytes: &[u8]) -> Reply
+        ensures { ClaimLeaves self.old bytes.now result self.new
+            (record { dumps = S.dumps store.old; claims = S.claims store.old })
+            (record { dumps = S.dumps store.new; claims = S.claims store.new }) }
+    {
         let reply = match self.prepare_restore(alloc, bytes) {
             Restore::Made(coming) => return self.finish(store, coming),
             Restore::Refused(answer) => Reply::Device(answer),
@@ -117,7 +142,11 @@ impl Server {
 
     /// Restores the context of a dump, and takes it out of the store. Where that fails, all is as before here, and the dump
     /// is in the store.
-    pub(crate) fn restore<S: Store>(&mut self, alloc: Global, store: &mut S, file: Name) -> Reply {
+    pub(crate) fn restore<S: Store>(&mut self, alloc: Global, store: &mut S, file: Name) -> Reply
+        ensures { rules.RestoreLeaves self.old file result self.new
+            (record { dumps = S.dumps store.old; claims = S.claims store.old })
+            (record { dumps = S.dumps store.new; claims = S.claims store.new }) }
+    {
         match store.claim(alloc, file) {
             Ok(bytes) => self.restore_claimed(alloc, store, bytes.as_slice()),
             Err(StoreFault::Missing) => Reply::Missing,

@@ -108,16 +108,7 @@ impl Server {
     /// Appends what was counted. Errors: `AllocError` when out of memory.
     fn put_tallies(&self, out: &mut Vec<u8>) -> Result<(), AllocError> {
         let tallies = &self.tallies;
-        let [
-            malformed,
-            unknown,
-            ended,
-            paused,
-            nak_sent,
-            no_repeat,
-            useless,
-            stale,
-        ] = tallies.dropped;
+        let [malformed, unknown, ended, paused, nak_sent, no_repeat, useless, stale] = tallies.dropped;
         put(out, b" made ", tallies.made)?;
         put(out, b" sent ", tallies.sent)?;
         put(out, b" unsent ", tallies.unsent)?;

@@ -1,6 +1,7 @@
 //! The state of a run.
 
-ghost use Rattle.std.specs.Prelude.{◌≤◌};
+ghost use Rattle.std.specs.Prelude.{◌≡◌, ◌≤◌, OnOk, IfOk};
+ghost use Rattle.serve_rules.specs.Server as rules;
 
 use device_core::{Device, Sent};
 use indexmap::IndexMap;
@@ -43,8 +44,14 @@ impl Model for Server {
 
 impl Server {
     /// A device with nothing on it. Errors: `AllocError` when out of memory.
-    pub(crate) fn make(alloc: Global, id: u8, own: Address, base: u64) -> Result<Server, AllocError>
+    pub(crate) fn make(
+        alloc: Global,
+        id: u8,
+        own: Address,
+        base: u64,
+    ) -> Result<Server, AllocError>
         requires { 1 ≤ id }
+        ensures { IfOk result (λ s. s ≡ rules.new_server id own base) }
     {
         Ok(Server {
             device: Device::make(alloc, id, own)?,
@@ -61,7 +68,10 @@ impl Server {
     }
 
     /// The queue pair with this number may have something to send. Errors: `AllocError` when out of memory.
-    pub(crate) fn wake(&mut self, number: u32) -> Result<(), AllocError> {
+    #[tactic(auto, unfolding(serve_rules::specs::Server::woken))]
+    pub(crate) fn wake(&mut self, number: u32) -> Result<(), AllocError>
+        ensures { OnOk result (self.new ≡ rules.woken self.old number) }
+    {
         if self.ready.contains(&number) {
             return Ok(());
         }
@@ -70,7 +80,9 @@ impl Server {
     }
 
     /// .. where it is there. Errors: `AllocError` when out of memory.
-    pub(crate) fn wake_view(&mut self, view: &Option<EndView>) -> Result<(), AllocError> {
+    pub(crate) fn wake_view(&mut self, view: &Option<EndView>) -> Result<(), AllocError>
+        ensures { OnOk result (self.new ≡ rules.woken_view self.old view.now) }
+    {
         match view {
             Some(view) => self.wake(view.number),
             None => Ok(()),

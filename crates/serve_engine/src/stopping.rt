@@ -1,8 +1,13 @@
 //! Contexts that leave. A stop is made on a copy of the device, which becomes the device once the dump is published; so all
 //! is as before where it is not.
 
-ghost use Rattle.std.specs.Prelude.{IfOk, IfSome};
+ghost use Rattle.std.specs.Prelude.{◌≡◌, ◌++◌, Some, None, IfOk, IfSome, map};
 ghost use Rattle.protocol.specs.Lawful.{IsLawful};
+ghost use Rattle.serve_rules.specs.Moving as rules;
+ghost use Rattle.protocol.specs.DeviceStep.{device_step};
+ghost use Rattle.protocol.specs.Dumps.{dump_bytes};
+ghost use Rattle.node_rules.specs.Lines.{version};
+ghost use Rattle.serve_engine.specs.Preparing.{IsStopOf, IsStopOfImage, PublishLeaves};
 
 use crate::state::Server;
 use device_core::{ContextImage, Device, Event, Outcome};
@@ -34,7 +39,9 @@ fn with_leaving(
     gone: &[(Name, u32)],
     name: Name,
     ends: &[EndImage],
-) -> Result<Vec<(Name, u32)>, AllocError> {
+) -> Result<Vec<(Name, u32)>, AllocError>
+    ensures { IfOk result (λ r. r.items ≡ gone.now ++ rules.leaving name ends.now) }
+{
     let mut numbers = Vec::from_slice(alloc, gone)?;
     for end in ends {
         numbers.push((name, end.number))?;
@@ -43,12 +50,16 @@ fn with_leaving(
 }
 
 /// Whether a queue pair with that number left.
-fn has_left(gone: &[(Name, u32)], number: u32) -> bool {
+fn has_left(gone: &[(Name, u32)], number: u32) -> bool
+    ensures { result ≡ rules.has_left gone.now number }
+{
     gone.iter().any(|left| left.1 == number)
 }
 
 /// The device after the step of a stop, and what it gives. Errors: `AllocError` when out of memory.
 fn stopped(alloc: Global, device: &Device, name: Name) -> Result<(Device, Outcome), AllocError>
+    ensures step { IfOk result (λ d. device_step device.now (rules.stop_of name)
+        ≡ record { device = d.0; outcome = d.1 }) }
     ensures image { IfOk result (λ d. IfSome d.1.image (λ i. IsLawful i)) }
 {
     let mut copy = device.copy(alloc)?;
@@ -62,12 +73,16 @@ fn stopped(alloc: Global, device: &Device, name: Name) -> Result<(Device, Outcom
 
 impl Server {
     /// Whether a queue pair with this number left from here, or lives here and is not heard in its new place yet.
-    fn is_moving(&self, number: u32) -> bool {
+    fn is_moving(&self, number: u32) -> bool
+        ensures { result ≡ rules.is_moving self.now number }
+    {
         has_left(self.gone.as_slice(), number) || self.device.has_resuming_end(number)
     }
 
     /// Whether the partner of an end moves, as far as it can be seen here.
-    fn peer_moves(&self, end: &EndImage) -> bool {
+    fn peer_moves(&self, end: &EndImage) -> bool
+        ensures { result ≡ rules.peer_moves self.now end.now.linked }
+    {
         match &end.linked {
             Some(link) => !link.ended && self.is_moving(link.peer),
             None => false,
@@ -75,7 +90,9 @@ impl Server {
     }
 
     /// Whether the partner of one of these ends moves.
-    fn any_moves(&self, ends: &[EndImage]) -> bool {
+    fn any_moves(&self, ends: &[EndImage]) -> bool
+        ensures { result ≡ rules.any_moves self.now ends.now }
+    {
         ends.iter().any(|end| self.peer_moves(end))
     }
 
@@ -87,15 +104,14 @@ impl Server {
         image: &ContextImage,
     ) -> Result<Leaving, AllocError>
         requires { IsLawful image.now }
+        ensures device { IfOk result (λ l. l.device ≡ device) }
+        ensures gone { IfOk result (λ l. l.gone.items
+            ≡ self.now.gone ++ rules.leaving image.now.name image.now.ends) }
+        ensures dump { IfOk result (λ l. l.dump.items ≡ dump_bytes version image.now) }
     {
         Ok(Leaving {
             device,
-            gone: with_leaving(
-                alloc,
-                self.gone.as_slice(),
-                image.name,
-                image.ends.as_slice(),
-            )?,
+            gone: with_leaving(alloc, self.gone.as_slice(), image.name, image.ends.as_slice())?,
             dump: encode_dump(alloc, image)?,
         })
     }
@@ -108,6 +124,7 @@ impl Server {
         image: &ContextImage,
     ) -> Result<Stop, AllocError>
         requires { IsLawful image.now }
+        ensures { IfOk result (λ s. IsStopOfImage self.now device image.now s) }
     {
         if self.any_moves(image.ends.as_slice()) {
             return Ok(Stop::Refused(Answer::Refused(Refusal::PeerMoving)));
@@ -116,7 +133,10 @@ impl Server {
     }
 
     /// The stop of a context, on a copy of the device. Errors: `AllocError` when out of memory.
-    fn prepare_stop(&self, alloc: Global, name: Name) -> Result<Stop, AllocError> {
+    #[tactic(auto, unfolding(serve_rules::specs::Server::after, serve_rules::specs::Server::outcome_of, serve_rules::specs::Moving::refused_stop))]
+    fn prepare_stop(&self, alloc: Global, name: Name) -> Result<Stop, AllocError>
+        ensures { IfOk result (λ s. IsStopOf self.now name s) }
+    {
         let (device, outcome) = stopped(alloc, &self.device, name)?;
         let image = outcome.image;
         match &image {
@@ -132,7 +152,11 @@ impl Server {
         store: &mut S,
         file: Name,
         leaving: Leaving,
-    ) -> Reply {
+    ) -> Reply
+        ensures { PublishLeaves self.old leaving file result self.new
+            (record { dumps = S.dumps store.old; claims = S.claims store.old })
+            (record { dumps = S.dumps store.new; claims = S.claims store.new }) }
+    {
         match store.publish(alloc, file, leaving.dump.as_slice()) {
             Err(StoreFault::Missing) => Reply::Missing,
             Err(StoreFault::Taken) => Reply::Taken,
@@ -153,7 +177,11 @@ impl Server {
         store: &mut S,
         name: Name,
         file: Name,
-    ) -> Reply {
+    ) -> Reply
+        ensures { rules.StopLeaves self.old name file result self.new
+            (record { dumps = S.dumps store.old; claims = S.claims store.old })
+            (record { dumps = S.dumps store.new; claims = S.claims store.new }) }
+    {
         match self.prepare_stop(alloc, name) {
             Err(AllocError) => Reply::Memory,
             Ok(Stop::Refused(answer)) => Reply::Device(answer),

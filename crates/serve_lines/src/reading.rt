@@ -71,9 +71,9 @@ fn goal(words: &mut Words<'_>) -> Result<Goal, Offence>
 #[tactic(auto, unfolding(crate::specs::Reading::time_of))]
 fn time(word: &Word<'_>) -> Result<u64, Offence>
     ensures value { result ≡ rules.time_of (record {
-      column = word.now.column;
-      text = word.now.text.now;
-    }) }
+          column = word.now.column;
+          text = word.now.text.now;
+        }) }
     ensures within { IfOk result (λ n. n ≤ 3600000) }
 {
     match Words::new(word.text).number(1, LONGEST_WAIT) {
@@ -121,9 +121,9 @@ fn until(words: &mut Words<'_>) -> Result<ServeLine, Offence>
 #[tactic(auto, unfolding(crate::specs::Reading::shown))]
 fn shown(word: &Word<'_>) -> Result<ServeLine, Offence>
     ensures value { result ≡ rules.shown (record {
-      column = word.now.column;
-      text = word.now.text.now;
-    }) }
+          column = word.now.column;
+          text = word.now.text.now;
+        }) }
     ensures lawful { IfOk result IsLawfulServeLine }
 {
     if let Ok(end) = Words::new(word.text).object() {
@@ -163,9 +163,9 @@ fn whole_wait(words: &mut Words<'_>) -> Result<ServeLine, Offence>
 #[tactic(auto, unfolding(crate::specs::Reading::own_line))]
 fn own_line(form: OwnForm, first: &Word<'_>, words: &mut Words<'_>) -> Result<ServeLine, Offence>
     ensures value { result ≡ rules.own_line form (record {
-      column = first.now.column;
-      text = first.now.text.now;
-    }) words.old }
+          column = first.now.column;
+          text = first.now.text.now;
+        }) words.old }
     ensures lawful { IfOk result IsLawfulServeLine }
 {
     match form {
@@ -195,9 +195,9 @@ fn read_from(
     line: &[u8],
 ) -> Result<ServeLine, LineFault>
     ensures value { Says result (rules.reading_by (rules.own_form first.now.text.now) (record {
-      column = first.now.column;
-      text = first.now.text.now;
-    }) words.old line.now) }
+          column = first.now.column;
+          text = first.now.text.now;
+        }) words.old line.now) }
     ensures lawful { IfOk result IsLawfulServeLine }
 {
     let Some(form) = own_form_of(first.text) else {

@@ -17,7 +17,10 @@ pub enum Reply {
     /// What is shown.
     Shown(Items<u8>),
     /// The line is in no form: the column, counted in bytes from 1, of its first word that is wrong, and why.
-    BadLine { column: usize, why: LineWhy },
+    BadLine {
+        column: usize,
+        why: LineWhy,
+    },
     /// No dump has the name.
     Missing,
     /// A dump has the name already.
