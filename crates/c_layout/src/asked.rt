@@ -391,6 +391,15 @@ pub fn post_recv(qp: &CObject, receive: &CReceive) -> Option<Event>
     Some(Event::PostRecv { end, receive })
 }
 
+/// The next packet of a queue pair.
+pub fn transmit(qp: &CObject) -> Option<Event>
+    ensures event { result ≡ asked.transmit_event qp.now }
+    ensures lawful { IfSome result IsLawfulEvent }
+{
+    let end = object_asked(qp)?;
+    Some(Event::Transmit { end })
+}
+
 /// An expiry of the retransmission timer.
 pub fn expire(qp: &CObject) -> Option<Event>
     ensures event { result ≡ asked.expire_event qp.now }

@@ -8,7 +8,6 @@ mod ends;
 mod exports;
 mod handle;
 mod images;
-mod outbox;
 mod pointer;
 mod readers;
 mod steps;

@@ -3,8 +3,6 @@
 ghost use Rattle.std.specs.Prelude.{◌≡◌, ◌==◌, length, is_some, IfSome, Some, option_map, if◌then◌else◌};
 ghost use Rattle.protocol.specs.Events.{IsLawfulEvent};
 ghost use Rattle.protocol.specs.Lawful.{IsLawful};
-ghost use Rattle.rdma_types.specs.declared.names.ObjName as names;
-ghost use Rattle.device_core.specs.Finding.{IsAt};
 ghost use Rattle.protocol.specs.declared.events.Event.TheVariants as event;
 ghost use Rattle.c_layout.specs.Told.{outcome_told as told_of};
 ghost use Rattle.device_c.specs.Steps as steps;
@@ -16,7 +14,6 @@ use c_layout::codes::{INVALID, NO_MEMORY, OK};
 use c_layout::layout::{CCompletion, COutcome};
 use c_layout::told::outcome_told;
 use context_dump::DumpReader;
-use device_core::EndPlace;
 use protocol::{ContextImage, Event, Outcome};
 use rdma_types::{Address, Answer, Completion, Items, ObjName, Sent};
 use std::alloc::Global;
@@ -35,16 +32,8 @@ impl HeldDevice {
         ensures held { self.new ≡ record { device = self.old.device; sent = sent; read = 0 } }
         ensures told { outcome.new ≡ told_of answer.now (length sent) }
     {
-        self.sent.put(sent);
-        self.tell_sent(answer, outcome);
-    }
-
-    /// The datagrams that are kept are those of a step with this answer.
-    fn tell_sent(&mut self, answer: &Answer, outcome: &mut COutcome)
-        ensures held { self.new ≡ record { device = self.old.device; sent = self.old.sent; read = 0 } }
-        ensures told { outcome.new ≡ told_of answer.now (length self.old.sent) }
-    {
-        *outcome = outcome_told(answer, self.sent.count());
+        *outcome = outcome_told(answer, sent.len() as u64);
+        self.sent = sent;
         self.read = 0;
     }
 
@@ -77,45 +66,18 @@ impl HeldDevice {
         }
     }
 
-    /// The queue pair at a place sends its next packet. It says whether there was memory.
-    fn transmit_at(&mut self, alloc: Global, at: EndPlace, outcome: &mut COutcome) -> bool
-        requires { (o : names.ObjName) × IsAt self.old.device o at }
-        ensures held { (o : names.ObjName) → IsAt self.old.device o at
-            → self.new ≡ steps.device_after result self.old (event.Transmit o) }
-        ensures told { (o : names.ObjName) → IsAt self.old.device o at
-            → outcome.new ≡ steps.told_after_step result self.old (event.Transmit o) outcome.old }
-    {
-        let Ok(answer) = self.sent.transmit(alloc, &mut self.device, at) else {
-            return false;
-        };
-        self.tell_sent(&answer, outcome);
-        true
-    }
-
-    /// A queue pair sends its next packet. It says whether there was memory.
-    fn transmit(&mut self, alloc: Global, end: &ObjName, outcome: &mut COutcome) -> bool
-        ensures held { self.new ≡ steps.device_after result self.old (event.Transmit end.now) }
-        ensures told { outcome.new
-            ≡ steps.told_after_step result self.old (event.Transmit end.now) outcome.old }
-    {
-        match self.device.place_of(end) {
-            Some(at) => self.transmit_at(alloc, at, outcome),
-            None => self
-                .step(alloc, &Event::Transmit { end: *end }, outcome)
-                .is_some(),
-        }
-    }
-
     /// Bytes arrive. It says whether there was memory.
     fn arrive(&mut self, alloc: Global, from: Address, bytes: &[u8], outcome: &mut COutcome) -> bool
         ensures held { self.new ≡ steps.device_after result self.old (event.Arrive from bytes.now) }
         ensures told { outcome.new ≡ steps.told_after_step result self.old (event.Arrive from bytes.now) outcome.old }
     {
-        let Ok(answer) = self.sent.arrive(alloc, &mut self.device, from, bytes) else {
-            return false;
-        };
-        self.tell_sent(&answer, outcome);
-        true
+        match self.device.arrive(alloc, from, bytes) {
+            Ok(Outcome { answer, sent, .. }) => {
+                self.tell(&answer, sent, outcome);
+                true
+            }
+            Err(_) => false,
+        }
     }
 
     /// A context comes. It says whether there was memory.
@@ -255,19 +217,6 @@ impl Content {
         match held.step(alloc, &event, outcome) {
             Some(_) => OK,
             None => NO_MEMORY,
-        }
-    }
-
-    /// A queue pair sends its next packet.
-    pub(crate) fn transmit(&mut self, alloc: Global, end: &ObjName, outcome: &mut COutcome) -> u32
-        ensures held { self.new ≡ steps.content_after result self.old (event.Transmit end.now) }
-        ensures told { outcome.new
-            ≡ steps.told_of result self.old (event.Transmit end.now) outcome.old }
-        ensures result { result ≡ steps.result_of (result == 1) self.old }
-    {
-        match self {
-            Content::Device(held) => result_of(held.transmit(alloc, end, outcome)),
-            _ => INVALID,
         }
     }
 

@@ -27,7 +27,6 @@ mod Transmissions
 mod Seen
 mod LiveEnds
 mod Copied
-mod Told
 mod Within
 mod Numbered
 mod NumberedEnds

@@ -10,7 +10,6 @@ jichurpa COMMAND
   audit                                   says whether a recorded run is one of the packetless machine
   record                                  writes the trace of a script, which audit finds legal
   node ID ADDRESS                         does the lines of a script on one device, over UDP
-  serve ID ADDRESS [OPTION..]             serves one device over UDP, and does lines as they come
   threads WORKERS ADDS MOVES              adds by threads that share devices, while one context moves
   fanout CONSUMERS ADDS CAPACITY          hands the completions of a shared device to several threads
   mail SEED PEERS LETTERS MOVES           sends tagged letters, while the receiver moves, and takes them
@@ -158,30 +157,6 @@ most 1048576 bytes.
 Example: jichurpa node 1 10.0.0.1 < node.script
 ";
 
-const SERVE: &str = "\
-jichurpa serve ID ADDRESS [--depot FOLDER] [--timeout MS] [--keep]
-
-Serves one device, whose datagrams come and go over UDP, and does the lines of standard input as they
-come. Each is answered at once, in one write, and the device is served all the while. A line that is
-refused or bad changes nothing, and the run goes on. It ends when the input ends.
-
-  ID                1 to 255
-  ADDRESS           where the device is reached: an IPv4 address, and optionally a colon and a port
-                    (4791)
-  --depot FOLDER    where dumps are put and found (depot)
-  --timeout MS      milliseconds until what nobody answers is sent again, 1 to 60000 (100); doubled
-                    each time, up to 16 times that
-  --keep            at the end of the input, contexts that live there are stopped into the depot,
-                    each under its own name
-
-  0   the input has ended
-  5   the output cannot be written
-  6   the link fails to start: the last line is `link fault`
-  8   memory runs out
-
-Example: jichurpa serve 1 10.0.0.1 --keep
-";
-
 const THREADS: &str = "\
 jichurpa threads WORKERS ADDS MOVES
 
@@ -268,7 +243,6 @@ fn help_of(command: &String) -> Option<&'static str> {
         b"audit" => Some(AUDIT),
         b"record" => Some(RECORD),
         b"node" => Some(NODE),
-        b"serve" => Some(SERVE),
         b"threads" => Some(THREADS),
         b"fanout" => Some(FANOUT),
         b"mail" => Some(MAIL),

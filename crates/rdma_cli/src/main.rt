@@ -2,7 +2,6 @@
 #![tactic(auto)]
 
 mod help;
-mod serving;
 mod standard_error;
 
 use error_sentences::Ending;
@@ -10,7 +9,6 @@ use help::about;
 use host_ports::{Depot, Failed, Link, Sink, Source, Ticks, WriteFault, write_all_of};
 use node_adapters::{ClockTicks, FolderDepot, StdSink, StdSource, UdpLink};
 use node_engine::NodePorts;
-use serving::{serve, served};
 use standard_error::{Progress, tell, tell_no_memory, tell_no_text};
 use std::io::{BufReader, BufWriter};
 use std::net::Net;
@@ -93,14 +91,11 @@ fn answer<S: Source, L: Link, K: Sink, D: Depot, C: Ticks, R: Threads + Wait + S
 }
 
 /// Does what the words ask for, and gives the status; where that is not 0, a sentence on standard error says why. No socket is
-/// opened but by a node and by `serve`, and no thread is started but by `serve`, `threads` and `fanout`.
+/// opened but by a node, and no thread is started but by `threads` and `fanout`.
 fn run<R: Threads + Wait + Sync>(rt: &HostRuntime, threads: &R) -> io::Result<u8> {
     let given = words_of(rt)?;
     let is_text = given.is_some();
     let words = words_in(&given);
-    if let Some(asked) = served(words) {
-        return serve(rt, &asked);
-    }
     let writer = BufWriter::new(rt.alloc(), io::writer(rt))?;
     let mut input = StdSource::new(BufReader::new(rt.alloc(), rt.reader())?);
     let mut ports = NodePorts {

@@ -11,7 +11,3 @@ mod Networks
 mod Connecting
 mod LiveEnds
 mod Delivering
-mod Drafts
-mod Marks
-mod Lacking
-mod Refusals

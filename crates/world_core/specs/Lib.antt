@@ -9,4 +9,3 @@ pub mod Sites
 pub mod Told
 pub mod Lives
 pub mod Reached
-pub mod Stops

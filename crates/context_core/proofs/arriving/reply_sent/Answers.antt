@@ -1,0 +1,46 @@
+use Rattle.std.proofs.Common.{◌<◌, ◌^◌, ap, sym, subst, ◌∙◌, refl, arith}
+use Rattle.roce_headers.specs.Packets.{packet}
+use Rattle.endpoint_core.specs.declared.answers.EndReply.{EndReply}
+use Rattle.endpoint_core.specs.Answers.{IsReply, sent_by}
+use Rattle.endpoint_core.specs.Ends.{link_in}
+use Rattle.context_core.proofs.ReplyPackets.{acknowledge-fits, acknowledge-sent, old-fits, old-sent, resume-sent, short}
+use Rattle.context_core.proofs.arriving.reply_sent.Goals as goal
+
+pub fill-requires-clause-fits : goal.fill-requires-clause-fits
+fill-requires-clause-fits c =
+    acknowledge-fits (packet c.answer-d.result) c.args.link.now.peer c.args.link.now.terms.peer_start c.in-Acknowledge.number c.parts-msn.result.msn c.in-Acknowledge.syndrome c.answer-d.ensures
+    (subst (λ (r : EndReply). IsReply c.requires.reply.0 c.args.link.now r) c.in-Acknowledge.is c.requires.reply.1)
+    (subst (λ p. p.msn < 2 ^ 24) (sym c.parts-msn.ensures.parts) c.parts-msn.ensures.held.msn)
+
+pub fill-requires-clause-short : goal.fill-requires-clause-short
+fill-requires-clause-short c = omega (arith, short (packet c.answer-d.result) _ c.answer-d.ensures refl)
+
+pub fill-requires-in-Old-clause-fits : goal.fill-requires-in-Old-clause-fits
+fill-requires-in-Old-clause-fits c =
+    old-fits (packet c.answer-d-in-Old.result) c.args.link.now.peer c.args.link.now.terms.peer_start c.in-Old.number c.parts-msn.result.msn c.in-Old.old c.answer-d-in-Old.ensures
+    (omega arith)
+    (subst (λ p. p.msn < 2 ^ 24) (sym c.parts-msn.ensures.parts) c.parts-msn.ensures.held.msn)
+
+pub fill-requires-in-Old-clause-short : goal.fill-requires-in-Old-clause-short
+fill-requires-in-Old-clause-short c = omega (arith, short (packet c.answer-d-in-Old.result) _ c.answer-d-in-Old.ensures refl)
+
+pub fill-requires-in-ResumeAck-clause-short : goal.fill-requires-in-ResumeAck-clause-short
+fill-requires-in-ResumeAck-clause-short c = omega (arith, short (packet c.moving-d.result) _ c.moving-d.ensures.says refl)
+
+pub returns-in-Acknowledge : goal.returns-in-Acknowledge
+returns-in-Acknowledge c = λ pool regions.
+    c.fill.ensures
+    ∙ (acknowledge-sent pool regions c.args.link.now (packet c.answer-d.result) c.in-Acknowledge.number c.parts-msn.result.msn c.in-Acknowledge.syndrome c.answer-d.ensures (ap (λ p. p.msn) c.parts-msn.ensures.parts)
+    ∙ ap (sent_by regions (link_in pool c.args.link.now)) (sym c.in-Acknowledge.is))
+
+pub returns-in-Old : goal.returns-in-Old
+returns-in-Old c = λ pool regions.
+    c.fill-in-Old.ensures
+    ∙ (old-sent pool regions c.args.link.now (packet c.answer-d-in-Old.result) c.in-Old.number c.parts-msn.result.msn c.in-Old.old c.answer-d-in-Old.ensures (ap (λ p. p.msn) c.parts-msn.ensures.parts)
+    ∙ ap (sent_by regions (link_in pool c.args.link.now)) (sym c.in-Old.is))
+
+pub returns-in-ResumeAck : goal.returns-in-ResumeAck
+returns-in-ResumeAck c = λ pool regions.
+    c.fill-in-ResumeAck.ensures
+    ∙ (resume-sent pool regions c.args.link.now (packet c.moving-d.result) c.in-ResumeAck.count c.in-ResumeAck.address c.moving-d.ensures.says
+    ∙ ap (sent_by regions (link_in pool c.args.link.now)) (sym c.in-ResumeAck.is))

@@ -1,4 +1,0 @@
-pub mod Turning
-pub mod Moves
-pub mod FromLink
-pub mod Restores

@@ -1,1 +1,0 @@
-"""Parts of the tools that drive processes of `jichurpa serve`."""
