@@ -4,7 +4,7 @@
 _jichurpa_words() {
     local dump LC_ALL=C
     if [ "$COMP_CWORD" = 1 ]; then
-        printf '%s\n' play bulk show-dump evacuate audit record node threads fanout mail --help -h --version
+        printf '%s\n' play bulk show-dump evacuate audit record node serve threads fanout mail --help -h --version
         return
     fi
     if [ "$COMP_CWORD" = 2 ] && [[ ${COMP_WORDS[2]} = -* ]]; then
@@ -15,11 +15,15 @@ _jichurpa_words() {
         seq 1 255
         return
     fi
+    if [ "${COMP_WORDS[1]}" = serve ] && [ "$COMP_CWORD" -gt 3 ]; then
+        printf '%s\n' --depot --timeout --keep
+        return
+    fi
     case "${COMP_WORDS[1]} $COMP_CWORD" in
     'bulk 3' | 'threads 2' | 'mail 3') seq 1 8 ;;
     'threads 4') seq 0 8 ;;
     'fanout 2') seq 1 4 ;;
-    'node 2') seq 1 255 ;;
+    'node 2' | 'serve 2') seq 1 255 ;;
     'bulk 5' | 'mail 5') seq 0 16 ;;
     'show-dump 2')
         for dump in depot/*; do
@@ -36,6 +40,11 @@ _jichurpa() {
         compopt -o filenames 2>/dev/null
         mapfile -t COMPREPLY < <(compgen -f -- "$word")
         ;;
+    --depot)
+        compopt -o filenames 2>/dev/null
+        mapfile -t COMPREPLY < <(compgen -d -- "$word")
+        ;;
+    --timeout) COMPREPLY=() ;;
     *) mapfile -t COMPREPLY < <(compgen -W "$(_jichurpa_words)" -- "$word") ;;
     esac
 }

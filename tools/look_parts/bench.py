@@ -341,7 +341,7 @@ def parser():
         prog="bench", description="Measures WRITEs between two nodes over loopback: bandwidth and rate with many packets in flight, "
         "latency one by one. Beside them stands a bare UDP loop of datagrams of the same lengths.")
     words.add_argument("-n", "--iterations", type=int, default=5000, metavar="N", help="writes of each row (else 5,000)")
-    words.add_argument("-s", "--size", type=int, action="append", metavar="BYTES", help=f"bytes of a write, also several times (else {', '.join(map(str, SIZES))})")
+    words.add_argument("-s", "--size", type=int, nargs="+", action="extend", metavar="BYTES", help=f"bytes of a write, of one or several rows (else {', '.join(map(str, SIZES))})")
     words.add_argument("-m", "--mtu", type=int, default=4096, choices=MTUS, help="payload bytes of a packet (else 4096)")
     words.add_argument("--depth", type=int, default=16, metavar="PACKETS", help=f"unacknowledged packets, {LEAST_DEPTH} to {MOST_DEPTH} (else 16)")
     words.add_argument("--json", action="store_true", help="the same as JSON")

@@ -4,7 +4,7 @@ from .explain import ending_sentence
 from .script import NODE_FORMS
 
 # Lines that only a node has, and some that only `play` has.
-OF_A_NODE = ("link", "serve")
+OF_A_NODE = ("link", "serve", "until", "wait", "show")
 OF_PLAY = ("device", "connect", "deliver", "lose", "wire", "settle", "dump")
 
 
@@ -20,7 +20,7 @@ def shown_name(name):
 
 def node_sentence(name):
     return (f"{shown_name(name)} is the script of a node, and `play` has no such lines: "
-            "run it by the command `node`, and see its answers by `tools/look side SCRIPT --node LOG`")
+            "run it by the command `node` or `serve`, and see its answers by `tools/look side SCRIPT --node LOG`")
 
 
 def refuse_node(played, name):
@@ -36,8 +36,8 @@ def status_of(played, name):
         return 0
     refuse_node(played, name)
     count = len(played.answered)
-    told = f"{shown_name(name)} ended early, and only its first {count} lines are shown: {played.ending.text}"
-    warn(f"{told}. {ending_sentence(played.ending)}")
+    shown = "line is shown" if count == 1 else f"{count} lines are shown"
+    warn(f"{shown_name(name)} ended early, and only its first {shown}: {played.ending.text}. {ending_sentence(played.ending)}")
     return played.status
 
 

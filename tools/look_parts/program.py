@@ -37,7 +37,7 @@ def find_program(named=None):
     if found is None:
         raise LookError(
             f"no program: {BUILT} is not built, and {INSTALLED} is not on the path; "
-            f"name one by --program or the variable {VARIABLE}, or take the unproved one by --try")
+            f"name one by --program or the variable {VARIABLE}; with the Rattle kit, {VARIABLE}=$(tools/quick --path) names an unproved one")
     return found
 
 

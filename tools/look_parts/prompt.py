@@ -156,12 +156,13 @@ class Prompt:
         if self.lines == self.saved:
             return
         path = state_folder() / "last.script"
+        lines = "1 line was" if len(self.lines) == 1 else f"{len(self.lines)} lines were"
         try:
             path.parent.mkdir(parents=True, exist_ok=True)
             path.write_bytes(self.script())
-            print(f"{len(self.lines)} lines were not saved; they are in {path}")
+            print(f"{lines} not saved; the script is in {path}")
         except OSError as fault:
-            print(f"{len(self.lines)} lines were not saved, and {path} cannot be written: {fault.strerror}")
+            print(f"{lines} not saved, and {path} cannot be written: {fault.strerror}")
 
 
 def prompt(program, asked):

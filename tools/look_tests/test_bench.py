@@ -76,7 +76,7 @@ class Bench(LookTest):
     @need("loopback")
     def test_the_numbers_of_a_run_add_up(self):
         sizes, count, begun = [64, 10_000], 130, time.perf_counter()
-        told = json.loads(self.bench("--json", "-n", count, *[word for size in sizes for word in ("-s", size)]))
+        told = json.loads(self.bench("--json", "-n", count, "-s", *sizes))
         wall = time.perf_counter() - begun
         for name in NAMES:
             self.assertEqual([(one["#bytes"], one["#iterations"]) for one in told[name]], [(size, count) for size in sizes])

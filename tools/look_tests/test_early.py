@@ -66,6 +66,9 @@ class Early(LookTest):
                     self.assertFalse(capture.exists())
             self.look("side", path, status=3)
             self.assertIn("is the script of a node", self.told)
+        for line in ("wait 10", "until a.q idle", "show"):
+            self.assertEqual(self.look("stats", self.file("served.script", f"context a\n{line}\n"), status=3), "")
+            self.assertIn("is the script of a node", self.told)
 
     @need("program")
     def test_lines_beyond_the_end(self):

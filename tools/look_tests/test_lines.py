@@ -207,8 +207,9 @@ class Prompt(LookTest):
     def test_lines_that_were_not_saved_are_put_away(self):
         last = self.folder / "jichurpa" / "last.script"
         told = self.look("-i", EXAMPLES / "dump.script", given="dump e\n")
-        self.assertEqual(told.splitlines()[-2:], ["dump 20 4d494744554d5000000201650000000000000000", f"6 lines were not saved; they are in {last}"])
+        self.assertEqual(told.splitlines()[-2:], ["dump 20 4d494744554d5000000201650000000000000000", f"6 lines were not saved; the script is in {last}"])
         self.assertEqual(last.read_text(), (EXAMPLES / "dump.script").read_text() + "dump e\n")
+        self.assertTrue(self.look("-i", given="device 1 10.0.0.1\n").endswith(f"1 line was not saved; the script is in {last}\n"))
 
 
 class Generated(LookTest):

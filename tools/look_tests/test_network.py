@@ -12,7 +12,8 @@ from look_parts.program import TOP, Program
 from .running import EXAMPLES, SCRIPTS, LookTest, found, need, play
 
 PAGES = ["README.md", "docs/moves.md", "docs/getting-started.md"]
-DOCUMENTS = [*(TOP / name for name in PAGES), *sorted((TOP / "examples" / "tour").glob("[0-9]*.md"))]
+TOUR = sorted((TOP / "examples" / "tour").glob("[0-9]*.md"))
+DOCUMENTS = [*(TOP / name for name in PAGES), *(path for path in TOUR if "<!-- ladder of " in path.read_text())]
 
 OPENING = """\
 sequenceDiagram

@@ -1,4 +1,4 @@
-"""The packetless machine as docs/headline.md, docs/scripts.md and docs/scripts.md tell of it, without any code of the program.
+"""The packetless machine as docs/headline.md and docs/scripts.md tell of it, without any code of the program.
 
 It applies the verbs and inner steps of a trace, and says which is the first that it can not make.
 """

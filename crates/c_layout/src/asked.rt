@@ -34,6 +34,7 @@ fn text_of(name: &CName) -> &[u8]
 }
 
 /// The name that a text spells; None exactly where it spells none.
+#[inline(always)]
 pub fn name_asked(name: &CName) -> Option<Name>
     ensures { result ≡ asked.name_asked name.now }
 {
@@ -389,15 +390,6 @@ pub fn post_recv(qp: &CObject, receive: &CReceive) -> Option<Event>
         length: receive.length,
     };
     Some(Event::PostRecv { end, receive })
-}
-
-/// The next packet of a queue pair.
-pub fn transmit(qp: &CObject) -> Option<Event>
-    ensures event { result ≡ asked.transmit_event qp.now }
-    ensures lawful { IfSome result IsLawfulEvent }
-{
-    let end = object_asked(qp)?;
-    Some(Event::Transmit { end })
 }
 
 /// An expiry of the retransmission timer.

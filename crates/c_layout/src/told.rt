@@ -59,6 +59,7 @@ fn caused(answer: u32, cause: u32, sent: u64) -> COutcome
 }
 
 /// The outcome of a step with this answer and so many datagrams.
+#[inline(always)]
 pub fn outcome_told(answer: &Answer, sent: u64) -> COutcome
     ensures { result ≡ told.outcome_told answer.now sent }
 {

@@ -1,26 +1,34 @@
 -- What follows of how a run ends, where its words, its input and what the depot holds are known, and nothing failed.
-use Rattle.std.proofs.Common.{arith, ◌≡◌, ◌≢◌, ◌≤◌, ◌⊎◌, ◌+◌, ◌-◌, ℕ, List, [], Option, Some, None, Result, Ok, Err, length, drop, refl, ap, subst, sym, ◌∙◌, inl, inr, length-drop}
+use Rattle.std.proofs.Common.{arith, ◌≡◌, ◌≤◌, ◌⊎◌, ◌+◌, ℕ, List, Option, Some, None, Result, Ok, Err, length, drop, ap, subst, sym, ◌∙◌, inl, inr, length-drop}
 use Rattle.std.specs.Prelude.{IsSome}
 use Rattle.rdma_types.specs.declared.names.Name.{Name}
+use Rattle.rdma_types.specs.declared.requests.Address.{Address}
 use Rattle.protocol.specs.declared.images.ContextImage.{ContextImage}
 use Rattle.protocol.specs.declared.dumps.DumpWhy.{DumpWhy}
-use Rattle.protocol.specs.Dumps.{Bad, Good, Reading, read_dump}
+use Rattle.protocol.specs.Dumps.{Bad, Good, read_dump}
 use Rattle.host_ports.specs.Depots.{Has, Holding}
-use Rattle.host_ports.specs.Streams.{FaultsCounted, Puts, TakesAll, TakesCount}
+use Rattle.host_ports.specs.Streams.{FaultsCounted, TakesAll, TakesCount}
 use Rattle.workload_gen.specs.declared.plan.Mix.{Mix}
 use Rattle.evac_rules.specs.Evacuation.{Fault, evacuation}
-use Rattle.script_lang.specs.declared.lines.Offence.{Offence}
-use Rattle.run_traces.specs.Traces.{Reading as TraceReading, Traced, trace_of}
-use Rattle.run_traces.specs.Verdicts.{verdict_of}
+use Rattle.run_traces.specs.Traces.{Reading as TraceReading, trace_of}
 use Rattle.run_traces.specs.declared.trace_audit.verdicts.Verdict.{Verdict}
 use Rattle.run_traces.specs.declared.trace_audit.verdicts.Verdict.TheVariants as verdict
 use Rattle.trace_rules.specs.Recording.{Written, recorded_of}
 use Rattle.law_headline.specs.Left.{world_of}
 use Rattle.law_headline.specs.Script.{BadLine, bad_line}
+use Rattle.node_rules.specs.Laws.{WholeRunsAreTheFunction}
+use Rattle.node_rules.specs.Outside.{Outside, Ran, node_run, ran}
+use Rattle.node_rules.specs.Plan as calls
+use Rattle.node_rules.specs.Plan.{Ending}
+use Rattle.node_rules.specs.Script.{node_plan}
+use Rattle.node_rules.specs.Stops.{HasEnded, StopsAt}
+use Rattle.node_rules.specs.Told.{Contents, told}
 use Rattle.program_rules.specs.Commands as rules
+use Rattle.program_rules.specs.Due.{IsDepotSound, IsDue, IsLinkSound, IsOrLacks, ending_status, recorded_status, script_status, trace_status}
 use Rattle.program_rules.specs.Ends as ends
 use Rattle.program_rules.specs.Ends.{Claims, CountsAs, Ends, Status, code, emptied_status, verdict_status}
-use Rattle.program_rules.specs.Headline.{ImageText, IsAudited, IsDone, IsDoneBy, IsEvacuated, IsMissingBy, IsNotEmptiedBy, IsNotLegalBy, IsShortOfMemoryBy, IsShown, IsStopped, IsStoppedAtBadDump, IsStoppedAtBadLine, IsStoppedAtBadRecord, IsStoppedAtBadTrace, IsStoppedBy, IsWithoutDepotBy, IsWithoutLinkBy, IsHeldBack, IsIllegalTrace, IsLegalTrace}
+use Rattle.program_rules.specs.Headline.{ImageText, IsAudited, IsDoneBy, IsEvacuated, IsMissingBy, IsNotEmptiedBy, IsNotLegalBy, IsShortOfMemoryBy, IsShown, IsStopped, IsStoppedAtBadDump, IsStoppedBy, IsWithoutDepotBy, IsWithoutLinkBy}
+use Rattle.program_rules.specs.Nodes.{ComesTo, EndsAtBadDump, EndsAtBadLine, EndsAtMissing}
 use Rattle.program_rules.specs.Runs.{ReadsInput, Run, TakesFew, Writes, command, input_limit}
 use Rattle.commands.proofs.Stops.{all_is_few}
 
@@ -45,21 +53,6 @@ good_is_no_fault image place rest at why h = cc
 
 one_image : (a b : ContextImage) (place place' : ℕ) (rest rest' : List ℕ) → Good a place rest ≡ Good b place' rest' → a ≡ b
 one_image a b place place' rest rest' h = cc
-
-no_bad_line : (b : BadLine) → None ≡ Some b → ⊥
-no_bad_line b h = cc
-
--- a trace says one list of steps
-one_reading : (l : TraceReading) (a b : List Traced) → l ≡ Ok a → l ≡ Ok b → a ≡ b
-one_reading l a b h k = cc (h, k)
-
--- .. or is bad
-read_or_bad : (l : TraceReading) (a : List Traced) (e : ℕ × Offence) → l ≡ Ok a → l ≡ Err e → ⊥
-read_or_bad l a e h k = cc (h, k)
-
--- a script is recorded or bad
-recorded_or_bad : (l : Result (List Written) BadLine) (a : List Written) (e : BadLine) → l ≡ Ok a → l ≡ Err e → ⊥
-recorded_or_bad l a e h k = cc (h, k)
 
 -- what was to be read is what was read
 same_text : (left left_after : Option (List ℕ)) (a b : List ℕ) → left ≡ Some a → TakesAll left left_after b → b ≡ a
@@ -277,6 +270,31 @@ module _ (said : ImageText) (r : Run) (n : ℕ) (e : Ends said r n) where
       by ends.NotLegal is h c = absurd (subst (IsNotLegalBy r) k h)
       by ends.NotEmptied is h c = absurd (subst (IsNotEmptiedBy r) k h)
 
+  -- the bytes under the name are no dump
+  pub bad_dump_ends : (name : Name) (bytes : List ℕ) (place : ℕ) (why : DumpWhy) → command r ≡ Some (rules.ShowDump name) → IsSome r.before.held → Has r.before.held name (Some bytes) → read_dump bytes ≡ Bad place why
+      → (FaultsCounted r.before.faults.depot r.after.faults.depot → ⊥) → (FaultsCounted r.before.faults.output r.after.faults.output → ⊥) → IsOrLacks n 3
+  bad_dump_ends name bytes place why k told has reads looks writes = by e.status e.is e.claims e.counts
+    where
+      shown : IsShown said r name → ⊥
+      shown d = good_is_no_fault d.image d.place d.rest place why (sym d.reads ∙ sym (ap read_dump (one_held r.before.held name bytes d.bytes told has d.found)) ∙ reads)
+
+      missing : Has r.before.held name None → ⊥
+      missing m = held_or_not r.before.held name bytes told has m
+
+      by : (s : Status) → n ≡ code s → Claims said r s → CountsAs r s → IsOrLacks n 3
+      by ends.Done is h c = absurd (shown (subst (IsDoneBy said r) k h))
+      by ends.WrongWords is h c = absurd (no_command_is_one (rules.ShowDump name) (sym h.no_command ∙ k))
+      by ends.BadInput is h c = inl is
+      by ends.Unread is h c = absurd (subst ReadsInput k h.reads)
+      by ends.Unwritten is h c = absurd (writes c.1.1)
+      by ends.NoLink is h c = absurd (subst (IsWithoutLinkBy r) k h)
+      by ends.NoDepot is h c = absurd (looks c.1.1)
+      by ends.NoMemory is h c = inr is
+      by ends.TooLong is h c = absurd (subst ReadsInput k h.reads)
+      by ends.NotHeld is h c = absurd (missing (subst (IsMissingBy r) k h).0)
+      by ends.NotLegal is h c = absurd (subst (IsNotLegalBy r) k h)
+      by ends.NotEmptied is h c = absurd (subst (IsNotEmptiedBy r) k h)
+
   -- the whole input is told and within the limit, and nothing failed
   module _ (text : List ℕ) (left : r.left ≡ Some text) (short : length text ≤ input_limit) (reads : FaultsCounted r.input_faults r.input_faults_after → ⊥) (writes : FaultsCounted r.before.faults.output r.after.faults.output → ⊥) where
     not_long : TakesCount r.left r.left_after (input_limit + 1) → ⊥
@@ -284,101 +302,131 @@ module _ (said : ImageText) (r : Run) (n : ℕ) (e : Ends said r n) where
         let read : TakesCount (Some text) r.left_after (input_limit + 1) = subst (λ l. TakesCount l r.left_after (input_limit + 1)) left t in
         omega (arith, read.0, short)
 
-    not_bad : bad_line text ≡ None → IsStoppedAtBadLine r → ⊥
-    not_bad good b = no_bad_line b.bad (sym good ∙ sym (ap bad_line (same_text r.left r.left_after text b.text left b.read)) ∙ b.first)
+    -- the status by what was read is that by the text
+    line_due : (status : ℕ) (b : Option BadLine) (xs : List ℕ) → TakesAll r.left r.left_after xs → bad_line xs ≡ b → script_status (bad_line text) status ≡ script_status b status
+    line_due status b xs read e = ap (λ ys. script_status (bad_line ys) status) (sym (same_text r.left r.left_after text xs left read)) ∙ ap (λ x. script_status x status) e
 
-    -- `play` is done
-    pub play_ends : command r ≡ Some rules.Play → bad_line text ≡ None → (n ≡ 0) ⊎ (n ≡ 8)
-    play_ends k good = by e.status e.is e.claims e.counts
-      where
-        by : (s : Status) → n ≡ code s → Claims said r s → CountsAs r s → (n ≡ 0) ⊎ (n ≡ 8)
-        by ends.Done is h c = inl is
-        by ends.WrongWords is h c = absurd (no_command_is_one rules.Play (sym h.no_command ∙ k))
-        by ends.BadInput is h c = absurd (not_bad good (subst (IsStoppedBy r) k h))
-        by ends.Unread is h c = absurd (reads c.0.1)
-        by ends.Unwritten is h c = absurd (writes c.1.1)
-        by ends.NoLink is h c = absurd (subst (IsWithoutLinkBy r) k h)
-        by ends.NoDepot is h c = absurd (subst (IsWithoutDepotBy r) k h)
-        by ends.NoMemory is h c = inr is
-        by ends.TooLong is h c = absurd (not_long h.read)
-        by ends.NotHeld is h c = absurd (subst (IsMissingBy r) k h)
-        by ends.NotLegal is h c = absurd (subst (IsNotLegalBy r) k h)
-        by ends.NotEmptied is h c = absurd (subst (IsNotEmptiedBy r) k h)
+    trace_due : (l : TraceReading) (xs : List ℕ) → TakesAll r.left r.left_after xs → trace_of xs ≡ l → trace_status (trace_of text) ≡ trace_status l
+    trace_due l xs read e = ap (λ ys. trace_status (trace_of ys)) (sym (same_text r.left r.left_after text xs left read)) ∙ ap trace_status e
 
-    -- `audit` is done
-    pub audit_ends : (steps : List Traced) → command r ≡ Some rules.Audit → trace_of text ≡ Ok steps → (n ≡ verdict_status (verdict_of steps)) ⊎ (n ≡ 8)
-    audit_ends steps k says = by e.status e.is e.claims e.counts
-      where
-        found : (v : Verdict) → IsAudited r v → verdict_of steps ≡ v
-        found v a = ap verdict_of (one_reading (trace_of text) steps a.steps says (sym (ap trace_of (same_text r.left r.left_after text a.text left a.read)) ∙ a.says)) ∙ a.finds
+    record_due : (l : Result (List Written) BadLine) (xs : List ℕ) → TakesAll r.left r.left_after xs → recorded_of xs ≡ l → recorded_status (recorded_of text) ≡ recorded_status l
+    record_due l xs read e = ap (λ ys. recorded_status (recorded_of ys)) (sym (same_text r.left r.left_after text xs left read)) ∙ ap recorded_status e
 
-        bad : IsStoppedAtBadTrace r → ⊥
-        bad b = read_or_bad (trace_of text) steps (b.bad.number, b.bad.offence) says (sym (ap trace_of (same_text r.left r.left_after text b.text left b.read)) ∙ b.first)
+    -- a command that reads the input, and uses neither link nor depot: only four statuses are left, and a lack of memory
+    module _ (k : rules.Command) (asked : command r ≡ Some k) (number : ℕ) (done : n ≡ 0 → IsDoneBy said r (Some k) → n ≡ number) (bad : n ≡ 3 → IsStoppedBy r (Some k) → n ≡ number) (illegal : n ≡ 13 → IsNotLegalBy r (Some k) → n ≡ number) (held : n ≡ 14 → IsNotEmptiedBy r (Some k) → n ≡ number)
+        (no_link : IsWithoutLinkBy r (Some k) → ⊥) (no_depot : IsWithoutDepotBy r (Some k) → ⊥) (no_missing : IsMissingBy r (Some k) → ⊥) where
+      by_status : (s : Status) → n ≡ code s → Claims said r s → CountsAs r s → IsOrLacks n number
+      by_status ends.Done is h c = inl (done is (subst (IsDoneBy said r) asked h))
+      by_status ends.WrongWords is h c = absurd (no_command_is_one k (sym h.no_command ∙ asked))
+      by_status ends.BadInput is h c = inl (bad is (subst (IsStoppedBy r) asked h))
+      by_status ends.Unread is h c = absurd (reads c.0.1)
+      by_status ends.Unwritten is h c = absurd (writes c.1.1)
+      by_status ends.NoLink is h c = absurd (no_link (subst (IsWithoutLinkBy r) asked h))
+      by_status ends.NoDepot is h c = absurd (no_depot (subst (IsWithoutDepotBy r) asked h))
+      by_status ends.NoMemory is h c = inr is
+      by_status ends.TooLong is h c = absurd (not_long h.read)
+      by_status ends.NotHeld is h c = absurd (no_missing (subst (IsMissingBy r) asked h))
+      by_status ends.NotLegal is h c = inl (illegal is (subst (IsNotLegalBy r) asked h))
+      by_status ends.NotEmptied is h c = inl (held is (subst (IsNotEmptiedBy r) asked h))
 
-        legal : n ≡ 0 → IsLegalTrace r → n ≡ verdict_status (verdict_of steps)
-        legal is d = is ∙ sym (ap verdict_status (found (verdict.Legal d.verbs d.inner) d.audited))
+      input_ends : IsOrLacks n number
+      input_ends = by_status e.status e.is e.claims e.counts
 
-        illegal : n ≡ 13 → IsIllegalTrace r → n ≡ verdict_status (verdict_of steps)
-        illegal is d = is ∙ sym (ap verdict_status (found (verdict.Illegal d.line d.why) d.audited))
+    pub play_ends : command r ≡ Some rules.Play → IsOrLacks n (script_status (bad_line text) 0)
+    play_ends k = input_ends rules.Play k (script_status (bad_line text) 0)
+        (λ is d. is ∙ sym (line_due 0 None d.text d.read d.good))
+        (λ is b. is ∙ sym (line_due 0 (Some b.bad) b.text b.read b.first))
+        (λ is h. absurd h) (λ is h. absurd h) (λ h. h) (λ h. h) (λ h. h)
 
-        by : (s : Status) → n ≡ code s → Claims said r s → CountsAs r s → (n ≡ verdict_status (verdict_of steps)) ⊎ (n ≡ 8)
-        by ends.Done is h c = inl (legal is (subst (IsDoneBy said r) k h))
-        by ends.WrongWords is h c = absurd (no_command_is_one rules.Audit (sym h.no_command ∙ k))
-        by ends.BadInput is h c = absurd (bad (subst (IsStoppedBy r) k h))
-        by ends.Unread is h c = absurd (reads c.0.1)
-        by ends.Unwritten is h c = absurd (writes c.1.1)
-        by ends.NoLink is h c = absurd (subst (IsWithoutLinkBy r) k h)
-        by ends.NoDepot is h c = absurd (subst (IsWithoutDepotBy r) k h)
-        by ends.NoMemory is h c = inr is
-        by ends.TooLong is h c = absurd (not_long h.read)
-        by ends.NotHeld is h c = absurd (subst (IsMissingBy r) k h)
-        by ends.NotLegal is h c = inl (illegal is (subst (IsNotLegalBy r) k h))
-        by ends.NotEmptied is h c = absurd (subst (IsNotEmptiedBy r) k h)
+    judged_so : (v : Verdict) → IsAudited r v → trace_status (trace_of text) ≡ verdict_status v
+    judged_so v a = trace_due (Ok a.steps) a.text a.read a.says ∙ ap verdict_status a.finds
 
-    -- `evacuate` is done
-    pub evacuate_ends : (from : ℕ) (targets : List ℕ) → command r ≡ Some (rules.Evacuate from targets) → bad_line text ≡ None → (n ≡ emptied_status (evacuation (world_of text) from targets).fault) ⊎ (n ≡ 8)
-    evacuate_ends from targets k good = by e.status e.is e.claims e.counts
-      where
-        same_fault : (f : Option Fault) → IsEvacuated r from targets f → (evacuation (world_of text) from targets).fault ≡ f
-        same_fault f d = sym (ap (λ xs. (evacuation (world_of xs) from targets).fault) (same_text r.left r.left_after text d.text left d.read)) ∙ d.ended
+    pub audit_ends : command r ≡ Some rules.Audit → IsOrLacks n (trace_status (trace_of text))
+    audit_ends k = input_ends rules.Audit k (trace_status (trace_of text))
+        (λ is d. is ∙ sym (judged_so (verdict.Legal d.verbs d.inner) d.audited))
+        (λ is b. is ∙ sym (trace_due (Err (b.bad.number, b.bad.offence)) b.text b.read b.first))
+        (λ is d. is ∙ sym (judged_so (verdict.Illegal d.line d.why) d.audited))
+        (λ is h. absurd h) (λ h. h) (λ h. h) (λ h. h)
 
-        emptied : n ≡ 0 → IsEvacuated r from targets None → n ≡ emptied_status (evacuation (world_of text) from targets).fault
-        emptied is d = is ∙ sym (ap emptied_status (same_fault None d))
+    module _ (from : ℕ) (targets : List ℕ) where
+      abbrev emptied_as : ℕ
+      emptied_as = emptied_status (evacuation (world_of text) from targets).fault
 
-        held : n ≡ 14 → IsHeldBack r from targets → n ≡ emptied_status (evacuation (world_of text) from targets).fault
-        held is d = is ∙ sym (ap emptied_status (same_fault (Some d.fault) d.is))
+      emptied_so : (f : Option Fault) → IsEvacuated r from targets f → script_status (bad_line text) emptied_as ≡ emptied_status f
+      emptied_so f d = line_due emptied_as None d.text d.read d.good ∙ ap emptied_status (sym (ap (λ xs. (evacuation (world_of xs) from targets).fault) (same_text r.left r.left_after text d.text left d.read)) ∙ d.ended)
 
-        by : (s : Status) → n ≡ code s → Claims said r s → CountsAs r s → (n ≡ emptied_status (evacuation (world_of text) from targets).fault) ⊎ (n ≡ 8)
-        by ends.Done is h c = inl (emptied is (subst (IsDoneBy said r) k h))
-        by ends.WrongWords is h c = absurd (no_command_is_one (rules.Evacuate from targets) (sym h.no_command ∙ k))
-        by ends.BadInput is h c = absurd (not_bad good (subst (IsStoppedBy r) k h))
-        by ends.Unread is h c = absurd (reads c.0.1)
-        by ends.Unwritten is h c = absurd (writes c.1.1)
-        by ends.NoLink is h c = absurd (subst (IsWithoutLinkBy r) k h)
-        by ends.NoDepot is h c = absurd (subst (IsWithoutDepotBy r) k h)
-        by ends.NoMemory is h c = inr is
-        by ends.TooLong is h c = absurd (not_long h.read)
-        by ends.NotHeld is h c = absurd (subst (IsMissingBy r) k h)
-        by ends.NotLegal is h c = absurd (subst (IsNotLegalBy r) k h)
-        by ends.NotEmptied is h c = inl (held is (subst (IsNotEmptiedBy r) k h))
+      pub evacuate_ends : command r ≡ Some (rules.Evacuate from targets) → IsOrLacks n (script_status (bad_line text) emptied_as)
+      evacuate_ends k = input_ends (rules.Evacuate from targets) k (script_status (bad_line text) emptied_as)
+          (λ is d. is ∙ sym (emptied_so None d))
+          (λ is b. is ∙ sym (line_due emptied_as (Some b.bad) b.text b.read b.first))
+          (λ is h. absurd h)
+          (λ is d. is ∙ sym (emptied_so (Some d.fault) d.is))
+          (λ h. h) (λ h. h) (λ h. h)
 
-    -- `record` is done
-    pub record_ends : (lines : List Written) → command r ≡ Some rules.Record → recorded_of text ≡ Ok lines → (n ≡ 0) ⊎ (n ≡ 8)
-    record_ends lines k good = by e.status e.is e.claims e.counts
-      where
-        bad : IsStoppedAtBadRecord r → ⊥
-        bad b = recorded_or_bad (recorded_of text) lines b.bad good (sym (ap recorded_of (same_text r.left r.left_after text b.text left b.read)) ∙ b.first)
+    pub record_ends : command r ≡ Some rules.Record → IsOrLacks n (recorded_status (recorded_of text))
+    record_ends k = input_ends rules.Record k (recorded_status (recorded_of text))
+        (λ is d. is ∙ sym (record_due (Ok d.is.lines) d.text d.read d.is.read))
+        (λ is b. is ∙ sym (record_due (Err b.bad) b.text b.read b.first))
+        (λ is h. absurd h) (λ is h. absurd h) (λ h. h) (λ h. h) (λ h. h)
 
-        by : (s : Status) → n ≡ code s → Claims said r s → CountsAs r s → (n ≡ 0) ⊎ (n ≡ 8)
-        by ends.Done is h c = inl is
-        by ends.WrongWords is h c = absurd (no_command_is_one rules.Record (sym h.no_command ∙ k))
-        by ends.BadInput is h c = absurd (bad (subst (IsStoppedBy r) k h))
-        by ends.Unread is h c = absurd (reads c.0.1)
-        by ends.Unwritten is h c = absurd (writes c.1.1)
-        by ends.NoLink is h c = absurd (subst (IsWithoutLinkBy r) k h)
-        by ends.NoDepot is h c = absurd (subst (IsWithoutDepotBy r) k h)
-        by ends.NoMemory is h c = inr is
-        by ends.TooLong is h c = absurd (not_long h.read)
-        by ends.NotHeld is h c = absurd (subst (IsMissingBy r) k h)
-        by ends.NotLegal is h c = absurd (subst (IsNotLegalBy r) k h)
-        by ends.NotEmptied is h c = absurd (subst (IsNotEmptiedBy r) k h)
+    -- a node ends as its script does over what is told
+    module _ (id : ℕ) (own : Address) (k : command r ≡ Some (rules.Node id own)) (o : Outside) (told_whole : r.before ≡ told o r.before.faults) (law : WholeRunsAreTheFunction) where
+      abbrev due_here : ℕ
+      due_here = code (ending_status (node_run id own text o).ending)
+
+      -- the script ends so, where calls of its plan were made up to there
+      is_ending : (ending : Ending) (reached : Contents) (c : ComesTo r id own (HasEnded ending) reached) → due_here ≡ code (ending_status ending)
+      unfolding node_run
+      is_ending ending reached c =
+          let told_run = law (node_plan id own c.text) o r.before.faults ending reached (subst (λ (t : Contents). StopsAt (HasEnded ending) (node_plan id own c.text) t reached) told_whole c.stopped) in
+          ap (λ (xs : List ℕ). code (ending_status (ran (node_plan id own xs) o).ending)) (sym (same_text r.left r.left_after text c.text left c.read)) ∙ ap (λ (v : Ran). code (ending_status v.ending)) told_run.2
+
+      done : n ≡ 0 → ComesTo r id own (HasEnded calls.AllAnswered) r.after → n ≡ due_here
+      done is c = is ∙ sym (is_ending calls.AllAnswered r.after c)
+
+      bad : n ≡ 3 → EndsAtBadLine r id own ⊎ EndsAtBadDump r id own → n ≡ due_here
+      bad is d = elim d [
+        | inl b ↦ is ∙ sym (is_ending (calls.BadLine b.bad.number b.bad.offence) b.ends.reached b.ends.comes)
+        | inr b ↦ is ∙ sym (is_ending (calls.BadDump b.place b.why) b.ends.reached b.ends.comes)
+      ]
+
+      missing : n ≡ 12 → EndsAtMissing r id own → n ≡ due_here
+      missing is b = is ∙ sym (is_ending (calls.Missing b.name) b.ends.reached b.ends.comes)
+
+      pub node_ends : IsLinkSound r → IsDepotSound r → IsOrLacks n due_here
+      node_ends links depots = by e.status e.is e.claims e.counts
+        where
+          by : (s : Status) → n ≡ code s → Claims said r s → CountsAs r s → IsOrLacks n due_here
+          by ends.Done is h c = inl (done is (subst (IsDoneBy said r) k h))
+          by ends.WrongWords is h c = absurd (no_command_is_one (rules.Node id own) (sym h.no_command ∙ k))
+          by ends.BadInput is h c = inl (bad is (subst (IsStoppedBy r) k h))
+          by ends.Unread is h c = absurd (reads c.0.1)
+          by ends.Unwritten is h c = absurd (writes c.1.1)
+          by ends.NoLink is h c = absurd (links c.1.1)
+          by ends.NoDepot is h c = absurd (depots c.1.1)
+          by ends.NoMemory is h c = inr is
+          by ends.TooLong is h c = absurd (not_long h.read)
+          by ends.NotHeld is h c = inl (missing is (subst (IsMissingBy r) k h))
+          by ends.NotLegal is h c = absurd (subst (IsNotLegalBy r) k h)
+          by ends.NotEmptied is h c = absurd (subst (IsNotEmptiedBy r) k h)
+
+-- ---- all of it
+
+-- no line of a generated script is bad
+abbrev pub GeneratesGood : Run → Type 0
+GeneratesGood r = (seed : ℕ) (mix : Mix) → command r ≡ Some (rules.Bulk seed mix) → IsStopped r → ⊥
+
+pub due : (said : ImageText) (r : Run) (n : ℕ) → Ends said r n → GeneratesGood r → WholeRunsAreTheFunction → IsDue said r n
+due said r n e good law = record {
+  usage = words_end said r n e;
+  long = long_ends said r n e;
+  missing = missing_ends said r n e;
+  play = λ text k w. play_ends said r n e text w.left w.short w.read w.output k;
+  bulk = λ seed mix k writes. bulk_ends said r n e seed mix k (good seed mix k) writes;
+  show_dump = show_dump_ends said r n e;
+  bad_dump = bad_dump_ends said r n e;
+  audit = λ text k w. audit_ends said r n e text w.left w.short w.read w.output k;
+  evacuate = λ from targets text k w. evacuate_ends said r n e text w.left w.short w.read w.output from targets k;
+  record_trace = λ text k w. record_ends said r n e text w.left w.short w.read w.output k;
+  node = λ id own text o k w t. node_ends said r n e text w.left w.short w.read w.output id own k o t.told_whole law t.link t.depot;
+}

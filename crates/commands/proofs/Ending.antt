@@ -1,5 +1,5 @@
 -- What a run that stops leaves, once its last line is written, or a prefix of it.
-use Rattle.std.proofs.Common.{arith, ◌≡◌, ◌≢◌, ◌≤◌, ◌⊎◌, ◌+◌, ℕ, List, [], ◌∷◌, ◌++◌, Option, Some, None, Result, Ok, Err, refl, ap, ap₂, subst, sym, ◌∙◌, inl, inr, append-nil, append_assoc}
+use Rattle.std.proofs.Common.{arith, ◌≡◌, ◌≢◌, ◌≤◌, ◌+◌, ℕ, List, [], ◌++◌, Option, Some, None, Ok, Err, refl, ap, ap₂, subst, sym, ◌∙◌, inl, inr, append-nil, append_assoc}
 use Rattle.rdma_types.specs.declared.names.Name.{Name}
 use Rattle.rdma_types.specs.declared.requests.Address.{Address}
 use Rattle.host_ports.specs.Streams.{Puts, TakesCount}
@@ -11,13 +11,14 @@ use Rattle.run_traces.specs.declared.trace_audit.verdicts.Verdict.TheVariants.{I
 use Rattle.law_headline.specs.Left.{world_of}
 use Rattle.law_headline.specs.Script.{BadLine, answers_text, bad_line}
 use Rattle.node_rules.specs.Plan.{Plan}
-use Rattle.node_rules.specs.Stops.{HasEnded, LinkFailed, MemoryRanOut, OutputFailed, Rises}
+use Rattle.node_rules.specs.Stops.{Rises}
 use Rattle.node_rules.specs.Told.{Contents, Counts}
 use Rattle.program_rules.specs.Commands as rules
 use Rattle.program_rules.specs.Ends as ends
-use Rattle.program_rules.specs.Ends.{Claims, CountsAs, CountsNone, Ends, IsCutOff, IsWritten, code, uncut}
-use Rattle.program_rules.specs.Headline.{AreAnswersRead, ImageText, IsAnswerCutBy, IsAudited, IsCutShort, IsDone, IsDoneBy, IsDumpRead, IsEvacuated, IsMissingBy, IsNotEmptiedBy, IsNotLegalBy, IsShortOfMemoryBy, IsStoppedAtBadLine, IsStoppedBy, IsToWriteBy, IsTooLong, IsUnread, IsWithoutDepotBy, IsWithoutLinkBy, bulk_text}
-use Rattle.program_rules.specs.Nodes.{ComesTo, EndsBeforeReading, EndsThere}
+use Rattle.program_rules.specs.Ends.{Claims, CountsAs, CountsNone, Ends, IsCutOff, IsUnwrittenBy, IsWritten, code, uncut}
+use Rattle.program_rules.specs.Headline.{AreAnswersRead, ImageText, IsAudited, IsCutShort, IsDoneBy, IsDumpRead, IsEvacuated, IsMissingBy, IsNotEmptiedBy, IsNotLegalBy, IsShortOfMemoryBy, IsStoppedAtBadLine, IsStoppedBy, IsToWriteBy, IsTooLong, IsUnread, IsWithoutDepotBy, IsWithoutLinkBy, bulk_text}
+use Rattle.program_rules.specs.Nodes as nodes
+use Rattle.program_rules.specs.Nodes.{ComesTo, CutsLine, EndsBeforeReading, EndsThere, IsNodeUnwritten, IsStartCut, IsStopCut, NodeStop, line_of_stop, stops_so}
 use Rattle.program_rules.specs.Runs.{KeepsInput, KeepsOutside, KeepsUnused, ReadsInput, Run, TakesFew, WritesLine, command, input_limit}
 use Rattle.program_rules.specs.Texts.{bad_dump_line, bad_line_line, depot_line, evacuation_text, long_line, memory_line, missing_line, usage_line, verdict_line}
 use Rattle.script_runner.specs.Playing.{PutsPrefix}
@@ -367,7 +368,7 @@ module _ (said : ImageText) (r : Run) (w : Option (List ℕ)) where
   })
   play_end e o (stop.BadDump place why) s c p = absurd s
   play_end e o stop.ReadFault s c p = unread rules.Play e tt o c.1 s p
-  play_end e o stop.WriteFault s c p = no_line said r w p (inl (answers_cut said r (counted_back r c) e s))
+  play_end e o stop.WriteFault s c p = no_line said r w p (subst (IsUnwrittenBy said r) (sym e) (answers_cut said r (counted_back r c) e s))
   play_end e o stop.LinkFault s c p = absurd s
   play_end e o stop.DepotFault s c p = absurd s
   play_end e o stop.OutOfMemory s c p = subst (IsShortOfMemoryBy said (with_written r w)) (sym e) (short said r w (Some rules.Play) e s.0 s.1 p)
@@ -386,7 +387,7 @@ module _ (said : ImageText) (r : Run) (w : Option (List ℕ)) where
   })
   bulk_end seed mix e few (stop.BadDump place why) s c p = absurd s
   bulk_end seed mix e few stop.ReadFault s c p = absurd s
-  bulk_end seed mix e few stop.WriteFault s c p = no_line said r w p (inl (summary_cut said r (counted_back r c) seed mix e s))
+  bulk_end seed mix e few stop.WriteFault s c p = no_line said r w p (subst (IsUnwrittenBy said r) (sym e) (summary_cut said r (counted_back r c) seed mix e s))
   bulk_end seed mix e few stop.LinkFault s c p = absurd s
   bulk_end seed mix e few stop.DepotFault s c p = absurd s
   bulk_end seed mix e few stop.OutOfMemory s c p = subst (IsShortOfMemoryBy said (with_written r w)) (sym e) (short said r w (Some (rules.Bulk seed mix)) e few (silent_prefix said r (Some (rules.Bulk seed mix)) (inl refl) s) p)
@@ -408,7 +409,7 @@ module _ (said : ImageText) (r : Run) (w : Option (List ℕ)) where
     written = behind_nothing r w (bad_dump_line place why) s.0 p;
   })
   show_end own e few stop.ReadFault s c p = absurd s
-  show_end own e few stop.WriteFault s c p = no_line said r w p (inl (text_cut said r (counted_back r c) own e s))
+  show_end own e few stop.WriteFault s c p = no_line said r w p (subst (IsUnwrittenBy said r) (sym e) (text_cut said r (counted_back r c) own e s))
   show_end own e few stop.LinkFault s c p = absurd s
   show_end own e few stop.DepotFault s c p = subst (IsWithoutDepotBy (with_written r w)) (sym e) (behind_nothing r w depot_line s p)
   show_end own e few stop.OutOfMemory s c p = subst (IsShortOfMemoryBy said (with_written r w)) (sym e) (short said r w (Some (rules.ShowDump own)) e few (silent_prefix said r (Some (rules.ShowDump own)) (inl refl) s) p)
@@ -430,7 +431,7 @@ module _ (said : ImageText) (r : Run) (w : Option (List ℕ)) where
   })
   audit_end e o (stop.BadDump place why) s c p = absurd s
   audit_end e o stop.ReadFault s c p = unread rules.Audit e tt o c.1 s p
-  audit_end e o stop.WriteFault s c p = no_line said r w p (inl (verdict_cut said r (counted_back r c) e s))
+  audit_end e o stop.WriteFault s c p = no_line said r w p (subst (IsUnwrittenBy said r) (sym e) (verdict_cut said r (counted_back r c) e s))
   audit_end e o stop.LinkFault s c p = absurd s
   audit_end e o stop.DepotFault s c p = absurd s
   audit_end e o stop.OutOfMemory s c p = subst (IsShortOfMemoryBy said (with_written r w)) (sym e) (short said r w (Some rules.Audit) e s.1 (silent_prefix said r (Some rules.Audit) refl s.0) p)
@@ -457,7 +458,7 @@ module _ (said : ImageText) (r : Run) (w : Option (List ℕ)) where
   })
   record_end e o (stop.BadDump place why) s c p = absurd s
   record_end e o stop.ReadFault s c p = unread rules.Record e tt o c.1 s p
-  record_end e o stop.WriteFault s c p = no_line said r w p (inl (trace_cut said r (counted_back r c) e s))
+  record_end e o stop.WriteFault s c p = no_line said r w p (subst (IsUnwrittenBy said r) (sym e) (trace_cut said r (counted_back r c) e s))
   record_end e o stop.LinkFault s c p = absurd s
   record_end e o stop.DepotFault s c p = absurd s
   record_end e o stop.OutOfMemory s c p = subst (IsShortOfMemoryBy said (with_written r w)) (sym e) (short said r w (Some rules.Record) e s.1 (silent_prefix said r (Some rules.Record) refl s.0) p)
@@ -480,7 +481,7 @@ module _ (said : ImageText) (r : Run) (w : Option (List ℕ)) where
   })
   evacuate_end from targets e o (stop.BadDump place why) s c p = absurd s
   evacuate_end from targets e o stop.ReadFault s c p = unread (rules.Evacuate from targets) e tt o c.1 s p
-  evacuate_end from targets e o stop.WriteFault s c p = no_line said r w p (inl (evacuation_cut said r (counted_back r c) from targets e s))
+  evacuate_end from targets e o stop.WriteFault s c p = no_line said r w p (subst (IsUnwrittenBy said r) (sym e) (evacuation_cut said r (counted_back r c) from targets e s))
   evacuate_end from targets e o stop.LinkFault s c p = absurd s
   evacuate_end from targets e o stop.DepotFault s c p = absurd s
   evacuate_end from targets e o stop.OutOfMemory s c p = subst (IsShortOfMemoryBy said (with_written r w)) (sym e) (short said r w (Some (rules.Evacuate from targets)) e s.0 s.1 p)
@@ -522,7 +523,7 @@ module _ (said : ImageText) (r : Run) (w : Option (List ℕ)) where
     node_end (stop.BadLine line column why) s c p = subst (IsStoppedBy (with_written r w)) (sym e) (inl (record { bad = record { number = line; offence = record { column = column; why = why } }; ends = ends_there _ _ s p }))
     node_end (stop.BadDump place why) s c p = subst (IsStoppedBy (with_written r w)) (sym e) (inr (record { place = place; why = why; ends = ends_there _ _ s p }))
     node_end stop.ReadFault s c p = record { reads = subst ReadsInput (sym e) tt; few = few_later r (record r.after { written = w }) s.1; kept = subst (λ v. record r.after { written = v } ≡ r.before) (sym (nothing_put r.after.written w p)) s.0 }
-    node_end stop.WriteFault s c p = no_line said r w p (inr (subst (IsAnswerCutBy r) (sym e) s))
+    node_end stop.WriteFault s c p = no_line said r w p (subst (IsUnwrittenBy said r) (sym e) (inl s))
     node_end stop.LinkFault s c p = subst (IsWithoutLinkBy (with_written r w)) (sym e) (ends_there _ _ s p)
     node_end stop.DepotFault s c p = subst (IsWithoutDepotBy (with_written r w)) (sym e) (ends_there _ _ s p)
     node_end stop.OutOfMemory s c p = subst (IsShortOfMemoryBy said (with_written r w)) (sym e) (elim s [ inl c ↦ inl (ends_there _ _ c p) | inr b ↦ inr (record { few = few_later r (record r.after { written = w }) b.1; last = touches_nothing memory_line b.0 p }) ])
@@ -665,6 +666,38 @@ written_by said r (stop.Missing name) n m h = h
 written_by said r (stop.Illegal line why) n m h = h
 written_by said r stop.NotEmptied n m h = h
 
+-- the last line of a node is cut off where it came to
+module _ (r : Run) (w : Option (List ℕ)) (n : ℕ) (rises : Rises r.after.faults.output n) (id : ℕ) (own : Address) where
+  cuts_line : (line : List ℕ) → PutsPrefix r.after.written w line → CutsLine line r.after (with_output r w n).after
+  cuts_line line p = record { prefix = p.prefix; rest = p.rest; splits = p.splits; written = p.put; counted = rises; others = refl }
+
+  -- or where it began
+  cuts_first_line : (line : List ℕ) → r.after ≡ r.before → PutsPrefix r.after.written w line → CutsLine line r.before (with_output r w n).after
+  cuts_first_line line same p = subst (λ (t : Contents). CutsLine line t (with_output r w n).after) same (cuts_line line p)
+
+  stop_cut : (why : NodeStop) → ComesTo r id own (stops_so why) r.after → PutsPrefix r.after.written w (line_of_stop why) → IsNodeUnwritten (with_output r w n) id own
+  stop_cut why c p = inr (inl (record { why = why; reached = r.after; comes = record { text = c.text; read = c.read; short = c.short; stopped = c.stopped }; last = cuts_line (line_of_stop why) p }))
+
+  start_cut : IsStartCut (with_output r w n) → IsNodeUnwritten (with_output r w n) id own
+  start_cut h = inr (inr h)
+
+  node_cut : (x : Stop) → x ≢ stop.ReadFault → x ≢ stop.WriteFault → NodeStops id own r x → PutsPrefix r.after.written w (last_line x) → IsNodeUnwritten (with_output r w n) id own
+  node_cut stop.Usage not_read not_written s p = absurd s
+  node_cut (stop.BadLine line column why) not_read not_written s p = stop_cut (nodes.AtBadLine (record { number = line; offence = record { column = column; why = why } })) s p
+  node_cut (stop.BadDump place why) not_read not_written s p = stop_cut (nodes.AtBadDump place why) s p
+  node_cut stop.ReadFault not_read not_written s p = absurd (not_read refl)
+  node_cut stop.WriteFault not_read not_written s p = absurd (not_written refl)
+  node_cut stop.LinkFault not_read not_written s p = stop_cut nodes.WithoutLink s p
+  node_cut stop.DepotFault not_read not_written s p = stop_cut nodes.WithoutDepot s p
+  node_cut stop.OutOfMemory not_read not_written s p = elim s [
+    | inl c ↦ stop_cut nodes.WithoutMemory c p
+    | inr b ↦ start_cut (inl (few_later r (with_output r w n).after b.1, cuts_first_line memory_line b.0 p))
+  ]
+  node_cut stop.TooLong not_read not_written s p = start_cut (inr (s.1, cuts_first_line long_line s.0 p))
+  node_cut (stop.Missing name) not_read not_written s p = stop_cut (nodes.AtMissing name) s p
+  node_cut (stop.Illegal line why) not_read not_written s p = absurd s
+  node_cut stop.NotEmptied not_read not_written s p = absurd s
+
 module _ (said : ImageText) (r : Run) (x : Stop) (p : Performs {U = Unit {0}} said r (Err x)) where
   -- its last line was written
   pub stop_ends : (w : Option (List ℕ)) (n : ℕ) → Puts r.after.written w (last_line x) → n ≡ r.after.faults.output → (number : ℕ) → number ≡ code (status x) → Ends said (with_output r w n) number
@@ -676,6 +709,17 @@ module _ (said : ImageText) (r : Run) (x : Stop) (p : Performs {U = Unit {0}} sa
     unused = keeps_unused r w r.after.faults.output p.unused;
   })
 
+  -- of a node the last line alone, and of the others a prefix of what a run under another status writes
+  cut_by : (k : Option rules.Command) → StopsBy said r k x → x ≢ stop.ReadFault → x ≢ stop.WriteFault → (w : Option (List ℕ)) (n : ℕ) → PutsPrefix r.after.written w (last_line x) → Rises r.after.faults.output n → IsCutOff said (with_output r w n) → IsUnwrittenBy said (with_output r w n) k
+  cut_by None s not_read not_written w n prefix rises cut = cut
+  cut_by (Some rules.Play) s not_read not_written w n prefix rises cut = cut
+  cut_by (Some (rules.Bulk seed mix)) s not_read not_written w n prefix rises cut = cut
+  cut_by (Some (rules.ShowDump name)) s not_read not_written w n prefix rises cut = cut
+  cut_by (Some (rules.Evacuate from targets)) s not_read not_written w n prefix rises cut = cut
+  cut_by (Some rules.Audit) s not_read not_written w n prefix rises cut = cut
+  cut_by (Some rules.Record) s not_read not_written w n prefix rises cut = cut
+  cut_by (Some (rules.Node id own)) s not_read not_written w n prefix rises cut = node_cut r w n rises id own x not_read not_written s prefix
+
   -- or a prefix of it
   pub cut_ends : x ≢ stop.ReadFault → x ≢ stop.WriteFault → (w : Option (List ℕ)) (n : ℕ) → PutsPrefix r.after.written w (last_line x) → Rises r.after.faults.output n → Ends said (with_output r w n) 5
   cut_ends not_read not_written w n prefix rises =
@@ -685,7 +729,7 @@ module _ (said : ImageText) (r : Run) (x : Stop) (p : Performs {U = Unit {0}} sa
       record {
         status = ends.Unwritten;
         is = refl;
-        claims = inl (record {
+        claims = cut_by (command r) p.comes not_read not_written w n prefix rises (record {
           rest = prefix.rest;
           whole = whole;
           missing = puts_more w prefix.rest;

@@ -1,13 +1,12 @@
 -- Why a command stops, and what is known there.
-use Rattle.std.proofs.Common.{◌≡◌, ◌≢◌, ◌≤◌, ◌⊎◌, ◌+◌, ℕ, List, [], ◌++◌, length, Option, Some, None, Result, Ok, Err, refl, true, false, ap, ap₂, subst, sym, ◌∙◌, inl, inr, append-nil, arith}
+use Rattle.std.proofs.Common.{◌≡◌, ◌≢◌, ◌≤◌, ◌⊎◌, ◌+◌, ℕ, List, [], ◌++◌, length, Option, Some, None, Result, Ok, Err, refl, true, false, ap, subst, sym, ◌∙◌, inl, inr, append-nil, arith}
 use Rattle.std.proofs.lemmas.List.{drop_all}
 use Rattle.std.specs.Prelude.{IfErr, IsErrAnd, OnOk}
-use Rattle.protocol.specs.declared.dumps.DumpWhy.{DumpWhy}
 use Rattle.protocol.specs.declared.images.ContextImage.{ContextImage}
-use Rattle.protocol.specs.Dumps.{Bad, Good, Reading, read_dump}
+use Rattle.protocol.specs.Dumps.{Good, read_dump}
 use Rattle.rdma_types.specs.declared.names.Name.{Name}
 use Rattle.rdma_types.specs.declared.requests.Address.{Address}
-use Rattle.host_ports.specs.Depots.{Has, Holding}
+use Rattle.host_ports.specs.Depots.{Has}
 use Rattle.host_ports.specs.Streams.{FaultsCounted, Puts, TakesAll, TakesCount}
 use Rattle.host_ports.specs.declared.reading.ReadAllFault.{ReadAllFault}
 use Rattle.host_ports.specs.declared.reading.ReadAllFault.TheVariants as read
@@ -17,16 +16,14 @@ use Rattle.dump_reader.specs.declared.fault.DumpFault.TheVariants as dump
 use Rattle.dump_reader.specs.Steps.{IsFault}
 use Rattle.workload_gen.specs.declared.plan.Mix.{Mix}
 use Rattle.workload_gen.specs.Plan.{plan}
-use Rattle.run_traces.specs.Traces.{trace_of}
 use Rattle.run_traces.specs.Verdicts.{AreRun, Audits, VerdictsAreRight}
 use Rattle.trace_rules.specs.Recording.{IsFaultOf, IsTraceOf}
 use Rattle.trace_record.specs.Recorded.{IsLegalText}
 use Rattle.run_traces.specs.declared.trace_audit.verdicts.AuditFault.{AuditFault}
 use Rattle.run_traces.specs.declared.trace_audit.verdicts.AuditFault.TheVariants as audit
 use Rattle.run_traces.specs.declared.trace_audit.verdicts.Verdict.{Verdict}
-use Rattle.run_traces.specs.declared.trace_audit.verdicts.Verdict.TheVariants.{Illegal, Legal}
+use Rattle.run_traces.specs.declared.trace_audit.verdicts.Verdict.TheVariants.{Legal}
 use Rattle.node_rules.specs.Script.{node_plan}
-use Rattle.node_rules.specs.Stops.{HasEnded, Rises, StopsAt}
 use Rattle.node_rules.specs.Told.{Contents, Counts}
 use Rattle.node_engine.specs.Answered.{Answers}
 use Rattle.node_engine.specs.Counting as node_counts
@@ -34,7 +31,7 @@ use Rattle.node_engine.specs.declared.faults.NodeFault.{NodeFault}
 use Rattle.node_engine.specs.declared.faults.NodeFault.TheVariants as node
 use Rattle.program_rules.specs.Commands as rules
 use Rattle.law_headline.specs.Follows.{IsFollowed}
-use Rattle.program_rules.specs.Headline.{AreAnswersRead, ImageText, IsAnswered, IsAudited, IsDoneBy, IsDumpRead, IsEvacuated, IsLegalTrace, IsRecorded, IsShown, IsSummedUp, bulk_text}
+use Rattle.program_rules.specs.Headline.{AreAnswersRead, ImageText, IsAnswered, IsAudited, IsDoneBy, IsEvacuated, IsLegalTrace, IsRecorded, IsShown, bulk_text}
 use Rattle.program_rules.specs.Runs.{KeepsInput, KeepsOutside, Run, TakesFew, command, input_limit}
 use Rattle.law_headline.specs.Left.{world_of}
 use Rattle.law_headline.specs.Script.{answers_text, bad_line}

@@ -1,5 +1,5 @@
 -- The lines of the contexts that moved are put one after the other.
-use Rattle.std.proofs.Common.{◌≡◌, ◌≤◌, ◌+◌, ℕ, suc, List, [], ◌∷◌, ◌++◌, length, drop, Option, Some, ap, sym, ◌∙◌, slice_get, add-one, append_assoc, append-nil}
+use Rattle.std.proofs.Common.{◌≡◌, ◌≤◌, ◌+◌, ℕ, suc, List, [], ◌++◌, length, drop, Option, Some, ap, sym, ◌∙◌, slice_get, add-one, append_assoc, append-nil}
 use Rattle.std.specs.Prelude.{flat_map}
 use Rattle.evac_rules.specs.declared.moves.Shifted.{Shifted}
 use Rattle.protocol.specs.State.{World}

@@ -26,7 +26,7 @@ use Rattle.node_rules.specs.Told.{Contents, Counts}
 use Rattle.node_engine.specs.declared.faults.NodeFault.{NodeFault}
 use Rattle.node_engine.specs.declared.faults.NodeFault.TheVariants as node
 use Rattle.program_rules.specs.Commands as rules
-use Rattle.program_rules.specs.Headline.{AreAnswersRead, ImageText, IsAudited, IsDone, IsDumpRead, IsEvacuated, IsHeldBack, bulk_text}
+use Rattle.program_rules.specs.Headline.{AreAnswersRead, ImageText, IsAudited, IsDone, IsDumpRead, IsHeldBack, bulk_text}
 use Rattle.program_rules.specs.Nodes.{ComesTo}
 use Rattle.program_rules.specs.Runs.{KeepsUnused, Run, TakesFew, Writes, command, input_limit}
 use Rattle.law_headline.specs.Follows.{FollowsAll, IsFollowed}

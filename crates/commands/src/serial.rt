@@ -1,25 +1,13 @@
 //! The commands that wait for nobody.
 
-ghost use Rattle.std.specs.Prelude.{◌≡◌, ◌≤◌, ◌+◌, ◌⊎◌, ℕ, List, length, None, Some, Ok, Err, String, IsSome, IfErr, IfOk, map};
+ghost use Rattle.std.specs.Prelude.{◌≡◌, List, Some, Err, String, IfErr, IfOk, map};
 ghost use Rattle.std.specs.String.{string_bytes};
 ghost use Rattle.std.specs.declared.alloc.Global.{Global};
-ghost use Rattle.rdma_types.specs.declared.names.Name.{Name};
-ghost use Rattle.protocol.specs.Dumps.{Good, read_dump};
-ghost use Rattle.protocol.specs.declared.images.ContextImage.{ContextImage};
-ghost use Rattle.evac_rules.specs.Evacuation.{evacuation};
-ghost use Rattle.host_ports.specs.Depots.{Has};
-ghost use Rattle.host_ports.specs.Streams.{FaultsCounted, Puts, TakesCount};
 ghost use Rattle.dump_writer.specs.Text.{text_of};
-ghost use Rattle.trace_rules.specs.Recording.{Written, recorded_of};
-ghost use Rattle.run_traces.specs.Traces.{Traced, trace_of};
-ghost use Rattle.run_traces.specs.Verdicts.{verdict_of};
-ghost use Rattle.workload_gen.specs.declared.plan.Mix.{Mix};
-ghost use Rattle.law_headline.specs.Left.{world_of};
-ghost use Rattle.law_headline.specs.Script.{bad_line};
-ghost use Rattle.program_rules.specs.Commands as rules;
 ghost use Rattle.program_rules.specs.Commands.{command_of};
-ghost use Rattle.program_rules.specs.Ends.{Ends, emptied_status, verdict_status};
-ghost use Rattle.program_rules.specs.Runs.{ReadsInput, UsesDepot, UsesLink, input_limit};
+ghost use Rattle.program_rules.specs.Due.{IsDue};
+ghost use Rattle.program_rules.specs.Ends.{Ends};
+ghost use Rattle.program_rules.specs.Runs.{ReadsInput, UsesDepot, UsesLink};
 ghost use Rattle.command_line.specs.Commands.{IsInRange, known};
 ghost use Rattle.commands.specs.Stopping.{IsNotAsked, Performs, run_of};
 
@@ -31,6 +19,7 @@ use command_line::Command;
 use host_ports::{Depot, Link, Sink, Source, Ticks, WriteFault};
 use law_scripts::generated_scripts::no_generated_line_is_bad;
 use node_engine::NodePorts;
+use node_rules::what_is_told_decides_a_run;
 use std::alloc::{AllocError, Global};
 
 /// The command that the words spell.
@@ -179,65 +168,13 @@ pub fn run_serial<S: Source, L: Link, K: Sink, D: Depot, C: Ticks>(
     ensures depot_never_fails { (UsesLink (command_of (map string_bytes words.now)) → ⊥)
         → D.never_fails ports.old.depot → result ≡ 7 → ⊥ }
 
-    // Status 2 comes exactly where the words are of no command.
-    ensures usage_only { command_of (map string_bytes words.now) ≡ None
-        → (result ≡ 2) ⊎ (result ≡ 5) }
-
-    // Status 9 comes exactly where one byte more than the limit was taken.
-    ensures long_only { ReadsInput (command_of (map string_bytes words.now))
-        → IsSome (S.left input.old)
-        → TakesCount (S.left input.old) (S.left input.new) (input_limit + 1)
-        → (result ≡ 9) ⊎ (result ≡ 5) }
-
-    // Status 12 comes exactly where the depot holds nothing under the name, unless it fails or memory runs out.
-    ensures missing_only { (name : Name) → command_of (map string_bytes words.now)
-        ≡ Some (rules.ShowDump name) → IsSome (D.held ports.old.depot)
-        → Has (D.held ports.old.depot) name None
-        → (result ≡ 12) ⊎ (result ≡ 7) ⊎ (result ≡ 8) ⊎ (result ≡ 5) }
-
-    // Where nothing fails, a script of good lines is answered whole, a generated one is summed up, and what the dump held under
-    // the name says is written, unless memory runs out.
-    ensures play_is_done { (text : List ℕ) → command_of (map string_bytes words.now)
-        ≡ Some rules.Play → S.left input.old ≡ Some text → length text ≤ input_limit
-        → bad_line text ≡ None → (FaultsCounted (S.faults input.old) (S.faults input.new) → ⊥)
-        → (FaultsCounted (K.faults ports.old.output) (K.faults ports.new.output) → ⊥)
-        → (result ≡ 0) ⊎ (result ≡ 8) }
-    ensures bulk_is_done { (seed : ℕ) (mix : Mix)
-        → command_of (map string_bytes words.now) ≡ Some (rules.Bulk seed mix)
-        → (FaultsCounted (K.faults ports.old.output) (K.faults ports.new.output) → ⊥)
-        → (result ≡ 0) ⊎ (result ≡ 8) }
-    ensures show_dump_is_done { (name : Name) (bytes : List ℕ) (image : ContextImage) (place : ℕ)
-        (rest : List ℕ) → command_of (map string_bytes words.now) ≡ Some (rules.ShowDump name)
-        → IsSome (D.held ports.old.depot) → Has (D.held ports.old.depot) name (Some bytes)
-        → read_dump bytes ≡ Good image place rest
-        → (FaultsCounted (D.faults ports.old.depot) (D.faults ports.new.depot) → ⊥)
-        → (FaultsCounted (K.faults ports.old.output) (K.faults ports.new.output) → ⊥)
-        → ((result ≡ 0) × Puts (K.held ports.old.output) (K.held ports.new.output) (text_of image))
-        ⊎ (result ≡ 8) }
-
-    // There a trace is judged: status 0 comes exactly where it is legal, and 13 where it is illegal. And a device is emptied exactly
-    // where the rules say so: else the status is 14.
-    ensures audit_is_done { (text : List ℕ) (steps : List Traced)
-        → command_of (map string_bytes words.now) ≡ Some rules.Audit → S.left input.old ≡ Some text
-        → length text ≤ input_limit → trace_of text ≡ Ok steps
-        → (FaultsCounted (S.faults input.old) (S.faults input.new) → ⊥)
-        → (FaultsCounted (K.faults ports.old.output) (K.faults ports.new.output) → ⊥)
-        → (result ≡ verdict_status (verdict_of steps)) ⊎ (result ≡ 8) }
-    ensures evacuate_is_done { (from : ℕ) (targets text : List ℕ)
-        → command_of (map string_bytes words.now) ≡ Some (rules.Evacuate from targets)
-        → S.left input.old ≡ Some text → length text ≤ input_limit → bad_line text ≡ None
-        → (FaultsCounted (S.faults input.old) (S.faults input.new) → ⊥)
-        → (FaultsCounted (K.faults ports.old.output) (K.faults ports.new.output) → ⊥)
-        → (result ≡ emptied_status (evacuation (world_of text) from targets).fault) ⊎ (result ≡ 8) }
-
-    // And the trace of a script is written, where none of its lines is bad or settles.
-    ensures record_is_done { (text : List ℕ) (lines : List Written)
-        → command_of (map string_bytes words.now) ≡ Some rules.Record → S.left input.old ≡ Some text
-        → length text ≤ input_limit → recorded_of text ≡ Ok lines
-        → (FaultsCounted (S.faults input.old) (S.faults input.new) → ⊥)
-        → (FaultsCounted (K.faults ports.old.output) (K.faults ports.new.output) → ⊥)
-        → (result ≡ 0) ⊎ (result ≡ 8) }
+    // Where words, input and depot are known and nothing fails, the status is the one that is due, or memory ran out.
+    ensures due { IsDue text_of (run_of words.now (S.left input.old) (S.left input.new) (S.faults input.old) (S.faults input.new)
+        (record { waiting = L.waiting ports.old.link; sent = L.sent ports.old.link; to_come = C.to_come ports.old.ticks; held = D.held ports.old.depot; written = K.held ports.old.output; faults = record { link = L.faults ports.old.link; depot = D.faults ports.old.depot; output = K.faults ports.old.output } })
+        (record { waiting = L.waiting ports.new.link; sent = L.sent ports.new.link; to_come = C.to_come ports.new.ticks; held = D.held ports.new.depot; written = K.held ports.new.output; faults = record { link = L.faults ports.new.link; depot = D.faults ports.new.depot; output = K.faults ports.new.output } }))
+        result }
 {
     no_generated_line_is_bad();
+    what_is_told_decides_a_run();
     run(alloc, words, input, ports)
 }

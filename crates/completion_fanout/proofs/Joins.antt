@@ -26,18 +26,22 @@ one_more P lists es all last i l at = elim (get_push lists es i l at) [ inl a �
 
 pub served_more : (queue : Queue) (root next : Pass QueueItem Share) (lists more : List (List FanEntry)) (s : Served) (a b : Bool)
     → AreServed queue (view root).parts root lists a → IsServed queue s → IsPassOf queue next → view next ≡ joined_with (view root) (view s.pass)
-    → IsRising (places (view s.pass).taken) → more ≡ lists ++ s.taken ∷ [] → (b ≡ false → s.is_out_of_memory ≡ false)
+    → IsRising (places (view s.pass).taken) → more ≡ lists ++ s.taken ∷ [] → (b ≡ false → (a ≡ false) × (s.is_out_of_memory ≡ false))
     → AreServed queue ((view root).parts + 1) next more b
 served_more queue root next lists more s a b all one pass joined rising is short =
-    let whole : view next ≡ root_share ((view root).parts + 1) (flat_map (λ (l : List FanEntry). l) (lists ++ s.taken ∷ [])) ((view root).ended + (view s.pass).ended) =
-    joined ∙ joined_root (view root) (view s.pass) lists s.taken all.knows one.knows in
-    let ended : (view next).ended ≡ (view root).ended + (view s.pass).ended = ap (λ (z : Share). z.ended) whole in
-    let mine : IsRising (places s.taken) = subst (λ (l : List FanEntry). IsRising (places l)) (ap (λ (z : Share). z.taken) one.knows) rising in
+    let ended : (view next).ended ≡ (view root).ended + (view s.pass).ended = ap (λ (z : Share). z.ended) joined in
+    let parts : (view next).parts ≡ (view root).parts + (view s.pass).parts = ap (λ (z : Share). z.parts) joined in
+    let one_part = one.parts in
+    let mark = one.marked in
+    let whole : b ≡ false → view next ≡ root_share ((view root).parts + 1) (flat_map (λ (l : List FanEntry). l) (lists ++ s.taken ∷ [])) ((view root).ended + (view s.pass).ended) =
+    λ h. joined ∙ joined_root (view root) (view s.pass) lists s.taken (all.knows (short h).0) (one.knows (short h).1) in
+    let mine : b ≡ false → IsRising (places s.taken) = λ h. subst (λ (l : List FanEntry). IsRising (places l)) (ap (λ (z : Share). z.taken) (one.knows (short h).1)) rising in
     record {
       pass = pass;
-      knows = whole
+      parts_are = omega (arith, parts, one_part);
+      marked = λ _. omega (arith, ended, mark);
+      knows = λ h. whole h
           ∙ ap (λ l. root_share ((view root).parts + 1) (flat_map (λ (l : List FanEntry). l) l) ((view root).ended + (view s.pass).ended)) (sym is)
           ∙ ap (root_share ((view root).parts + 1) (flat_map (λ (l : List FanEntry). l) more)) (sym ended);
-      rising = subst (λ ls. (i : ℕ) (es : List FanEntry) → slice_get ls i ≡ Some es → IsRising (places es)) (sym is) (one_more (λ l. IsRising (places l)) lists s.taken all.rising mine);
-      marked = λ h _. let m = one.marked (short h) in omega (arith, ended);
+      rising = λ h. subst (λ ls. (i : ℕ) (es : List FanEntry) → slice_get ls i ≡ Some es → IsRising (places es)) (sym is) (one_more (λ l. IsRising (places l)) lists s.taken (all.rising (short h).0) (mine h));
     }

@@ -19,19 +19,21 @@ abbrev pub Queue : Type 0
 Queue = Slotted (Option QueueItem) (Doing QueueItem Share) (Turns Fan) Global
 
 module _ (queue : Queue) where
-  -- a consumer ended: its pass took just the entries of its list, and an end mark, unless memory ran out
+  -- a consumer ended: it took an end mark; and its pass took just the entries of its list, unless memory ran out
   pub record IsServed (s : Served) : Type 0 where
     pub pass : IsPassOf queue s.pass
-    pub knows : view s.pass ≡ taker_share s.taken (view s.pass).ended
-    pub marked : s.is_out_of_memory ≡ false → 0 < (view s.pass).ended
+    pub parts : (view s.pass).parts ≡ 1
+    pub marked : 0 < (view s.pass).ended
+    pub knows : s.is_out_of_memory ≡ false → view s.pass ≡ taker_share s.taken (view s.pass).ended
 
-  -- consumers were joined: the root pass has that many parts, and was joined with those that took these lists; an end mark was
-  -- taken, unless memory ran out or there were no consumers
+  -- consumers were joined: the root pass has that many parts; an end mark was taken, unless there were no consumers; and unless
+  -- memory ran out, the root pass was joined with those that took these lists
   pub record AreServed (parts : ℕ) (root : Pass QueueItem Share) (lists : List (List FanEntry)) (is_out_of_memory : Bool) : Type 0 where
     pub pass : IsPassOf queue root
-    pub knows : view root ≡ root_share parts (flat_map (λ es. es) lists) (view root).ended
-    pub rising : (i : ℕ) (es : List FanEntry) → slice_get lists i ≡ Some es → IsRising (places es)
-    pub marked : is_out_of_memory ≡ false → 0 < length lists → 0 < (view root).ended
+    pub parts_are : (view root).parts ≡ parts
+    pub marked : 0 < length lists → 0 < (view root).ended
+    pub knows : is_out_of_memory ≡ false → view root ≡ root_share parts (flat_map (λ es. es) lists) (view root).ended
+    pub rising : is_out_of_memory ≡ false → (i : ℕ) (es : List FanEntry) → slice_get lists i ≡ Some es → IsRising (places es)
 
   -- the one who puts has ended: its pass put just these completions, and then end marks
   pub record IsFed (pass : Pass QueueItem Share) (put : List Completion) : Type 0 where

@@ -1,6 +1,6 @@
 //! Consumers in threads.
 
-ghost use Rattle.std.specs.Prelude.{◌≡◌, ◌<◌, ◌≤◌, ◌+◌, [], Bool, vec_len, IfOk};
+ghost use Rattle.std.specs.Prelude.{◌≡◌, ◌<◌, ◌≤◌, ◌+◌, [], Bool, vec_capacity, vec_len};
 ghost use Rattle.crossbeam_queue.specs.Passes.{view, IsPassOf};
 ghost use Rattle.completion_fanout.specs.Feeding.{IsFeeding};
 ghost use Rattle.completion_fanout.specs.Rule.{root_share, writer_share};
@@ -12,7 +12,6 @@ use crate::moves::{join, split};
 use crate::rule::{FanPass, FanQueue};
 use crate::serving::{PopGate, Served, ServingPlace, consume};
 use rdma_types::Items;
-use std::alloc::AllocError;
 use std::sync::Wait;
 use std::thread::{Scope, Threads};
 
@@ -25,7 +24,7 @@ pub(crate) struct AllServed<'a, S: Source, T> {
     pub root: FanPass,
     /// What consumers 101, 102 and so on took.
     pub lists: Vec<Items<FanEntry>>,
-    /// Whether one ended since memory ran out.
+    /// Whether there was no memory for an entry of one of them.
     pub is_out_of_memory: bool,
     pub feeding: Feeding<'a, S>,
     pub beside: T,
@@ -36,16 +35,18 @@ fn take_in<'a, S: Source + Drop, T: Drop>(
     queue: &FanQueue,
     all: AllServed<'a, S, T>,
     served: Served,
-) -> Result<AllServed<'a, S, T>, AllocError>
+) -> AllServed<'a, S, T>
     requires all { AreServed queue.now (view all.root).parts all.root all.lists.items
         all.is_out_of_memory }
     requires parts { 0 < (view all.root).parts }
-    requires feeding { IsFeeding S.given queue.now all.feeding }
+    requires room { vec_len all.lists < vec_capacity all.lists }
+    requires feeding { IsFeeding S.given S.ended queue.now all.feeding }
     requires served { IsServed queue.now served }
-    ensures all { IfOk result (λ r. AreServed queue.now
-        ((view all.entry.root).parts + 1) r.root r.lists.items r.is_out_of_memory) }
-    ensures lists { IfOk result (λ r. vec_len r.lists ≡ vec_len all.entry.lists + 1) }
-    ensures feeding { IfOk result (λ r. IsFeeding S.given queue.now r.feeding) }
+    ensures all { AreServed queue.now ((view all.entry.root).parts + 1) result.root
+        result.lists.items result.is_out_of_memory }
+    ensures lists { vec_len result.lists ≡ vec_len all.entry.lists + 1 }
+    ensures room { vec_capacity result.lists ≡ vec_capacity all.entry.lists }
+    ensures feeding { IsFeeding S.given S.ended queue.now result.feeding }
 {
     let AllServed {
         mut root,
@@ -60,19 +61,18 @@ fn take_in<'a, S: Source + Drop, T: Drop>(
         is_out_of_memory: is_short,
     } = served;
     join(queue, &mut root, pass);
-    lists.push(taken)?;
-    Ok(AllServed {
+    lists.push_reserved(taken);
+    AllServed {
         root,
         lists,
         is_out_of_memory: is_out_of_memory || is_short,
         feeding,
         beside,
-    })
+    }
 }
 
 /// Runs a consumer for each room, of at most 4, in a thread of its own, then who puts, in a thread too, and then `beside`, by
-/// the caller; and joins the consumers. A consumer whose start is refused is run by the caller after all that. Errors:
-/// `AllocError` when out of memory; then some consumers may not have run.
+/// the caller; and joins the consumers. A consumer whose start is refused is run by the caller after all that.
 pub(crate) fn consume_all<
     's,
     E,
@@ -90,7 +90,7 @@ pub(crate) fn consume_all<
     mut rooms: Vec<Items<FanEntry>>,
     feeder: Feeder<S>,
     beside: L,
-) -> Result<AllServed<'s, S, T>, AllocError>
+) -> AllServed<'s, S, T>
     requires pass { IsPassOf queue.now root }
     requires root { view root ≡ root_share (view root).parts [] 0 }
     requires parts { vec_len rooms + 1 ≤ (view root).parts }
@@ -98,27 +98,28 @@ pub(crate) fn consume_all<
     requires feeder { IsPassOf queue.now feeder.pass × (view feeder.pass ≡ writer_share [] 0) }
     requires given { S.given feeder.source ≡ [] }
     requires beside { (b : Bool) → L.pre beside b }
-    ensures all { IfOk result (λ r. AreServed queue.now
-        (view root).parts r.root r.lists.items r.is_out_of_memory) }
-    ensures lists { IfOk result (λ r. vec_len r.lists ≡ vec_len rooms) }
-    ensures feeding { IfOk result (λ r. IsFeeding S.given queue.now r.feeding) }
+    ensures all { AreServed queue.now (view root).parts result.root result.lists.items
+        result.is_out_of_memory }
+    ensures lists { vec_len result.lists ≡ vec_len rooms }
+    ensures room { vec_capacity result.lists ≡ vec_capacity rooms }
+    ensures feeding { IsFeeding S.given S.ended queue.now result.feeding }
 {
     let Some(room) = rooms.pop() else {
         let (feeding, beside) = start(scope, rt, queue, feeder, beside);
-        return Ok(AllServed {
+        return AllServed {
             root,
             lists: rooms,
             is_out_of_memory: false,
             feeding,
             beside,
-        });
+        };
     };
     let consumer = BEFORE_CONSUMERS + rooms.len() as u32 + 1;
     let pass = split(queue, &mut root);
     let started = scope.spawn_with(ServingPlace(queue), move || {
         consume(rt, queue, gate, consumer, pass, room)
     });
-    let all = consume_all(scope, rt, queue, gate, root, rooms, feeder, beside)?;
+    let all = consume_all(scope, rt, queue, gate, root, rooms, feeder, beside);
     let served = match started {
         Ok(handle) => handle.join(rt),
         Err(refused) => (refused.value)(),

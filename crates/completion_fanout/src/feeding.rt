@@ -11,6 +11,7 @@ use crate::moves::put;
 use crate::rule::{FanPass, FanQueue};
 use rdma_types::Completion;
 use std::sync::Wait;
+use std::thread;
 use std::thread::{Promise, PromisedHandle, Scope, Threads};
 
 /// Where the completions come from.
@@ -20,9 +21,12 @@ pub trait Source {
     // The completions that it has given, in their order.
     ghost given: { Self → List Completion };
 
-    /// The next completion; None where no more come. It may wait.
+    // It has ended: no more come.
+    ghost ended: { Self → Type 0 };
+
+    /// The next completion; None where it has ended. It may wait.
     fn next<R: Wait>(&mut self, rt: &R) -> Option<Completion>
-        ensures { MatchOption result (given self.new ≡ given self.old) (λ c. given self.new ≡ given self.old ++ c ∷ []) };
+        ensures { MatchOption result ((given self.new ≡ given self.old) × ended self.new) (λ c. given self.new ≡ given self.old ++ c ∷ []) };
 }
 
 /// The one who puts, before it begins.
@@ -54,12 +58,13 @@ fn put_ends<R: Wait>(rt: &R, queue: &FanQueue, mut pass: FanPass, marks: u32) ->
     pass
 }
 
-/// Puts the completions of the source, with the places 0, 1, 2 and so on, until it has no more; and then an end mark for each
-/// consumer.
+/// Puts the completions of the source, with the places 0, 1, 2 and so on, until it has ended; and then an end mark for each
+/// consumer. It would wait for ever after 2^64 - 1 completions.
 fn feed<R: Wait, S: Source>(rt: &R, queue: &FanQueue, feeder: Feeder<S>) -> PutResult<S>
     requires pass { IsPassOf queue.now feeder.pass × (view feeder.pass ≡ writer_share [] 0) }
     requires given { S.given feeder.source ≡ [] }
     ensures fed { IsFed queue.now result.pass (S.given result.source) }
+    ensures ended { S.ended result.source }
     ensures marks { (view result.pass).marks ≡ feeder.consumers }
 {
     let Feeder {
@@ -69,15 +74,18 @@ fn feed<R: Wait, S: Source>(rt: &R, queue: &FanQueue, feeder: Feeder<S>) -> PutR
     } = feeder;
     for place in 0..u64::MAX {
         let Some(completion) = source.next(rt) else {
-            break;
+            return PutResult {
+                pass: put_ends(rt, queue, pass, consumers),
+                source,
+            };
         };
         let entry = FanEntry { place, completion };
         put(rt, queue, &mut pass, QueueItem::Entry(entry));
     }
-    PutResult {
-        pass: put_ends(rt, queue, pass, consumers),
-        source,
+    for _ in rt.forever() {
+        thread::yield_now();
     }
+    unreachable!()
 }
 
 /// That the one who puts into this queue has ended as it should.
@@ -87,7 +95,7 @@ pub(crate) struct PutPlace<'a>(&'a FanQueue);
 impl<'a, S: Source> Promise<PutResult<S>> for PutPlace<'a> {
     ghost use Rattle.completion_fanout.specs.Served.{IsFed};
 
-    ghost kept_by = { λ p fed. IsFed p.0.now fed.pass (S.given fed.source) };
+    ghost kept_by = { λ p fed. IsFed p.0.now fed.pass (S.given fed.source) × S.ended fed.source };
 }
 
 /// The one who puts: in a thread, or run by the caller.
@@ -100,8 +108,9 @@ pub(crate) enum Feeding<'a, S: Source> {
 impl<'a, S: Source> Feeding<'a, S> {
     /// Waits until it has ended.
     pub fn join<R: Threads>(self, rt: &R, queue: &FanQueue) -> PutResult<S>
-        requires { IsFeeding S.given queue.now self }
-        ensures { IsFed queue.now result.pass (S.given result.source) }
+        requires { IsFeeding S.given S.ended queue.now self }
+        ensures fed { IsFed queue.now result.pass (S.given result.source) }
+        ensures ended { S.ended result.source }
     {
         match self {
             Feeding::There(handle) => handle.join(rt),
@@ -129,7 +138,7 @@ pub(crate) fn start<
     requires feeder { IsPassOf queue.now feeder.pass × (view feeder.pass ≡ writer_share [] 0) }
     requires given { S.given feeder.source ≡ [] }
     requires beside { (b : Bool) → L.pre beside b }
-    ensures { IsFeeding S.given queue.now result.0 }
+    ensures { IsFeeding S.given S.ended queue.now result.0 }
 {
     let started = scope.spawn_with(PutPlace(queue), move || feed(rt, queue, feeder));
     let done = beside(started.is_err());

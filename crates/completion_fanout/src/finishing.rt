@@ -53,7 +53,8 @@ pub struct HandedOut {
 }
 
 /// Joins the one who put to the pass that consumers were joined to, and takes what is left: each completion stands once in
-/// the lists, under its place, and nothing is left. Errors: `AllocError` where memory runs out, or ran out for one of them.
+/// the lists, under its place, and nothing is left; the source has ended. Errors: `AllocError` where memory runs out, or ran
+/// out for one of them.
 pub(crate) fn finish<R: Wait, S: Source + Drop>(
     rt: &R,
     alloc: Global,
@@ -66,9 +67,11 @@ pub(crate) fn finish<R: Wait, S: Source + Drop>(
     requires all { AreServed queue.now 1023 root lists.items is_out_of_memory }
     requires some { 0 < vec_len lists }
     requires fed { IsFed queue.now fed.pass (S.given fed.source) }
+    requires ended { S.ended fed.source }
     ensures fanned { IfOk result (λ out. IsFanned (S.given out.1) out.0.taken out.0.left) }
     ensures lists { IfOk result (λ out. length out.0.taken ≡ vec_len lists) }
     ensures none { IfOk result (λ out. out.0.left ≡ []) }
+    ensures ended { IfOk result (λ out. S.ended out.1) }
 {
     let PutResult { pass, source } = fed;
     if is_out_of_memory {

@@ -58,8 +58,9 @@ fn run<
     ensures fanned { IfOk result (λ out. IsFanned (S.given out.1) out.0.taken out.0.left) }
     ensures lists { IfOk result (λ out. length out.0.taken ≡ vec_len rooms) }
     ensures none { IfOk result (λ out. out.0.left ≡ []) }
+    ensures ended { IfOk result (λ out. S.ended out.1) }
 {
-    let all = consume_all(scope, rt, queue, gate, root, rooms, feeder, beside)?;
+    let all = consume_all(scope, rt, queue, gate, root, rooms, feeder, beside);
     let fed = all.feeding.join(rt, queue);
     let (out, source) = finish(
         rt,
@@ -73,18 +74,20 @@ fn run<
     Ok((out, source, all.beside))
 }
 
-/// Hands the completions of a source, in their order, to 1 to 4 consumers over a queue of that many places. Each consumer
-/// takes in a thread of its own, and one thread puts; the caller runs `beside` when all are started. Each completion that the
-/// source gave is taken once, under its place, and nothing is left. A thread whose start is refused is run by the caller after
-/// that: first the one who puts, and then each such consumer. `beside` is told whether the one who puts is among them. `most`
-/// is for how many completions each consumer has room from the start.
+/// Hands the completions of a source, in their order, to 1 to 4 consumers over a queue of that many places, and of one for each
+/// consumer at least. Each consumer takes in a thread of its own, and one thread puts; the caller runs `beside` when all are
+/// started. The source is asked until it has ended. Each completion that it gave is taken once, under its place, and nothing is
+/// left. A thread whose start is refused is run by the caller after that: first the one who puts, and then each such consumer.
+/// `beside` is told whether the one who puts is among them. `most` is for how many completions each consumer has room from the
+/// start.
 ///
 /// It may wait, and does so for ever where the starts of the one who puts and of all consumers are refused, and the completions
 /// and an end mark for each consumer do not fit in the queue. So a caller who is told so makes its source end.
 ///
 /// # Errors
 ///
-/// `AllocError` when out of memory.
+/// `AllocError` when out of memory. Where that happens to a consumer, all run to their ends first: it drops what it takes from
+/// then on.
 pub fn hand_out<
     R: Threads + Wait + Sync,
     G: PopGate + Sync,
@@ -102,15 +105,15 @@ pub fn hand_out<
     beside: L,
 ) -> Result<(HandedOut, S, T), AllocError>
     requires consumers { (1 ≤ consumers) × (consumers ≤ 4) }
-    requires capacity { 0 < capacity }
     requires given { S.given source ≡ [] }
     requires beside { (b : Bool) → L.pre beside b }
     ensures fanned { IfOk result (λ out. IsFanned (S.given out.1) out.0.taken out.0.left) }
     ensures lists { IfOk result (λ out. length out.0.taken ≡ consumers) }
     ensures none { IfOk result (λ out. out.0.left ≡ []) }
+    ensures ended { IfOk result (λ out. S.ended out.1) }
 {
     let rooms = rooms(alloc, consumers, most)?;
-    let (queue, mut root) = make(alloc, capacity)?;
+    let (queue, mut root) = make(alloc, capacity.max(consumers as usize))?;
     let pass = lend(&queue, &mut root);
     let row = &queue;
     thread::scope(
@@ -122,7 +125,8 @@ pub fn hand_out<
                 × (consumers ≡ vec_len rooms) × (0 < vec_len rooms) × (vec_len rooms ≤ 4)
                 × (S.given source ≡ []) × ((b : Bool) → L.pre beside b) }
             ensures { IfOk result (λ out. IsFanned (S.given out.1) out.0.taken out.0.left
-                × (length out.0.taken ≡ vec_len rooms) × (out.0.left ≡ [])) }
+                × (length out.0.taken ≡ vec_len rooms) × (out.0.left ≡ [])
+                × S.ended out.1) }
         {
             let feeder = Feeder {
                 pass,

@@ -1,6 +1,6 @@
 //! What consumers do.
 
-ghost use Rattle.std.specs.Prelude.{◌≡◌};
+ghost use Rattle.std.specs.Prelude.{◌≡◌, ◌<◌};
 ghost use Rattle.crossbeam_queue.specs.Passes.{view, IsPassOf};
 ghost use Rattle.completion_fanout.specs.Rule.{new_share};
 ghost use Rattle.completion_fanout.specs.Served.{IsServed};
@@ -30,9 +30,9 @@ impl PopGate for OpenGate {
 #[derive(Drop)]
 pub struct Served {
     pub pass: FanPass,
-    /// What it took, in its order.
+    /// What it took, in its order, as far as there was memory for it.
     pub taken: Items<FanEntry>,
-    /// Whether it ended since there was no memory for one more entry.
+    /// Whether there was no memory for one of its entries.
     pub is_out_of_memory: bool,
 }
 
@@ -46,8 +46,33 @@ impl<'a> Promise<Served> for ServingPlace<'a> {
     ghost kept_by = { λ p s. IsServed p.0.now s };
 }
 
-/// Takes parcels until it takes an end mark, or memory runs out; it waits while the queue is empty. The room is emptied first,
-/// and is for the entries.
+/// Takes parcels until it takes an end mark, and drops the entries; it waits while the queue is empty.
+fn discard<R: Wait, G: PopGate>(
+    rt: &R,
+    queue: &FanQueue,
+    gate: &G,
+    consumer: u32,
+    pass: &mut FanPass,
+)
+    requires pass { IsPassOf queue.now pass.old }
+    requires parts { (view pass.old).parts ≡ 1 }
+    ensures pass { IsPassOf queue.now pass.new }
+    ensures parts { (view pass.new).parts ≡ 1 }
+    ensures marked { 0 < (view pass.new).ended }
+{
+    for _ in rt.forever() {
+        gate.pass(consumer);
+        match take(rt, queue, pass) {
+            Some(QueueItem::Entry(_)) => (),
+            Some(QueueItem::End) => return,
+            None => thread::yield_now(),
+        }
+    }
+    unreachable!()
+}
+
+/// Takes parcels until it takes an end mark; it waits while the queue is empty. The room is emptied first, and is for the
+/// entries. Once there is no memory for an entry, it drops what it takes: so the queue does not stay full.
 pub fn consume<R: Wait, G: PopGate>(
     rt: &R,
     queue: &FanQueue,
@@ -63,6 +88,7 @@ pub fn consume<R: Wait, G: PopGate>(
     taken.clear();
     for _ in rt.forever() {
         if taken.try_reserve(1).is_err() {
+            discard(rt, queue, gate, consumer, &mut pass);
             return Served {
                 pass,
                 taken: Items::new(taken),

@@ -30,12 +30,12 @@ use Rattle.endpoint_core.specs.Answers.{sent_by, sent_of, taken_at}
 use Rattle.endpoint_core.specs.Due.{WasDue, due_by, due_in, responses}
 use Rattle.endpoint_core.specs.Ends.{Names, link_in}
 use Rattle.endpoint_core.specs.Sites.{IsHome, EndWithMemory, end_at, home}
-use Rattle.context_core.specs.Buffers.{Kept}
+use Rattle.context_core.specs.declared.rooms.DatagramRoom.{DatagramRoom}
 use Rattle.context_core.specs.declared.state.EndSlot.{EndSlot}
 use Rattle.context_core.specs.Arriving.{AreReady, HasRoom, IsRoomFor, IsSentFor, may_answer}
 use Rattle.context_core.specs.Context.{Holding, context_in, end_of, names_in, site_in}
 use Rattle.context_core.specs.Links.{link_at, link_by}
-use Rattle.context_core.specs.Sending.{IsPrepared}
+use Rattle.context_core.specs.Rooms.{HasRoomFor}
 use Rattle.context_core.proofs.EndSteps.{after, site_after}
 use Rattle.context_core.proofs.EndReaders.{link-shown}
 use Rattle.context_core.proofs.EndStepCalls.{Steps, entry, entry-there}
@@ -101,35 +101,35 @@ none-due l regions domain d due never is = by (d.opcode == 0x0C) refl (l.ended |
     by false e true h = absurd (cc)
     by false e false h = absurd (cc)
 
-gives-room : (r : EndReply) (kept : Kept) → IsPrepared kept → HasRoom r kept
-gives-room Nothing kept h = tt
-gives-room (Acknowledge number syndrome) kept h = h
-gives-room (ReadBytes spot first count) kept h = tt
-gives-room (Old number value) kept h = h
-gives-room (ResumeAck count address) kept h = h
+gives-room : (r : EndReply) (room : DatagramRoom) → HasRoomFor room 92 → HasRoom r room
+gives-room Nothing room h = tt
+gives-room (Acknowledge number syndrome) room h = h
+gives-room (ReadBytes spot first count) room h = tt
+gives-room (Old number value) room h = h
+gives-room (ResumeAck count address) room h = h
 
-none-sent : (regions : List Region) (k : Link) (r : EndReply) (kept : Kept) → sent_by regions k r ≡ [] → HasRoom r kept
-none-sent regions k Nothing kept none = tt
-none-sent regions k (Acknowledge number syndrome) kept none = absurd (cc)
-none-sent regions k (ReadBytes spot first count) kept none = tt
-none-sent regions k (Old number value) kept none = absurd (cc)
-none-sent regions k (ResumeAck count address) kept none = absurd (cc)
+none-sent : (regions : List Region) (k : Link) (r : EndReply) (room : DatagramRoom) → sent_by regions k r ≡ [] → HasRoom r room
+none-sent regions k Nothing room none = tt
+none-sent regions k (Acknowledge number syndrome) room none = absurd (cc)
+none-sent regions k (ReadBytes spot first count) room none = tt
+none-sent regions k (Old number value) room none = absurd (cc)
+none-sent regions k (ResumeAck count address) room none = absurd (cc)
 
 -- memory for a reply is there, where an end that is connected has one to send
-pub has-room : (opcode : ℕ) (new : EndWithMemory) (r : EndReply) (kept : Kept) → IsRoomFor opcode kept → (is_request opcode ≡ false → (opcode == 0x1E) ≡ false → sent_of new r ≡ []) → IfSome new.end.link (λ _. HasRoom r kept)
-has-room opcode new r kept made none = by (is_request opcode) (opcode == 0x1E) refl refl made
+pub has-room : (opcode : ℕ) (new : EndWithMemory) (r : EndReply) (room : DatagramRoom) → IsRoomFor opcode room → (is_request opcode ≡ false → (opcode == 0x1E) ≡ false → sent_of new r ≡ []) → IfSome new.end.link (λ _. HasRoom r room)
+has-room opcode new r room made none = by (is_request opcode) (opcode == 0x1E) refl refl made
   where
-    linked : (o : Option EndLink) → option_map_or (λ l. sent_by (regions_of new.pool new.held) (link_in new.pool l) r) o [] ≡ [] → IfSome o (λ _. HasRoom r kept)
+    linked : (o : Option EndLink) → option_map_or (λ l. sent_by (regions_of new.pool new.held) (link_in new.pool l) r) o [] ≡ [] → IfSome o (λ _. HasRoom r room)
     linked None h = tt
-    linked (Some l) h = none-sent (regions_of new.pool new.held) (link_in new.pool l) r kept h
+    linked (Some l) h = none-sent (regions_of new.pool new.held) (link_in new.pool l) r room h
 
-    any : (o : Option EndLink) → HasRoom r kept → IfSome o (λ _. HasRoom r kept)
+    any : (o : Option EndLink) → HasRoom r room → IfSome o (λ _. HasRoom r room)
     any None h = tt
     any (Some l) h = h
 
-    by : (a b : Bool) → is_request opcode ≡ a → (opcode == 0x1E) ≡ b → OnTrue (a || b) (IsPrepared kept) → IfSome new.end.link (λ _. HasRoom r kept)
-    by true b p q h = any new.end.link (gives-room r kept h)
-    by false true p q h = any new.end.link (gives-room r kept h)
+    by : (a b : Bool) → is_request opcode ≡ a → (opcode == 0x1E) ≡ b → OnTrue (a || b) (HasRoomFor room 92) → IfSome new.end.link (λ _. HasRoom r room)
+    by true b p q h = any new.end.link (gives-room r room h)
+    by false true p q h = any new.end.link (gives-room r room h)
     by false false p q h = linked new.end.link (none p q)
 
 -- ---- the rule

@@ -19,7 +19,8 @@ use Rattle.context_core.specs.declared.state.EndSlot.{EndSlot}
 use Rattle.context_core.specs.Context.{Holding, context_in, end_of}
 use Rattle.context_core.specs.Links.{is_moved_out_by, is_paused_by, link_at, link_by, link_marks, live_end, live_end_at}
 
-end-shown : (pool : Pool) (n : Name) (h : Holding) (i : ℕ) → slice_get (context_in pool n h).ends i ≡ option_map (end_of pool h.queues) (slice_get h.ends i)
+-- the end at a place
+pub end-shown : (pool : Pool) (n : Name) (h : Holding) (i : ℕ) → slice_get (context_in pool n h).ends i ≡ option_map (end_of pool h.queues) (slice_get h.ends i)
 unfolding context_in
 end-shown pool n h i = slice_get-map (end_of pool h.queues) h.ends i
 

@@ -39,6 +39,8 @@ pub mod PacketSizes
 pub mod TransmittedPackets
 pub mod ReadResponses
 pub mod ReplyPackets
+pub mod ConnectedEnds
+pub mod RoomSizes
 pub mod Transmissions
 pub mod ArrivingDatagrams
 pub mod PageCounts

@@ -1,6 +1,9 @@
 -- A datagram that is neither a request nor a RESUME is not answered.
-use Rattle.std.proofs.Common.{◌≡◌, [], false, refl}
-use Rattle.std.specs.Prelude.{Option, Some, None, ◌==◌}
+use Rattle.std.proofs.Common.{◌≡◌, ◌++◌, ◌∷◌, Bool, List, [], false, true, refl, sym, ◌∙◌, ℕ}
+use Rattle.std.specs.Prelude.{Option, Some, None, is_some, ◌==◌, ◌||◌}
+use Rattle.std.specs.Option.{option_to_list}
+use Rattle.rdma_types.specs.declared.answers.Sent.{Sent}
+use Rattle.context_core.specs.Arriving.{may_answer}
 use Rattle.protocol.specs.State.{Link, End, Context}
 use Rattle.protocol.specs.Wire.{Packet, is_request}
 use Rattle.law_devices.proofs.Silent.{reply_silent}
@@ -10,3 +13,19 @@ use Rattle.endpoint_core.specs.Answers.{taken_at}
 pub unanswered : (c : Context) (e : End) (o : Option Link) (d : Packet) → is_request d.opcode ≡ false → (d.opcode == 0x1E) ≡ false → (taken_at c e o d).sent ≡ []
 unanswered c e None d a b = refl
 unanswered c e (Some l) d a b = (reply_silent c e l d a b).none
+
+-- neither is one of the two, where none of both is
+pub neither : (a b : Bool) → (a || b) ≡ false → (a ≡ false) × (b ≡ false)
+neither true b h = absurd (cc)
+neither false b h = (refl, h)
+
+-- nothing is sent, so nothing is in the draft
+pub none-first : (draft : Option Sent) (more : List Sent) → option_to_list draft ++ more ≡ [] → draft ≡ None
+none-first None more h = refl
+none-first (Some x) more h = absurd (cc)
+
+-- memory that is there for each answer is there for the one in the draft
+pub for-answer : {P : Type 0} (answers : Bool) (draft : Option Sent) → (answers ≡ true → P) → (answers ≡ false → draft ≡ None) → is_some draft ≡ true → P
+for-answer true draft made none there = made refl
+for-answer false None made none there = absurd (cc)
+for-answer false (Some x) made none there = let odd = none refl in absurd (cc)

@@ -5,8 +5,8 @@ use Rattle.rdma_types.specs.declared.answers.Sent.{Sent}
 use Rattle.protocol.specs.declared.wire.Aeth.{Aeth}
 use Rattle.protocol.specs.declared.wire.Syndrome.TheVariants.{Ack}
 use Rattle.protocol.specs.Wire.{is_request}
-use Rattle.context_core.specs.Buffers.{Kept}
-use Rattle.context_core.specs.Sending.{IsPrepared}
+use Rattle.context_core.specs.declared.rooms.DatagramRoom.{DatagramRoom}
+use Rattle.context_core.specs.Rooms.{HasRoomFor}
 use Rattle.endpoint_core.specs.declared.answers.EndReply.{EndReply}
 use Rattle.endpoint_core.specs.declared.answers.EndReply.TheVariants.{Nothing, Acknowledge, ReadBytes, Old, ResumeAck}
 
@@ -47,13 +47,13 @@ abbrev pub may_answer : ℕ → Bool
 may_answer opcode = is_request opcode || opcode == 0x1E
 
 -- memory for a reply to a packet of this opcode is there, where it may be answered
-abbrev pub IsRoomFor : ℕ → Kept → Type 0
-IsRoomFor opcode kept = OnTrue (may_answer opcode) (IsPrepared kept)
+abbrev pub IsRoomFor : ℕ → DatagramRoom → Type 0
+IsRoomFor opcode room = OnTrue (may_answer opcode) (HasRoomFor room 92)
 
 -- memory for a reply without bytes is there
-abbrev pub HasRoom : EndReply → Kept → Type 0
-HasRoom (ReadBytes spot first count) kept = ⊤
-HasRoom Nothing kept = ⊤
-HasRoom (Acknowledge number syndrome) kept = IsPrepared kept
-HasRoom (Old number value) kept = IsPrepared kept
-HasRoom (ResumeAck count address) kept = IsPrepared kept
+abbrev pub HasRoom : EndReply → DatagramRoom → Type 0
+HasRoom (ReadBytes spot first count) room = ⊤
+HasRoom Nothing room = ⊤
+HasRoom (Acknowledge number syndrome) room = HasRoomFor room 92
+HasRoom (Old number value) room = HasRoomFor room 92
+HasRoom (ResumeAck count address) room = HasRoomFor room 92

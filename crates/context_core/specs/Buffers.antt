@@ -1,16 +1,6 @@
 -- Memory that is kept to be filled again.
-use Rattle.std.specs.Prelude.{ℕ, ◌≡◌, ◌<◌, ◌≤◌, ◌++◌, ◌∷◌, [], Bool, false, vec_capacity, vec_len}
+use Rattle.std.specs.Prelude.{ℕ, ◌≡◌, ◌<◌, ◌≤◌, ◌++◌, ◌∷◌, [], vec_capacity, vec_len}
 use Rattle.std.specs.declared.vec.Vec.{Vec}
-
--- which memory for one datagram of few bytes is there
-pub record Kept : Type 0 where
-  pub list : Bool
-  pub tiny : Bool
-  pub small : Bool
-
--- none
-abbrev pub nothing_kept : Kept
-nothing_kept = record { list = false; tiny = false; small = false }
 
 -- a buffer is kept behind the others, where there is room for it, and else nothing changes
 pub record IsPut {A : Type 0} (old new : Vec (Vec ℕ A) A) (buffer : Vec ℕ A) : Type 0 where

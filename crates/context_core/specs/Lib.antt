@@ -9,6 +9,7 @@ pub mod Naming
 pub mod Asked
 pub mod Fits
 pub mod Buffers
+pub mod Rooms
 pub mod Sending
 pub mod Transmitting
 pub mod Arriving

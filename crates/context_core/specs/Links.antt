@@ -1,5 +1,6 @@
 -- What is told of queue pairs (this project's choice).
-use Rattle.std.specs.Prelude.{ℕ, ◌≡◌, ◌&&◌, Bool, false, not, nat_le, length, slice_get, All, Option, Some, None, option_map, ⊤}
+use Rattle.std.specs.Prelude.{ℕ, ◌≡◌, ◌&&◌, Bool, false, not, nat_le, length, slice_get, All, IsSome, Option, Some, None, option_map, ⊤}
+use Rattle.rdma_types.specs.declared.names.Name.{Name}
 use Rattle.rdma_types.specs.Limits.{most_moves}
 use Rattle.protocol.specs.EndWords.{is_paused, is_resuming}
 use Rattle.protocol.specs.Requester.{end_of_queue}
@@ -46,6 +47,13 @@ link_by (Some e) = e.link
 -- the connection of the end at a place
 abbrev pub link_at : Context → ℕ → Option Link
 link_at c place = link_by (slice_get c.ends place)
+
+-- the end of a name is at the place, and connected
+pub record IsConnectedAt (c : Context) (name : Name) (place : ℕ) : Type 0 where
+  pub end : End
+  pub there : slice_get c.ends place ≡ Some end
+  pub named : end.name ≡ name
+  pub linked : IsSome end.link
 
 -- a connected end sends by its terms
 abbrev pub SendsByTerms : Option EndLink → Type 0

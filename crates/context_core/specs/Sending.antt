@@ -1,5 +1,5 @@
 -- What is sent for an end, and the memory that it takes.
-use Rattle.std.specs.Prelude.{◌≡◌, ◌<◌, ◌^◌, ◌%◌, List, [], ◌∷◌, true, Some, None, IfSome}
+use Rattle.std.specs.Prelude.{◌≡◌, ◌<◌, ◌^◌, ◌%◌, List, [], ◌∷◌, Some, None, IfSome}
 use Rattle.rdma_types.specs.declared.answers.Answer.{Answer}
 use Rattle.rdma_types.specs.declared.answers.Answer.TheVariants as answer
 use Rattle.rdma_types.specs.declared.answers.Sent.{Sent}
@@ -13,17 +13,10 @@ use Rattle.protocol.specs.Requester.{Transmission, Sends, SendsResume, IsIdle, W
 use Rattle.protocol.specs.Segments.{packet_of_piece}
 use Rattle.protocol.specs.State.{Link}
 use Rattle.protocol.specs.Wire.{Packet}
-use Rattle.context_core.specs.Buffers.{Kept}
 
 -- the packet under a destination of 24 bits, as it is written
 abbrev pub addressed : Packet → Packet
 addressed p = record p { dest = p.dest % 16777216 }
-
--- memory for one datagram of few bytes is there
-pub record IsPrepared (kept : Kept) : Type 0 where
-  pub list : kept.list ≡ true
-  pub tiny : kept.tiny ≡ true
-  pub small : kept.small ≡ true
 
 -- the fields of a request are in their ranges
 pub record IsInRange (s : Shape) : Type 0 where

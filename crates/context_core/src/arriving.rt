@@ -1,7 +1,7 @@
 //! Datagrams taken.
 
-ghost use Rattle.std.specs.Prelude.{ℕ, ◌≡◌, ◌+◌, ◌*◌, ◌<◌, ◌≤◌, ◌^◌, List, [], length, None, Some, IfNone, IfOk, IfSome, IsOk, OnErr, OnOk, false, is_none, map, slice_get, vec_capacity};
-ghost use Rattle.std.specs.Option.{option_map_or};
+ghost use Rattle.std.specs.Prelude.{ℕ, ◌≡◌, ◌+◌, ◌*◌, ◌<◌, ◌≤◌, ◌^◌, ◌++◌, ◌⊎◌, List, [], length, None, Some, IfNone, IfOk, IfSome, IsOk, OnErr, OnOk, false, true, is_none, is_some, map, slice_get, vec_capacity};
+ghost use Rattle.std.specs.Option.{option_map_or, option_to_list};
 ghost use Rattle.rdma_types.specs.Limits.{AreTerms};
 ghost use Rattle.rdma_types.specs.Lists.{at};
 ghost use Rattle.rdma_types.specs.Objects.{Region, no_region};
@@ -13,7 +13,7 @@ ghost use Rattle.memory_keys.specs.Regions.{AreHeld, IsSpot, part_of, regions_of
 ghost use Rattle.protocol.specs.EndStep.{takes};
 ghost use Rattle.protocol.specs.Responder.{read_piece, read_response};
 ghost use Rattle.protocol.specs.State.{End, Link};
-ghost use Rattle.protocol.specs.Wire.{Fits};
+ghost use Rattle.protocol.specs.Wire.{Fits, wire_of};
 ghost use Rattle.rdma_types.specs.declared.names.Name.{Name};
 ghost use Rattle.roce_headers.specs.Packets.{packet};
 ghost use Rattle.endpoint_core.specs.declared.answers.DueRead.{DueRead};
@@ -23,17 +23,18 @@ ghost use Rattle.endpoint_core.specs.Ends.{link_in};
 ghost use Rattle.context_core.specs.Arriving.{AreReady, HasNoBytes, HasRoom, IsRoomFor, IsSentFor, aeth_at, may_answer, opcode_at};
 ghost use Rattle.context_core.specs.Context.{IsContext, Moves, context_in};
 ghost use Rattle.context_core.specs.Links.{link_at};
+ghost use Rattle.context_core.specs.Rooms.{HasRoomFor};
 ghost use Rattle.context_core.specs.Sending.{addressed};
 
 use crate::datagrams::{answer, moving, written};
-use crate::kept::ReplyBuffers;
-use crate::sending::MOST_HEADERS;
-use crate::{Buffers, ContextState};
+use crate::rooms::DatagramRoom;
+use crate::sending::{MOST_HEADERS, joined};
+use crate::{Buffers, ContextState, Draft};
 use endpoint_core::{DueRead, EndLink, EndMemory, EndReply, Endpoint};
 use memory_keys::{RegionRange, Regions};
 use page_pool::PagePool;
 use protocol::{Aeth, ResumeBody, Syndrome};
-use rdma_types::{ArrivalEffect, Items, Name, Sent};
+use rdma_types::{Address, ArrivalEffect, Items, Name, Sent};
 use roce_headers::Datagram;
 use roce_headers::opcodes::{
     ACKNOWLEDGE, ATOMIC_ACKNOWLEDGE, READ_FIRST, READ_LAST, READ_MIDDLE, READ_ONLY, RESUME,
@@ -47,6 +48,13 @@ use transport::segmenter::{piece_at, pieces_of};
 pub struct ArrivalOutcome {
     pub took: ArrivalEffect,
     pub sent: Items<Sent>,
+}
+
+/// What a datagram did, and the READ responses that are sent for it. A reply without bytes is in a draft.
+#[derive(Drop)]
+pub struct TakenDatagram {
+    pub took: ArrivalEffect,
+    pub more: Items<Sent>,
 }
 
 /// The opcode of READ response `k` of so many, which is a First, Middle, Last or Only.
@@ -228,11 +236,11 @@ fn responses(
 
 /// Prepares the memory for a reply to a datagram of that opcode, where it may have one.
 fn prepare_for(alloc: Global, buffers: &mut Buffers, opcode: u8) -> Result<(), AllocError>
-    ensures room { OnOk result (IsRoomFor opcode buffers.new.kept) }
+    ensures room { OnOk result (IsRoomFor opcode buffers.new.room) }
     ensures unanswered { may_answer opcode ≡ false → IsOk result }
 {
     if is_request(opcode) || opcode == RESUME {
-        buffers.prepare(alloc)?;
+        buffers.make_room(alloc, MOST_HEADERS)?;
     }
     Ok(())
 }
@@ -251,7 +259,7 @@ fn replies_for(
     requires held { AreHeld pool.now regions.now }
     requires terms { AreTerms link.now.terms }
     requires fits { Fits (packet d.now) }
-    ensures room { OnOk result (IsRoomFor d.now.opcode buffers.new.kept) }
+    ensures room { OnOk result (IsRoomFor d.now.opcode buffers.new.room) }
     ensures unanswered { may_answer d.now.opcode ≡ false → IsOk result }
     ensures bounded { IfOk result (λ r. IfSome r (λ list. length list ≤ 2 ^ 32)) }
     ensures read { (due : DueRead) → due_in link.now (regions_of pool.now regions.now) domain (packet d.now) ≡ Some due
@@ -265,76 +273,178 @@ fn replies_for(
     Ok(read)
 }
 
-/// What is sent for a reply of an end: the READ responses that are there, or a reply without bytes, for which what is kept
-/// is used. It takes no memory.
-fn sent_for(
-    alloc: Global,
-    kept: &mut ReplyBuffers,
-    read: Option<Items<Sent>>,
-    endpoint: &Endpoint,
-    reply: EndReply,
-) -> Items<Sent>
-    requires room { IfSome endpoint.now.link (λ _. HasRoom reply kept.old) }
-    requires ready { AreReady reply read }
-    requires reply { (held : List RegisteredRegion)
-        × IfSome endpoint.now.link (λ l. IsReply held l reply) }
-    ensures { (pool : Pool) (regions : List Region)
-        → IsSentFor reply read (option_map_or (λ l. sent_by regions (link_in pool l) reply) endpoint.now.link []) result }
+/// A datagram without a payload, in this memory. It takes no other.
+#[inline(always)]
+fn put(
+    room: &mut DatagramRoom,
+    sent: &mut Option<Sent>,
+    to: Address,
+    number: Option<u64>,
+    d: &Datagram<'_>,
+)
+    requires fits { Fits (packet d.now) }
+    requires room { HasRoomFor room.old 92 }
+    requires short { length (wire_of (packet d.now)) ≤ 92 }
+    ensures { sent.new
+        ≡ Some (record { to = to; number = number; bytes = wire_of (packet d.now) }) }
 {
-    if let EndReply::ReadBytes { .. } = reply {
-        return read.unwrap();
-    }
-    let Some(link) = &endpoint.link else {
-        return Items::new(Vec::new(alloc));
-    };
-    reply_sent(alloc, kept, link, reply)
+    let bytes = room.write(d);
+    *sent = Some(Sent { to, number, bytes });
 }
 
-/// What is sent for a reply without bytes, to the recorded place of the partner.
-fn reply_sent(
-    alloc: Global,
-    kept: &mut ReplyBuffers,
-    link: &EndLink,
-    reply: EndReply,
-) -> Items<Sent>
-    requires room { HasRoom reply kept.old }
+/// A reply without bytes, to the recorded place of the partner, in this memory. It takes no other.
+#[inline(always)]
+fn put_reply(room: &mut DatagramRoom, sent: &mut Option<Sent>, link: &EndLink, reply: EndReply)
+    requires room { HasRoom reply room.old }
     requires reply { (held : List RegisteredRegion) × IsReply held link.now reply }
     requires bare { HasNoBytes reply }
+    requires none { sent.old ≡ None }
     ensures { (pool : Pool) (regions : List Region)
-        → result ≡ sent_by regions (link_in pool link.now) reply }
+        → option_to_list sent.new ≡ sent_by regions (link_in pool link.now) reply }
 {
     let (to, peer, start) = (link.moves.partner, link.peer, link.terms.peer_start);
     let msn = link.responder.parts().msn;
     match reply {
-        EndReply::Nothing => Items::new(Vec::new(alloc)),
+        EndReply::Nothing => (),
         EndReply::Acknowledge { number, syndrome } => {
             let aeth = Some(Aeth { syndrome, msn });
             let d = answer(ACKNOWLEDGE, peer, start, number, aeth, None, &[]);
-            kept.fill(to, Some(number), &d)
+            put(room, sent, to, Some(number), &d)
         }
         EndReply::Old { number, old } => {
             let syndrome = Syndrome::Ack;
             let aeth = Some(Aeth { syndrome, msn });
             let old = Some(old);
             let d = answer(ATOMIC_ACKNOWLEDGE, peer, start, number, aeth, old, &[]);
-            kept.fill(to, Some(number), &d)
+            put(room, sent, to, Some(number), &d)
         }
         EndReply::ResumeAck { count, address } => {
             let d = moving(RESUME_ACK, peer, ResumeBody { count, address });
-            kept.fill(to, None, &d)
+            put(room, sent, to, None, &d)
         }
         EndReply::ReadBytes { .. } => unreachable!(),
     }
 }
 
+/// What is sent for a reply of an end: the READ responses that are there, or a reply without bytes, in this memory. It
+/// takes no other.
+#[inline(always)]
+fn put_answer(
+    alloc: Global,
+    room: &mut DatagramRoom,
+    sent: &mut Option<Sent>,
+    read: Option<Items<Sent>>,
+    endpoint: &Endpoint,
+    reply: EndReply,
+) -> Items<Sent>
+    requires room { IfSome endpoint.now.link (λ _. HasRoom reply room.old) }
+    requires ready { AreReady reply read }
+    requires reply { (held : List RegisteredRegion)
+        × IfSome endpoint.now.link (λ l. IsReply held l reply) }
+    requires none { sent.old ≡ None }
+    ensures all { (pool : Pool) (regions : List Region)
+        → IsSentFor reply read (option_map_or (λ l. sent_by regions (link_in pool l) reply) endpoint.now.link []) (option_to_list sent.new ++ result) }
+    ensures alone { (sent.new ≡ None) ⊎ (result ≡ []) }
+{
+    if let EndReply::ReadBytes { .. } = reply {
+        return read.unwrap();
+    }
+    if let Some(link) = &endpoint.link {
+        put_reply(room, sent, link, reply);
+    }
+    Items::new(Vec::new(alloc))
+}
+
+/// An empty list with room for a datagram, where one of that opcode may be answered. Else it has none, and no memory is
+/// taken.
+fn list_for(alloc: Global, draft: &mut Draft, opcode: u8) -> Result<Vec<Sent>, AllocError>
+    ensures empty { IfOk result (λ l. l.items ≡ []) }
+    ensures room { may_answer opcode ≡ true → IfOk result (λ l. 0 < vec_capacity l) }
+    ensures unanswered { may_answer opcode ≡ false → IsOk result }
+{
+    if is_request(opcode) || opcode == RESUME {
+        return draft.buffers.take_list(alloc, 1);
+    }
+    Ok(Vec::new(alloc))
+}
+
 impl ContextState {
+    /// Takes a datagram at the connected end of that place. A reply without bytes is in the draft then, and what was there
+    /// before is gone. `None` comes exactly where no connected end stands there, and nothing has changed then, and no
+    /// memory is taken. None is taken for a datagram that is neither a request nor a RESUME. Errors: `AllocError` when out
+    /// of memory; nothing has changed. The draft holds nothing in both cases.
+    pub fn take_into(
+        &mut self,
+        alloc: Global,
+        draft: &mut Draft,
+        pool: &mut PagePool,
+        place: usize,
+        d: &Datagram<'_>,
+    ) -> Result<Option<TakenDatagram>, AllocError>
+        requires is { IsContext pool.old self.old }
+        requires fits { Fits (packet d.now) }
+        ensures none { (n : Name) → IfOk result (λ r. is_none r
+            ≡ is_none (link_at (context_in pool.old n self.old) place)) }
+        ensures took { (n : Name) (e : End) (l : Link) → slice_get (context_in pool.old n self.old).ends place ≡ Some e → e.link ≡ Some l
+            → IfOk result (λ r. IfSome r (λ t. takes (context_in pool.old n self.old) e l (packet d.now) ≡ record { context = context_in pool.new n self.new; took = t.took; sent = option_to_list draft.new ++ t.more })) }
+        ensures nothing { IfOk result (λ r. IfNone r (self.new ≡ self.old)) }
+        ensures nothing_pool { IfOk result (λ r. IfNone r (pool.new ≡ pool.old)) }
+        ensures nothing_draft { IfOk result (λ r. IfNone r (draft.new ≡ None)) }
+        ensures bounded { IfOk result (λ r. IfSome r (λ t. length (option_to_list draft.new ++ t.more)
+            ≤ 2 ^ 32)) }
+        ensures alone { IfOk result (λ r. IfSome r (λ t. (draft.new ≡ None) ⊎ (t.more ≡ []))) }
+        ensures is { IsContext pool.new self.new }
+        ensures moves { Moves pool.old pool.new self.old self.new }
+        ensures numbers { (n : Name) → map (λ e. e.number) (context_in pool.new n self.new).ends
+            ≡ map (λ e. e.number) (context_in pool.old n self.old).ends }
+        ensures never_out_of_memory { (n : Name)
+            → link_at (context_in pool.old n self.old) place ≡ None → IsOk result }
+        ensures unanswered { may_answer d.now.opcode ≡ false → IsOk result }
+        ensures unanswered_draft { may_answer d.now.opcode ≡ false → draft.new ≡ None }
+        ensures err { OnErr result (self.new ≡ self.old) }
+        ensures err_pool { OnErr result (pool.new ≡ pool.old) }
+        ensures err_draft { OnErr result (draft.new ≡ None) }
+    {
+        draft.sent = None;
+        let Some((_, slot)) = self.ends.get_index(place) else {
+            return Ok(None);
+        };
+        let Some(link) = &slot.endpoint.link else {
+            return Ok(None);
+        };
+        let domain = slot.endpoint.domain;
+        let buffers = &mut draft.buffers;
+        let read = replies_for(alloc, buffers, pool, &self.regions, domain, link, d)?;
+        let slot = self.ends.get_index_mut(place).unwrap();
+        let memory = EndMemory {
+            pool,
+            regions: &mut self.regions,
+            queues: &mut self.queues,
+            send: slot.send,
+            recv: slot.recv,
+        };
+        let done = slot.endpoint.take(memory, d);
+        let (room, sent) = (&mut buffers.room, &mut draft.sent);
+        let more = put_answer(alloc, room, sent, read, &slot.endpoint, done.reply);
+        let took = done.took;
+        Ok(Some(TakenDatagram { took, more }))
+    }
+
+    /// Whether a connected end stands at a place.
+    fn is_connected_at(&self, place: usize) -> bool
+        ensures { (pool : Pool) (n : Name) → result
+            ≡ is_some (link_at (context_in pool n self.now) place) }
+    {
+        self.marks_at(place).is_some()
+    }
+
     /// Takes a datagram at the connected end of that place. `None` comes exactly where no connected end stands there,
     /// and nothing has changed then, and no memory is taken. None is taken for a datagram that is neither a request nor a
     /// RESUME. Errors: `AllocError` when out of memory; nothing has changed.
     pub fn take(
         &mut self,
         alloc: Global,
-        buffers: &mut Buffers,
+        draft: &mut Draft,
         pool: &mut PagePool,
         place: usize,
         d: &Datagram<'_>,
@@ -358,26 +468,15 @@ impl ContextState {
         ensures err { OnErr result (self.new ≡ self.old) }
         ensures err_pool { OnErr result (pool.new ≡ pool.old) }
     {
-        let Some((_, slot)) = self.ends.get_index(place) else {
+        if !self.is_connected_at(place) {
+            return Ok(None);
+        }
+        let list = list_for(alloc, draft, d.opcode)?;
+        let Some(taken) = self.take_into(alloc, draft, pool, place, d)? else {
             return Ok(None);
         };
-        let Some(link) = &slot.endpoint.link else {
-            return Ok(None);
-        };
-        let domain = slot.endpoint.domain;
-        let read = replies_for(alloc, buffers, pool, &self.regions, domain, link, d)?;
-        let slot = self.ends.get_index_mut(place).unwrap();
-        let memory = EndMemory {
-            pool,
-            regions: &mut self.regions,
-            queues: &mut self.queues,
-            send: slot.send,
-            recv: slot.recv,
-        };
-        let done = slot.endpoint.take(memory, d);
-        let kept = &mut buffers.kept;
-        let sent = sent_for(alloc, kept, read, &slot.endpoint, done.reply);
-        let took = done.took;
+        let TakenDatagram { took, more } = taken;
+        let sent = joined(draft, list, more);
         Ok(Some(ArrivalOutcome { took, sent }))
     }
 }

@@ -1,11 +1,11 @@
 //! Memory for datagrams that is filled again.
 
-ghost use Rattle.std.specs.Prelude.{◌≡◌, ◌≢◌, ◌<◌, ◌≤◌, ◌-◌, ◌||◌, [], IfOk, IfSome, IsOk, OnOk, nat_lt, slice_get, vec_capacity, vec_len};
-ghost use Rattle.context_core.specs.Buffers.{IsPut, nothing_kept};
-ghost use Rattle.context_core.specs.Sending.{IsPrepared};
+ghost use Rattle.std.specs.Prelude.{◌≡◌, ◌≢◌, ◌<◌, ◌≤◌, ◌-◌, ◌||◌, [], IfOk, IfSome, IsOk, None, OnOk, is_some, nat_lt, slice_get, vec_capacity, vec_len};
+ghost use Rattle.context_core.specs.Buffers.{IsPut};
+ghost use Rattle.context_core.specs.Rooms.{HasRoomFor, HoldsBytes};
 
 use crate::datagrams::{FEW_BYTES, FEWEST_BYTES};
-use crate::kept::ReplyBuffers;
+use crate::rooms::DatagramRoom;
 use page_pool::PAGE;
 use rdma_types::Sent;
 use std::alloc::{AllocError, Global};
@@ -13,15 +13,16 @@ use std::alloc::{AllocError, Global};
 /// How many buffers of each kind are kept.
 const MOST_SPARE: usize = 1024;
 
-/// Memory for datagrams that is filled again: large, small and tiny buffers that datagrams were in before, memory for one
-/// datagram of few bytes, and room for a payload that spans two pages. A small buffer has room for 256 bytes, a large one
+/// Memory for datagrams that is filled again: large, small and tiny buffers that datagrams were in before, a list of
+/// datagrams, memory for one datagram, and room for a payload that spans two pages. A small buffer has room for 256 bytes, a large one
 /// for more, and a tiny one for 64.
 #[derive(Drop)]
 pub struct Buffers {
     large: Vec<Vec<u8>>,
     small: Vec<Vec<u8>>,
     tiny: Vec<Vec<u8>>,
-    pub(crate) kept: ReplyBuffers,
+    list: Option<Vec<Sent>>,
+    pub(crate) room: DatagramRoom,
     pub(crate) payload: Box<[u8; PAGE]>,
 }
 
@@ -41,6 +42,24 @@ fn taken(spare: &mut Vec<Vec<u8>>, alloc: Global, most: usize) -> Result<Vec<u8>
     Vec::with_capacity(alloc, most)
 }
 
+/// A buffer for at least so many bytes is there from now on. Errors: `AllocError` when out of memory.
+fn keep(
+    slot: &mut Option<Vec<u8>>,
+    spare: &mut Vec<Vec<u8>>,
+    alloc: Global,
+    most: usize,
+) -> Result<(), AllocError>
+    ensures { OnOk result (HoldsBytes slot.new most) }
+{
+    if let Some(buffer) = slot {
+        if buffer.capacity() >= most {
+            return Ok(());
+        }
+    }
+    *slot = Some(taken(spare, alloc, most)?);
+    Ok(())
+}
+
 /// Keeps a buffer behind the others, where there is room for it, and else frees it. It takes no memory.
 fn put(spare: &mut Vec<Vec<u8>>, buffer: Vec<u8>)
     ensures { IsPut spare.old spare.new buffer }
@@ -55,13 +74,14 @@ impl Buffers {
     pub fn make(alloc: Global) -> Result<Buffers, AllocError>
         ensures { IfOk result (λ b. (b.large.items ≡ []) × (1024 ≤ vec_capacity b.large)
             × (b.small.items ≡ []) × (1024 ≤ vec_capacity b.small) × (b.tiny.items ≡ [])
-            × (1024 ≤ vec_capacity b.tiny) × (b.kept ≡ nothing_kept)) }
+            × (1024 ≤ vec_capacity b.tiny) × (b.list ≡ None)) }
     {
         Ok(Buffers {
             large: Vec::with_capacity(alloc, MOST_SPARE)?,
             small: Vec::with_capacity(alloc, MOST_SPARE)?,
             tiny: Vec::with_capacity(alloc, MOST_SPARE)?,
-            kept: ReplyBuffers::none(),
+            list: None,
+            room: DatagramRoom::none(),
             payload: Box::new(alloc, [0; PAGE])?,
         })
     }
@@ -81,21 +101,15 @@ impl Buffers {
         taken(&mut self.large, alloc, most)
     }
 
-    /// Memory for one datagram of few bytes is kept from now on. Errors: `AllocError` when out of memory.
+    /// Memory for one datagram of at most so many bytes is there from now on. Errors: `AllocError` when out of memory.
     #[inline(always)]
-    pub(crate) fn prepare(&mut self, alloc: Global) -> Result<(), AllocError>
-        ensures { OnOk result (IsPrepared self.new.kept) }
+    pub(crate) fn make_room(&mut self, alloc: Global, most: usize) -> Result<(), AllocError>
+        ensures { OnOk result (HasRoomFor self.new.room most) }
     {
-        if !self.kept.has_list() {
-            self.kept.keep_list(Vec::with_capacity(alloc, 1)?);
-        }
-        if !self.kept.has_tiny() {
-            self.kept
-                .keep_tiny(taken(&mut self.tiny, alloc, FEWEST_BYTES)?);
-        }
-        if !self.kept.has_small() {
-            self.kept
-                .keep_small(taken(&mut self.small, alloc, FEW_BYTES)?);
+        keep(&mut self.room.tiny, &mut self.tiny, alloc, FEWEST_BYTES)?;
+        keep(&mut self.room.small, &mut self.small, alloc, FEW_BYTES)?;
+        if most > FEW_BYTES {
+            keep(&mut self.room.large, &mut self.large, alloc, most)?;
         }
         Ok(())
     }
@@ -105,8 +119,9 @@ impl Buffers {
     pub(crate) fn take_list(&mut self, alloc: Global, count: usize) -> Result<Vec<Sent>, AllocError>
         ensures { IfOk result (λ l. (l.items ≡ []) × (count ≤ vec_capacity l)) }
     {
-        if let Some(list) = self.kept.take_list() {
+        if let Some(mut list) = self.list.take() {
             if list.capacity() >= count {
+                list.clear();
                 return Ok(list);
             }
         }
@@ -128,7 +143,8 @@ impl Buffers {
             → IsPut self.old.tiny self.new.tiny buffer × (self.new.large ≡ self.old.large)
             × (self.new.small ≡ self.old.small) }
         ensures other { vec_capacity buffer < 256 → vec_capacity buffer ≢ 64 → self.new ≡ self.old }
-        ensures rest { (self.new.kept ≡ self.old.kept) × (self.new.payload ≡ self.old.payload) }
+        ensures rest { (self.new.list ≡ self.old.list) × (self.new.room ≡ self.old.room)
+            × (self.new.payload ≡ self.old.payload) }
     {
         if buffer.capacity() > FEW_BYTES {
             put(&mut self.large, buffer);
@@ -141,13 +157,16 @@ impl Buffers {
 
     /// Keeps the memory of a list of datagrams, where it has room for one and none is kept, and else frees it. What is in
     /// the list goes. It takes no memory.
-    pub fn give_list(&mut self, list: Vec<Sent>)
-        ensures list { self.new.kept.list ≡ (self.old.kept.list || nat_lt 0 (vec_capacity list)) }
-        ensures tiny { self.new.kept.tiny ≡ self.old.kept.tiny }
-        ensures small { self.new.kept.small ≡ self.old.kept.small }
+    pub fn give_list(&mut self, mut list: Vec<Sent>)
+        ensures list { is_some self.new.list
+            ≡ (is_some self.old.list || nat_lt 0 (vec_capacity list)) }
         ensures rest { (self.new.large ≡ self.old.large) × (self.new.small ≡ self.old.small)
-            × (self.new.tiny ≡ self.old.tiny) × (self.new.payload ≡ self.old.payload) }
+            × (self.new.tiny ≡ self.old.tiny) × (self.new.room ≡ self.old.room)
+            × (self.new.payload ≡ self.old.payload) }
     {
-        self.kept.keep_list(list);
+        if self.list.is_none() && list.capacity() > 0 {
+            list.clear();
+            self.list = Some(list);
+        }
     }
 }

@@ -1,12 +1,15 @@
 //! Readers, which take no memory.
 
-ghost use Rattle.std.specs.Prelude.{◌≡◌, bytes_eq, length, position, slice_get};
+ghost use Rattle.std.specs.Prelude.{◌≡◌, IfNone, IfSome, IsSome, bytes_eq, length, position, slice_get};
 ghost use Rattle.std.specs.Option.{option_map};
+ghost use Rattle.rdma_types.specs.Causes.{first_cause};
 ghost use Rattle.rdma_types.specs.declared.names.Name.{Name};
 ghost use Rattle.page_pool.specs.Pool.{Pool};
+ghost use Rattle.protocol.specs.Refusals.{connected_causes};
 ghost use Rattle.context_core.specs.Context.{context_in};
+ghost use Rattle.context_core.specs.Links.{IsConnectedAt};
 
-use crate::ContextState;
+use crate::{ContextState, ends};
 use rdma_types::{Keys, Name};
 
 impl ContextState {
@@ -23,6 +26,15 @@ impl ContextState {
             ≡ position (λ e. bytes_eq name e.name) (context_in pool n self.now).ends }
     {
         self.ends.get_index_of(&name)
+    }
+
+    /// The place of the connected queue pair with a name; None where it is in Init or there is none.
+    pub fn connected_place(&self, name: Name) -> Option<usize>
+        ensures place { (pool : Pool) (n : Name) → IfSome result (λ i. IsConnectedAt (context_in pool n self.now) name i) }
+        ensures none { (pool : Pool) (n : Name)
+            → IfNone result (IsSome (first_cause (connected_causes (context_in pool n self.now) name))) }
+    {
+        ends::connected(&self.ends, name).ok()
     }
 
     /// The keys of the region at a place; None where there are fewer.

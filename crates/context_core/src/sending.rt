@@ -1,6 +1,7 @@
 //! What an end sends by itself.
 
-ghost use Rattle.std.specs.Prelude.{ℕ, ◌≡◌, ◌+◌, ◌-◌, ◌<◌, ◌≤◌, ◌^◌, [], IfOk, IfSome, IsSome, OnErr, Some, length, map, min, slice_get, vec_capacity};
+ghost use Rattle.std.specs.Prelude.{ℕ, ◌≡◌, ◌+◌, ◌-◌, ◌<◌, ◌≤◌, ◌^◌, ◌++◌, ◌⊎◌, [], IfOk, IfSome, IsSome, None, OnErr, Some, is_some, true, length, map, min, slice_get, vec_capacity};
+ghost use Rattle.std.specs.Option.{option_to_list};
 ghost use Rattle.std.specs.Result.{result_err};
 ghost use Rattle.rdma_types.specs.Causes.{first_cause};
 ghost use Rattle.rdma_types.specs.declared.names.Name.{Name};
@@ -18,12 +19,14 @@ ghost use Rattle.endpoint_core.specs.Ends.{link_in, untold_by};
 ghost use Rattle.requester.specs.declared.answers.Transmit.TheVariants as transmission;
 ghost use Rattle.context_core.specs.Context.{IsContext, context_in, lists_of};
 ghost use Rattle.context_core.specs.Faults.{refusal_of};
-ghost use Rattle.context_core.specs.Sending.{IsInRange, IsPrepared, row_answer, row_sent};
+ghost use Rattle.context_core.specs.Links.{IsConnectedAt};
+ghost use Rattle.context_core.specs.Rooms.{HasRoomFor};
+ghost use Rattle.context_core.specs.Sending.{IsInRange, row_answer, row_sent};
 ghost use Rattle.context_core.specs.Transmitting.{IsSending, IsRoute};
 
 use crate::datagrams::{moving, request};
-use crate::kept::{Filled, ReplyBuffers};
-use crate::{Buffers, ContextFault, ContextState, EndSlot, ends};
+use crate::rooms::DatagramRoom;
+use crate::{ContextFault, ContextState, Draft, EndSlot, ends};
 use end_queues::work_queues::QueuedRequest;
 use endpoint_core::{EndSend, Endpoint};
 use indexmap::IndexMap;
@@ -32,7 +35,7 @@ use protocol::ResumeBody;
 use rdma_types::{Address, Answer, Items, Name, Sent, Shape};
 use requester::Transmit;
 use roce_headers::opcodes::RESUME;
-use std::alloc::Global;
+use std::alloc::{AllocError, Global};
 use transport::psn_math::wire_of;
 use transport::segmenter::PacketHead;
 
@@ -174,91 +177,170 @@ fn bytes_for<'a>(
     }
 }
 
-/// A packet of a request, with the bytes that the request took.
-fn request_sent(
+/// A packet of a request, with the bytes that the request took, in this memory. It takes no other.
+#[inline(always)]
+fn put_request(
     pool: &PagePool,
     endpoint: &Endpoint,
     way: &Route,
-    memory: &mut [u8],
-    kept: &mut ReplyBuffers,
-    large: Vec<u8>,
+    page: &mut [u8],
+    room: &mut DatagramRoom,
+    sent: &mut Option<Sent>,
     number: u64,
     index: usize,
     head: &PacketHead,
-) -> Filled
+)
     requires sending { (l : EndLink) × IsSending pool.now endpoint.now way.now
         (send.Transmit (transmission.Sent number index head.now)) l }
-    requires payload { way.now.mtu ≤ length memory.old }
-    requires prepared { IsPrepared kept.old }
-    requires empty { large.items ≡ [] }
-    requires room { way.now.mtu + 92 ≤ vec_capacity large }
+    requires payload { way.now.mtu ≤ length page.old }
+    requires room { HasRoomFor room.old (way.now.mtu + 92) }
     ensures { (l : EndLink) (own : Address) → IsSending pool.now endpoint.now way.now (send.Transmit (transmission.Sent number index head.now)) l
-        → result.sent ≡ row_sent (link_in pool.now l) own (row_in pool.now (Some l) (send.Transmit (transmission.Sent number index head.now))) }
+        → option_to_list sent.new ≡ row_sent (link_in pool.now l) own (row_in pool.now (Some l) (send.Transmit (transmission.Sent number index head.now))) }
 {
     let posted = posted_at(endpoint, index);
     are_in_range(posted.request.shape);
     let psn = wire_of(number, way.start);
-    let bytes = bytes_for(pool, &posted.payload, head, memory);
-    let d = request(head, &posted.request.shape, way.peer, psn, bytes);
-    let most = way.mtu as usize + MOST_HEADERS;
-    kept.fill_large(large, most, way.to, Some(number), &d)
+    let payload = bytes_for(pool, &posted.payload, head, page);
+    let d = request(head, &posted.request.shape, way.peer, psn, payload);
+    let bytes = room.write(&d);
+    *sent = Some(Sent {
+        to: way.to,
+        number: Some(number),
+        bytes,
+    });
+}
+
+/// A RESUME, in this memory. It takes no other.
+fn put_resume(
+    way: &Route,
+    own: Address,
+    room: &mut DatagramRoom,
+    sent: &mut Option<Sent>,
+    count: u32,
+)
+    requires room { HasRoomFor room.old (way.now.mtu + 92) }
+    ensures { (pool : Pool) (e : Endpoint) (l : EndLink) → IsSending pool e way.now (send.Resume count) l
+        → option_to_list sent.new ≡ row_sent (link_in pool l) own (row_in pool (Some l) (send.Resume count)) }
+{
+    let address = own;
+    let d = moving(RESUME, way.peer, ResumeBody { count, address });
+    let bytes = room.write(&d);
+    *sent = Some(Sent {
+        to: way.to,
+        number: None,
+        bytes,
+    });
 }
 
 /// What a transmission sends, in this memory. It takes no other, and uses none where nothing is sent.
-fn sent_for(
-    alloc: Global,
+#[inline(always)]
+fn put_sent(
     pool: &PagePool,
     endpoint: &Endpoint,
     way: &Route,
     own: Address,
-    memory: &mut [u8],
-    kept: &mut ReplyBuffers,
-    large: Vec<u8>,
+    page: &mut [u8],
+    room: &mut DatagramRoom,
+    sent: &mut Option<Sent>,
     send: EndSend,
-) -> Filled
+)
     requires sending { (l : EndLink) × IsSending pool.now endpoint.now way.now send l }
-    requires payload { way.now.mtu ≤ length memory.old }
-    requires prepared { IsPrepared kept.old }
-    requires empty { large.items ≡ [] }
-    requires room { way.now.mtu + 92 ≤ vec_capacity large }
+    requires payload { way.now.mtu ≤ length page.old }
+    requires room { HasRoomFor room.old (way.now.mtu + 92) }
+    requires none { sent.old ≡ None }
     ensures { (l : EndLink) → IsSending pool.now endpoint.now way.now send l
-        → result.sent ≡ row_sent (link_in pool.now l) own (row_in pool.now (Some l) send) }
+        → option_to_list sent.new ≡ row_sent (link_in pool.now l) own (row_in pool.now (Some l) send) }
 {
     match send {
-        EndSend::Resume { count } => {
-            let address = own;
-            let d = moving(RESUME, way.peer, ResumeBody { count, address });
-            let most = way.mtu as usize + MOST_HEADERS;
-            kept.fill_large(large, most, way.to, None, &d)
-        }
+        EndSend::Resume { count } => put_resume(way, own, room, sent, count),
         EndSend::Transmit(transmit) => match transmit {
             Transmit::Sent {
                 number,
                 index,
                 head,
-            } => request_sent(
-                pool, endpoint, way, memory, kept, large, number, index, &head,
-            ),
+            } => put_request(pool, endpoint, way, page, room, sent, number, index, &head),
             Transmit::Idle
             | Transmit::WindowFull
             | Transmit::ReadsFull
             | Transmit::Fenced
-            | Transmit::Waiting => Filled {
-                sent: Items::new(Vec::new(alloc)),
-                unused: Some(large),
-            },
+            | Transmit::Waiting => (),
         },
     }
 }
 
+/// The datagram of a step in this list, which is kept where there is none. It takes no memory.
+fn listed(draft: &mut Draft, mut list: Vec<Sent>) -> Items<Sent>
+    requires empty { list.items ≡ [] }
+    requires room { 0 < vec_capacity list }
+    ensures { result ≡ option_to_list draft.old }
+{
+    if let Some(sent) = draft.take() {
+        list.push(sent).unwrap();
+    }
+    Items::new(list)
+}
+
+/// The datagram of a step in this list, or those that there are besides. It takes no memory.
+pub fn joined(draft: &mut Draft, list: Vec<Sent>, more: Items<Sent>) -> Items<Sent>
+    requires empty { list.items ≡ [] }
+    requires room { is_some draft.old ≡ true → 0 < vec_capacity list }
+    requires alone { (draft.old ≡ None) ⊎ (more ≡ []) }
+    ensures { result ≡ option_to_list draft.old ++ more }
+{
+    if draft.is_filled() {
+        return listed(draft, list);
+    }
+    more
+}
+
 impl ContextState {
+    /// Sends the next packet of the connected end at a place, where one may be sent. It is in the draft then, and what
+    /// was there before is gone. A RESUME tells the address of the device, `own`. Errors: `AllocError` when out of memory;
+    /// nothing has changed then, and nothing is in the draft.
+    pub fn transmit_at(
+        &mut self,
+        alloc: Global,
+        draft: &mut Draft,
+        pool: &PagePool,
+        place: usize,
+        own: Address,
+    ) -> Result<Answer, AllocError>
+        requires is { IsContext pool.now self.old }
+        requires at { (n : Name) × (name : Name)
+            × IsConnectedAt (context_in pool.now n self.old) name place }
+        ensures sent { (n name : Name) (d : Device) → IsConnectedAt (context_in pool.now n self.old) name place → d.address ≡ own → with_context d (context_in pool.now n self.old) ≡ d
+            → IfOk result (λ a. transmits d (context_in pool.now n self.old) (end_at (context_in pool.now n self.old) name)
+            ≡ gives (with_context d (context_in pool.now n self.new)) a (option_to_list draft.new)) }
+        ensures is { IsContext pool.now self.new }
+        ensures lists { lists_of self.new ≡ lists_of self.old }
+        ensures pages { (n : Name) → pages_of_context (context_in pool.now n self.new)
+            ≡ pages_of_context (context_in pool.now n self.old) }
+        ensures numbers { (n : Name) → map (λ e. e.number) (context_in pool.now n self.new).ends
+            ≡ map (λ e. e.number) (context_in pool.now n self.old).ends }
+        ensures err { OnErr result (self.new ≡ self.old) }
+        ensures err_draft { OnErr result (draft.new ≡ None) }
+    {
+        draft.sent = None;
+        let way = way_at(&self.ends, place);
+        let buffers = &mut draft.buffers;
+        buffers.make_room(alloc, way.mtu as usize + MOST_HEADERS)?;
+        let slot = self.ends.get_index_mut(place).unwrap();
+        let send = slot.endpoint.transmit();
+        let answer = answer_of(send);
+        let page = &mut buffers.payload[..];
+        let room = &mut buffers.room;
+        let sent = &mut draft.sent;
+        put_sent(pool, &slot.endpoint, &way, own, page, room, sent, send);
+        Ok(answer)
+    }
+
     /// Sends the next packet of an end, where one may be sent. A RESUME tells the address of the device, `own`. Errors:
     /// refused with `NoSuch` where no queue pair has the name, and else with `BadState` where it is in Init; or
     /// `OutOfMemory`. Nothing has changed then.
     pub fn transmit(
         &mut self,
         alloc: Global,
-        buffers: &mut Buffers,
+        draft: &mut Draft,
         pool: &PagePool,
         name: Name,
         own: Address,
@@ -278,29 +360,9 @@ impl ContextState {
         ensures err { OnErr result (self.new ≡ self.old) }
     {
         let place = ends::connected(&self.ends, name)?;
-        let way = way_at(&self.ends, place);
-        let large = buffers.take(alloc, way.mtu as usize + MOST_HEADERS)?;
-        buffers.prepare(alloc)?;
-        let slot = self.ends.get_index_mut(place).unwrap();
-        let send = slot.endpoint.transmit();
-        let answer = answer_of(send);
-        let memory = &mut buffers.payload[..];
-        let kept = &mut buffers.kept;
-        let filled = sent_for(
-            alloc,
-            pool,
-            &slot.endpoint,
-            &way,
-            own,
-            memory,
-            kept,
-            large,
-            send,
-        );
-        let Filled { sent, unused } = filled;
-        if let Some(large) = unused {
-            buffers.give(large);
-        }
+        let list = draft.buffers.take_list(alloc, 1)?;
+        let answer = self.transmit_at(alloc, draft, pool, place, own)?;
+        let sent = listed(draft, list);
         Ok(Answered { answer, sent })
     }
 }

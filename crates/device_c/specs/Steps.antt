@@ -51,6 +51,14 @@ abbrev pub completions_of : Answer → List Completion
 completions_of (answer.Polled completions) = completions
 completions_of _ = []
 
+-- what a buffer has after a load
+abbrev pub loaded_by_step : Bool → HeldDevice → Event → List ℕ → List ℕ
+loaded_by_step done d e old = if done then overlaid (bytes_of (outcome_of d e).answer) old else old
+
+-- what an array has after a poll
+abbrev pub polled_by_step : Bool → HeldDevice → Event → List CCompletion → List CCompletion
+polled_by_step done d e old = if done then overlaid (map completion_told (completions_of (outcome_of d e).answer)) old else old
+
 -- ---- what a handle can hold, by the result
 
 abbrev pub content_after : ℕ → Content → Event → Content
@@ -70,13 +78,13 @@ result_of no_memory (content.Reader r) = 2
 
 -- what a buffer has after a load
 abbrev pub loaded_of : ℕ → Content → Event → List ℕ → List ℕ
-loaded_of result (content.Device d) e old = if result == 0 then overlaid (bytes_of (outcome_of d e).answer) old else old
+loaded_of result (content.Device d) e old = loaded_by_step (result == 0) d e old
 loaded_of result (content.Image i) e old = old
 loaded_of result (content.Reader r) e old = old
 
 -- what an array has after a poll
 abbrev pub polled_of : ℕ → Content → Event → List CCompletion → List CCompletion
-polled_of result (content.Device d) e old = if result == 0 then overlaid (map completion_told (completions_of (outcome_of d e).answer)) old else old
+polled_of result (content.Device d) e old = polled_by_step (result == 0) d e old
 polled_of result (content.Image i) e old = old
 polled_of result (content.Reader r) e old = old
 

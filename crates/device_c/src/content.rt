@@ -1,32 +1,33 @@
 //! What a handle can hold.
 
-ghost use Rattle.std.specs.Prelude.{◌≡◌, []};
+ghost use Rattle.std.specs.Prelude.{◌≡◌, [], IfOk};
 
+use crate::outbox::Outbox;
 use context_dump::DumpReader;
 use device_core::Device;
 use protocol::ContextImage;
-use rdma_types::{Items, Sent};
-use std::alloc::Global;
+use std::alloc::{AllocError, Global};
 use std::marker::Model;
 
 /// A device, with the datagrams that its last step sent, and how many of them were read.
 #[derive(Drop)]
 pub(crate) struct HeldDevice {
     pub(crate) device: Device,
-    pub(crate) sent: Items<Sent>,
+    pub(crate) sent: Outbox,
     pub(crate) read: usize,
 }
 
 impl HeldDevice {
-    /// A device that did nothing yet.
-    pub(crate) fn new(alloc: Global, device: Device) -> HeldDevice
-        ensures { result ≡ record { device = device; sent = []; read = 0 } }
+    /// A device that did nothing yet. Errors: `AllocError` when out of memory.
+    pub(crate) fn new(alloc: Global, device: Device) -> Result<HeldDevice, AllocError>
+        ensures { IfOk result (λ d. d ≡ record { device = device; sent = []; read = 0 }) }
     {
-        HeldDevice {
+        let sent = Outbox::make(alloc)?;
+        Ok(HeldDevice {
             device,
-            sent: Items::new(Vec::new(alloc)),
+            sent,
             read: 0,
-        }
+        })
     }
 }
 

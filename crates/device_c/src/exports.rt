@@ -305,7 +305,7 @@ pub extern "C" fn jichurpa_transmit(
     ensures told { outcome.new ≡ steps.told_after result device.old.held.value (asked.transmit_event qp.now) outcome.old }
     ensures result { result ≡ steps.result_after (result == 1) device.old.held.value (asked.transmit_event qp.now) }
 {
-    device.step(alloc, asked::transmit(qp), outcome)
+    device.transmit(alloc, asked::object_asked(qp), outcome)
 }
 
 /// Bytes arrive.

@@ -77,7 +77,10 @@ impl Handle {
         let Ok(device) = Device::make(alloc, id as u8, address) else {
             return NO_MEMORY;
         };
-        match Box::new(alloc, Content::Device(HeldDevice::new(alloc, device))) {
+        let Ok(held) = HeldDevice::new(alloc, device) else {
+            return NO_MEMORY;
+        };
+        match Box::new(alloc, Content::Device(held)) {
             Ok(content) => {
                 self.put(content);
                 OK
@@ -195,6 +198,35 @@ impl Handle {
             return INVALID;
         };
         let result = content.store(alloc, region, at, bytes, outcome);
+        self.put(content);
+        result
+    }
+
+    /// A queue pair sends its next packet.
+    #[tactic(auto, unfolding(crate::specs::Steps::held_after, crate::specs::Steps::told_after, crate::specs::Steps::result_after))]
+    pub(crate) fn transmit(
+        &mut self,
+        alloc: Global,
+        end: Option<ObjName>,
+        outcome: &mut COutcome,
+    ) -> u32
+        ensures held { self.new.held.value
+            ≡ steps.held_after result self.old.held.value
+            (option_map (λ x. event.Transmit x) end) }
+        ensures told { outcome.new
+            ≡ steps.told_after result self.old.held.value
+            (option_map (λ x. event.Transmit x) end) outcome.old }
+        ensures result { result
+            ≡ steps.result_after (result == 1) self.old.held.value
+            (option_map (λ x. event.Transmit x) end) }
+    {
+        let Some(end) = end else {
+            return INVALID;
+        };
+        let Some(mut content) = self.take(alloc) else {
+            return INVALID;
+        };
+        let result = content.transmit(alloc, &end, outcome);
         self.put(content);
         result
     }

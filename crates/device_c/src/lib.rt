@@ -8,6 +8,7 @@ mod ends;
 mod exports;
 mod handle;
 mod images;
+mod outbox;
 mod pointer;
 mod readers;
 mod steps;

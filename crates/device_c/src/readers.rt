@@ -32,7 +32,7 @@ impl HeldDevice {
         ensures bytes { bytes.new ≡ readers.next_bytes (Some (readers.unread self.old)) bytes.old }
         ensures held { self.new ≡ readers.device_after result self.old }
     {
-        let Some(sent) = self.sent.as_slice().get(self.read) else {
+        let Some(sent) = self.sent.get(self.read) else {
             return NONE;
         };
         *datagram = datagram_told(sent);

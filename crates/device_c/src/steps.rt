@@ -3,6 +3,8 @@
 ghost use Rattle.std.specs.Prelude.{◌≡◌, ◌==◌, length, is_some, IfSome, Some, option_map, if◌then◌else◌};
 ghost use Rattle.protocol.specs.Events.{IsLawfulEvent};
 ghost use Rattle.protocol.specs.Lawful.{IsLawful};
+ghost use Rattle.rdma_types.specs.declared.names.ObjName as names;
+ghost use Rattle.device_core.specs.Finding.{IsAt};
 ghost use Rattle.protocol.specs.declared.events.Event.TheVariants as event;
 ghost use Rattle.c_layout.specs.Told.{outcome_told as told_of};
 ghost use Rattle.device_c.specs.Steps as steps;
@@ -14,6 +16,7 @@ use c_layout::codes::{INVALID, NO_MEMORY, OK};
 use c_layout::layout::{CCompletion, COutcome};
 use c_layout::told::outcome_told;
 use context_dump::DumpReader;
+use device_core::EndPlace;
 use protocol::{ContextImage, Event, Outcome};
 use rdma_types::{Address, Answer, Completion, Items, ObjName, Sent};
 use std::alloc::Global;
@@ -27,29 +30,93 @@ fn result_of(done: bool) -> u32
 }
 
 impl HeldDevice {
-    /// Keeps datagrams to be read, and tells the answer.
+    /// Keeps the datagrams of a step to be read, and tells its answer.
+    #[inline(always)]
     fn tell(&mut self, answer: &Answer, sent: Items<Sent>, outcome: &mut COutcome)
         ensures held { self.new ≡ record { device = self.old.device; sent = sent; read = 0 } }
         ensures told { outcome.new ≡ told_of answer.now (length sent) }
     {
-        *outcome = outcome_told(answer, sent.len() as u64);
-        self.sent = sent;
+        self.sent.put(sent);
+        self.tell_sent(answer, outcome);
+    }
+
+    /// The datagrams that are kept are those of a step with this answer.
+    #[inline(never)]
+    fn tell_sent(&mut self, answer: &Answer, outcome: &mut COutcome)
+        ensures held { self.new ≡ record { device = self.old.device; sent = self.old.sent; read = 0 } }
+        ensures told { outcome.new ≡ told_of answer.now (length self.old.sent) }
+    {
+        *outcome = outcome_told(answer, self.sent.count());
         self.read = 0;
     }
 
-    /// A step, with the answer and the image that it gives; None when out of memory.
-    fn step(
+    /// A step. It says whether there was memory.
+    fn step(&mut self, alloc: Global, event: &Event, outcome: &mut COutcome) -> bool
+        requires { IsLawfulEvent event.now }
+        ensures held { self.new ≡ steps.device_after result self.old event.now }
+        ensures told { outcome.new ≡ steps.told_after_step result self.old event.now outcome.old }
+    {
+        let Ok(Outcome { answer, sent, .. }) = self.device.step(alloc, event) else {
+            return false;
+        };
+        self.tell(&answer, sent, outcome);
+        true
+    }
+
+    /// The owner reads its region. It says whether there was memory.
+    fn load(
+        &mut self,
+        alloc: Global,
+        event: &Event,
+        bytes: &mut [u8],
+        outcome: &mut COutcome,
+    ) -> bool
+        requires { IsLawfulEvent event.now }
+        ensures held { self.new ≡ steps.device_after result self.old event.now }
+        ensures told { outcome.new ≡ steps.told_after_step result self.old event.now outcome.old }
+        ensures bytes { bytes.new ≡ steps.loaded_by_step result self.old event.now bytes.old }
+    {
+        let Ok(Outcome { answer, sent, .. }) = self.device.step(alloc, event) else {
+            return false;
+        };
+        copy(bytes_of(&answer), bytes);
+        self.tell(&answer, sent, outcome);
+        true
+    }
+
+    /// The oldest completions of a queue. It says whether there was memory.
+    fn poll(
+        &mut self,
+        alloc: Global,
+        event: &Event,
+        completions: &mut [CCompletion],
+        outcome: &mut COutcome,
+    ) -> bool
+        requires { IsLawfulEvent event.now }
+        ensures held { self.new ≡ steps.device_after result self.old event.now }
+        ensures told { outcome.new ≡ steps.told_after_step result self.old event.now outcome.old }
+        ensures completions { completions.new ≡ steps.polled_by_step result self.old event.now completions.old }
+    {
+        let Ok(Outcome { answer, sent, .. }) = self.device.step(alloc, event) else {
+            return false;
+        };
+        write_completions(completions_of(&answer), completions);
+        self.tell(&answer, sent, outcome);
+        true
+    }
+
+    /// A context leaves, with its image, unless it is refused; None when out of memory.
+    fn stop(
         &mut self,
         alloc: Global,
         event: &Event,
         outcome: &mut COutcome,
-    ) -> Option<(Answer, Option<ContextImage>)>
+    ) -> Option<Option<ContextImage>>
         requires { IsLawfulEvent event.now }
         ensures held { self.new ≡ steps.device_after (is_some result) self.old event.now }
         ensures told { outcome.new ≡ steps.told_after_step (is_some result) self.old event.now outcome.old }
-        ensures answer { IfSome result (λ r. r.0 ≡ (steps.outcome_of self.old event.now).answer) }
-        ensures image { IfSome result (λ r. r.1 ≡ (steps.outcome_of self.old event.now).image) }
-        ensures lawful { IfSome result (λ r. IfSome r.1 IsLawful) }
+        ensures image { IfSome result (λ image. image ≡ (steps.outcome_of self.old event.now).image) }
+        ensures lawful { IfSome result (λ image. IfSome image IsLawful) }
     {
         match self.device.step(alloc, event) {
             Ok(
@@ -60,9 +127,46 @@ impl HeldDevice {
                 },
             ) => {
                 self.tell(&answer, sent, outcome);
-                Some((answer, image))
+                Some(image)
             }
             Err(_) => None,
+        }
+    }
+
+    /// The queue pair at a place sends its next packet. It says whether there was memory.
+    fn transmit_at(&mut self, alloc: Global, at: EndPlace, outcome: &mut COutcome) -> bool
+        requires { (o : names.ObjName) × IsAt self.old.device o at }
+        ensures held { (o : names.ObjName) → IsAt self.old.device o at
+            → self.new ≡ steps.device_after result self.old (event.Transmit o) }
+        ensures told { (o : names.ObjName) → IsAt self.old.device o at
+            → outcome.new ≡ steps.told_after_step result self.old (event.Transmit o) outcome.old }
+    {
+        let Ok(answer) = self.sent.transmit(alloc, &mut self.device, at) else {
+            return false;
+        };
+        self.tell_sent(&answer, outcome);
+        true
+    }
+
+    /// A transmission of no connected queue pair, which is refused. It says whether there was memory.
+    #[inline(never)]
+    fn refuse_transmission(&mut self, alloc: Global, end: &ObjName, outcome: &mut COutcome) -> bool
+        ensures held { self.new ≡ steps.device_after result self.old (event.Transmit end.now) }
+        ensures told { outcome.new
+            ≡ steps.told_after_step result self.old (event.Transmit end.now) outcome.old }
+    {
+        self.step(alloc, &Event::Transmit { end: *end }, outcome)
+    }
+
+    /// A queue pair sends its next packet. It says whether there was memory.
+    fn transmit(&mut self, alloc: Global, end: &ObjName, outcome: &mut COutcome) -> bool
+        ensures held { self.new ≡ steps.device_after result self.old (event.Transmit end.now) }
+        ensures told { outcome.new
+            ≡ steps.told_after_step result self.old (event.Transmit end.now) outcome.old }
+    {
+        match self.device.place_of(end) {
+            Some(at) => self.transmit_at(alloc, at, outcome),
+            None => self.refuse_transmission(alloc, end, outcome),
         }
     }
 
@@ -71,13 +175,11 @@ impl HeldDevice {
         ensures held { self.new ≡ steps.device_after result self.old (event.Arrive from bytes.now) }
         ensures told { outcome.new ≡ steps.told_after_step result self.old (event.Arrive from bytes.now) outcome.old }
     {
-        match self.device.arrive(alloc, from, bytes) {
-            Ok(Outcome { answer, sent, .. }) => {
-                self.tell(&answer, sent, outcome);
-                true
-            }
-            Err(_) => false,
-        }
+        let Ok(answer) = self.sent.arrive(alloc, &mut self.device, from, bytes) else {
+            return false;
+        };
+        self.tell_sent(&answer, outcome);
+        true
     }
 
     /// A context comes. It says whether there was memory.
@@ -134,12 +236,9 @@ impl Content {
         ensures told { outcome.new ≡ steps.told_of result self.old event.now outcome.old }
         ensures result { result ≡ steps.result_of (result == 1) self.old }
     {
-        let Content::Device(held) = self else {
-            return INVALID;
-        };
-        match held.step(alloc, event, outcome) {
-            Some(_) => OK,
-            None => NO_MEMORY,
+        match self {
+            Content::Device(held) => result_of(held.step(alloc, event, outcome)),
+            _ => INVALID,
         }
     }
 
@@ -157,15 +256,9 @@ impl Content {
         ensures result { result ≡ steps.result_of (result == 1) self.old }
         ensures bytes { bytes.new ≡ steps.loaded_of result self.old event.now bytes.old }
     {
-        let Content::Device(held) = self else {
-            return INVALID;
-        };
-        match held.step(alloc, event, outcome) {
-            Some((answer, _)) => {
-                copy(bytes_of(&answer), bytes);
-                OK
-            }
-            None => NO_MEMORY,
+        match self {
+            Content::Device(held) => result_of(held.load(alloc, event, bytes, outcome)),
+            _ => INVALID,
         }
     }
 
@@ -183,15 +276,9 @@ impl Content {
         ensures result { result ≡ steps.result_of (result == 1) self.old }
         ensures completions { completions.new ≡ steps.polled_of result self.old event.now completions.old }
     {
-        let Content::Device(held) = self else {
-            return INVALID;
-        };
-        match held.step(alloc, event, outcome) {
-            Some((answer, _)) => {
-                write_completions(completions_of(&answer), completions);
-                OK
-            }
-            None => NO_MEMORY,
+        match self {
+            Content::Device(held) => result_of(held.poll(alloc, event, completions, outcome)),
+            _ => INVALID,
         }
     }
 
@@ -214,9 +301,19 @@ impl Content {
         let Ok(event) = asked::store(alloc, region, at, bytes) else {
             return NO_MEMORY;
         };
-        match held.step(alloc, &event, outcome) {
-            Some(_) => OK,
-            None => NO_MEMORY,
+        result_of(held.step(alloc, &event, outcome))
+    }
+
+    /// A queue pair sends its next packet.
+    pub(crate) fn transmit(&mut self, alloc: Global, end: &ObjName, outcome: &mut COutcome) -> u32
+        ensures held { self.new ≡ steps.content_after result self.old (event.Transmit end.now) }
+        ensures told { outcome.new
+            ≡ steps.told_of result self.old (event.Transmit end.now) outcome.old }
+        ensures result { result ≡ steps.result_of (result == 1) self.old }
+    {
+        match self {
+            Content::Device(held) => result_of(held.transmit(alloc, end, outcome)),
+            _ => INVALID,
         }
     }
 
@@ -257,8 +354,8 @@ impl Content {
         let Ok(room) = Box::new(alloc, Content::Reader(DumpReader::make(alloc))) else {
             return (NO_MEMORY, None);
         };
-        match held.step(alloc, event, outcome) {
-            Some((_, image)) => (OK, boxed(room, image)),
+        match held.stop(alloc, event, outcome) {
+            Some(image) => (OK, boxed(room, image)),
             None => (NO_MEMORY, None),
         }
     }

@@ -1,23 +1,27 @@
 -- An end that was found by its number, and its context by the place of it.
 use Rattle.std.proofs.Common.{arith, ◌≡◌, ◌∙◌, ◌<◌, ℕ, zero, suc, List, [], ◌∷◌, length, map, true, refl, sym, ap, subst, inl, inr}
-use Rattle.std.specs.Prelude.{AllPairs, ◌≢◌, Option, Some, None, bytes_eq, option_map, slice_get, if◌then◌else◌}
+use Rattle.std.specs.Prelude.{AllPairs, ◌≢◌, Option, Some, None, bytes_eq, option_map, position, slice_get, if◌then◌else◌}
 use Rattle.std.specs.Borrow.{Bor}
-use Rattle.std.specs.Map.{lookup, set_value}
+use Rattle.std.specs.Map.{keys_of, lookup, set_value}
 use Rattle.std.specs.Option.{option_copied}
 use Rattle.std.proofs.lemmas.List.{length-map}
 use Rattle.std.proofs.lemmas.Option.{slice_get_within}
 use Rattle.indexmap.specs.IndexMap.{set_value_at}
 use Rattle.rdma_types.specs.declared.names.Name.{Name}
+use Rattle.rdma_types.specs.declared.names.ObjName.{ObjName}
 use Rattle.rdma_types.proofs.Tables.{same_name}
 use Rattle.page_pool.specs.Pool.{Pool}
 use Rattle.protocol.specs.DeviceStep.{Found, found_in}
 use Rattle.protocol.specs.Readers.{marks_by, marks_of}
 use Rattle.protocol.specs.State.{Context, Device, context_at}
 use Rattle.context_core.specs.Context.{Holding, context_in}
+use Rattle.context_core.specs.Links.{IsConnectedAt}
+use Rattle.context_core.proofs.NamedLookups.{name-found}
 use Rattle.law_devices.proofs.Tables.{name_tells}
+use Rattle.device_core.specs.declared.finding.EndPlace.{EndPlace}
 use Rattle.device_core.specs.declared.finding.FoundEnd.{FoundEnd}
 use Rattle.device_core.specs.declared.index.EndLocation.{EndLocation}
-use Rattle.device_core.specs.Finding.{IsEndOf, IsFound}
+use Rattle.device_core.specs.Finding.{IsAt, IsEndOf, IsFound}
 use Rattle.device_core.specs.Held.{IsHeld}
 use Rattle.device_core.specs.Index.{IsEndAt}
 use Rattle.device_core.specs.Parts.{contexts_in, held_in}
@@ -124,4 +128,42 @@ module _ {pool : Pool} {es : List (Name × Holding)} {index : ℕ → Option End
     end = e.end;
     there = ap (λ xs. slice_get xs place) (laws.ends pool s m n ∙ ap (λ (c : Context). c.ends) (sym context)) ∙ e.there;
     same = e.same;
+  }
+
+-- ---- a connected end by its name
+
+-- the context at a place is the one that is named, and has the end
+pub record IsNamedAt (pool : Pool) (es : List (Name × Holding)) (i place : ℕ) (n name : Name) (s : Holding) : Type 0 where
+  pub found : lookup (bytes_eq n) es ≡ Some s
+  pub stored : (w : Holding) → set_value_at es i w ≡ set_value (bytes_eq n) es w
+  pub there : IsConnectedAt (context_in pool n s) name place
+
+-- a connected end of a context is one of the context under any name
+connected-same : (pool : Pool) (m n : Name) (s : Holding) (name : Name) (place : ℕ) → IsConnectedAt (context_in pool m s) name place → IsConnectedAt (context_in pool n s) name place
+connected-same pool m n s name place is = record { end = is.end; there = ap (λ xs. slice_get xs place) (laws.ends pool s n m) ∙ is.there; named = is.named; linked = is.linked }
+
+module _ {pool : Pool} {es : List (Name × Holding)} {index : ℕ → Option EndLocation} {d : Device} (held : IsHeld pool es index d) (here : d.contexts ≡ contexts_in pool es) where
+  pub inside : {o : ObjName} {at : EndPlace} → IsAt d o at → at.context < length es
+  inside {o} {at} e =
+      let inner : at.context < length d.contexts = slice_get_within d.contexts at.context e.owner e.here in
+      omega (arith, inner, ap (λ (cs : List Context). length cs) here, length-map es (held_in pool))
+
+  pub named-at : {o : ObjName} {at : EndPlace} → IsAt d o at → {s : Holding} → slice_get (map (λ e. e.1) es) at.context ≡ Some s → IsNamedAt pool es at.context at.place o.context o.name s
+  named-at {o} {at} e {s} value =
+      let key = key-there es at.context s value in
+      let by = by-name pool es at.context key.0 s (subst (λ (cs : List Context). AllPairs (λ a b. a ≢ b) (map (λ c. c.name) cs)) here held.names) key.1 in
+      let there : slice_get d.contexts at.context ≡ Some (context_in pool key.0 s) = ap (λ (cs : List Context). slice_get cs at.context) here ∙ map-at (held_in pool) es at.context (key.0, s) key.1 in
+      let both : Some e.owner ≡ Some (context_in pool key.0 s) = sym e.here ∙ there in
+      let owner : e.owner ≡ context_in pool key.0 s = cc in
+      let name : key.0 ≡ o.context = sym (laws.name pool s key.0) ∙ (ap (λ (c : Context). c.name) (sym owner) ∙ e.owned) in
+      subst (λ n. IsNamedAt pool es at.context at.place n o.name s) name
+      (record { found = by.0; stored = by.1; there = subst (λ (c : Context). IsConnectedAt c o.name at.place) owner e.there })
+
+  -- .. and the other way: an end of a context that is found by its name
+  pub at-name : (o : ObjName) {i : ℕ} {m : Name} {s : Holding} (place : ℕ) → position (bytes_eq o.context) (keys_of es) ≡ Some i → slice_get es i ≡ Some (m, s) → IsConnectedAt (context_in pool o.context s) o.name place → IsAt d o (record { context = i; place = place })
+  at-name o {i} {m} {s} place found at there = record {
+    owner = context_in pool m s;
+    here = ap (λ (cs : List Context). slice_get cs i) here ∙ map-at (held_in pool) es i (m, s) at;
+    owned = laws.name pool s m ∙ name-found o.context es i (m, s) found at;
+    there = connected-same pool o.context m s o.name place there;
   }

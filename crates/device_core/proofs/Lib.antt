@@ -27,6 +27,7 @@ mod Transmissions
 mod Seen
 mod LiveEnds
 mod Copied
+mod Told
 mod Within
 mod Numbered
 mod NumberedEnds

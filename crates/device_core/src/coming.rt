@@ -172,8 +172,8 @@ impl Device {
         self.is_full() || have_moved_out(image.ends.as_slice())
     }
 
-    /// Why an image is not put on the device.
-    fn restore_refusal(&self, image: &ContextImage) -> Option<Refusal>
+    /// Why an image is not put on the device; None where it is.
+    pub fn restore_refusal(&self, image: &ContextImage) -> Option<Refusal>
         requires { IsLawful image.now }
         ensures { result ≡ first_cause (causes_of self.now (Event.Restore image.now)) }
     {

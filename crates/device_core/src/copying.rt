@@ -6,7 +6,7 @@ use crate::Device;
 use crate::husks::HuskEntry;
 use crate::index::EndLocation;
 use crate::named::put_named;
-use context_core::{Buffers, ContextState};
+use context_core::{ContextState, Draft};
 use indexmap::IndexMap;
 use rdma_types::{Items, Name};
 use std::alloc::{AllocError, Global};
@@ -72,7 +72,7 @@ impl Device {
             husks: copy_husks(alloc, &self.husks)?,
             index: copy_index(alloc, &self.index)?,
             contexts: copy_contexts(alloc, &self.contexts)?,
-            buffers: Buffers::make(alloc)?,
+            draft: Draft::make(alloc)?,
         })
     }
 }

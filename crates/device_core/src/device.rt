@@ -14,7 +14,7 @@ ghost use Rattle.device_core.specs.Readings.{new_device};
 
 use crate::husks::HuskEntry;
 use crate::index::EndLocation;
-use context_core::{Buffers, ContextFault, ContextState};
+use context_core::{ContextFault, ContextState, Draft};
 use indexmap::IndexMap;
 use page_pool::PagePool;
 use protocol::{Event, Outcome};
@@ -42,7 +42,7 @@ pub struct Device {
     pub(crate) contexts: IndexMap<Name, ContextState>,
     pub(crate) husks: IndexMap<Name, Items<HuskEntry>>,
     pub(crate) index: IndexMap<u32, EndLocation>,
-    pub(crate) buffers: Buffers,
+    pub(crate) draft: Draft,
 }
 
 impl Model for Device {
@@ -78,7 +78,7 @@ impl Device {
         ensures { IfOk result (λ d. d ≡ new_device id address) }
     {
         let pool = PagePool::make(alloc, PAGES)?;
-        let buffers = Buffers::make(alloc)?;
+        let draft = Draft::make(alloc)?;
         Ok(Device {
             id,
             address,
@@ -88,7 +88,7 @@ impl Device {
             contexts: IndexMap::new(alloc),
             husks: IndexMap::new(alloc),
             index: IndexMap::new(alloc),
-            buffers,
+            draft,
         })
     }
 

@@ -1,10 +1,13 @@
 //! The connected queue pair that a datagram is for.
 
-ghost use Rattle.std.specs.Prelude.{◌≡◌};
+ghost use Rattle.std.specs.Prelude.{◌≡◌, IfNone, IfSome, IsSome};
+ghost use Rattle.protocol.specs.declared.events.Event.{Event};
 ghost use Rattle.protocol.specs.Bytes.{byte_at, number_at};
-ghost use Rattle.device_core.specs.Finding.{IsFound};
+ghost use Rattle.protocol.specs.Refusals.{refusal_of};
+ghost use Rattle.device_core.specs.Finding.{IsAt, IsFound};
 
 use crate::Device;
+use rdma_types::ObjName;
 
 /// A connected queue pair that was found by its number: where it is on its device, and what it keeps. It is there as long
 /// as the device does nothing.
@@ -18,6 +21,15 @@ pub struct FoundEnd {
     pub expected: u64,
     /// One past the highest number sent.
     pub top: u64,
+}
+
+/// Where a connected queue pair is on its device. It is there as long as the device does nothing.
+#[derive(Clone, Copy)]
+pub struct EndPlace {
+    /// The place of its context on the device.
+    pub(crate) context: usize,
+    /// Its place in the context.
+    pub(crate) place: usize,
 }
 
 /// Byte `i`, and 0 behind the last.
@@ -49,5 +61,15 @@ impl Device {
             expected,
             top,
         })
+    }
+    /// Where the connected queue pair of a name is; None where a transmission is refused.
+    #[inline(always)]
+    pub fn place_of(&self, end: &ObjName) -> Option<EndPlace>
+        ensures there { IfSome result (λ at. IsAt self.now end.now at) }
+        ensures none { IfNone result (IsSome (refusal_of self.now (Event.Transmit end.now))) }
+    {
+        let (context, _, held) = self.contexts.get_full(&end.context)?;
+        let place = held.connected_place(end.name)?;
+        Some(EndPlace { context, place })
     }
 }

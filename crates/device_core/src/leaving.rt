@@ -175,8 +175,8 @@ impl Device {
         self.husks.len() >= MOST_HUSKS || state.has_moved_out()
     }
 
-    /// Why a context stays.
-    fn stop_refusal(&self, name: Name, alone: bool) -> Option<Refusal>
+    /// Why a context is not stopped; None where it is.
+    pub fn stop_refusal(&self, name: Name, alone: bool) -> Option<Refusal>
         ensures { result ≡ first_cause (causes_of self.now (Event.Stop name alone)) }
     {
         let Some(state) = self.contexts.get(&name) else {

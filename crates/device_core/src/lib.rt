@@ -20,8 +20,9 @@ mod readers;
 mod running;
 mod telling;
 
-pub use context_core::{Answered, LinkView, LiveEnd};
+pub use arriving::Arrived;
+pub use context_core::{Answered, Draft, LinkView, LiveEnd};
 pub use device::Device;
-pub use finding::{FoundEnd, destination};
+pub use finding::{EndPlace, FoundEnd, destination};
 pub use protocol::{ContextImage, Event, Outcome};
 pub use rdma_types::{Address, EndView, Name, ObjName, Sent};

@@ -70,9 +70,9 @@ impl Device {
         self.contexts.len() >= MOST_CONTEXTS
     }
 
-    /// Why no context of that name is made.
+    /// Why no context of that name is made; None where one is.
     #[tactic(auto, unfolding(rdma_types::specs::Causes::first_cause))]
-    fn context_refusal(&self, name: Name) -> Option<Refusal>
+    pub fn context_refusal(&self, name: Name) -> Option<Refusal>
         ensures { result ≡ first_cause (causes_of self.now (Event.MakeContext name)) }
     {
         if self.is_taken(name) {

@@ -1,6 +1,8 @@
 //! One step of a device.
 
-ghost use Rattle.std.specs.Prelude.{◌≡◌, ◌≤◌, ◌^◌, length, IfOk, IfSome, IsOk, None, OnErr};
+ghost use Rattle.std.specs.Prelude.{◌≡◌, ◌≤◌, ◌^◌, ◌++◌, length, IfOk, IfSome, IsOk, None, OnErr};
+ghost use Rattle.std.specs.Option.{option_to_list};
+ghost use Rattle.rdma_types.specs.declared.names.ObjName as names;
 ghost use Rattle.protocol.specs.declared.events.Event.{Event};
 ghost use Rattle.protocol.specs.Bytes.{number_at};
 ghost use Rattle.protocol.specs.DeviceStep.{device_step};
@@ -11,14 +13,17 @@ ghost use Rattle.protocol.specs.Lawful.{IsLawful};
 ghost use Rattle.protocol.specs.Refusals.{refusal_of};
 ghost use Rattle.protocol.specs.Wire.{packet_of};
 ghost use Rattle.device_core.specs.Done.{AreFew, AreLawful, IsDone, IsNotOutOfMemory, told_step as step_told};
-ghost use Rattle.device_core.specs.Finding.{IsFound};
+ghost use Rattle.device_core.specs.Finding.{IsAt, IsFound};
 ghost use Rattle.device_core.specs.Readings.{DoNothing, TakesNoMemoryAt};
 
 use crate::Device;
+use crate::arriving::Arrived;
 use crate::device::answered;
-use crate::finding::{FoundEnd, destination};
-use crate::telling::{refused, told_arrival, told_memory, told_sent, told_transmission};
-use context_core::{Answered, ContextFault, NewEnd};
+use crate::finding::{EndPlace, FoundEnd, destination};
+use crate::telling::{
+    refused, told_arrival, told_memory, told_sent, told_taken_into, told_transmission,
+};
+use context_core::{Answered, ContextFault, Draft, NewEnd};
 use law_arrivals::turns_change_what_arrivals_may;
 use protocol::{ContextImage, Event, Outcome};
 use rdma_types::{Address, Answer, Items, ObjName, Sent};
@@ -200,6 +205,38 @@ impl Device {
         told_arrival(arrived)
     }
 
+    /// What `arrive_at` does, and what answers the bytes is in the draft: a reply without bytes. What was there before is
+    /// gone. READ responses and the answer of a husk are handed up in a list. Errors: `AllocError` when out of memory; the
+    /// device is then as before, and nothing is in the draft.
+    #[inline(always)]
+    pub fn arrive_into(
+        &mut self,
+        alloc: Global,
+        draft: &mut Draft,
+        from: Address,
+        bytes: &[u8],
+        found: Option<FoundEnd>,
+    ) -> Result<Arrived, AllocError>
+        requires { IsFound self.old (number_at 5 3 bytes.now) found }
+        ensures ok { IfOk result (λ a. device_step self.old (Event.Arrive from bytes.now)
+            ≡ record {
+              device = self.new;
+              outcome = record
+                  { answer = a.answer; sent = option_to_list draft.new ++ a.more; image = None };
+            }) }
+        ensures bounded { IfOk result (λ a. length (option_to_list draft.new ++ a.more) ≤ 2 ^ 32) }
+        ensures id { self.new.id ≡ self.old.id }
+        ensures address { self.new.address ≡ self.old.address }
+        ensures never_out_of_memory { DoNothing self.old (packet_of bytes.now) → IsOk result }
+        ensures touched { ChangesOnly (is_touched self.old bytes.now) self.old self.new }
+        ensures err { OnErr result (self.new ≡ self.old) }
+        ensures err_draft { OnErr result (draft.new ≡ None) }
+    {
+        self.bounds_turns();
+        let taken = self.take_bytes_into(alloc, draft, from, bytes, found);
+        told_taken_into(draft, taken)
+    }
+
     /// The step on `Event::Transmit`: the next packet of an end, where it may send one. A refusal is an answer, and the
     /// device is then as before. Errors: `AllocError` when out of memory, and then no refusal is due; the device is as
     /// before.
@@ -221,21 +258,49 @@ impl Device {
             return Ok(refused(alloc, self.missing(end.context)));
         };
         let own = self.address;
-        let sent = state.transmit(alloc, &mut self.buffers, &self.pool, end.name, own);
+        let sent = state.transmit(alloc, &mut self.draft, &self.pool, end.name, own);
         told_transmission(alloc, sent)
+    }
+
+    /// What `transmit` does, where the queue pair was looked up before: by `place_of`, on the device as it is now. What is
+    /// sent is in the draft, and what was there before is gone. Errors: `AllocError` when out of memory; the device is
+    /// then as before, and nothing is in the draft.
+    #[inline(always)]
+    pub fn transmit_at(
+        &mut self,
+        alloc: Global,
+        draft: &mut Draft,
+        at: EndPlace,
+    ) -> Result<Answer, AllocError>
+        requires { (o : names.ObjName) × IsAt self.old o at }
+        ensures ok { (o : names.ObjName) → IsAt self.old o at
+            → IfOk result (λ a. device_step self.old (Event.Transmit o)
+            ≡ record {
+              device = self.new;
+              outcome = record
+                  { answer = a; sent = option_to_list draft.new; image = None };
+            }) }
+        ensures id { self.new.id ≡ self.old.id }
+        ensures address { self.new.address ≡ self.old.address }
+        ensures err { OnErr result (self.new ≡ self.old) }
+        ensures err_draft { OnErr result (draft.new ≡ None) }
+    {
+        let own = self.address;
+        let state = &mut self.contexts[at.context];
+        state.transmit_at(alloc, draft, &self.pool, at.place, own)
     }
 
     /// Takes the memory of a datagram back, to be filled again.
     pub fn give_back(&mut self, bytes: Items<u8>)
         ensures { self.new ≡ self.old }
     {
-        self.buffers.give(bytes.into_vec());
+        self.draft.give(bytes);
     }
 
     /// Takes the memory of a list of datagrams back, to be filled again. What is in the list goes.
     pub fn give_back_list(&mut self, list: Vec<Sent>)
         ensures { self.new ≡ self.old }
     {
-        self.buffers.give_list(list);
+        self.draft.give_list(list);
     }
 }

@@ -1,5 +1,5 @@
 -- A run in which threads drain completions and hand them to several consumers (this project's choice).
-use Rattle.std.specs.Prelude.{◌≡◌, ℕ, ◌≤◌, true, false, List, [], length, slice_get, Some}
+use Rattle.std.specs.Prelude.{◌≡◌, ℕ, ◌≤◌, true, List, [], length, slice_get, Some}
 use Rattle.rdma_types.specs.declared.requests.Completion.{Completion}
 use Rattle.order_rules.specs.declared.Receipt.{Receipt}
 use Rattle.run_check.specs.Gathered.{drained_by}
@@ -37,19 +37,13 @@ pub record IsHandedOut (plan : FanPlan) (receipts : List (List Receipt)) (draine
   pub fanned : IsFanned drained taken left
   pub none_left : left ≡ []
 
--- .. the caller handed entry k to list k mod consumers, and none is left
-pub record IsDealtOut (plan : FanPlan) (receipts : List (List Receipt)) (drained : List Completion) (taken : List (List FanEntry)) (left : List FanEntry) : Type 0 where
-  pub is_drained : IsDrained plan receipts drained
-  pub dealt : IsDealt plan.consumers drained taken
-  pub none_left : left ≡ []
-
 -- one worker makes the additions, and nothing moves
 abbrev pub one_worker : FanPlan → ThreadPlan
 one_worker plan = record { workers = 1; adds = plan.adds; moves = 0 }
 
--- the run in which the completions came is as planned, and they were handed out: by threads, or by the caller whose own run
--- it is
+-- the run in which the completions came is as planned, and they were handed out, by threads or by the caller; a caller whose own
+-- run it is hands entry k to list k mod consumers
 pub record IsFannedRun (plan : FanPlan) (f : FannedRun) : Type 0 where
   pub planned : IsPlanned (one_worker plan) drainer f.run.alone f.run
-  pub by_threads : f.run.alone ≡ false → IsHandedOut plan f.run.receipts f.drained f.taken f.left
-  pub by_caller : f.run.alone ≡ true → IsDealtOut plan f.run.receipts f.drained f.taken f.left
+  pub handed : IsHandedOut plan f.run.receipts f.drained f.taken f.left
+  pub by_caller : f.run.alone ≡ true → IsDealt plan.consumers f.drained f.taken

@@ -1,6 +1,6 @@
 //! The one who polls a shared device for completions.
 
-ghost use Rattle.std.specs.Prelude.{◌≡◌, ◌++◌, ◌∷◌, [], IfOk, MatchOption, OnErr};
+ghost use Rattle.std.specs.Prelude.{◌≡◌, ◌≤◌, ◌++◌, ◌∷◌, [], IfOk, MatchOption, None, OnErr, false, length};
 
 use crate::plan::DRAINER;
 use crate::told::put_polled;
@@ -68,6 +68,8 @@ pub struct Drainer<'a, G> {
     /// How many are to come in all.
     adds: u32,
     drained: Items<Completion>,
+    /// All was halted before that, or it failed.
+    is_cut: bool,
     fault: Option<PlanFault>,
 }
 
@@ -102,6 +104,7 @@ impl<'a, G: Gate> Drainer<'a, G> {
             polling,
             adds,
             drained: Items::new(Vec::with_capacity(alloc, adds as usize)?),
+            is_cut: false,
             fault: None,
         })
     }
@@ -110,12 +113,15 @@ impl<'a, G: Gate> Drainer<'a, G> {
     fn draw<R: Wait>(&mut self, rt: &R) -> Result<Option<Completion>, PlanFault>
         ensures ok { IfOk result (λ given. MatchOption given (self.new.drained
             ≡ self.old.drained) (λ c. self.new.drained ≡ self.old.drained ++ c ∷ [])) }
+        ensures ended { result ≡ Ok None → self.new.is_cut ≡ false
+            → self.new.adds ≤ length self.new.drained }
         ensures err { OnErr result (self.new.drained ≡ self.old.drained) }
     {
         if self.drained.len() >= self.adds as usize {
             return Ok(None);
         }
         let Some(completion) = self.polling.next(rt, self.alloc)? else {
+            self.is_cut = true;
             return Ok(None);
         };
         self.drained.push(completion)?;
@@ -142,13 +148,18 @@ impl<'a, G: Gate> Drainer<'a, G> {
 }
 
 impl<'a, G: Gate> Source for Drainer<'a, G> {
+    ghost use Rattle.std.specs.Prelude.{◌≡◌, ◌≤◌, false, length};
+
     ghost given = { λ d. d.drained };
+
+    ghost ended = { λ d. d.is_cut ≡ false → d.adds ≤ length d.drained };
 
     /// Where it fails, all is halted.
     fn next<R: Wait>(&mut self, rt: &R) -> Option<Completion> {
         match self.draw(rt) {
             Ok(completion) => completion,
             Err(fault) => {
+                self.is_cut = true;
                 self.fault = Some(fault);
                 self.site.orders.halt(rt);
                 None

@@ -52,8 +52,8 @@ struct Ended {
 
 /// Runs pump, drainer and consumers in a scope, each in a thread of its own, and joins them. Where the start of the pump or of
 /// the drainer is refused, all is halted. A consumer whose start is refused is run by the caller once the others are started.
-/// The queue has a place for each end mark, so that the caller can put them all for a drainer without a thread. Errors: out of
-/// memory; all is then halted.
+/// The queue has a place for each end mark, also where fewer places are planned, so that the caller can put them all for a
+/// drainer without a thread. Errors: out of memory; all is then halted.
 fn run_in<'s, E, R: Threads + Wait + Sync, G: Gate + Sync>(
     scope: &'s Scope<'s, E>,
     rt: &'s R,
@@ -87,7 +87,7 @@ fn run_in<'s, E, R: Threads + Wait + Sync, G: Gate + Sync>(
         rt,
         alloc,
         consumers,
-        capacity.max(consumers) as usize,
+        capacity as usize,
         most,
         &pops,
         drainer,

@@ -10,7 +10,8 @@ pub const PUMP: u32 = 1;
 /// The drainer's number.
 pub const DRAINER: u32 = 2;
 
-/// 1 to 4 consumers, 1 to 10,000 additions, and a queue of 1 to 1,024 places.
+/// 1 to 4 consumers, 1 to 10,000 additions, and a queue of 1 to 1,024 places; it has a place for each consumer at least, also
+/// where `capacity` is less.
 #[derive(Clone, Copy, Debug, PartialEq, Eq)]
 pub struct FanPlan {
     pub consumers: u32,

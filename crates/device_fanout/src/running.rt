@@ -1,7 +1,7 @@
 //! Runs that are checked, or made by the caller.
 
 ghost use Rattle.std.specs.Prelude.{◌≡◌, IfOk};
-ghost use Rattle.device_fanout.specs.HandedOut.{IsDealtOut, IsFanPlan, IsFannedRun};
+ghost use Rattle.device_fanout.specs.HandedOut.{IsFanPlan, IsFannedRun};
 
 use crate::dealing::deal;
 use crate::fanning::fan_out;
@@ -79,7 +79,7 @@ fn by_caller(alloc: Global, plan: &FanPlan) -> Result<FannedRun, PlanFault>
 }
 
 /// Hands completions out by threads, and checks the run in which they came. Where it is not as planned, the caller makes the
-/// run itself and deals the completions out, and `run.alone` tells so. It may wait.
+/// run itself and deals the completions out, and `run.alone` tells so. Each completion is taken once either way. It may wait.
 ///
 /// # Errors
 ///

@@ -18,6 +18,7 @@ form_of word =
     else if bytes_eq word (codes "audit") then Some form.Audit
     else if bytes_eq word (codes "record") then Some form.Record
     else if bytes_eq word (codes "node") then Some form.Node
+    else if bytes_eq word (codes "serve") then Some form.Serve
     else if bytes_eq word (codes "threads") then Some form.Threads
     else if bytes_eq word (codes "fanout") then Some form.Fanout
     else if bytes_eq word (codes "mail") then Some form.Mail
@@ -38,6 +39,7 @@ places form.Evacuate = place.From ∷ place.Target ∷ more_targets
 places form.Audit = []
 places form.Record = []
 places form.Node = place.Id ∷ place.Address ∷ []
+places form.Serve = place.Id ∷ place.Address ∷ place.Flag ∷ []
 places form.Threads = place.Workers ∷ place.Adds ∷ place.FewMoves ∷ []
 places form.Fanout = place.Consumers ∷ place.ManyAdds ∷ place.Capacity ∷ []
 places form.Mail = place.Seed ∷ place.Peers ∷ place.Letters ∷ place.Moves ∷ []
@@ -54,6 +56,9 @@ title place.Target = codes "TARGET"
 title place.More = codes "TARGET"
 title place.Id = codes "ID"
 title place.Address = codes "ADDRESS"
+title place.Flag = codes "OPTION"
+title place.Folder = codes "FOLDER"
+title place.Time = codes "MS"
 title place.Workers = codes "WORKERS"
 title place.Adds = codes "ADDS"
 title place.FewMoves = codes "MOVES"
@@ -75,6 +80,9 @@ kind_of place.Target = kind.Number 1 255
 kind_of place.More = kind.Number 1 255
 kind_of place.Id = kind.Number 1 255
 kind_of place.Address = kind.Address
+kind_of place.Flag = kind.Flag
+kind_of place.Folder = kind.Folder
+kind_of place.Time = kind.Number 1 60000
 kind_of place.Workers = kind.Number 1 8
 kind_of place.Adds = kind.Number 1 2000
 kind_of place.FewMoves = kind.Number 0 8
@@ -87,7 +95,16 @@ kind_of place.Letters = kind.Number 1 500
 -- a word has to stand there
 abbrev pub is_needed : Place → Bool
 is_needed place.More = false
+is_needed place.Flag = false
 is_needed other = true
+
+-- the places behind one that a word took: an option is followed by its value, and then by further options
+abbrev pub behind : Place → List Place → List ℕ → List Place
+behind place.Flag more word =
+    if bytes_eq word (codes "--depot") then place.Folder ∷ place.Flag ∷ []
+    else if bytes_eq word (codes "--timeout") then place.Time ∷ place.Flag ∷ []
+    else place.Flag ∷ []
+behind other more word = more
 
 -- the ids behind it have to differ
 abbrev pub differs : Form → Bool

@@ -3,7 +3,7 @@ use Rattle.std.specs.Prelude.{ℕ, ◌-◌, ◌+◌, ◌==◌, ◌++◌, ◌&&�
 use Rattle.std.specs.Fmt.{decimal}
 use Rattle.error_sentences.specs.declared.forms.Form.{Form}
 use Rattle.error_sentences.specs.declared.forms.Kind.{Kind}
-use Rattle.error_sentences.specs.declared.forms.Kind.TheVariants.{Address, Name, Number}
+use Rattle.error_sentences.specs.declared.forms.Kind.TheVariants.{Address, Flag, Folder, Name, Number}
 use Rattle.error_sentences.specs.declared.forms.Place.{Place}
 use Rattle.error_sentences.specs.declared.wrong.Wrong.{Wrong}
 use Rattle.error_sentences.specs.declared.wrong.Wrong.TheVariants.{Alone, Extra, Missing, NoCommand, Repeated, Unfit, Unknown}
@@ -39,6 +39,8 @@ unfoldable pub wanted : Kind → List ℕ
 wanted (Number low high) = joined (codes "a number from " ∷ decimal low ∷ codes " to " ∷ decimal high ∷ codes ", in decimal digits without a sign or a leading zero" ∷ [])
 wanted Name = codes "a name: a letter a to z, then up to 15 of a to z, 0 to 9 and _"
 wanted Address = codes "an IPv4 address, with or without a colon and a port from 1 to 65535"
+wanted Flag = codes "--depot, --timeout or --keep"
+wanted Folder = codes "the path of a folder"
 
 -- a first word that cannot stand there, for a reason
 abbrev pub on_the_first : List ℕ → List (List ℕ) → List ℕ

@@ -1,24 +1,27 @@
 -- Which word of a command line is wrong. Words are counted from 1, which is the command.
-use Rattle.std.specs.Prelude.{ℕ, ◌+◌, ◌&&◌, not, Bool, List, [], ◌∷◌, Option, Some, None, is_some, bytes_eq, codes, ◌||◌, if◌then◌else◌}
+use Rattle.std.specs.Prelude.{ℕ, ◌+◌, ◌==◌, ◌&&◌, length, not, Bool, List, [], ◌∷◌, Option, Some, None, is_some, bytes_eq, codes, ◌||◌, if◌then◌else◌}
 use Rattle.std.specs.List.{list_any}
 use Rattle.script_lang.specs.Texts.{address_of, name_of, number_in}
 use Rattle.script_lang.specs.Words.{is_space}
 use Rattle.error_sentences.specs.declared.forms.Form.{Form}
 use Rattle.error_sentences.specs.declared.forms.Kind.{Kind}
-use Rattle.error_sentences.specs.declared.forms.Kind.TheVariants.{Address, Name, Number}
+use Rattle.error_sentences.specs.declared.forms.Kind.TheVariants.{Address, Flag, Folder, Name, Number}
 use Rattle.error_sentences.specs.declared.forms.Place.{Place}
 use Rattle.error_sentences.specs.declared.wrong.Wrong.{Wrong}
 use Rattle.error_sentences.specs.declared.wrong.Wrong.TheVariants.{Alone, Extra, Missing, NoCommand, Repeated, Unfit, Unknown}
-use Rattle.error_sentences.specs.Forms.{differs, form_of, is_needed, kind_of, places}
+use Rattle.error_sentences.specs.Forms.{behind, differs, form_of, is_needed, kind_of, places}
 
 -- a text without a space spells what a place takes
 abbrev pub spells : Kind → List ℕ → Bool
 spells (Number low high) text = is_some (number_in low high text)
 spells Name text = is_some (name_of text)
 spells Address text = is_some (address_of text)
+spells Flag text = bytes_eq text (codes "--depot") || (bytes_eq text (codes "--timeout") || bytes_eq text (codes "--keep"))
+spells Folder text = not (length text == 0)
 
 -- a word may stand there
 abbrev pub suits : Kind → List ℕ → Bool
+suits Folder word = spells Folder word
 suits k word = not (list_any is_space word) && spells k word
 
 -- the first word that may not stand where it stands: the next word has this number
@@ -26,7 +29,7 @@ abbrev pub wrong_from : List Place → List (List ℕ) → ℕ → Option Wrong
 wrong_from [] [] number = None
 wrong_from [] (word ∷ words) number = Some (Extra number)
 wrong_from (place ∷ more) [] number = if is_needed place then Some (Missing number place) else None
-wrong_from (place ∷ more) (word ∷ words) number = if suits (kind_of place) word then wrong_from more words (number + 1) else Some (Unfit number place)
+wrong_from (place ∷ more) (word ∷ words) number = if suits (kind_of place) word then wrong_from (behind place more word) words (number + 1) else Some (Unfit number place)
 
 -- the first word that stands once more behind
 abbrev pub repeated_from : List (List ℕ) → ℕ → Option Wrong

@@ -41,6 +41,15 @@ pub fn wrong_words_are_named()
         ≡ codes "jichurpa node: word 3, ADDRESS, is \"10.0.0\"; it must be an IPv4 "
         ++ codes "address, with or without a colon and a port from 1 to 65535; see "
         ++ codes "jichurpa node --help\n" }
+    ensures option { usage_sentence (codes "serve" ∷ codes "1" ∷ codes "10.0.0.1" ∷ codes "--kept"
+        ∷ [])
+        ≡ codes "jichurpa serve: word 4, OPTION, is \"--kept\"; it must be --depot, "
+        ++ codes "--timeout or --keep; see jichurpa serve --help\n" }
+    ensures behind { usage_sentence (codes "serve" ∷ codes "1" ∷ codes "10.0.0.1" ∷ codes "--keep"
+        ∷ codes "--depot" ∷ codes "a b" ∷ codes "--timeout" ∷ [])
+        ≡ codes "jichurpa serve: word 8, MS, is missing; it must be a number from 1 to "
+        ++ codes "60000, in decimal digits without a sign or a leading zero; see jichurpa "
+        ++ codes "serve --help\n" }
     ensures twice { usage_sentence (codes "evacuate" ∷ codes "2" ∷ codes "3" ∷ codes "2" ∷ [])
         ≡ codes "jichurpa evacuate: word 2 is \"2\", and so is a later word; the ids "
         ++ codes "must differ; see jichurpa evacuate --help\n" }

@@ -1,6 +1,6 @@
 //! The commands, and what each of their words has to be.
 
-ghost use Rattle.std.specs.Prelude.{◌≡◌, ◌≤◌, bytes_eq, length};
+ghost use Rattle.std.specs.Prelude.{◌≡◌, bytes_eq};
 ghost use Rattle.error_sentences.specs.Forms as spec;
 
 /// A command.
@@ -13,6 +13,7 @@ pub enum Form {
     Audit,
     Record,
     Node,
+    Serve,
     Threads,
     Fanout,
     Mail,
@@ -32,6 +33,12 @@ pub enum Place {
     More,
     Id,
     Address,
+    /// An option of `serve`; further ones may follow.
+    Flag,
+    /// The folder of the option before it.
+    Folder,
+    /// The milliseconds of the option before it.
+    Time,
     Workers,
     Adds,
     /// The moves of `threads`.
@@ -53,6 +60,10 @@ pub enum Kind {
     Name,
     /// An IPv4 address, and perhaps a colon and a port.
     Address,
+    /// The name of an option.
+    Flag,
+    /// The path of a folder: any word but an empty one.
+    Folder,
 }
 
 /// Whether a word is that one.
@@ -76,6 +87,7 @@ impl Form {
             _ if is_word(word, b"audit") => Form::Audit,
             _ if is_word(word, b"record") => Form::Record,
             _ if is_word(word, b"node") => Form::Node,
+            _ if is_word(word, b"serve") => Form::Serve,
             _ if is_word(word, b"threads") => Form::Threads,
             _ if is_word(word, b"fanout") => Form::Fanout,
             _ if is_word(word, b"mail") => Form::Mail,
@@ -86,8 +98,7 @@ impl Form {
 
     /// The places of the words behind it, in their order.
     pub(crate) fn places(self) -> &'static [Place]
-        ensures value { result.now ≡ spec.places self }
-        ensures few { length result.now ≤ 16 }
+        ensures { result.now ≡ spec.places self }
     {
         match self {
             Form::Play | Form::Audit | Form::Record => &[],
@@ -100,6 +111,7 @@ impl Form {
             Form::ShowDump => &[Place::Dump],
             Form::Evacuate => &EVACUATE,
             Form::Node => &[Place::Id, Place::Address],
+            Form::Serve => &[Place::Id, Place::Address, Place::Flag],
             Form::Threads => &[Place::Workers, Place::Adds, Place::FewMoves],
             Form::Fanout => &[Place::Consumers, Place::ManyAdds, Place::Capacity],
             Form::Mail => &[Place::Seed, Place::Peers, Place::Letters, Place::Moves],
@@ -149,6 +161,9 @@ impl Place {
             Place::Target | Place::More => b"TARGET",
             Place::Id => b"ID",
             Place::Address => b"ADDRESS",
+            Place::Flag => b"OPTION",
+            Place::Folder => b"FOLDER",
+            Place::Time => b"MS",
             Place::Workers => b"WORKERS",
             Place::Adds | Place::ManyAdds => b"ADDS",
             Place::Consumers => b"CONSUMERS",
@@ -165,12 +180,15 @@ impl Place {
         let (low, high) = match self {
             Place::Dump => return Kind::Name,
             Place::Address => return Kind::Address,
+            Place::Flag => return Kind::Flag,
+            Place::Folder => return Kind::Folder,
             Place::Seed => (0, u64::MAX),
             Place::Connections | Place::Workers | Place::Peers => (1, 8),
             Place::Messages | Place::Adds => (1, 2000),
             Place::Moves => (0, 16),
             Place::From | Place::Target | Place::More | Place::Id => (1, 255),
             Place::FewMoves => (0, 8),
+            Place::Time => (1, 60_000),
             Place::Consumers => (1, 4),
             Place::ManyAdds => (1, 10_000),
             Place::Capacity => (1, 1024),
@@ -183,6 +201,18 @@ impl Place {
     pub(crate) fn is_needed(self) -> bool
         ensures { result ≡ spec.is_needed self }
     {
-        !matches!(self, Place::More)
+        !matches!(self, Place::More | Place::Flag)
+    }
+
+    /// The places behind this one once a word stands there: those that came behind it, or those that an option asks for.
+    pub(crate) fn behind<'a>(self, more: &'a [Place], word: &[u8]) -> &'a [Place]
+        ensures { result.now ≡ spec.behind self more.now word.now }
+    {
+        match self {
+            Place::Flag if is_word(word, b"--depot") => &[Place::Folder, Place::Flag],
+            Place::Flag if is_word(word, b"--timeout") => &[Place::Time, Place::Flag],
+            Place::Flag => &[Place::Flag],
+            _ => more,
+        }
     }
 }

@@ -82,6 +82,8 @@ pub(crate) fn wanted(alloc: Global, kind: Kind) -> Result<Vec<u8>, AllocError>
             alloc,
             &[b"an IPv4 address, with or without a colon and a port from 1 to 65535"],
         ),
+        Kind::Flag => joined(alloc, &[b"--depot, --timeout or --keep"]),
+        Kind::Folder => joined(alloc, &[b"the path of a folder"]),
     }
 }
 

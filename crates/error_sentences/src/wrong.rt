@@ -60,25 +60,32 @@ fn is_name(text: &[u8]) -> bool
     Name::read(text).is_some()
 }
 
+/// Whether a text is the name of an option.
+fn is_flag(text: &[u8]) -> bool
+    ensures { result ≡ spec.spells Kind.Flag text.now }
+{
+    is_word(text, b"--depot") || is_word(text, b"--timeout") || is_word(text, b"--keep")
+}
+
 impl Kind {
     /// Whether a word may stand at such a place.
     fn suits(self, word: &[u8]) -> bool
         ensures { result ≡ spec.suits self word.now }
     {
-        if has_space(word) {
-            return false;
-        }
         match self {
+            Kind::Folder => !word.is_empty(),
+            _ if has_space(word) => false,
             Kind::Number { low, high } => is_number(word, low, high),
             Kind::Name => is_name(word),
             Kind::Address => is_address(word),
+            Kind::Flag => is_flag(word),
         }
     }
 }
 
 /// The first word that may not stand where it stands; the next word has this number.
 fn wrong_from(places: &[Place], words: &[String], number: usize) -> Option<Wrong>
-    requires { number + length places.now < 2 ^ 32 }
+    requires { number + length words.now < 2 ^ 64 }
     ensures { result ≡ spec.wrong_from places.now (map string_bytes words.now) number }
 {
     match (places, words) {
@@ -96,7 +103,7 @@ fn wrong_from(places: &[Place], words: &[String], number: usize) -> Option<Wrong
         }
         ([place, more @ ..], [word, rest @ ..]) => {
             if place.kind().suits(word.as_bytes()) {
-                wrong_from(more, rest, number + 1)
+                wrong_from(place.behind(more, word.as_bytes()), rest, number + 1)
             } else {
                 Some(Wrong::Unfit {
                     number,

@@ -28,7 +28,7 @@ use Rattle.law_headline.proofs.Tells.{Tells, address, any, bind, bytes, gives, i
 -- ---- verbs
 
 -- the event of a verb is in its ranges, and a line may say it
-abbrev IsVerbIn : Verb → Type 0
+abbrev pub IsVerbIn : Verb → Type 0
 IsVerbIn v = IsWithinOf (event_happens (event_of v)) × IsLawfulVerb v
 
 domain_in : Tells IsVerbIn domain_line
@@ -142,7 +142,8 @@ add_in =
     posted_in o id lkey local _
     (record { remote = in_remote; rkey = in_rkey; swap_add = in_value; compare = omega arith; no_compare = λ h. refl; imm = tt; word = λ h. refl; lawful = record { word = λ h. refl; imm = λ h. refl; remote = λ h. cc h; rkey = λ h. cc h; swap_add = λ h. cc h; compare = λ h. refl } }))))))))
 
-verb_in : (v : VerbForm) → Tells IsVerbIn (verb_line v)
+-- what the words of a verb say is such a verb
+pub verb_in : (v : VerbForm) → Tells IsVerbIn (verb_line v)
 verb_in verb_form.Domain = domain_in
 verb_in verb_form.Region = region_in
 verb_in verb_form.Cq = cq_in

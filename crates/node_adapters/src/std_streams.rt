@@ -84,7 +84,7 @@ impl<W: Write> StdSink<W> {
         }
     }
 
-    /// The same, but each write is flushed at once: so the answers of a node are seen as they come.
+    /// The same, but each write that ends a line is flushed at once: so the answers of a node are seen as they come, each whole.
     pub fn prompt(inner: W) -> StdSink<W> {
         StdSink {
             inner,
@@ -107,13 +107,13 @@ impl<W: Write> StdSink<W> {
         }
     }
 
-    /// Writes bytes, and flushes a prompt writer.
+    /// Writes bytes, and flushes a prompt writer where they end a line.
     fn put(&mut self, bytes: &[u8]) -> io::Result<usize>
         ensures most { IfOk result (λ n. n ≤ length bytes.now) }
         ensures faults { self.new.fault_count ≡ self.old.fault_count }
     {
         let n = self.inner.write(bytes)?;
-        if self.is_prompt {
+        if self.is_prompt && bytes.ends_with(b"\n") {
             self.inner.flush()?;
         }
         Ok(n)
@@ -236,7 +236,9 @@ mod tests {
         sink.flush()?;
         assert_eq!(rt; sink.inner.shown, 3);
         let mut prompt = StdSink::prompt(TEN);
-        write_all_of(&mut prompt, b"ok\n")?;
+        write_all_of(&mut prompt, b"o")?;
+        assert_eq!(rt; prompt.inner.shown, 0);
+        write_all_of(&mut prompt, b"k\n")?;
         assert_eq!(rt; prompt.inner.shown, 3);
         assert_eq!(rt; (sink.fault_count, prompt.fault_count), (0, 0));
         Ok(())
@@ -251,7 +253,7 @@ mod tests {
         assert_eq!(rt; write_all_of(&mut sink, b"ab"), Err(WriteFault));
         assert_eq!(rt; (sink.fault_count, sink.inner.held), (2, 10));
         let mut prompt = StdSink::prompt(TEN);
-        assert_eq!(rt; write_all_of(&mut prompt, b"123456789"), Err(WriteFault));
+        assert_eq!(rt; write_all_of(&mut prompt, b"12345678\n"), Err(WriteFault));
         assert_eq!(rt; prompt.fault_count, 1);
         Ok(())
     }

@@ -1,11 +1,13 @@
 -- How a run of the program ends: its status, what is claimed under each, and which count of faults rose.
-use Rattle.std.specs.Prelude.{ℕ, ◌≡◌, ◌⊎◌, List, Option, Some, None}
+use Rattle.std.specs.Prelude.{ℕ, ◌≡◌, List, Option, Some, None}
 use Rattle.evac_rules.specs.Evacuation.{Fault}
 use Rattle.host_ports.specs.Streams.{Puts}
 use Rattle.run_traces.specs.declared.trace_audit.verdicts.Verdict.{Verdict}
 use Rattle.run_traces.specs.declared.trace_audit.verdicts.Verdict.TheVariants as verdict
 use Rattle.node_rules.specs.Stops.{Rises}
-use Rattle.program_rules.specs.Headline.{ImageText, IsAnswerCutBy, IsDone, IsMissingBy, IsNotEmptiedBy, IsNotLegalBy, IsOfNoCommand, IsShortOfMemoryBy, IsStopped, IsTooLong, IsUnread, IsWithoutDepotBy, IsWithoutLinkBy}
+use Rattle.program_rules.specs.Headline.{ImageText, IsDone, IsMissingBy, IsNotEmptiedBy, IsNotLegalBy, IsOfNoCommand, IsShortOfMemoryBy, IsStopped, IsTooLong, IsUnread, IsWithoutDepotBy, IsWithoutLinkBy}
+use Rattle.program_rules.specs.Commands.{Command, Node}
+use Rattle.program_rules.specs.Nodes.{IsNodeUnwritten}
 use Rattle.program_rules.specs.Runs.{KeepsUnused, Run, command}
 
 -- ---- statuses
@@ -94,10 +96,16 @@ pub record IsCutOff (said : ImageText) (r : Run) : Type 0 where
   pub is : IsWritten said (uncut r whole) status
   pub counts : CountsAs (uncut r whole) status
 
--- what is claimed under each status; under that of the output an answer or the last line was cut off
+-- .. which of a node says too little, whose calls reach others: there only an answer or the last line is cut off, and nothing is
+-- done behind it
+abbrev pub IsUnwrittenBy : ImageText → Run → Option Command → Type 0
+IsUnwrittenBy said r (Some (Node id own)) = IsNodeUnwritten r id own
+IsUnwrittenBy said r other = IsCutOff said r
+
+-- what is claimed under each status
 abbrev pub Claims : ImageText → Run → Status → Type 0
 Claims said r Unread = IsUnread r
-Claims said r Unwritten = IsCutOff said r ⊎ IsAnswerCutBy r (command r)
+Claims said r Unwritten = IsUnwrittenBy said r (command r)
 Claims said r other = IsWritten said r other
 
 -- a run ends with this number

@@ -1,7 +1,6 @@
 -- What a run of the program leaves under each status: what was read, what was written, and what is claimed of it.
 use Rattle.std.specs.Prelude.{ℕ, ◌≡◌, ◌≤◌, ◌⊎◌, ◌+◌, List, [], ◌++◌, length, Option, Some, None, Ok, Err}
 use Rattle.rdma_types.specs.declared.names.Name.{Name}
-use Rattle.rdma_types.specs.declared.requests.Address.{Address}
 use Rattle.protocol.specs.declared.dumps.DumpWhy.{DumpWhy}
 use Rattle.protocol.specs.declared.images.ContextImage.{ContextImage}
 use Rattle.protocol.specs.Dumps.{Good, Bad, read_dump}
@@ -20,7 +19,7 @@ use Rattle.run_traces.specs.Traces.{Traced, trace_of}
 use Rattle.run_traces.specs.Verdicts.{AreRun, IsVerdict, verdict_of}
 use Rattle.trace_rules.specs.Recording.{IsTraceOf, recorded_of}
 use Rattle.node_rules.specs.Plan.{AllAnswered}
-use Rattle.node_rules.specs.Stops.{DepotFailed, HasEnded, LinkFailed, OutputFailed}
+use Rattle.node_rules.specs.Stops.{DepotFailed, HasEnded, LinkFailed}
 use Rattle.program_rules.specs.Commands.{Command, Play, Bulk, ShowDump, Evacuate, Audit, Record, Node}
 use Rattle.law_headline.specs.Follows.{FollowsAll, IsFollowed}
 use Rattle.law_headline.specs.Left.{world_of}
@@ -297,10 +296,3 @@ abbrev pub IsShortOfMemoryBy : ImageText → Run → Option Command → Type 0
 IsShortOfMemoryBy said r None = ⊥
 IsShortOfMemoryBy said r (Some (Node id own)) = EndsWithoutMemory r id own
 IsShortOfMemoryBy said r other = IsCutShort said r
-
--- ---- an answer of a node that is cut off
-
--- status 5: an answer of a node was not written whole, and what would follow it is not known
-abbrev pub IsAnswerCutBy : Run → Option Command → Type 0
-IsAnswerCutBy r (Some (Node id own)) = ComesTo r id own OutputFailed r.after
-IsAnswerCutBy r other = ⊥

@@ -5,3 +5,4 @@ pub mod Runs
 pub mod Nodes
 pub mod Headline
 pub mod Ends
+pub mod Due

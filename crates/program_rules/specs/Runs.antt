@@ -1,5 +1,5 @@
 -- A run of the program: what it is given and what it leaves, where that is told.
-use Rattle.std.specs.Prelude.{ℕ, ◌≡◌, ◌≤◌, List, Option, Some, None}
+use Rattle.std.specs.Prelude.{ℕ, ◌≡◌, ◌≤◌, List, Option, Some}
 use Rattle.host_ports.specs.Streams.{Puts, TakesAll, TakesCount}
 use Rattle.node_rules.specs.Told.{Contents}
 use Rattle.program_rules.specs.Commands.{Audit, Command, Evacuate, Node, Play, Record, ShowDump, command_of}

@@ -1,5 +1,9 @@
 //! What the program says of itself.
 
+ghost use Rattle.std.specs.Prelude.{◌≡◌, bytes_eq, map, option_copied};
+ghost use Rattle.std.specs.String.{string_bytes};
+ghost use Rattle.rdma_cli.specs.About as spec;
+
 const HELP: &str = "\
 jichurpa COMMAND
 
@@ -10,12 +14,13 @@ jichurpa COMMAND
   audit                                   says whether a recorded run is one of the packetless machine
   record                                  writes the trace of a script, which audit finds legal
   node ID ADDRESS                         does the lines of a script on one device, over UDP
+  serve ID ADDRESS [OPTION..]             serves one device over UDP, and does lines as they come
   threads WORKERS ADDS MOVES              adds by threads that share devices, while one context moves
   fanout CONSUMERS ADDS CAPACITY          hands the completions of a shared device to several threads
   mail SEED PEERS LETTERS MOVES           sends tagged letters, while the receiver moves, and takes them
   COMMAND --help                          lists the words, the limits and the statuses of a command
   --help, -h                              writes this text
-  --version                               writes the version
+  --version                               writes the version, and that of its scripts
 
 The status is 0 if all is done, 2 for words that are no command, 3 for a bad line or dump, 4, 5, 6
 and 7 if the input, the output, the link or the depot fails, 8 if memory runs out, 9 for an input of
@@ -60,6 +65,7 @@ Numbers are decimal digits, without a sign or a leading zero.
   8   memory runs out
 
 Example: jichurpa bulk 7 4 1000 5
+The script itself: jichurpa-look generate 7 4 1000 5
 ";
 
 const SHOW_DUMP: &str = "\
@@ -157,6 +163,30 @@ most 1048576 bytes.
 Example: jichurpa node 1 10.0.0.1 < node.script
 ";
 
+const SERVE: &str = "\
+jichurpa serve ID ADDRESS [--depot FOLDER] [--timeout MS] [--keep]
+
+Serves one device, whose datagrams come and go over UDP, and does the lines of standard input as they
+come. Each is answered at once, in one write, and the device is served all the while. A line that is
+refused or bad changes nothing, and the run goes on. It ends when the input ends.
+
+  ID                1 to 255
+  ADDRESS           where the device is reached: an IPv4 address, and optionally a colon and a port
+                    (4791)
+  --depot FOLDER    where dumps are put and found (depot)
+  --timeout MS      milliseconds until what nobody answers is sent again, 1 to 60000 (100); doubled
+                    each time, up to 16 times that
+  --keep            at the end of the input, contexts that live there are stopped into the depot,
+                    each under its own name
+
+  0   the input has ended
+  5   the output cannot be written
+  6   the link fails to start: the last line is `link fault`
+  8   memory runs out
+
+Example: jichurpa serve 1 10.0.0.1 --keep
+";
+
 const THREADS: &str = "\
 jichurpa threads WORKERS ADDS MOVES
 
@@ -226,39 +256,65 @@ Numbers are decimal digits, without a sign or a leading zero.
 Example: jichurpa mail 7 4 200 3
 ";
 
-const VERSION: &str = "jichurpa 0.1.0\n";
+const VERSION: &str = "jichurpa 0.1.0, scripts of version 1\n";
+
+/// Whether a word is that one.
+fn is_word(word: &[u8], text: &[u8]) -> bool
+    ensures { result ≡ bytes_eq word.now text.now }
+{
+    word == text
+}
 
 /// Whether the word asks for help.
-fn asks_for_help(word: &String) -> bool {
-    matches!(word.as_bytes(), b"--help" | b"-h")
+fn asks_for_help(word: &[u8]) -> bool
+    ensures { result ≡ spec.asks_for_help word.now }
+{
+    is_word(word, b"--help") || is_word(word, b"-h")
 }
 
 /// The help text of a command.
-fn help_of(command: &String) -> Option<&'static str> {
-    match command.as_bytes() {
-        b"play" => Some(PLAY),
-        b"bulk" => Some(BULK),
-        b"show-dump" => Some(SHOW_DUMP),
-        b"evacuate" => Some(EVACUATE),
-        b"audit" => Some(AUDIT),
-        b"record" => Some(RECORD),
-        b"node" => Some(NODE),
-        b"threads" => Some(THREADS),
-        b"fanout" => Some(FANOUT),
-        b"mail" => Some(MAIL),
-        _ => None,
+#[tactic(auto, unfolding(crate::specs::About::help_of))]
+fn help_of(command: &[u8]) -> Option<&'static str>
+    ensures { option_copied result ≡ spec.help_of command.now }
+{
+    let text = match command {
+        _ if is_word(command, b"play") => PLAY,
+        _ if is_word(command, b"bulk") => BULK,
+        _ if is_word(command, b"show-dump") => SHOW_DUMP,
+        _ if is_word(command, b"evacuate") => EVACUATE,
+        _ if is_word(command, b"audit") => AUDIT,
+        _ if is_word(command, b"record") => RECORD,
+        _ if is_word(command, b"node") => NODE,
+        _ if is_word(command, b"serve") => SERVE,
+        _ if is_word(command, b"threads") => THREADS,
+        _ if is_word(command, b"fanout") => FANOUT,
+        _ if is_word(command, b"mail") => MAIL,
+        _ => return None,
+    };
+    Some(text)
+}
+
+/// The text of a word that asks something of the program.
+fn program_text(word: &[u8]) -> Option<&'static str>
+    ensures { option_copied result ≡ spec.program_text word.now }
+{
+    if asks_for_help(word) {
+        Some(HELP)
+    } else if is_word(word, b"--version") {
+        Some(VERSION)
+    } else {
+        None
     }
 }
 
-/// What the words ask of the program, or of a command.
-pub(crate) fn about(words: &[String]) -> Option<&'static str> {
+/// The text that answers words which ask something of the program itself, or of a command. None for all other words.
+#[tactic(auto, unfolding(crate::specs::About::text_about))]
+pub(crate) fn about(words: &[String]) -> Option<&'static str>
+    ensures { option_copied result ≡ spec.text_about (map string_bytes words.now) }
+{
     match words {
-        [word] if asks_for_help(word) => Some(HELP),
-        [word] => match word.as_bytes() {
-            b"--version" => Some(VERSION),
-            _ => None,
-        },
-        [command, word] if asks_for_help(word) => help_of(command),
+        [word] => program_text(word.as_bytes()),
+        [command, word] if asks_for_help(word.as_bytes()) => help_of(command.as_bytes()),
         _ => None,
     }
 }

@@ -2,14 +2,21 @@
 #![tactic(auto)]
 
 mod help;
+mod serving;
 mod standard_error;
+
+ghost use Rattle.std.specs.Prelude.{◌≡◌};
+ghost use Rattle.dump_writer.specs.Text.{text_of};
+ghost use Rattle.commands.specs.Stopping.{run_of};
+ghost use Rattle.rdma_cli.specs.Running.{Responds};
 
 use error_sentences::Ending;
 use help::about;
 use host_ports::{Depot, Failed, Link, Sink, Source, Ticks, WriteFault, write_all_of};
 use node_adapters::{ClockTicks, FolderDepot, StdSink, StdSource, UdpLink};
 use node_engine::NodePorts;
-use standard_error::{Progress, tell, tell_no_memory, tell_no_text};
+use serving::{serve, served};
+use standard_error::{Progress, bytes_of, tell, tell_no_memory, tell_no_text};
 use std::io::{BufReader, BufWriter};
 use std::net::Net;
 use std::process::ExitCode;
@@ -17,6 +24,7 @@ use std::rt::Files;
 use std::sync::Wait;
 use std::thread::Threads;
 use std::{env, io};
+use tools::endings::end_with;
 use tools::tool::run_words;
 
 /// The words of the command, without the program's name. None where one is no text: then they are of no command.
@@ -37,14 +45,6 @@ fn words_in(given: &Option<Vec<String>>) -> &[String] {
     match given {
         Some(words) => words.as_slice(),
         None => &[],
-    }
-}
-
-/// The bytes of a text, and none where there is no text.
-fn bytes_of(text: &Option<String>) -> &[u8] {
-    match text {
-        Some(text) => text.as_bytes(),
-        None => b"",
     }
 }
 
@@ -77,12 +77,15 @@ fn answer<S: Source, L: Link, K: Sink, D: Depot, C: Ticks, R: Threads + Wait + S
     words: &[String],
     input: &mut S,
     ports: &mut NodePorts<L, K, D, C>,
-) -> u8 {
+) -> u8
+    ensures { Responds text_of (run_of words.now (S.left input.old) (S.left input.new) (S.faults input.old) (S.faults input.new)
+        (record { waiting = L.waiting ports.old.link; sent = L.sent ports.old.link; to_come = C.to_come ports.old.ticks; held = D.held ports.old.depot; written = K.held ports.old.output; faults = record { link = L.faults ports.old.link; depot = D.faults ports.old.depot; output = K.faults ports.old.output } })
+        (record { waiting = L.waiting ports.new.link; sent = L.sent ports.new.link; to_come = C.to_come ports.new.ticks; held = D.held ports.new.depot; written = K.held ports.new.output; faults = record { link = L.faults ports.new.link; depot = D.faults ports.new.depot; output = K.faults ports.new.output } }))
+        (input.new ≡ input.old) (ports.new ≡ record ports.old { output = ports.new.output })
+        ((ports.new.link ≡ ports.old.link) × (ports.new.ticks ≡ ports.old.ticks)) (ports.new.depot ≡ ports.old.depot) result }
+{
     if let Some(text) = about(words) {
-        return match write_all_of(&mut ports.output, text.as_bytes()) {
-            Ok(()) => 0,
-            Err(WriteFault) => 5,
-        };
+        return end_with(text.as_bytes(), 0, &mut ports.output);
     }
     let progress = Progress::show(rt, words);
     let status = run_words(threads, rt.alloc(), words, input, ports);
@@ -91,11 +94,14 @@ fn answer<S: Source, L: Link, K: Sink, D: Depot, C: Ticks, R: Threads + Wait + S
 }
 
 /// Does what the words ask for, and gives the status; where that is not 0, a sentence on standard error says why. No socket is
-/// opened but by a node, and no thread is started but by `threads` and `fanout`.
+/// opened but by a node and by `serve`, and no thread is started but by `serve`, `threads` and `fanout`.
 fn run<R: Threads + Wait + Sync>(rt: &HostRuntime, threads: &R) -> io::Result<u8> {
     let given = words_of(rt)?;
     let is_text = given.is_some();
     let words = words_in(&given);
+    if let Some(asked) = served(words) {
+        return serve(rt, words, &asked);
+    }
     let writer = BufWriter::new(rt.alloc(), io::writer(rt))?;
     let mut input = StdSource::new(BufReader::new(rt.alloc(), rt.reader())?);
     let mut ports = NodePorts {

@@ -21,6 +21,14 @@ fn write(rt: &HostRuntime, text: &[u8]) {
     let _ = write_all_of(&mut errors, text);
 }
 
+/// The bytes of a text, and none where there is no text.
+pub(crate) fn bytes_of(text: &Option<String>) -> &[u8] {
+    match text {
+        Some(text) => text.as_bytes(),
+        None => b"",
+    }
+}
+
 /// Says that memory ran out.
 pub(crate) fn tell_no_memory(rt: &HostRuntime) {
     write(rt, NO_MEMORY);

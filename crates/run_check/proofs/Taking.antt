@@ -19,7 +19,7 @@ AreStops receipts (s ∷ stops) [] = ⊥
 AreStops receipts (s ∷ stops) (i ∷ images) = IsStop receipts s i × AreStops receipts stops images
 
 -- a stop hands out one image
-one_image : (receipts : List (List Receipt)) (s : StopAt) (i j : ContextImage) → IsStop receipts s i → IsStop receipts s j → i ≡ j
+pub one_image : (receipts : List (List Receipt)) (s : StopAt) (i j : ContextImage) → IsStop receipts s i → IsStop receipts s j → i ≡ j
 one_image receipts s i j a b =
     let held : a.1.0 ≡ b.1.0 = some_is (sym a.1.1 ∙ b.1.1) in
     let receipt : a.0 ≡ b.0 = some_is (sym a.1.2 ∙ (ap (λ h. slice_get h s.head) held ∙ b.1.2)) in

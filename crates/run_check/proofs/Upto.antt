@@ -27,11 +27,16 @@ pub record IsMet (b : BookView) (n : ℕ) (ls : List Line) : Type 0 where
   pub events : events_on b.opening.id ls ≡ take n b.journal
   pub place : n ≡ length (events_on b.opening.id ls)
 
+-- how many receipts of a worker were met, after these lines
+pub record IsToldOf (w : ℕ) (held : List Receipt) (n : ℕ) (ls : List Line) : Type 0 where
+  pub receipts : held_by w ls ≡ take n held
+  pub head : n ≡ length (held_by w ls)
+
 -- the check has come so far
 pub record IsUpto (books : List BookView) (receipts : List (List Receipt)) (ls : List Line) (ps hs : List ℕ) (fs : List Flight) (ss : List StopAt) : Type 0 where
   pub each : Each (IsLine (openings_of books)) ls
   pub places : (i : ℕ) (b : BookView) (n : ℕ) → slice_get books i ≡ Some b → slice_get ps i ≡ Some n → IsMet b n ls
-  pub heads : (w : ℕ) (held : List Receipt) (n : ℕ) → slice_get receipts w ≡ Some held → slice_get hs w ≡ Some n → held_by w ls ≡ take n held
+  pub heads : (w : ℕ) (held : List Receipt) (n : ℕ) → slice_get receipts w ≡ Some held → slice_get hs w ≡ Some n → IsToldOf w held n ls
   pub workers : (k : ℕ) (l : Line) → slice_get ls k ≡ Some l → l.receipt.worker < length receipts
   pub flights : fs ≡ flown (openings_of books) ls
   pub images : List ContextImage
@@ -57,8 +62,24 @@ met_other b n ls l was ne =
       place = was.place ∙ ap length (sym events);
     }
 
+told_here : (w : ℕ) (held : List Receipt) (n : ℕ) (r : Receipt) (ls : List Line) (l : Line) → IsToldOf w held n ls → l.receipt ≡ r → l.receipt.worker ≡ w → slice_get held n ≡ Some r → IsToldOf w held (n + 1) (ls ++ l ∷ [])
+told_here w held n r ls l was is own at =
+    let more : held_by w (ls ++ l ∷ []) ≡ held_by w ls ++ r ∷ [] = held_by-here w ls l own ∙ ap (λ x. held_by w ls ++ x ∷ []) is in
+    record {
+      receipts = more ∙ (ap (λ x. x ++ r ∷ []) was.receipts ∙ sym (take_push held n r at));
+      head = let e = length-append (held_by w ls) (r ∷ []) in ap (λ k. k + 1) was.head ∙ (sym e ∙ ap length (sym more));
+    }
+
+told_other : (w : ℕ) (held : List Receipt) (n : ℕ) (ls : List Line) (l : Line) → IsToldOf w held n ls → l.receipt.worker ≢ w → IsToldOf w held n (ls ++ l ∷ [])
+told_other w held n ls l was other =
+    let same : held_by w (ls ++ l ∷ []) ≡ held_by w ls = held_by-other w ls l other in
+    record {
+      receipts = same ∙ was.receipts;
+      head = was.head ∙ ap length (sym same);
+    }
+
 -- the device of a book where its lines lead
-here : (books : List BookView) (i : ℕ) (b : BookView) (n : ℕ) (ls : List Line) (id : ℕ) → AreApart books → slice_get books i ≡ Some b → IsMet b n ls → b.opening.id ≡ id → device_after (openings_of books) ls id ≡ replay b.opening (take n b.journal)
+pub here : (books : List BookView) (i : ℕ) (b : BookView) (n : ℕ) (ls : List Line) (id : ℕ) → AreApart books → slice_get books i ≡ Some b → IsMet b n ls → b.opening.id ≡ id → device_after (openings_of books) ls id ≡ replay b.opening (take n b.journal)
 unfolding device_after
 here books i b n ls id apart at was named =
     ap (λ k. replay (opening_of (openings_of books) k) (events_on k ls)) (sym named)
@@ -120,9 +141,9 @@ advanced books receipts ls e ps hs fs ss ps' hs' fs' ss' apart u a =
       heads = λ w v n at at'. elim (set_get hs a.worker (a.place + 1) w n (subst (λ q. slice_get q w ≡ Some n) a.heads at')) [
         | inl s ↦ (
             let v_is : held ≡ v = some_is (sym list_at ∙ (ap (λ k. slice_get receipts k) (sym s.0) ∙ at)) in
-            let before : held_by a.worker ls ≡ take a.place held = u.heads a.worker held a.place list_at head_at in
-            ap (λ k. held_by k (ls ++ l ∷ [])) s.0 ∙ (held_by-here a.worker ls l a.is_worker ∙ (ap (λ x. x ++ r ∷ []) before ∙ (sym (take_push held a.place r receipt_at) ∙ ap (λ (p : List Receipt × ℕ). take p.1 p.0) (λ i. (v_is i, sym s.1 i))))))
-        | inr o ↦ held_by-other w ls l (λ same. o.0 (sym same ∙ a.is_worker)) ∙ u.heads w v n at o.1
+            let before : IsToldOf a.worker held a.place ls = u.heads a.worker held a.place list_at head_at in
+            subst (λ (p : ℕ × List Receipt × ℕ). IsToldOf p.0 p.1 p.2 (ls ++ l ∷ [])) (λ i. (sym s.0 i, v_is i, sym s.1 i)) (told_here a.worker held a.place r ls l before refl a.is_worker receipt_at))
+        | inr o ↦ told_other w v n ls l (u.heads w v n at o.1) (λ same. o.0 (sym same ∙ a.is_worker))
       ];
       workers = λ k x at. elim (get_push ls l k x at) [
         | inl b ↦ u.workers k x b.1
@@ -134,7 +155,7 @@ advanced books receipts ls e ps hs fs ss ps' hs' fs' ss' apart u a =
       stops = subst (λ x. AreStops receipts x (with_stopped r.outcome.image taken.0)) (sym a.stopped) (noted_of receipts a.rest taken.0 a.worker a.place r r.outcome.image refl a.head.0 taken.2);
     }
 
-get_there : {X : Type 0} (xs : List X) (k : ℕ) → k < length xs → (x : X) × (slice_get xs k ≡ Some x)
+pub get_there : {X : Type 0} (xs : List X) (k : ℕ) → k < length xs → (x : X) × (slice_get xs k ≡ Some x)
 get_there [] k h = absurd (omega (arith, h))
 get_there (x ∷ xs) zero h = (x, refl)
 get_there (x ∷ xs) (suc k) h = get_there xs k (omega (arith, h))
@@ -155,7 +176,7 @@ gathered_from books entries receipts ls ps hs fs ss u pl hl met told_all es = re
   held = record {
     each_list = λ w held at.
         let n = get_there hs w (subst (λ n. w < n) (sym hl) (slice_get_within receipts w held at)) in
-        sym (u.heads w held n.0 at n.1 ∙ take_all n.0 held (let p = told_all w held n.0 at n.1 in omega (arith, p)));
+        sym ((u.heads w held n.0 at n.1).receipts ∙ take_all n.0 held (let p = told_all w held n.0 at n.1 in omega (arith, p)));
     all = u.workers;
   };
 }
@@ -168,7 +189,10 @@ upto_none books receipts ps hs unmet untold = record {
     events = ap (λ k. take k b.journal) (sym (unmet i n at'));
     place = unmet i n at';
   };
-  heads = λ w v n at at'. ap (λ k. take k v) (sym (untold w n at'));
+  heads = λ w v n at at'. record {
+    receipts = ap (λ k. take k v) (sym (untold w n at'));
+    head = untold w n at';
+  };
   workers = λ k l at. cc;
   flights = sym (flown-none (openings_of books));
   images = [];

@@ -80,7 +80,11 @@ pub record IsGatheredRun (books : List BookView) (entries : List OrderEntry) (re
   pub completions : run.completions ≡ completions_in receipts
   pub threads : run.alone ≡ false
 
--- a disagreement tells two values that differ
-abbrev pub TellsValues : RunFault → Type 0
-TellsValues (fault.Disagree place left right) = left ≢ right
-TellsValues fault.OutOfMemory = Unit {0}
+-- why there is no run: two values differ, and this is so; or memory ran out
+abbrev pub Tells : Type 0 → RunFault → Type 0
+Tells Why (fault.Disagree place left right) = (left ≢ right) × Why
+Tells Why fault.OutOfMemory = Unit {0}
+
+-- a disagreement of `gather`: two values differ, and books, entries and receipts tell of no world order
+abbrev pub IsDisagreement : List BookView → List OrderEntry → List (List Receipt) → RunFault → Type 0
+IsDisagreement books entries receipts = Tells (IsGathered books entries receipts → ⊥)

@@ -1,8 +1,8 @@
 //! The next receipt of each worker.
 
-ghost use Rattle.std.specs.Prelude.{◌≡◌, ◌≢◌, ◌+◌, IfErr, IfOk, IfSome, OnOk, length, replicate, slice_set};
-ghost use Rattle.run_check.specs.Checks.{AreTold, IsHead, StandsAt};
-ghost use Rattle.run_check.specs.Gathered.{TellsValues};
+ghost use Rattle.std.specs.Prelude.{◌≡◌, ◌+◌, ◌<◌, ◌^◌, IfErr, IfOk, IfSome, None, OnOk, length, replicate, slice_set};
+ghost use Rattle.run_check.specs.Checks.{AreTold, HasNoHead, HasNoReceipt, IsHead, StandsAt};
+ghost use Rattle.run_check.specs.Gathered.{Tells};
 
 use crate::run::{RunFault, missing, same};
 use rdma_types::Items;
@@ -18,7 +18,9 @@ pub fn zeros(alloc: Global, n: usize) -> Result<Vec<usize>, AllocError>
 
 /// Receipt `place` of a worker.
 pub fn receipt_at(receipts: &[Items<Receipt>], worker: usize, place: usize) -> Option<&Receipt>
-    ensures { IfSome result (λ r. StandsAt receipts.now worker place r.now) }
+    ensures some { IfSome result (λ r. StandsAt receipts.now worker place r.now) }
+    ensures none { result ≡ None → HasNoReceipt receipts.now worker place }
+    ensures small { IfSome result (λ _. place + 1 < 2 ^ 64) }
 {
     if worker >= receipts.len() {
         return None;
@@ -36,7 +38,9 @@ pub fn find_head<'a>(
     heads: &[usize],
     entry: &OrderEntry,
 ) -> Option<(usize, usize, &'a Receipt)>
-    ensures { IfSome result (λ h. IsHead receipts.now heads.now entry.now h.0 h.1 h.2.now) }
+    ensures some { IfSome result (λ h. IsHead receipts.now heads.now entry.now h.0 h.1 h.2.now) }
+    ensures none { result ≡ None → HasNoHead receipts.now heads.now entry.now }
+    ensures small { IfSome result (λ h. h.1 + 1 < 2 ^ 64) }
 {
     for worker in 0..heads.len() {
         let place = heads[worker];
@@ -51,7 +55,7 @@ pub fn find_head<'a>(
 
 /// Why no next receipt is of this entry: the first of the same device, which has another place, or none.
 pub fn no_head(receipts: &[Items<Receipt>], heads: &[usize], entry: &OrderEntry) -> RunFault
-    ensures { TellsValues result }
+    ensures { Tells (Unit {0}) result }
 {
     let place = entry.place;
     for worker in 0..heads.len() {
@@ -69,21 +73,18 @@ pub fn no_head(receipts: &[Items<Receipt>], heads: &[usize], entry: &OrderEntry)
 }
 
 /// Counts one receipt more of a worker.
-pub fn next_head(heads: &mut Vec<usize>, worker: usize, place: usize) -> Option<()>
-    ensures { IfSome result (λ _. heads.new.items ≡ slice_set heads.old.items worker (place + 1)) }
+pub fn next_head(heads: &mut Vec<usize>, worker: usize, place: usize)
+    requires worker { worker < length heads.old.items }
+    requires place { place + 1 < 2 ^ 64 }
+    ensures { heads.new.items ≡ slice_set heads.old.items worker (place + 1) }
 {
-    let next = place.checked_add(1)?;
-    if worker >= heads.len() {
-        return None;
-    }
-    heads[worker] = next;
-    Some(())
+    heads[worker] = place + 1;
 }
 
 /// Each worker's receipts were met to the end.
 pub fn all_told(receipts: &[Items<Receipt>], heads: &[usize]) -> Result<(), RunFault>
     ensures ok { OnOk result (AreTold receipts.now heads.now) }
-    ensures err { IfErr result TellsValues }
+    ensures err { IfErr result (Tells (AreTold receipts.now heads.now → ⊥)) }
 {
     for worker in 0..receipts.len() {
         if let Some(head) = heads.get(worker) {

@@ -2,8 +2,8 @@
 
 ghost use Rattle.std.specs.Prelude.{◌≡◌, ◌<◌, IfErr, IfOk, OnOk, length, slice_index_or};
 ghost use Rattle.shared_device.specs.Books.{AreApart};
-ghost use Rattle.run_check.specs.Checks.{IsAdvanced};
-ghost use Rattle.run_check.specs.Gathered.{IsGathered, IsGatheredRun, TellsValues};
+ghost use Rattle.run_check.specs.Checks.{IsAdvanced, IsDue};
+ghost use Rattle.run_check.specs.Gathered.{IsDisagreement, IsGathered, IsGatheredRun, Tells};
 
 use crate::checks::{all_told, find_head, next_head, no_head, zeros};
 use crate::counts::{completions, word};
@@ -26,10 +26,13 @@ fn advance<'a>(
     flights: &mut Flights<'a>,
     stops: &mut Vec<StopAt>,
 ) -> Result<(), RunFault>
+    requires places { length places.old.items ≡ length books.now }
+    requires heads { length heads.old.items ≡ length receipts.now }
     ensures ok { OnOk result (IsAdvanced books.now receipts.now entry.now places.old.items
         heads.old.items flights.old stops.old.items places.new.items heads.new.items flights.new
         stops.new.items) }
-    ensures err { IfErr result TellsValues }
+    ensures err { IfErr result (Tells (IsDue books.now receipts.now entry.now places.old.items
+        heads.old.items flights.old stops.old.items → ⊥)) }
 {
     let place = entry.place;
     let Some((i, address)) = find_book(books, entry.device) else {
@@ -50,9 +53,7 @@ fn advance<'a>(
         return Err(missing(place));
     }
     note_stop(stops, worker, head, &outcome.image)?;
-    if next_head(heads, worker, head).is_none() {
-        return Err(missing(place));
-    }
+    next_head(heads, worker, head);
     meet_at(books, places, i, receipt)?;
     flights.put(address, sent)?;
     Ok(())
@@ -75,7 +76,7 @@ fn check(
 ) -> Result<(), RunFault>
     requires { AreApart books.now }
     ensures ok { OnOk result (IsGathered books.now entries.now receipts.now) }
-    ensures err { IfErr result TellsValues }
+    ensures err { IfErr result (IsDisagreement books.now entries.now receipts.now) }
 {
     let mut places = zeros(alloc, books.len())?;
     let mut heads = zeros(alloc, receipts.len())?;
@@ -105,7 +106,7 @@ fn check(
 ///
 /// # Errors
 ///
-/// `RunFault::Disagree` where they do not agree, with two values that differ, and `RunFault::OutOfMemory`.
+/// `RunFault::Disagree` where they tell of no world order, with two values that differ, and `RunFault::OutOfMemory`.
 pub fn gather(
     alloc: Global,
     books: Vec<Book>,
@@ -115,7 +116,7 @@ pub fn gather(
     requires { AreApart books.items }
     ensures gathered { IfOk result (λ run. IsGatheredRun books.items order.entries receipts.items
         run) }
-    ensures disagreement { IfErr result TellsValues }
+    ensures disagreement { IfErr result (IsDisagreement books.items order.entries receipts.items) }
 {
     check(
         alloc,

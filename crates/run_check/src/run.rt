@@ -1,7 +1,8 @@
 //! A run, and why there is none.
 
 ghost use Rattle.std.specs.Prelude.{◌≡◌, ◌≢◌, IfErr, OnOk};
-ghost use Rattle.run_check.specs.Gathered.{TellsValues};
+ghost use Rattle.run_check.specs.Gathered.{Tells};
+ghost use Rattle.run_check.specs.declared.run.RunFault.TheVariants.{Disagree};
 
 use rdma_types::Items;
 use shared_device::{OrderEntry, Receipt};
@@ -24,8 +25,9 @@ pub struct Run {
 /// Why there is no run.
 #[derive(Clone, Copy, Debug, PartialEq, Eq)]
 pub enum RunFault {
-    /// A receipt, a journal and the order differ at the step of a device with that place. The two values differ: ids,
-    /// places, numbers of datagrams or of kinds, or 1 and 0 where what one tells of is not there.
+    /// Receipts, journals and order differ at the step of a device with that place. The two values differ: ids, places,
+    /// numbers of datagrams or of kinds, 1 and 0 where what one tells of is not there, or 0 and 1 where events or outcomes of
+    /// one kind differ further in.
     Disagree { place: u64, left: u64, right: u64 },
     OutOfMemory,
 }
@@ -43,7 +45,7 @@ impl From<AllocError> for RunFault {
 
 /// What one tells of is not there.
 pub(crate) fn missing(place: u64) -> RunFault
-    ensures { TellsValues result }
+    ensures { result ≡ Disagree place 1 0 }
 {
     RunFault::Disagree {
         place,
@@ -55,7 +57,7 @@ pub(crate) fn missing(place: u64) -> RunFault
 /// Two numbers are equal.
 pub(crate) fn same(place: u64, left: u64, right: u64) -> Result<(), RunFault>
     ensures ok { OnOk result (left ≡ right) }
-    ensures err { IfErr result TellsValues }
+    ensures err { IfErr result (Tells (left ≢ right)) }
 {
     if left != right {
         return Err(RunFault::Disagree { place, left, right });

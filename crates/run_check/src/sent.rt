@@ -1,8 +1,9 @@
 //! Datagrams that were sent.
 
-ghost use Rattle.std.specs.Prelude.{◌≡◌, ◌<◌, ◌^◌, ◌++◌, [], IfSome, IsTrue, OnOk, length, map};
+ghost use Rattle.std.specs.Prelude.{◌≡◌, ◌↔◌, ◌<◌, ◌^◌, ◌++◌, [], IfSome, IsTrue, None, OnOk, length, map};
 ghost use Rattle.protocol.specs.Fabric.{flight_of};
 ghost use Rattle.order_rules.specs.Order.{HasArrived, HasDatagram};
+ghost use Rattle.run_check.specs.Checks.{IsAt};
 
 use protocol::Event;
 use rdma_types::{Address, Sent};
@@ -51,7 +52,7 @@ fn flight<'a>(from: Address, sent: &'a Sent) -> Flown<'a>
 
 /// Whether a datagram has that sender, that receiver and those bytes.
 fn is_datagram(flight: &Flown<'_>, from: Address, to: Address, bytes: &[u8]) -> bool
-    ensures { IsTrue result → (flight.now.from ≡ from) × (flight.now.to ≡ to)
+    ensures { IsTrue result ↔ (flight.now.from ≡ from) × (flight.now.to ≡ to)
         × (flight.now.bytes ≡ bytes.now) }
 {
     flight.from == from && flight.sent.to == to && flight.sent.bytes.as_slice() == bytes
@@ -59,7 +60,7 @@ fn is_datagram(flight: &Flown<'_>, from: Address, to: Address, bytes: &[u8]) -> 
 
 /// Whether the one at a place is like that.
 fn is_at(flights: &[Flown<'_>], place: usize, from: Address, to: Address, bytes: &[u8]) -> bool
-    ensures { IsTrue result → HasDatagram flights.now from to bytes.now }
+    ensures { IsTrue result ↔ IsAt flights.now from to bytes.now place }
 {
     if place >= flights.len() {
         return false;
@@ -69,7 +70,8 @@ fn is_at(flights: &[Flown<'_>], place: usize, from: Address, to: Address, bytes:
 
 /// The place of the last one like that.
 fn last_like(flights: &[Flown<'_>], from: Address, to: Address, bytes: &[u8]) -> Option<usize>
-    ensures { IfSome result (λ _. HasDatagram flights.now from to bytes.now) }
+    ensures some { IfSome result (λ _. HasDatagram flights.now from to bytes.now) }
+    ensures none { result ≡ None → HasDatagram flights.now from to bytes.now → ⊥ }
 {
     let count = flights.len();
     for i in 0..count {
@@ -130,7 +132,7 @@ impl<'a> Flights<'a> {
 
     /// Whether one is like that. Those before it, that did not arrive in their turn, are passed.
     fn was_sent(&mut self, from: Address, to: Address, bytes: &[u8]) -> bool
-        ensures sent { IsTrue result → HasDatagram self.old from to bytes.now }
+        ensures sent { IsTrue result ↔ HasDatagram self.old from to bytes.now }
         ensures same { self.new ≡ self.old }
     {
         let flown = self.flown.as_slice();
@@ -143,7 +145,7 @@ impl<'a> Flights<'a> {
 
     /// Whether what arrives at an address was sent to it.
     pub fn has_arrived(&mut self, to: Address, event: &Event) -> bool
-        ensures arrived { IsTrue result → HasArrived self.old to event.now }
+        ensures arrived { IsTrue result ↔ HasArrived self.old to event.now }
         ensures same { self.new ≡ self.old }
     {
         match event {

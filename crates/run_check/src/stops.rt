@@ -1,7 +1,7 @@
 //! Stops whose images no restore has taken.
 
-ghost use Rattle.std.specs.Prelude.{◌≡◌, ◌++◌, IfSome, IsTrue, OnOk};
-ghost use Rattle.run_check.specs.Checks.{IsStop, IsStopOf, TakesStop, stop_of};
+ghost use Rattle.std.specs.Prelude.{◌≡◌, ◌↔◌, ◌++◌, IfSome, IsTrue, None, OnOk, false};
+ghost use Rattle.run_check.specs.Checks.{CannotTake, HasNoStopOf, IsStop, IsStopOf, TakesStop, stop_of};
 
 use crate::checks::receipt_at;
 use protocol::{ContextImage, Event};
@@ -19,7 +19,7 @@ pub struct StopAt {
 
 /// Whether the receipt at a place hands out this image.
 fn hands_out(receipts: &[Items<Receipt>], stop: StopAt, image: &ContextImage) -> bool
-    ensures { IsTrue result → IsStop receipts.now stop image.now }
+    ensures { IsTrue result ↔ IsStop receipts.now stop image.now }
 {
     match receipt_at(receipts, stop.worker, stop.head) {
         None => false,
@@ -32,7 +32,8 @@ fn hands_out(receipts: &[Items<Receipt>], stop: StopAt, image: &ContextImage) ->
 
 /// The first stop that hands out this image.
 fn find_stop(receipts: &[Items<Receipt>], stops: &[StopAt], image: &ContextImage) -> Option<usize>
-    ensures { IfSome result (λ i. IsStopOf receipts.now stops.now image.now i) }
+    ensures some { IfSome result (λ i. IsStopOf receipts.now stops.now image.now i) }
+    ensures none { result ≡ None → HasNoStopOf receipts.now stops.now image.now }
 {
     for i in 0..stops.len() {
         if hands_out(receipts, stops[i], image) {
@@ -44,7 +45,8 @@ fn find_stop(receipts: &[Items<Receipt>], stops: &[StopAt], image: &ContextImage
 
 /// Takes a stop with the image of a restore away, and says whether there was one; every other event takes none.
 pub fn take_stop(receipts: &[Items<Receipt>], stops: &mut Vec<StopAt>, event: &Event) -> bool
-    ensures { IsTrue result → TakesStop receipts.now stops.old.items event.now stops.new.items }
+    ensures taken { IsTrue result → TakesStop receipts.now stops.old.items event.now stops.new.items }
+    ensures none { result ≡ false → CannotTake receipts.now stops.old.items event.now }
 {
     match event {
         Event::Restore { image } => match find_stop(receipts, stops.as_slice(), image) {

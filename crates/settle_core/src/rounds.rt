@@ -1,7 +1,6 @@
 //! Rounds of settling.
 
-ghost use Rattle.std.specs.Prelude.{◌≡◌, ◌*◌, ◌≤◌, ◌||◌, not, map, All, IfOk, IfSome, OnErr, OnOk};
-ghost use Rattle.protocol.specs.Lawful.{IsLawful};
+ghost use Rattle.std.specs.Prelude.{◌≡◌, ◌*◌, ◌≤◌, ◌||◌, not, map, IfOk, IfSome, OnErr, OnOk};
 ghost use Rattle.protocol.specs.Settle.{Settling, begun, load_of, round, rounds_of};
 ghost use Rattle.protocol.specs.State as state;
 ghost use Rattle.law_settling.specs.Events.{round_events, rounds_events};
@@ -159,8 +158,7 @@ impl Settler for Rounds {
     fn settle(&self, alloc: Global, world: &mut World) -> Result<Quiet, AllocError>
         ensures settled { IfOk result (λ quiet. IsSettled world.old world.new quiet) }
         ensures bounded { IfOk result (λ quiet. quiet.rounds ≤ 32 * load_of world.old) }
-        ensures quiet { IfOk result (λ quiet. All IsLawful world.old.carried
-            → IsQuieted world.old world.new quiet.unfinished) }
+        ensures quiet { IfOk result (λ quiet. IsQuieted world.old world.new quiet.unfinished) }
         ensures left { OnErr result (IsLeft world.old world.new) }
     {
         settled_worlds_are_quiet();

@@ -4,6 +4,7 @@ use Rattle.std.specs.Arc.{arc_value}
 use Rattle.std.specs.Result.{result_ok}
 use Rattle.std.specs.declared.sync.Arc.{Arc}
 use Rattle.std.proofs.lemmas.List.{map-append}
+use Rattle.std.proofs.Math.Seq.{take-append_seam}
 use Rattle.std.proofs.lemmas.List.Elements.{All-nil, All-push}
 use Rattle.std.proofs.lemmas.Option.{get_or_from_slice_get, slice_get-get_or, slice_get-map, slice_get_within}
 use Rattle.protocol.specs.declared.events.Event.{Event}
@@ -13,9 +14,10 @@ use Rattle.protocol.specs.DeviceStep.{device_step}
 use Rattle.protocol.specs.Events.{IsLawfulEvent}
 use Rattle.protocol.specs.Lawful.{IsLawful}
 use Rattle.protocol.specs.Replay.{outcomes, replay}
+use Rattle.order_rules.specs.declared.Receipt.{Receipt}
 use Rattle.order_rules.proofs.Growing.{replay-push}
 use Rattle.shared_device.specs.declared.receipt.Step.{Step}
-use Rattle.shared_device.specs.Books.{BookView, IsHeld, IsStepOf, events_of, steps_in}
+use Rattle.shared_device.specs.Books.{BookView, IsBookStep, IsHeld, IsReceiptOfStep, IsStepOf, device_of, events_of, steps_in}
 
 -- ---- outcomes
 
@@ -107,3 +109,28 @@ step_there b opening items d k a s view held there same = subst (λ v. IsStepOf 
 pub if_some : {T E : Type 0} (r : Result T E) (o : Option T) (P Q : T → Type 0) → o ≡ result_ok r → IfOk r P → ((x : T) → P x → Q x) → IfSome o Q
 if_some (Ok x) o P Q same known then = rw same (then x known)
 if_some (Err x) o P Q same known then = rw same tt
+
+-- ---- a step under a lock
+
+get_last : {X : Type 0} (xs : List X) (y : X) → slice_get (xs ++ y ∷ []) (length xs) ≡ Some y
+get_last [] y = refl
+get_last (x ∷ xs) y = get_last xs y
+
+some_is : {X : Type 0} {x y : X} → Some x ≡ Some y → x ≡ y
+some_is h = cc
+
+-- the step that was made was asked for
+pub event_is : (old new : BookView) (event : Event) (place : ℕ) (s : Step) → IsBookStep old new event place → IsStepOf new place s → s.event ≡ event
+event_is old new event place s step is = some_is (sym is.event ∙ (ap (λ v. slice_get v place) step.journal ∙ (ap (λ k. slice_get (old.journal ++ event ∷ []) k) step.place_is ∙ get_last old.journal event)))
+
+-- .. and its outcome is what the rules give
+outcome_is : (old new : BookView) (event : Event) (place : ℕ) (s : Step) → IsBookStep old new event place → IsStepOf new place s → s.outcome ≡ (device_step (device_of old) event).outcome
+outcome_is old new event place s step is =
+    let before : take place new.journal ≡ old.journal = ap (take place) step.journal ∙ (ap (λ k. take k (old.journal ++ event ∷ [])) step.place_is ∙ take-append_seam old.journal (event ∷ [])) in
+    is.outcome ∙ ap (λ (p : Device × List Event × Event). (device_step (replay p.0 p.1) p.2).outcome) (λ i. (step.opening i, before i, event_is old new event place s step is i))
+
+pub receipt_of_step : (old new : BookView) (event : Event) (place : ℕ) (s : Step) (r : Receipt) → IsBookStep old new event place → IsStepOf new place s → r.place ≡ place → r.outcome ≡ s.outcome → IsReceiptOfStep old new event r
+receipt_of_step old new event place s r step is place_is outcome = record {
+  step = subst (λ k. IsBookStep old new event k) (sym place_is) step;
+  outcome = outcome ∙ outcome_is old new event place s step is;
+}

@@ -1,8 +1,9 @@
 -- The book of a device: its opening, and the events that it was asked for (this project's choice).
-use Rattle.std.specs.Prelude.{◌≡◌, ℕ, All, IfSome, List, [], ◌∷◌, ◌++◌, length, map, take, slice_get, Some}
+use Rattle.std.specs.Prelude.{◌≡◌, ◌⊎◌, ℕ, All, IfSome, List, [], ◌∷◌, ◌++◌, length, map, take, slice_get, Some}
 use Rattle.std.specs.Arc.{arc_value}
 use Rattle.std.specs.declared.sync.Arc.{Arc}
 use Rattle.protocol.specs.declared.events.Event.{Event}
+use Rattle.protocol.specs.declared.images.Outcome.{Outcome}
 use Rattle.protocol.specs.State.{Device}
 use Rattle.protocol.specs.DeviceStep.{device_step}
 use Rattle.protocol.specs.Events.{IsLawfulEvent}
@@ -45,12 +46,30 @@ pub record IsStepOf (b : BookView) (place : ℕ) (s : Step) : Type 0 where
   pub outcome : s.outcome ≡ (device_step (replay b.opening (take place b.journal)) s.event).outcome
   pub image : IfSome s.outcome.image (λ i. IsLawful i)
 
--- the receipt of a call: what was asked, of which device, by whom; a lock hides what the device did, so that nothing is said
--- of the outcome before the books are gathered
+-- a step may have been made, or none
+abbrev pub MayHaveStepped : BookView → BookView → Event → Type 0
+MayHaveStepped old new event = (new ≡ old) ⊎ ((place : ℕ) × IsBookStep old new event place)
+
+-- what a lock that is held shows: the device's id, and its book
+pub record GuardView : Type 0 where
+  pub id : ℕ
+  pub book : BookView
+
+-- the receipt of a call: what was asked, of which device, by whom
 pub record IsReceiptOf (device worker : ℕ) (event : Event) (r : Receipt) : Type 0 where
   pub device_is : r.device ≡ device
   pub worker_is : r.worker ≡ worker
   pub event_is : r.event ≡ event
+
+-- the receipt of a step of a book: the step has its place, and the outcome that the rules give
+pub record IsReceiptOfStep (old new : BookView) (event : Event) (r : Receipt) : Type 0 where
+  pub step : IsBookStep old new event r.place
+  pub outcome : r.outcome ≡ (device_step (device_of old) event).outcome
+
+-- the outcome is what the rules give for the event after so many steps of some book. Which book that was is not known when its
+-- lock was given back
+abbrev pub IsOutcomeAfter : ℕ → Event → Outcome → Type 0
+IsOutcomeAfter place event o = (b : BookView) × (place ≡ length b.journal) × (o ≡ (device_step (device_of b) event).outcome)
 
 -- ---- what a book keeps
 

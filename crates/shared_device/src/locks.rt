@@ -1,10 +1,10 @@
 //! Locks round the order and round devices.
 
-ghost use Rattle.std.specs.Prelude.{◌≡◌, IfOk, IfSome};
+ghost use Rattle.std.specs.Prelude.{◌≡◌, IfOk, IfSome, OnErr};
 ghost use Rattle.std.specs.Arc.{arc_value};
 ghost use Rattle.protocol.specs.Events.{IsLawfulEvent};
 ghost use Rattle.protocol.specs.Lawful.{IsLawful};
-ghost use Rattle.shared_device.specs.Books.{IsReceiptOf};
+ghost use Rattle.shared_device.specs.Books.{IsBookStep, IsOutcomeAfter, IsReceiptOf, IsReceiptOfStep, IsStepOf, MayHaveStepped};
 
 use crate::{Book, OrderBook, Receipt, Step};
 use protocol::{Event, Outcome};
@@ -142,7 +142,7 @@ impl Station {
 
     /// Takes the lock of the device, for several steps.
     pub fn lock<'a, R: Wait>(&'a self, rt: &R, orders: &'a Orders) -> StationGuard<'a>
-        ensures { result ≡ self.now }
+        ensures { result.id ≡ self.now }
     {
         let book = self.book.lock(rt);
         StationGuard {
@@ -164,6 +164,7 @@ impl Station {
     ) -> Result<Receipt, AllocError>
         requires { IsLawfulEvent event }
         ensures ok { IfOk result (λ r. IsReceiptOf self.now worker event r) }
+        ensures outcome { IfOk result (λ r. IsOutcomeAfter r.place event r.outcome) }
         ensures image { IfOk result (λ r. IfSome r.outcome.image (λ i. IsLawful i)) }
     {
         self.lock(rt, orders).call(rt, alloc, worker, event)
@@ -176,7 +177,7 @@ impl Station {
     }
 }
 
-/// The lock of a device, held for several steps. Contracts see the device's id.
+/// The lock of a device, held for several steps. Contracts see the device's id, and the book under the lock.
 #[derive(Drop)]
 pub struct StationGuard<'a> {
     id: u8,
@@ -186,17 +187,18 @@ pub struct StationGuard<'a> {
 }
 
 impl<'a> Model for StationGuard<'a> {
-    ghost use Rattle.std.specs.Prelude.{ℕ};
+    ghost use Rattle.std.specs.Sync.Mutex.{mutex_guard_value};
+    ghost use Rattle.shared_device.specs.Books.{GuardView};
 
-    ghost Value = { ℕ };
+    ghost Value = { GuardView };
 
-    ghost view = { λ s. s.id };
+    ghost view = { λ s. record { id = s.id; book = mutex_guard_value s.book } };
 }
 
 impl<'a> StationGuard<'a> {
     /// The device's id.
     pub fn id(&self) -> u8
-        ensures { result ≡ self.now }
+        ensures { result ≡ self.now.id }
     {
         self.id
     }
@@ -207,8 +209,9 @@ impl<'a> StationGuard<'a> {
     }
 
     /// Steps the device on a lawful event, and enters the step into the orders. The receipt tells what was asked, by whom,
-    /// and the outcome, whose image keeps the rules. Errors: `AllocError` when out of memory; the orders are then halted,
-    /// and the step may stand in the book alone.
+    /// the step's place in the book, and the outcome that the rules give, whose image keeps the rules. Errors: `AllocError`
+    /// when out of memory; the orders are then halted, and the step may stand in the book alone.
+    #[tactic(auto, using(crate::proofs::Held::event_is, crate::proofs::Held::receipt_of_step))]
     pub fn call<R: Wait>(
         &mut self,
         rt: &R,
@@ -217,9 +220,11 @@ impl<'a> StationGuard<'a> {
         event: Event,
     ) -> Result<Receipt, AllocError>
         requires { IsLawfulEvent event }
-        ensures ok { IfOk result (λ r. IsReceiptOf self.old worker event r) }
+        ensures ok { IfOk result (λ r. IsReceiptOf self.old.id worker event r) }
+        ensures step { IfOk result (λ r. IsReceiptOfStep self.old.book self.new.book event r) }
         ensures image { IfOk result (λ r. IfSome r.outcome.image (λ i. IsLawful i)) }
-        ensures same { self.new ≡ self.old }
+        ensures err { OnErr result (MayHaveStepped self.old.book self.new.book event) }
+        ensures same { self.new.id ≡ self.old.id }
     {
         let made = self.make(rt, alloc, event);
         if made.is_err() {
@@ -237,9 +242,10 @@ impl<'a> StationGuard<'a> {
         event: Event,
     ) -> Result<(u64, Arc<Step>), AllocError>
         requires { IsLawfulEvent event }
-        ensures event { IfOk result (λ s. (arc_value s.1).event ≡ event) }
-        ensures image { IfOk result (λ s. IfSome (arc_value s.1).outcome.image (λ i. IsLawful i)) }
-        ensures same { self.new ≡ self.old }
+        ensures step { IfOk result (λ s. IsBookStep self.old.book self.new.book event s.0) }
+        ensures made { IfOk result (λ s. IsStepOf self.new.book s.0 (arc_value s.1)) }
+        ensures err { OnErr result (MayHaveStepped self.old.book self.new.book event) }
+        ensures same { self.new.id ≡ self.old.id }
     {
         let place = self.book.step(alloc, event)?;
         let step = self.book.share(place)?;

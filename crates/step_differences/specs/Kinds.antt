@@ -1,5 +1,5 @@
--- Numbers for the kinds of events and answers (this project's choice).
-use Rattle.std.specs.Prelude.{ℕ}
+-- Numbers for the kinds of events and answers, and groups of kinds (this project's choice).
+use Rattle.std.specs.Prelude.{ℕ, Bool, true, false}
 use Rattle.rdma_types.specs.declared.answers.Answer.{Answer}
 use Rattle.rdma_types.specs.declared.answers.Answer.TheVariants as answer
 use Rattle.protocol.specs.declared.events.Event.{Event}
@@ -54,3 +54,83 @@ kind_of_answer answer.Aged = 21
 kind_of_answer (answer.Dump length' shown) = 22
 kind_of_answer (answer.Quiet left) = 23
 kind_of_answer (answer.Refused r) = 24
+
+-- ---- groups of events
+
+-- something is made
+abbrev pub is_making : Event → Bool
+is_making (event.MakeContext name) = true
+is_making (event.MakeDomain o) = true
+is_making (event.MakeRegion o domain base length' rights) = true
+is_making (event.MakeCq o capacity) = true
+is_making (event.MakeQp o domain send_cq recv_cq send_depth recv_depth) = true
+is_making other = false
+
+-- an owner of memory and of queues asks
+abbrev pub is_owning : Event → Bool
+is_owning (event.Connect o peer partner terms) = true
+is_owning (event.DropRegion o) = true
+is_owning (event.Store o at bytes) = true
+is_owning (event.Load o at length') = true
+is_owning (event.Poll o most) = true
+is_owning other = false
+
+-- work is posted
+abbrev pub is_posting : Event → Bool
+is_posting (event.PostSend o r) = true
+is_posting (event.PostRecv o r) = true
+is_posting other = false
+
+-- an end sends, or a timer is over
+abbrev pub is_timing : Event → Bool
+is_timing (event.Transmit o) = true
+is_timing (event.Expire o) = true
+is_timing (event.RnrOver o) = true
+is_timing other = false
+
+-- a datagram arrives, or a context moves
+abbrev pub is_moving : Event → Bool
+is_moving (event.Arrive from bytes) = true
+is_moving (event.Stop name alone) = true
+is_moving (event.Restore image) = true
+is_moving (event.Release name) = true
+is_moving other = false
+
+-- ---- groups of answers
+
+-- an answer that owns bytes or a list
+abbrev pub is_long : Answer → Bool
+is_long (answer.Bytes bytes) = true
+is_long (answer.Polled cs) = true
+is_long (answer.Wire bytes) = true
+is_long (answer.Dump length' shown) = true
+is_long (answer.Quiet left) = true
+is_long other = false
+
+-- an answer of numbers
+abbrev pub is_short : Answer → Bool
+is_short (answer.Region keys) = true
+is_short (answer.Qp number) = true
+is_short (answer.Sent first) = true
+is_short (answer.Took t first count) = true
+is_short (answer.Expired n) = true
+is_short (answer.NotCounted why) = true
+is_short (answer.Refused r) = true
+is_short other = false
+
+-- an answer of one word
+abbrev pub is_bare : Answer → Bool
+is_bare answer.Done = true
+is_bare answer.Stopped = true
+is_bare answer.Idle = true
+is_bare answer.WindowFull = true
+is_bare answer.ReadsFull = true
+is_bare answer.Fenced = true
+is_bare answer.Waiting = true
+is_bare answer.Spent = true
+is_bare answer.Over = true
+is_bare answer.NotWaiting = true
+is_bare answer.Gone = true
+is_bare answer.Lost = true
+is_bare answer.Aged = true
+is_bare other = false

@@ -1,8 +1,8 @@
 //! Where two events differ.
 
-ghost use Rattle.std.specs.Prelude.{◌≡◌, ◌↔◌, IsTrue};
+ghost use Rattle.std.specs.Prelude.{◌≡◌, ◌↔◌, IsTrue, true};
 ghost use Rattle.step_differences.specs.Differing.{TellsApart};
-ghost use Rattle.step_differences.specs.Kinds.{kind_of_event};
+ghost use Rattle.step_differences.specs.Kinds.{is_making, is_moving, is_owning, is_posting, is_timing, kind_of_event};
 
 use crate::images::same_image;
 use protocol::Event;
@@ -37,7 +37,7 @@ fn kind_of(event: &Event) -> u64
 
 /// Equal events of making.
 fn same_making(a: &Event, b: &Event) -> bool
-    ensures { IsTrue result → a.now ≡ b.now }
+    ensures { IsTrue result ↔ (is_making a.now ≡ true) × (a.now ≡ b.now) }
 {
     match (a, b) {
         (Event::MakeContext { name: x }, Event::MakeContext { name: y }) => x == y,
@@ -105,7 +105,7 @@ fn same_making(a: &Event, b: &Event) -> bool
 
 /// Equal events of an owner of memory and of queues.
 fn same_owning(a: &Event, b: &Event) -> bool
-    ensures { IsTrue result → a.now ≡ b.now }
+    ensures { IsTrue result ↔ (is_owning a.now ≡ true) × (a.now ≡ b.now) }
 {
     match (a, b) {
         (
@@ -154,14 +154,14 @@ fn same_owning(a: &Event, b: &Event) -> bool
 
 /// Equal requests.
 fn same_request(a: &Request, b: &Request) -> bool
-    ensures { IsTrue result → a.now ≡ b.now }
+    ensures { IsTrue result ↔ (a.now ≡ b.now) }
 {
     a == b
 }
 
 /// Equal postings.
 fn same_posting(a: &Event, b: &Event) -> bool
-    ensures { IsTrue result → a.now ≡ b.now }
+    ensures { IsTrue result ↔ (is_posting a.now ≡ true) × (a.now ≡ b.now) }
 {
     match (a, b) {
         (Event::PostSend { end: x, request: r }, Event::PostSend { end: y, request: s }) => x == y
@@ -174,7 +174,7 @@ fn same_posting(a: &Event, b: &Event) -> bool
 
 /// Equal transmissions and timers.
 fn same_timing(a: &Event, b: &Event) -> bool
-    ensures { IsTrue result → a.now ≡ b.now }
+    ensures { IsTrue result ↔ (is_timing a.now ≡ true) × (a.now ≡ b.now) }
 {
     match (a, b) {
         (Event::Transmit { end: x }, Event::Transmit { end: y }) => x == y,
@@ -186,7 +186,7 @@ fn same_timing(a: &Event, b: &Event) -> bool
 
 /// Equal arrivals and moves.
 fn same_moving(a: &Event, b: &Event) -> bool
-    ensures { IsTrue result → a.now ≡ b.now }
+    ensures { IsTrue result ↔ (is_moving a.now ≡ true) × (a.now ≡ b.now) }
 {
     match (a, b) {
         (
@@ -216,8 +216,9 @@ fn same_moving(a: &Event, b: &Event) -> bool
 }
 
 /// Equal events.
+#[tactic(auto, using(crate::proofs::Groups::event_groups))]
 fn same_event(a: &Event, b: &Event) -> bool
-    ensures { IsTrue result → a.now ≡ b.now }
+    ensures { IsTrue result ↔ (a.now ≡ b.now) }
 {
     same_posting(a, b)
         || same_timing(a, b)

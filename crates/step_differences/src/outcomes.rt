@@ -1,8 +1,8 @@
 //! Where two outcomes differ.
 
-ghost use Rattle.std.specs.Prelude.{◌≡◌, ◌↔◌, IsTrue};
+ghost use Rattle.std.specs.Prelude.{◌≡◌, ◌↔◌, IsTrue, true};
 ghost use Rattle.step_differences.specs.Differing.{TellsApart};
-ghost use Rattle.step_differences.specs.Kinds.{kind_of_answer};
+ghost use Rattle.step_differences.specs.Kinds.{is_bare, is_long, is_short, kind_of_answer};
 
 use crate::images::same_image;
 use crate::lists::{same_completions, same_left};
@@ -44,7 +44,7 @@ fn kind_of(answer: &Answer) -> u64
 
 /// Equal answers that own bytes or lists.
 fn same_long(a: &Answer, b: &Answer) -> bool
-    ensures { IsTrue result → a.now ≡ b.now }
+    ensures { IsTrue result ↔ (is_long a.now ≡ true) × (a.now ≡ b.now) }
 {
     match (a, b) {
         (Answer::Bytes(x), Answer::Bytes(y)) => x.as_slice() == y.as_slice(),
@@ -67,7 +67,7 @@ fn same_long(a: &Answer, b: &Answer) -> bool
 
 /// Equal answers of numbers.
 fn same_short(a: &Answer, b: &Answer) -> bool
-    ensures { IsTrue result → a.now ≡ b.now }
+    ensures { IsTrue result ↔ (is_short a.now ≡ true) × (a.now ≡ b.now) }
 {
     match (a, b) {
         (Answer::Region(x), Answer::Region(y)) => x == y,
@@ -94,7 +94,7 @@ fn same_short(a: &Answer, b: &Answer) -> bool
 
 /// Equal answers of one word.
 fn same_bare(a: &Answer, b: &Answer) -> bool
-    ensures { IsTrue result → a.now ≡ b.now }
+    ensures { IsTrue result ↔ (is_bare a.now ≡ true) × (a.now ≡ b.now) }
 {
     match (a, b) {
         (Answer::Done, Answer::Done)
@@ -115,8 +115,9 @@ fn same_bare(a: &Answer, b: &Answer) -> bool
 }
 
 /// Equal answers.
+#[tactic(auto, using(crate::proofs::Groups::answer_groups))]
 fn same_answer(a: &Answer, b: &Answer) -> bool
-    ensures { IsTrue result → a.now ≡ b.now }
+    ensures { IsTrue result ↔ (a.now ≡ b.now) }
 {
     same_short(a, b) || same_long(a, b) || same_bare(a, b)
 }
@@ -156,7 +157,7 @@ fn same_stopped(a: &Option<ContextImage>, b: &Option<ContextImage>) -> bool
 
 /// Equal outcomes.
 fn same_outcome(a: &Outcome, b: &Outcome) -> bool
-    ensures { IsTrue result → a.now ≡ b.now }
+    ensures { IsTrue result ↔ (a.now ≡ b.now) }
 {
     same_answer(&a.answer, &b.answer)
         && same_sents(a.sent.as_slice(), b.sent.as_slice())

@@ -5,3 +5,4 @@ pub mod Counting
 pub mod ThreadEnding
 pub mod Joined
 pub mod ToolsApart
+pub mod Doing

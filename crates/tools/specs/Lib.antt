@@ -4,3 +4,4 @@ pub mod ThreadEndings
 pub mod Threads
 pub mod Fanout
 pub mod Serial
+pub mod Does

@@ -11,3 +11,7 @@ mod Networks
 mod Connecting
 mod LiveEnds
 mod Delivering
+mod Drafts
+mod Marks
+mod Lacking
+mod Refusals

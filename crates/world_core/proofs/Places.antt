@@ -323,3 +323,12 @@ same_thing x y h = cc
 pub some_there : {A : Type 0} (o : Option A) → is_some o ≡ true → (x : A) × (o ≡ Some x)
 some_there None h = absurd (cc)
 some_there (Some x) h = (x, refl)
+
+-- ---- a name that no thing has
+
+pub no_place : {A : Type 0} (name : A → Name) (n : Name) (xs : List A) → has_name name n xs ≡ false → position (λ x. bytes_eq (name x) n) xs ≡ None
+no_place name n xs none = by (position (λ x. bytes_eq (name x) n) xs) (is_some-position (λ x. bytes_eq (name x) n) xs ∙ (sym (has_name-some name n xs) ∙ none))
+  where
+    by : (o : Option ℕ) → is_some o ≡ false → o ≡ None
+    by None h = refl
+    by (Some k) h = absurd (cc)

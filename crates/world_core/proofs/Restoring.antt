@@ -1,26 +1,32 @@
 -- An image that is put back.
-use Rattle.std.proofs.Common.{◌≡◌, ℕ, ◌==◌, ◌||◌, [], ◌∷◌, true, false, Some, None, sym, ap, ◌∙◌, subst, bytes_eq, slice_get, is_some, if◌then◌else◌, ◌⊎◌, inl, inr}
-use Rattle.std.specs.Prelude.{not, IfOk, Result, Ok, Err}
+use Rattle.std.proofs.Common.{◌≡◌, ℕ, ◌==◌, ◌||◌, [], ◌∷◌, true, false, Option, Some, None, refl, sym, ap, ◌∙◌, subst, bytes_eq, slice_get, is_some, if◌then◌else◌, ◌⊎◌, inl, inr}
+use Rattle.std.specs.Prelude.{not, IfOk, OnErr, Result, Ok, Err}
 use Rattle.std.specs.declared.alloc.AllocError.{AllocError}
 use Rattle.std.specs.List.{position, remove}
 use Rattle.rdma_types.specs.declared.answers.Answer.{Answer}
+use Rattle.rdma_types.specs.declared.answers.Answer.TheVariants as answer
+use Rattle.rdma_types.specs.declared.answers.Refusal.{Refusal}
 use Rattle.rdma_types.specs.declared.answers.Refusal.TheVariants as refusal
 use Rattle.rdma_types.specs.declared.names.Name.{Name}
 use Rattle.rdma_types.specs.Causes.{cause, first_cause}
 use Rattle.rdma_types.specs.Lists.{at, store, has_word, without}
 use Rattle.protocol.specs.declared.events.Event.TheVariants as event
+use Rattle.protocol.specs.declared.events.WorldEvent.TheVariants as world_event
 use Rattle.protocol.specs.declared.images.ContextImage.{ContextImage}
 use Rattle.protocol.specs.DeviceStep as device
 use Rattle.protocol.specs.DeviceStep.{device_step}
-use Rattle.protocol.specs.Fabric.{sending}
+use Rattle.protocol.specs.Fabric.{forgetting, sending}
+use Rattle.protocol.specs.Refusals.{refusal_of}
 use Rattle.protocol.specs.State.{Device, World, device_at}
 use Rattle.protocol.specs.WorldStep.{Step, answers, carried_image, has_device, is_done, ran, restored_by, restores, restores_image, runs, with_device, with_image}
+use Rattle.world_core.specs.Causes.{image_refusal, or_later, restore_causes, told_due, world_refusal}
 use Rattle.world_core.specs.Kept.{Makes}
+use Rattle.world_core.specs.Places.{HaveOwnIds}
 use Rattle.world_core.specs.Sites.{put_back}
 use Rattle.world_core.proofs.Places.{IsFirstPlace, none_passes, spot, without-place, is_some-position}
 use Rattle.world_core.proofs.Causes.{holds_not, no_cause, not_true, or_neither}
 use Rattle.law_settling.proofs.steps.Bare.{bare}
-use Rattle.world_core.proofs.Stepping.{not_done}
+use Rattle.world_core.proofs.Stepping.{not_done, refused_runs}
 use Rattle.world_core.proofs.Worlds.{Stays, device_stays, passes}
 
 -- ---- an image is put back
@@ -79,3 +85,31 @@ restores_there (Ok a) w new n k place spot ok at stopped there =
     (subst (λ o. Makes (restores_image w n k o) a new) (sym c.first)
     (subst (λ x. Makes x a new) (put_back_restores w n spot s (restored_carried w (device_at w k) c.image) there)
     (ok (device_at w k) c.image stays.here c.there)))
+
+-- ---- a device that refuses an image
+
+pub due_puts_back : (due : Option Refusal) (w new : World) (place spot : ℕ) → HaveOwnIds w.devices → forgetting w.sent ≡ w.sent → new ≡ w →
+    ((d : Device) (x : ContextImage) → slice_get w.devices place ≡ Some d → slice_get w.carried spot ≡ Some x → due ≡ refusal_of d (event.Restore x)) →
+    IfOk (told_due due) (λ a. (d : Device) → (x : ContextImage) → slice_get w.devices place ≡ Some d → slice_get w.carried spot ≡ Some x → Makes (put_back (runs w d (event.Restore x)) spot) a new)
+due_puts_back None w new place spot ids kept same is = tt
+due_puts_back (Some r) w new place spot ids kept same is = λ d x here there.
+    let made : Makes (runs w d (event.Restore x)) (answer.Refused r) w = refused_runs w place d (event.Restore x) r ids kept here (sym (is d x here there)) in
+    subst (λ z. Makes (put_back (runs w d (event.Restore x)) spot) (answer.Refused r) z) (sym same) (put_makes w w spot (runs w d (event.Restore x)) (answer.Refused r) made (inr (refl, refl)))
+
+pub due_not_put_back : (due : Option Refusal) (w : World) (place spot : ℕ) → ((d : Device) (x : ContextImage) → slice_get w.devices place ≡ Some d → slice_get w.carried spot ≡ Some x → due ≡ refusal_of d (event.Restore x)) →
+    OnErr (told_due due) ((d : Device) → (x : ContextImage) → slice_get w.devices place ≡ Some d → slice_get w.carried spot ≡ Some x → refusal_of d (event.Restore x) ≡ None)
+due_not_put_back None w place spot is = λ d x here there. sym (is d x here there)
+due_not_put_back (Some r) w place spot is = tt
+
+-- where there is no memory, no refusal of a restore is due
+pub none_due_there : (r : Result Answer AllocError) (w : World) (n : Name) (k place spot : ℕ) →
+    OnErr r ((d : Device) → (x : ContextImage) → slice_get w.devices place ≡ Some d → slice_get w.carried spot ≡ Some x → refusal_of d (event.Restore x) ≡ None) →
+    position (λ d. d.id == k) w.devices ≡ Some place → has_word n w.stopped ≡ true → position (λ c. bytes_eq c.name n) w.carried ≡ Some spot → OnErr r (world_refusal w (world_event.Restore n k) ≡ None)
+none_due_there (Ok a) w n k place spot due at stopped there = tt
+none_due_there (Err x) w n k place spot due at stopped there =
+    let stays : Stays w k place = device_stays w k place at in
+    let c : IsCarriedAt w n spot = carried_at w n spot there in
+    let none : first_cause (restore_causes w n k) ≡ None =
+    holds_not refusal.NoSuch (not (has_device w k) || not (has_word n w.stopped)) [] (or_neither _ _ (not_true _ stays.there) (not_true _ stopped)) ∙ no_cause in
+    ap (λ o. or_later o (image_refusal w k (carried_image w n))) none
+    ∙ (ap (λ o. image_refusal w k o) c.first ∙ due (device_at w k) c.image stays.here c.there)

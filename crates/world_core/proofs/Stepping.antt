@@ -1,6 +1,6 @@
 -- A device's step in a world, done to the world's parts.
-use Rattle.std.proofs.Common.{◌≡◌, ℕ, ◌+◌, List, [], ◌∷◌, ◌++◌, length, Bool, false, Option, Some, None, refl, sym, ap, ◌∙◌, subst, bytes_eq, nat_eq, slice_get, if◌then◌else◌, reverse}
-use Rattle.std.specs.Prelude.{All, IfSome}
+use Rattle.std.proofs.Common.{◌≡◌, ℕ, zero, suc, ◌+◌, List, [], ◌∷◌, ◌++◌, length, Bool, false, Option, Some, None, refl, sym, ap, ◌∙◌, subst, bytes_eq, nat_eq, slice_get, if◌then◌else◌, reverse}
+use Rattle.std.specs.Prelude.{All, IfOk, IfSome, OnErr}
 use Rattle.std.specs.List.{remove, IsDistinct}
 use Rattle.std.specs.Map.{lookup}
 use Rattle.std.proofs.Math.ListN.{set}
@@ -8,6 +8,7 @@ use Rattle.std.proofs.lemmas.List.{append-nil, reverse-append}
 use Rattle.std.proofs.lemmas.List.Elements.{All-push}
 use Rattle.rdma_types.specs.declared.answers.Answer.{Answer}
 use Rattle.rdma_types.specs.declared.answers.Answer.TheVariants as answer
+use Rattle.rdma_types.specs.declared.answers.Refusal.{Refusal}
 use Rattle.rdma_types.specs.declared.answers.Sent.{Sent}
 use Rattle.rdma_types.specs.declared.names.Name.{Name}
 use Rattle.rdma_types.specs.declared.requests.Address.{Address}
@@ -18,10 +19,12 @@ use Rattle.protocol.specs.declared.images.Outcome.{Outcome}
 use Rattle.protocol.specs.DeviceStep as device
 use Rattle.protocol.specs.DeviceStep.{device_step}
 use Rattle.protocol.specs.Fabric.{forgetting, sending}
+use Rattle.protocol.specs.Refusals.{refusal_of}
 use Rattle.protocol.specs.State.{Device, Flight, World}
 use Rattle.protocol.specs.WorldStep.{has_device, is_done, numbered, ran, runs, same_address, with_device, with_image}
 use Rattle.protocol.specs.Lawful.{IsLawful}
 use Rattle.law_kept_datagrams.specs.Alike.{with_kept_datagrams}
+use Rattle.world_core.specs.Causes.{told_due}
 use Rattle.world_core.specs.Kept.{Makes}
 use Rattle.world_core.specs.Places.{AreParts, HaveOwnIds, images_of, names_of, port_eq}
 use Rattle.world_core.specs.Sites.{joined_at}
@@ -159,3 +162,40 @@ not_done a other = refl
 -- the names in the other order
 pub names_reversed : (names : List Name) (o : Option ContextImage) → reverse (names ++ names_of o) ≡ reverse (names_of o) ++ reverse names
 names_reversed names o = reverse-append names (names_of o)
+
+-- ---- a device that refuses
+
+set-same : {A : Type 0} (xs : List A) (k : ℕ) (x : A) → slice_get xs k ≡ Some x → xs ≡ set xs k x
+set-same [] k x h = absurd (cc)
+set-same (y ∷ ys) zero x h = ap (λ z. z ∷ ys) (let q : y ≡ x = cc in q)
+set-same (y ∷ ys) (suc k) x h = ap (λ zs. y ∷ zs) (set-same ys k x h)
+
+none_sent : (s : List Flight) (from : Address) → sending s from [] ≡ s
+unfolding sending
+none_sent s from = append-nil s
+
+-- a refusal leaves the world as it is
+pub refused_runs : (w : World) (place : ℕ) (d : Device) (e : Event) (r : Refusal) → HaveOwnIds w.devices → forgetting w.sent ≡ w.sent → slice_get w.devices place ≡ Some d → refusal_of d e ≡ Some r → Makes (runs w d e) (answer.Refused r) w
+unfolding device_step numbered
+refused_runs w place d e r ids kept here due =
+    ran_makes w place d d e (record { answer = answer.Refused r; sent = []; image = None }) (answer.Refused r) w ids here
+    (ap (λ o. device.by_refusal d e o) due) refl (set-same w.devices place d here)
+    (sym (ap forgetting (none_sent w.sent d.address) ∙ kept)) (bare_carried w.carried None refl) (bare_stopped w.stopped None refl) refl
+
+-- .. and is answered where there is no memory
+pub due_makes : (due : Option Refusal) (w new : World) (place : ℕ) (e : Event) → HaveOwnIds w.devices → forgetting w.sent ≡ w.sent → new ≡ w → ((d : Device) → slice_get w.devices place ≡ Some d → due ≡ refusal_of d e) →
+    IfOk (told_due due) (λ a. (d : Device) → slice_get w.devices place ≡ Some d → Makes (runs w d e) a new)
+due_makes None w new place e ids kept same is = tt
+due_makes (Some r) w new place e ids kept same is = λ d here.
+    subst (λ z. Makes (runs w d e) (answer.Refused r) z) (sym same) (refused_runs w place d e r ids kept here (sym (is d here)))
+
+pub due_lacks : (due : Option Refusal) (w : World) (place : ℕ) (e : Event) → ((d : Device) → slice_get w.devices place ≡ Some d → due ≡ refusal_of d e) →
+    OnErr (told_due due) ((d : Device) → slice_get w.devices place ≡ Some d → refusal_of d e ≡ None)
+due_lacks None w place e is = λ d here. sym (is d here)
+due_lacks (Some r) w place e is = tt
+
+-- a world of the same parts
+pub after_room : (v w new : World) → v ≡ w → new.devices ≡ v.devices → new.sent ≡ v.sent → new.carried ≡ v.carried → new.stopped ≡ v.stopped → new ≡ w
+after_room v w new seen devices sent carried stopped =
+    let same : (let x : World = record { devices = new.devices; sent = new.sent; carried = new.carried; stopped = new.stopped } in x) ≡ record { devices = v.devices; sent = v.sent; carried = v.carried; stopped = v.stopped } = cc in
+    same ∙ seen

@@ -1,5 +1,5 @@
 -- What holds of whole worlds, and where things live in them.
-use Rattle.std.proofs.Common.{◌≡◌, ℕ, ◌<◌, ◌==◌, length, true, false, Option, Some, None, refl, sym, ap, ◌∙◌, subst, bytes_eq, slice_get, is_some, get_or}
+use Rattle.std.proofs.Common.{◌≡◌, ℕ, ◌<◌, ◌==◌, List, length, true, false, Option, Some, None, refl, sym, ap, ◌∙◌, subst, bytes_eq, slice_get, is_some, get_or}
 use Rattle.std.specs.Prelude.{IfOk, Result, Ok, Err}
 use Rattle.std.specs.declared.alloc.AllocError.{AllocError}
 use Rattle.std.specs.List.{position}
@@ -10,6 +10,7 @@ use Rattle.rdma_types.specs.declared.answers.Refusal.{Refusal}
 use Rattle.rdma_types.specs.declared.names.Name.{Name}
 use Rattle.rdma_types.specs.Lists.{first_that}
 use Rattle.protocol.specs.declared.events.Event.{Event}
+use Rattle.protocol.specs.declared.images.ContextImage.{ContextImage}
 use Rattle.protocol.specs.Refusals.{has_context}
 use Rattle.protocol.specs.State.{Device, World, no_device, device_at}
 use Rattle.protocol.specs.WorldStep.{Step, answers, by_refusal, has_device, home, is_carried, is_live, or_none, runs}
@@ -104,3 +105,15 @@ read_device v w place x d seen there read =
   where
     some_is : (y z : Device) → Some y ≡ Some z → y ≡ z
     some_is y z h = cc
+
+-- ---- the image that was read at a spot
+
+pub read_image : (v w : World) (spot : ℕ) (is : List ContextImage) (x y : ContextImage) → v ≡ w → is ≡ v.carried → slice_get w.carried spot ≡ Some y → x ≡ get_or is spot x → x ≡ y
+read_image v w spot is x y seen same there read =
+    let carried : is ≡ w.carried = same ∙ ap (λ (z : World). z.carried) seen in
+    let there' : slice_get is spot ≡ Some y = ap (λ zs. slice_get zs spot) carried ∙ there in
+    let here : slice_get is spot ≡ Some x = slice_get_read is (length is) spot x refl (slice_get_within is spot y there') read in
+    some_is x y (sym here ∙ there')
+  where
+    some_is : (a b : ContextImage) → Some a ≡ Some b → a ≡ b
+    some_is a b h = cc

@@ -14,6 +14,12 @@ mover (event.Stop n alone) = Some n
 mover (event.Restore image) = Some image.name
 mover e = None
 
+-- an event makes or stops a context
+abbrev pub MakesOrStops : Event → Type 0
+MakesOrStops (event.MakeContext n) = Unit {0}
+MakesOrStops (event.Stop n alone) = Unit {0}
+MakesOrStops e = ⊥
+
 -- the place of a context where one was looked up anew
 abbrev pub looked_up : Option Name → List Device → (Name → Option ℕ) → Name → Option ℕ
 looked_up None ds told m = told m

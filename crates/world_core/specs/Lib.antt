@@ -9,3 +9,4 @@ pub mod Sites
 pub mod Told
 pub mod Lives
 pub mod Reached
+pub mod Stops

@@ -4,7 +4,7 @@ ghost use Rattle.std.specs.Prelude.{◌≡◌, ◌==◌, ℕ, bytes_eq, is_some}
 ghost use Rattle.std.specs.List.{position};
 ghost use Rattle.rdma_types.specs.Lists.{has_word};
 ghost use Rattle.protocol.specs.Refusals.{has_context};
-ghost use Rattle.protocol.specs.WorldStep.{same_address};
+ghost use Rattle.protocol.specs.WorldStep.{is_carried, same_address};
 
 use crate::World;
 use rdma_types::{Address, Name};
@@ -35,13 +35,20 @@ impl World {
     pub(crate) fn image_of(&self, name: Name) -> Option<usize>
         ensures { result ≡ position (λ c. bytes_eq c.name name) self.now.carried }
     {
-        self.carried.iter().position(|image| image.name == name)
+        self.stops.place_of(name)
     }
 
     /// Whether a context was ever stopped.
     pub(crate) fn was_stopped(&self, name: Name) -> bool
         ensures { result ≡ has_word name self.now.stopped }
     {
-        self.stopped.iter().any(|n| *n == name)
+        self.stops.was_stopped(name)
+    }
+
+    /// Whether an image of a context is carried.
+    pub(crate) fn is_carried(&self, name: Name) -> bool
+        ensures { result ≡ is_carried self.now name }
+    {
+        self.stops.is_carried(name)
     }
 }

@@ -1,9 +1,13 @@
 //! What holds of each whole world whose last datagrams a world keeps.
 
+ghost use Rattle.std.specs.Prelude.{◌≡◌, Some};
 ghost use Rattle.rdma_types.specs.declared.answers.Answer.{Answer};
+ghost use Rattle.rdma_types.specs.declared.answers.Answer.TheVariants as answers;
+ghost use Rattle.rdma_types.specs.declared.answers.Refusal.{Refusal};
 ghost use Rattle.protocol.specs.declared.events.WorldEvent.{WorldEvent};
 ghost use Rattle.protocol.specs.State.{World};
 ghost use Rattle.protocol.specs.WorldStep.{world_step};
+ghost use Rattle.world_core.specs.Causes.{world_refusal};
 ghost use Rattle.world_core.specs.Followed.{IsFollowed};
 ghost use Rattle.world_core.specs.Kept.{Makes};
 
@@ -19,3 +23,9 @@ pub fn steps_are_followed()
     alike_worlds_are_answered_alike();
     steps_are_named();
 }
+
+/// A refusal that is due at an event is what the rules answer.
+pub fn refusals_are_answered()
+    ensures { (w : World) (e : WorldEvent) (r : Refusal) → world_refusal w e ≡ Some r
+        → (world_step w e).answer ≡ answers.Refused r }
+{}

@@ -12,11 +12,12 @@ mod network;
 mod readers;
 mod running;
 mod settling;
+mod stops;
 mod world;
 
 pub use device_core::{ContextImage, Device, Event, LinkView, LiveEnd};
 pub use fabric::Flight;
-pub use laws::steps_are_followed;
+pub use laws::{refusals_are_answered, steps_are_followed};
 pub use protocol::WorldEvent;
 pub use settling::{Quiet, Settler};
 pub use world::World;

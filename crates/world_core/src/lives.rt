@@ -1,8 +1,9 @@
 //! What settling looks at of a world.
 
-ghost use Rattle.std.specs.Prelude.{◌≡◌, ◌+◌, ◌^◌, ◌<◌, ◌≤◌, ◌==◌, ◌&&◌, length, option_map, IfOk, IfSome};
+ghost use Rattle.std.specs.Prelude.{◌≡◌, ◌+◌, ◌^◌, ◌<◌, ◌≤◌, ◌==◌, ◌&&◌, length, option_map, All, IfOk, IfSome};
 ghost use Rattle.law_kept_datagrams.specs.Alike.{with_kept_datagrams};
 ghost use Rattle.rdma_types.specs.Lists.{some};
+ghost use Rattle.protocol.specs.Lawful.{IsLawful};
 ghost use Rattle.protocol.specs.Settle.{is_ended_image, is_ended_live, link_at};
 ghost use Rattle.world_core.specs.Lives.{has_ended, is_pending, link_view, live_list};
 
@@ -34,11 +35,12 @@ fn has_ended_end(image: &ContextImage, number: u32) -> bool
 }
 
 impl World {
-    /// The number that the next datagram gets.
+    /// The number that the next datagram gets. The carried images keep the rules of images.
     pub fn next(&self) -> u64
         ensures number { result ≡ length self.now.sent + 1 }
         ensures bounded { result ≤ 2 ^ 63 }
         ensures kept { with_kept_datagrams self.now ≡ self.now }
+        ensures lawful { All IsLawful self.now.carried }
     {
         self.fabric.next()
     }
@@ -84,7 +86,8 @@ impl World {
             ≡ some (λ c. some (λ e. e.number == number && is_ended_image e) c.ends)
             self.now.carried }
     {
-        self.carried
+        self.stops
+            .images()
             .iter()
             .any(|image| has_ended_end(image, number))
     }
@@ -100,6 +103,6 @@ impl World {
     pub fn images(&self) -> &[ContextImage]
         ensures { result.now ≡ self.now.carried }
     {
-        self.carried.as_slice()
+        self.stops.images()
     }
 }

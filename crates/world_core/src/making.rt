@@ -1,12 +1,15 @@
 //! Devices, contexts and connections of a world.
 
-ghost use Rattle.std.specs.Prelude.{◌≡◌, ℕ, ◌≤◌, ◌<◌, ◌^◌, ◌||◌, length, slice_get, List, Some, None, is_some, true, IfOk, IfErr, IfSome, OnErr, OnOk};
+ghost use Rattle.std.specs.Prelude.{◌≡◌, ℕ, ◌≤◌, ◌<◌, ◌^◌, ◌||◌, length, slice_get, List, Some, None, is_some, true, IfOk, IsOk, IfErr, IfSome, OnErr, OnOk};
 ghost use Rattle.rdma_types.specs.Causes.{Cause, first_cause};
 ghost use Rattle.rdma_types.specs.Limits.{AreTerms};
 ghost use Rattle.protocol.specs.Events.{IsHandedOn, IsLawfulEvent};
 ghost use Rattle.protocol.specs.WorldStep as rules;
 ghost use Rattle.world_core.specs.Kept.{IsReady, Makes};
 ghost use Rattle.world_core.specs.Causes as causes;
+ghost use Rattle.world_core.specs.Causes.{world_refusal};
+ghost use Rattle.protocol.specs.declared.events.WorldEvent.TheVariants as world_event;
+ghost use Rattle.device_core.specs.Readings.{TakesNoMemory};
 ghost use Rattle.world_core.specs.Sites.{IsEndAddress, is_init_state, joined_at};
 ghost use Rattle.world_core.specs.Places.{HaveOwnIds};
 ghost use Rattle.protocol.specs.Refusals.{is_init};
@@ -107,6 +110,8 @@ impl World {
         requires ready { IsReady self.old }
         ensures ok { IfOk result (λ answer. Makes
             (rules.adds_device self.old id address) answer self.new) }
+        ensures refused_first { OnErr result (world_refusal self.old
+            (world_event.AddDevice id address) ≡ None) }
         ensures err { OnErr result (self.new ≡ self.old) }
     {
         if let Some(refusal) = self.device_refusal(id, address) {
@@ -133,6 +138,8 @@ impl World {
         requires ready { IsReady self.old }
         ensures ok { IfOk result (λ answer. Makes
             (rules.makes_context self.old name device) answer self.new) }
+        ensures refused_first { OnErr result (world_refusal self.old
+            (world_event.MakeContext name device) ≡ None) }
         ensures err { OnErr result (self.new ≡ self.old) }
     {
         let Some(place) = self.place_of(device) else {
@@ -141,7 +148,7 @@ impl World {
         if self.is_known(name) {
             return Ok(Answer::Refused(Refusal::NumberTaken));
         }
-        self.run(alloc, place, &Event::MakeContext { name })
+        self.run_moving(alloc, place, &Event::MakeContext { name })
     }
 
     /// The place of the device where a context lives, or why there is none: nothing has the name, or it is carried.
@@ -154,7 +161,7 @@ impl World {
     {
         match self.home_of(name) {
             Some(place) => Ok(place),
-            None if self.image_of(name).is_some() => Err(Refusal::Stopped),
+            None if self.is_carried(name) => Err(Refusal::Stopped),
             None => Err(Refusal::NoSuch),
         }
     }
@@ -167,6 +174,9 @@ impl World {
         ensures ok { IfOk result (λ answer. Makes
             (rules.steps_at self.old (rules.context_of_event event.now) event.now) answer
             self.new) }
+        ensures never_out_of_memory { TakesNoMemory event.now → IsOk result }
+        ensures refused_first { OnErr result (world_refusal self.old (world_event.At event.now)
+            ≡ None) }
         ensures err { OnErr result (self.new ≡ self.old) }
     {
         if let Event::Transmit { end } = event {
@@ -185,6 +195,8 @@ impl World {
         requires ready { IsReady self.old }
         ensures ok { IfOk result (λ answer. Makes
             (rules.steps_at self.old end.now.context (event.Transmit end.now)) answer self.new) }
+        ensures refused_first { OnErr result (world_refusal self.old
+            (world_event.At (event.Transmit end.now)) ≡ None) }
         ensures err { OnErr result (self.new ≡ self.old) }
     {
         match self.home(end.context) {
@@ -197,7 +209,7 @@ impl World {
     fn is_known(&self, context: Name) -> bool
         ensures { result ≡ (rules.is_live self.now context || rules.is_carried self.now context) }
     {
-        self.home_of(context).is_some() || self.image_of(context).is_some()
+        self.home_of(context).is_some() || self.is_carried(context)
     }
 
     /// The two ends of a connection to be, or why they are not connected.

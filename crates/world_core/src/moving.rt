@@ -1,18 +1,21 @@
 //! Contexts that are stopped, carried and restored.
 
-ghost use Rattle.std.specs.Prelude.{◌==◌, ◌&&◌, ◌≡◌, ℕ, ◌<◌, length, slice_get, IfOk, OnErr, Some};
+ghost use Rattle.std.specs.Prelude.{◌==◌, ◌&&◌, ◌≡◌, ℕ, ◌<◌, length, slice_get, IfOk, IsOk, None, OnErr, Some};
 ghost use Rattle.protocol.specs.State as state;
 ghost use Rattle.protocol.specs.State.{context_at};
 ghost use Rattle.protocol.specs.declared.events.Event.TheVariants as event;
+ghost use Rattle.protocol.specs.declared.events.WorldEvent.TheVariants as world_event;
 ghost use Rattle.protocol.specs.declared.images.ContextImage as image;
+ghost use Rattle.protocol.specs.Refusals.{refusal_of};
 ghost use Rattle.protocol.specs.WorldStep as rules;
 ghost use Rattle.rdma_types.specs.Lists.{some};
+ghost use Rattle.world_core.specs.Causes.{world_refusal};
 ghost use Rattle.world_core.specs.Kept.{IsReady, Makes};
 ghost use Rattle.world_core.specs.Sites.{is_rts, put_back, view_moves};
 
 use crate::World;
 use crate::index::note_home;
-use crate::running::{SendingDevice, send_outcome};
+use crate::running::{refused_or_lacking, send_outcome};
 use device_core::{ContextImage, Device, Event, Outcome};
 use protocol::EndImage;
 use rdma_types::{Answer, EndState, EndView, Name, Refusal};
@@ -55,7 +58,8 @@ impl World {
     fn is_carried_end(&self, number: u32) -> bool
         ensures { result ≡ rules.is_carried_end self.now number }
     {
-        self.carried
+        self.stops
+            .images()
             .iter()
             .any(|image| has_linked_end(image, number))
     }
@@ -103,6 +107,8 @@ impl World {
     pub(crate) fn stop(&mut self, alloc: Global, context: Name) -> Result<Answer, AllocError>
         requires ready { IsReady self.old }
         ensures ok { IfOk result (λ answer. Makes (rules.stops self.old context) answer self.new) }
+        ensures refused_first { OnErr result (world_refusal self.old (world_event.Stop context)
+            ≡ None) }
         ensures err { OnErr result (self.new ≡ self.old) }
     {
         let place = match self.home(context) {
@@ -113,7 +119,7 @@ impl World {
             return Ok(Answer::Refused(Refusal::PeerMoving));
         }
         let alone = false;
-        self.run(alloc, place, &Event::Stop { context, alone })
+        self.run_moving(alloc, place, &Event::Stop { context, alone })
     }
 
     /// The carried image of a context is put on a device. It is carried on where the device refuses it.
@@ -126,6 +132,8 @@ impl World {
         requires ready { IsReady self.old }
         ensures ok { IfOk result (λ answer. Makes
             (rules.restores self.old context device) answer self.new) }
+        ensures refused_first { OnErr result
+            (world_refusal self.old (world_event.Restore context device) ≡ None) }
         ensures err { OnErr result (self.new ≡ self.old) }
     {
         let Some(place) = self.place_of(device) else {
@@ -148,10 +156,15 @@ impl World {
         ensures ok { IfOk result (λ answer. (d : state.Device) → (x : image.ContextImage)
             → slice_get self.old.devices place ≡ Some d → slice_get self.old.carried spot ≡ Some x
             → Makes (put_back (rules.runs self.old d (event.Restore x)) spot) answer self.new) }
+        ensures refused_first { OnErr result ((d : state.Device) → (x : image.ContextImage)
+            → slice_get self.old.devices place ≡ Some d → slice_get self.old.carried spot ≡ Some x
+            → refusal_of d (event.Restore x) ≡ None) }
         ensures err { OnErr result (self.new ≡ self.old) }
     {
-        self.homes.reserve(1)?;
-        let image = &self.carried[spot];
+        let image = &self.stops.images()[spot];
+        if self.homes.reserve(1).is_err() {
+            return refused_or_lacking(self.devices[place].restore_refusal(image));
+        }
         let name = image.name;
         let outcome = self.devices[place].restore(alloc, image)?;
         let Outcome {
@@ -160,17 +173,10 @@ impl World {
             image: _,
         } = outcome;
         let address = self.devices[place].address();
-        let answer = send_outcome(
-            &mut self.fabric,
-            &mut self.devices,
-            &self.ports,
-            SendingDevice { place, address },
-            answer,
-            sent,
-        );
+        let answer = send_outcome(&mut self.fabric, &mut self.draft, address, answer, sent);
         note_home(&mut self.homes, self.devices.as_slice(), Some(name));
         if let Answer::Done = answer {
-            self.carried.remove(spot);
+            self.stops.remove(spot);
         }
         Ok(answer)
     }
@@ -185,6 +191,7 @@ impl World {
         requires ready { IsReady self.old }
         ensures ok { IfOk result (λ answer. Makes
             (rules.releases self.old context device) answer self.new) }
+        ensures never_out_of_memory { IsOk result }
         ensures err { OnErr result (self.new ≡ self.old) }
     {
         match self.place_of(device) {

@@ -1,22 +1,26 @@
 //! Datagrams of a world: delivered, lost and shown.
 
-ghost use Rattle.std.specs.Prelude.{◌≡◌, ℕ, ◌≤◌, ◌<◌, ◌^◌, length, slice_get, is_some, true, IfOk, OnErr, Option, Some};
+ghost use Rattle.std.specs.Prelude.{◌≡◌, ℕ, ◌≤◌, ◌<◌, ◌^◌, ◌++◌, length, slice_get, is_some, true, IfOk, IsOk, OnErr, Option, Some};
 ghost use Rattle.std.specs.List.{position};
+ghost use Rattle.std.specs.Option.{option_to_list};
 ghost use Rattle.device_core.specs.Finding.{IsFound};
+ghost use Rattle.device_core.specs.Readings.{DoNothing};
 ghost use Rattle.law_arrivals.specs.Touched.{ChangesOnly, is_touched};
 ghost use Rattle.protocol.specs.Bytes.{byte_at, number_at};
 ghost use Rattle.protocol.specs.DeviceStep.{device_step};
 ghost use Rattle.protocol.specs.Fabric.{kept_flight};
 ghost use Rattle.protocol.specs.State as state;
+ghost use Rattle.protocol.specs.Wire.{packet_of};
 ghost use Rattle.protocol.specs.WorldStep as rules;
 ghost use Rattle.protocol.specs.declared.events.Event.TheVariants as event;
+ghost use Rattle.protocol.specs.declared.events.WorldEvent.TheVariants as world_event;
 ghost use Rattle.world_core.specs.Delivered.{ChangesWorldOnly, is_delivered, is_touched_on};
-ghost use Rattle.world_core.specs.Kept.{IsReady, Makes};
+ghost use Rattle.world_core.specs.Kept.{IsReady, Makes, TakesNoMemory};
 ghost use Rattle.world_core.specs.Sites.{IsDelivery, IsFoundOn};
 
 use crate::World;
-use crate::running::{SendingDevice, send_outcome};
-use device_core::{Answered, Device, FoundEnd, destination};
+use crate::running::send_reply;
+use device_core::{Arrived, Device, Draft, FoundEnd, destination};
 use fabric::{DatagramState, Fabric, Flight};
 use rdma_types::{Answer, ArrivalEffect, DropReason, Items};
 use roce_headers::opcodes::is_request;
@@ -58,10 +62,11 @@ fn mark_of(found: Option<FoundEnd>, bytes: &[u8]) -> u64
 fn reach(
     fabric: &Fabric,
     device: &mut Device,
+    draft: &mut Draft,
     alloc: Global,
     k: u64,
     found: Option<FoundEnd>,
-) -> Result<Answered, AllocError>
+) -> Result<Arrived, AllocError>
     requires kept { is_some (kept_flight fabric.now k) ≡ true }
     requires found { (f : state.Flight) → kept_flight fabric.now k ≡ Some f
         → IsFound device.old (number_at 5 3 f.bytes) found }
@@ -70,16 +75,24 @@ fn reach(
         ≡ record {
           device = device.new;
           outcome = record
-              { answer = a.answer; sent = a.sent; image = None };
+              { answer = a.answer; sent = option_to_list draft.new ++ a.more; image = None };
         }) }
-    ensures bounded { IfOk result (λ a. length a.sent ≤ 2 ^ 32) }
+    ensures bounded { IfOk result (λ a. length (option_to_list draft.new ++ a.more) ≤ 2 ^ 32) }
     ensures touched { (f : state.Flight) → kept_flight fabric.now k ≡ Some f
         → ChangesOnly (is_touched device.old f.bytes) device.old device.new }
+    ensures never_out_of_memory { ((f : state.Flight) → kept_flight fabric.now k ≡ Some f
+        → DoNothing device.old (packet_of f.bytes)) → IsOk result }
     ensures same { (device.new.id ≡ device.old.id) × (device.new.address ≡ device.old.address) }
     ensures err { OnErr result (device.new ≡ device.old) }
 {
     let flight = fabric.kept(k).unwrap();
-    device.arrive_at(alloc, flight.from, flight.sent.bytes.as_slice(), found)
+    device.arrive_into(
+        alloc,
+        draft,
+        flight.from,
+        flight.sent.bytes.as_slice(),
+        found,
+    )
 }
 
 impl World {
@@ -125,6 +138,7 @@ impl World {
         ensures ok { IfOk result (λ answer. Makes (rules.delivers self.old k) answer self.new) }
         ensures touched { IfOk result (λ answer. ChangesWorldOnly
             (is_delivered self.old k) self.old self.new) }
+        ensures never_out_of_memory { TakesNoMemory self.old (world_event.Deliver k) → IsOk result }
         ensures err { OnErr result (self.new ≡ self.old) }
     {
         match self.delivery(k) {
@@ -167,20 +181,17 @@ impl World {
         ensures touched { IfOk result (λ answer. (f : state.Flight) → (d : state.Device)
             → kept_flight self.old.sent k ≡ Some f → slice_get self.old.devices place ≡ Some d
             → ChangesWorldOnly (is_touched_on d f) self.old self.new) }
+        ensures never_out_of_memory { ((f : state.Flight) → (d : state.Device)
+            → kept_flight self.old.sent k ≡ Some f → slice_get self.old.devices place ≡ Some d
+            → DoNothing d (packet_of f.bytes)) → IsOk result }
         ensures err { OnErr result (self.new ≡ self.old) }
     {
-        match reach(&self.fabric, &mut self.devices[place], alloc, k, found) {
-            Ok(Answered { answer, sent }) => {
+        let (fabric, device) = (&self.fabric, &mut self.devices[place]);
+        match reach(fabric, device, &mut self.draft, alloc, k, found) {
+            Ok(Arrived { answer, more }) => {
                 let address = self.devices[place].address();
                 self.fabric.took(k);
-                Ok(send_outcome(
-                    &mut self.fabric,
-                    &mut self.devices,
-                    &self.ports,
-                    SendingDevice { place, address },
-                    answer,
-                    sent,
-                ))
+                Ok(send_reply(&mut self.fabric, &mut self.draft, address, answer, more))
             }
             Err(fault) => Err(fault),
         }

@@ -22,14 +22,14 @@ impl World {
         ensures image { option_copied result ≡ carried_image self.now context }
         ensures lawful { IfSome result (λ image. IsLawful image.now) }
     {
-        self.carried.iter().find(|image| image.name == context)
+        self.stops.image_of(context)
     }
 
     /// The name of carried context `i`, in order of their stops.
     pub fn carried_at(&self, i: usize) -> Option<Name>
         ensures { result ≡ carried_name self.now i }
     {
-        Some(self.carried.get(i)?.name)
+        Some(self.stops.images().get(i)?.name)
     }
 
     /// The id of device `i`, in order of making.

@@ -1,92 +1,70 @@
 //! What a device's step does to a world.
 
-ghost use Rattle.std.specs.Prelude.{◌≡◌, ℕ, ◌+◌, ◌≤◌, ◌<◌, ◌^◌, ◌++◌, ◌∷◌, [], length, slice_get, IfOk, OnErr, Option, Some, None};
-ghost use Rattle.std.specs.Vec.{vec_capacity};
+ghost use Rattle.std.specs.Prelude.{◌≡◌, ℕ, ◌+◌, ◌≤◌, ◌<◌, ◌^◌, ◌++◌, ◌∷◌, [], length, reverse, slice_get, true, IfOk, IsOk, OnErr, OnOk, Option, Some, None};
 ghost use Rattle.protocol.specs.Events.{IsLawfulEvent};
 ghost use Rattle.protocol.specs.Fabric.{forgetting, sending};
 ghost use Rattle.protocol.specs.State.{Device};
 ghost use Rattle.protocol.specs.declared.events.Event.TheVariants as event;
+ghost use Rattle.protocol.specs.Refusals.{refusal_of};
 ghost use Rattle.protocol.specs.WorldStep.{numbered, runs};
+ghost use Rattle.std.specs.Option.{option_to_list};
+ghost use Rattle.device_core.specs.Finding.{IsAt};
+ghost use Rattle.device_core.specs.Readings.{TakesNoMemory};
+ghost use Rattle.indexmap.specs.IndexMap.{spare};
+ghost use Rattle.world_core.specs.Causes.{told_due};
+ghost use Rattle.world_core.specs.Homes.{MakesOrStops, mover};
 ghost use Rattle.world_core.specs.Kept.{IsReady, Makes};
 ghost use Rattle.world_core.specs.Places.{images_of, names_of};
 
 use crate::World;
 use crate::index::{moved_context, note_home};
-use device_core::{Answered, ContextImage, Device};
+use crate::stops::Stops;
+use device_core::{Answered, ContextImage, Device, Draft, EndPlace};
 use fabric::{Fabric, Flight};
 use indexmap::IndexMap;
 use protocol::{Event, Outcome};
-use rdma_types::{Address, Answer, Items, Name, ObjName, Sent};
+use rdma_types::{Address, Answer, Items, Name, ObjName, Refusal, Sent};
 use std::alloc::{AllocError, Global};
 
-/// A device that sends: its place and its address.
-#[derive(Clone, Copy)]
-pub(crate) struct SendingDevice {
-    pub(crate) place: usize,
-    pub(crate) address: Address,
-}
-
-/// The place of the device with an address, which often is the one that sends now.
-fn place_at(
-    ports: &IndexMap<(u32, u16), usize>,
-    sender: SendingDevice,
-    address: Address,
-) -> Option<usize> {
-    if address == sender.address {
-        return Some(sender.place);
-    }
-    ports.get(&(address.ip, address.port)).copied()
-}
-
-/// The memory of a datagram that the network forgets goes back to the device that sent it.
-fn give_back(
-    devices: &mut Vec<Device>,
-    ports: &IndexMap<(u32, u16), usize>,
-    sender: SendingDevice,
-    forgotten: Option<Flight>,
-)
-    ensures { devices.new.items ≡ devices.old.items }
+/// Sends a datagram. The memory of the one that the network forgets for it is filled again.
+fn send_one(fabric: &mut Fabric, draft: &mut Draft, from: Address, datagram: Sent)
+    requires { length fabric.old + 1 < 2 ^ 63 }
+    ensures sent { fabric.new ≡ forgetting (sending fabric.old from (datagram ∷ [])) }
+    ensures count { length fabric.new ≡ length fabric.old + 1 }
+    ensures draft { draft.new ≡ draft.old }
 {
-    let Some(flight) = forgotten else {
-        return;
-    };
-    let Flight { from, sent, .. } = flight;
-    match place_at(ports, sender, from) {
-        Some(place) if place < devices.len() => devices[place].give_back(sent.bytes),
-        _ => (),
+    if let Some(forgotten) = fabric.send(from, datagram) {
+        let Flight { sent, .. } = forgotten;
+        draft.give(sent.bytes);
     }
 }
 
-/// The memory of a list of datagrams goes back to the device at a place.
-fn give_back_list(devices: &mut Vec<Device>, place: usize, list: Vec<Sent>)
-    ensures { devices.new.items ≡ devices.old.items }
-{
-    if place < devices.len() {
-        devices[place].give_back_list(list);
-    }
-}
-
-/// Sends datagrams in their order. The memory of those that the network forgets for them goes back to their devices, and
-/// that of their list to the one that sends.
-fn send_all(
-    fabric: &mut Fabric,
-    devices: &mut Vec<Device>,
-    ports: &IndexMap<(u32, u16), usize>,
-    sender: SendingDevice,
-    sent: Items<Sent>,
-)
+/// Sends datagrams in their order. The memory of those that the network forgets for them, and that of their list, is
+/// filled again.
+fn send_all(fabric: &mut Fabric, draft: &mut Draft, from: Address, sent: Items<Sent>)
     requires kept { forgetting fabric.old ≡ fabric.old }
     requires bounded { length fabric.old + length sent < 2 ^ 63 }
-    ensures sent { fabric.new ≡ forgetting (sending fabric.old sender.address sent) }
-    ensures devices { devices.new.items ≡ devices.old.items }
+    ensures sent { fabric.new ≡ forgetting (sending fabric.old from sent) }
+    ensures draft { draft.new ≡ draft.old }
 {
     let mut list = sent.into_vec();
     list.reverse();
     while let Some(datagram) = list.pop() {
-        let forgotten = fabric.send(sender.address, datagram);
-        give_back(devices, ports, sender, forgotten);
+        send_one(fabric, draft, from, datagram);
     }
-    give_back_list(devices, sender.place, list);
+    draft.give_list(list);
+}
+
+/// Sends the datagram in a draft, if there is one.
+fn send_draft(fabric: &mut Fabric, draft: &mut Draft, from: Address)
+    requires kept { forgetting fabric.old ≡ fabric.old }
+    requires bounded { length fabric.old + length (option_to_list draft.old) < 2 ^ 63 }
+    ensures sent { fabric.new
+        ≡ forgetting (sending fabric.old from (option_to_list draft.old)) }
+{
+    if let Some(datagram) = draft.take() {
+        send_one(fabric, draft, from, datagram);
+    }
 }
 
 /// The answer of a device with the number of the first datagram that it sent.
@@ -104,42 +82,110 @@ fn number(answer: Answer, next: u64) -> Answer
     }
 }
 
-/// Sends the datagrams of a step of a device, and gives its answer with the number of the first.
-#[inline(always)]
+/// Sends the datagrams of a step of a device with this address, and gives its answer with the number of the first.
 pub(crate) fn send_outcome(
     fabric: &mut Fabric,
-    devices: &mut Vec<Device>,
-    ports: &IndexMap<(u32, u16), usize>,
-    sender: SendingDevice,
+    draft: &mut Draft,
+    from: Address,
     answer: Answer,
     sent: Items<Sent>,
 ) -> Answer
     requires { length fabric.old + length sent < 2 ^ 63 }
-    ensures sent { fabric.new ≡ forgetting (sending fabric.old sender.address sent) }
+    ensures sent { fabric.new ≡ forgetting (sending fabric.old from sent) }
     ensures answer { result ≡ numbered (length fabric.old + 1) answer }
-    ensures devices { devices.new.items ≡ devices.old.items }
 {
     let next = fabric.next();
-    send_all(fabric, devices, ports, sender, sent);
+    send_all(fabric, draft, from, sent);
     number(answer, next)
 }
 
-/// An image is carried, behind all others, and its context was stopped.
-fn carry(carried: &mut Vec<ContextImage>, stopped: &mut Vec<Name>, image: Option<ContextImage>)
-    requires carried { length carried.old.items < vec_capacity carried.old }
-    requires stopped { length stopped.old.items < vec_capacity stopped.old }
-    ensures carried { carried.new.items ≡ carried.old.items ++ images_of image }
-    ensures stopped { stopped.new.items ≡ stopped.old.items ++ names_of image }
+/// Sends the datagram in a draft, if there is one, and gives the answer of the step with its number.
+#[inline(always)]
+pub(crate) fn send_drafted(
+    fabric: &mut Fabric,
+    draft: &mut Draft,
+    from: Address,
+    answer: Answer,
+) -> Answer
+    requires { length fabric.old + length (option_to_list draft.old) < 2 ^ 63 }
+    ensures sent { fabric.new
+        ≡ forgetting (sending fabric.old from (option_to_list draft.old)) }
+    ensures answer { result ≡ numbered (length fabric.old + 1) answer }
+{
+    let next = fabric.next();
+    send_draft(fabric, draft, from);
+    number(answer, next)
+}
+
+/// Sends the datagram in a draft, if there is one, and those behind it, and gives the answer of the step with the number
+/// of the first.
+#[inline(always)]
+pub(crate) fn send_reply(
+    fabric: &mut Fabric,
+    draft: &mut Draft,
+    from: Address,
+    answer: Answer,
+    more: Items<Sent>,
+) -> Answer
+    requires { length fabric.old + length (option_to_list draft.old ++ more) < 2 ^ 63 }
+    ensures sent { fabric.new
+        ≡ forgetting (sending fabric.old from (option_to_list draft.old ++ more)) }
+    ensures answer { result ≡ numbered (length fabric.old + 1) answer }
+{
+    let next = fabric.next();
+    send_draft(fabric, draft, from);
+    send_all(fabric, draft, from, more);
+    number(answer, next)
+}
+
+/// An image is carried, behind all others, and its context was stopped. There must be room for it.
+fn carry(stops: &mut Stops, image: Option<ContextImage>)
+    requires { stops.old.has_room ≡ true }
+    ensures carried { stops.new.carried ≡ stops.old.carried ++ images_of image }
+    ensures stopped { stops.new.stopped ≡ reverse (names_of image) ++ stops.old.stopped }
 {
     if let Some(image) = image {
-        stopped.push_reserved(image.name);
-        carried.push_reserved(image);
+        stops.carry(image);
+    }
+}
+
+/// Makes room for a context that is made or stopped: for where it lives, and for its image. Errors: `AllocError` when out
+/// of memory.
+fn make_room(homes: &mut IndexMap<Name, usize>, stops: &mut Stops) -> Result<(), AllocError>
+    ensures home { OnOk result (0 < spare homes.new) }
+    ensures image { OnOk result (stops.new.has_room ≡ true) }
+    ensures homes { homes.new.entries ≡ homes.old.entries }
+    ensures carried { stops.new.carried ≡ stops.old.carried }
+    ensures stopped { stops.new.stopped ≡ stops.old.stopped }
+{
+    homes.reserve(1)?;
+    stops.reserve()
+}
+
+/// Why a device does not make or stop a context.
+fn move_refusal(device: &Device, event: &Event) -> Option<Refusal>
+    requires { MakesOrStops event.now }
+    ensures { result ≡ refusal_of device.now event.now }
+{
+    match event {
+        Event::MakeContext { name } => device.context_refusal(*name),
+        Event::Stop { context, alone } => device.stop_refusal(*context, *alone),
+        _ => unreachable!(),
+    }
+}
+
+/// What is answered where there is no memory: the refusal that is due. Errors: `AllocError` where none is.
+pub(crate) fn refused_or_lacking(due: Option<Refusal>) -> Result<Answer, AllocError>
+    ensures { result ≡ told_due due }
+{
+    match due {
+        Some(refusal) => Ok(Answer::Refused(refusal)),
+        None => Err(AllocError),
     }
 }
 
 impl World {
-    /// The device at a place makes a step, and what it did is done to the world: its datagrams are sent, and the image of
-    /// a stopped context is carried.
+    /// The device at a place makes a step that makes, stops and restores no context, and its datagrams are sent.
     #[inline(always)]
     pub(crate) fn run(
         &mut self,
@@ -149,14 +195,51 @@ impl World {
     ) -> Result<Answer, AllocError>
         requires place { place < length self.old.devices }
         requires event { IsLawfulEvent event.now }
+        requires stays { mover event.now ≡ None }
         requires ready { IsReady self.old }
         ensures ok { IfOk result (λ answer. (d : Device) → slice_get self.old.devices place ≡ Some d
             → Makes (runs self.old d event.now) answer self.new) }
+        ensures never_out_of_memory { TakesNoMemory event.now → IsOk result }
+        ensures refused_first { OnErr result ((d : Device) → slice_get self.old.devices place
+            ≡ Some d → refusal_of d event.now ≡ None) }
         ensures err { OnErr result (self.new ≡ self.old) }
     {
-        self.homes.reserve(1)?;
-        self.carried.reserve(1)?;
-        self.stopped.reserve(1)?;
+        match self.devices[place].step(alloc, event) {
+            Ok(
+                Outcome {
+                    answer,
+                    sent,
+                    image: _,
+                },
+            ) => {
+                let address = self.devices[place].address();
+                Ok(send_outcome(&mut self.fabric, &mut self.draft, address, answer, sent))
+            }
+            Err(fault) => Err(fault),
+        }
+    }
+
+    /// The device at a place makes or stops a context, and what it did is done to the world: its datagrams are sent, and the
+    /// image of a stopped context is carried.
+    pub(crate) fn run_moving(
+        &mut self,
+        alloc: Global,
+        place: usize,
+        event: &Event,
+    ) -> Result<Answer, AllocError>
+        requires place { place < length self.old.devices }
+        requires event { IsLawfulEvent event.now }
+        requires moves { MakesOrStops event.now }
+        requires ready { IsReady self.old }
+        ensures ok { IfOk result (λ answer. (d : Device) → slice_get self.old.devices place ≡ Some d
+            → Makes (runs self.old d event.now) answer self.new) }
+        ensures refused_first { OnErr result ((d : Device) → slice_get self.old.devices place
+            ≡ Some d → refusal_of d event.now ≡ None) }
+        ensures err { OnErr result (self.new ≡ self.old) }
+    {
+        if make_room(&mut self.homes, &mut self.stops).is_err() {
+            return refused_or_lacking(move_refusal(&self.devices[place], event));
+        }
         match self.devices[place].step(alloc, event) {
             Ok(
                 Outcome {
@@ -166,15 +249,8 @@ impl World {
                 },
             ) => {
                 let address = self.devices[place].address();
-                let answer = send_outcome(
-                    &mut self.fabric,
-                    &mut self.devices,
-                    &self.ports,
-                    SendingDevice { place, address },
-                    answer,
-                    sent,
-                );
-                carry(&mut self.carried, &mut self.stopped, image);
+                let answer = send_outcome(&mut self.fabric, &mut self.draft, address, answer, sent);
+                carry(&mut self.stops, image);
                 note_home(
                     &mut self.homes,
                     self.devices.as_slice(),
@@ -186,7 +262,58 @@ impl World {
         }
     }
 
-    /// An end of a context of the device at a place transmits once, and its datagrams are sent.
+    /// The end of a name on the device at a place transmits once, or is refused, and its datagrams are sent.
+    fn transmit_named(
+        &mut self,
+        alloc: Global,
+        place: usize,
+        end: &ObjName,
+    ) -> Result<Answer, AllocError>
+        requires place { place < length self.old.devices }
+        requires ready { IsReady self.old }
+        ensures ok { IfOk result (λ answer. (d : Device) → slice_get self.old.devices place ≡ Some d
+            → Makes (runs self.old d (event.Transmit end.now)) answer self.new) }
+        ensures refused_first { OnErr result ((d : Device) → slice_get self.old.devices place
+            ≡ Some d → refusal_of d (event.Transmit end.now) ≡ None) }
+        ensures err { OnErr result (self.new ≡ self.old) }
+    {
+        match self.devices[place].transmit(alloc, end) {
+            Ok(Answered { answer, sent }) => {
+                let address = self.devices[place].address();
+                Ok(send_outcome(&mut self.fabric, &mut self.draft, address, answer, sent))
+            }
+            Err(fault) => Err(fault),
+        }
+    }
+
+    /// The connected end of a name on the device at a place, which was looked up before, transmits once, and its datagram is
+    /// sent.
+    fn transmit_end(
+        &mut self,
+        alloc: Global,
+        place: usize,
+        end: &ObjName,
+        at: EndPlace,
+    ) -> Result<Answer, AllocError>
+        requires place { place < length self.old.devices }
+        requires at { (d : Device) → slice_get self.old.devices place ≡ Some d
+            → IsAt d end.now at }
+        requires ready { IsReady self.old }
+        ensures ok { IfOk result (λ answer. (d : Device) → slice_get self.old.devices place ≡ Some d
+            → Makes (runs self.old d (event.Transmit end.now)) answer self.new) }
+        ensures err { OnErr result (self.new ≡ self.old) }
+    {
+        match self.devices[place].transmit_at(alloc, &mut self.draft, at) {
+            Ok(answer) => {
+                let address = self.devices[place].address();
+                Ok(send_drafted(&mut self.fabric, &mut self.draft, address, answer))
+            }
+            Err(fault) => Err(fault),
+        }
+    }
+
+    /// An end of a context of the device at a place transmits once, and its datagram is sent. Where memory lacks, the step by
+    /// name says which refusal is due, if one is.
     pub(crate) fn transmit_from(
         &mut self,
         alloc: Global,
@@ -197,21 +324,15 @@ impl World {
         requires ready { IsReady self.old }
         ensures ok { IfOk result (λ answer. (d : Device) → slice_get self.old.devices place ≡ Some d
             → Makes (runs self.old d (event.Transmit end.now)) answer self.new) }
+        ensures refused_first { OnErr result ((d : Device) → slice_get self.old.devices place
+            ≡ Some d → refusal_of d (event.Transmit end.now) ≡ None) }
         ensures err { OnErr result (self.new ≡ self.old) }
     {
-        match self.devices[place].transmit(alloc, end) {
-            Ok(Answered { answer, sent }) => {
-                let address = self.devices[place].address();
-                Ok(send_outcome(
-                    &mut self.fabric,
-                    &mut self.devices,
-                    &self.ports,
-                    SendingDevice { place, address },
-                    answer,
-                    sent,
-                ))
+        if let Some(at) = self.devices[place].place_of(end) {
+            if let Ok(answer) = self.transmit_end(alloc, place, end, at) {
+                return Ok(answer);
             }
-            Err(fault) => Err(fault),
         }
+        self.transmit_named(alloc, place, end)
     }
 }

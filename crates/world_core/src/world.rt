@@ -1,19 +1,21 @@
 //! A world, and its steps.
 
-ghost use Rattle.std.specs.Prelude.{◌≡◌, ◌<◌, ◌^◌, length, IfOk, IsOk, OnErr};
+ghost use Rattle.std.specs.Prelude.{◌≡◌, ◌<◌, ◌^◌, length, None, IfOk, IsOk, OnErr};
 ghost use Rattle.protocol.specs.Events.{IsLawfulWorldEvent};
 ghost use Rattle.protocol.specs.declared.events.Event.TheVariants as event;
 ghost use Rattle.protocol.specs.declared.events.WorldEvent.TheVariants as world_event;
 ghost use Rattle.protocol.specs.State.{empty_world};
 ghost use Rattle.protocol.specs.WorldStep.{world_step};
 ghost use Rattle.law_kept_datagrams.specs.Alike.{with_kept_datagrams};
+ghost use Rattle.world_core.specs.Causes.{world_refusal};
 ghost use Rattle.world_core.specs.Delivered.{DeliversWithin};
 ghost use Rattle.world_core.specs.Followed.{IsFollowed};
 ghost use Rattle.world_core.specs.Kept.{IsReady, Makes, TakesNoMemory};
 ghost use Rattle.world_core.specs.Places.{HaveOwnIds};
 
 use crate::laws::steps_are_followed;
-use device_core::{ContextImage, Device};
+use crate::stops::Stops;
+use device_core::{Device, Draft};
 use fabric::Fabric;
 use indexmap::IndexMap;
 use protocol::WorldEvent;
@@ -36,21 +38,22 @@ pub struct World {
     /// The place of the device where a context lives.
     pub(crate) homes: IndexMap<Name, usize>,
     pub(crate) fabric: Fabric,
-    pub(crate) carried: Vec<ContextImage>,
-    pub(crate) stopped: Vec<Name>,
+    pub(crate) stops: Stops,
+    /// What a step of a device sends, and memory for datagrams.
+    pub(crate) draft: Draft,
 }
 
 impl Model for World {
-    ghost use Rattle.std.specs.Prelude.{bytes_eq, nat_eq, reverse};
+    ghost use Rattle.std.specs.Prelude.{bytes_eq, nat_eq};
     ghost use Rattle.indexmap.specs.IndexMap.{get};
     ghost use Rattle.protocol.specs.State as state;
     ghost use Rattle.world_core.specs.Places.{AreParts, port_eq};
 
     ghost Value = { state.World };
 
-    ghost view = { λ w. record { devices = w.devices.items; sent = w.fabric; carried = w.carried.items; stopped = reverse w.stopped.items } };
+    ghost view = { λ w. record { devices = w.devices.items; sent = w.fabric; carried = w.stops.carried; stopped = w.stops.stopped } };
 
-    ghost invariant = { λ w. AreParts w.devices.items w.carried.items (λ k. get nat_eq w.ids k) (λ a. get port_eq w.ports a) (λ n. get bytes_eq w.homes n) };
+    ghost invariant = { λ w. AreParts w.devices.items w.stops.carried (λ k. get nat_eq w.ids k) (λ a. get port_eq w.ports a) (λ n. get bytes_eq w.homes n) };
 }
 
 impl World {
@@ -65,8 +68,8 @@ impl World {
             ports: IndexMap::new(alloc),
             homes: IndexMap::new(alloc),
             fabric,
-            carried: Vec::new(alloc),
-            stopped: Vec::new(alloc),
+            stops: Stops::make(alloc),
+            draft: Draft::make(alloc)?,
         })
     }
 
@@ -76,8 +79,9 @@ impl World {
     ///
     /// # Errors
     ///
-    /// `AllocError` when out of memory, or where 2^62 datagrams were sent; nothing has changed. A connection and
-    /// a loss take no memory.
+    /// `AllocError` when out of memory, and then no refusal is due, or where 2^62 datagrams were sent; nothing has changed. No
+    /// memory is taken for a connection, a loss and a release, for what takes none on a device (`Device::step`), and for the
+    /// delivery of a datagram that is gone, lost or aged, or does nothing where it comes.
     pub fn step(&mut self, alloc: Global, event: &WorldEvent) -> Result<Answer, AllocError>
         requires { IsLawfulWorldEvent event.now }
         ensures ok { IfOk result (λ answer. Makes (world_step self.old event.now) answer self.new) }
@@ -85,8 +89,10 @@ impl World {
         ensures touched { IfOk result (λ answer. DeliversWithin event.now self.old self.new) }
         ensures kept { with_kept_datagrams self.old ≡ self.old }
         ensures ids { HaveOwnIds self.old.devices }
-        ensures never_out_of_memory { TakesNoMemory event.now → length self.old.sent < 2 ^ 62
-            → IsOk result }
+        ensures never_out_of_memory { TakesNoMemory self.old event.now
+            → length self.old.sent < 2 ^ 62 → IsOk result }
+        ensures refused_first { length self.old.sent < 2 ^ 62
+            → OnErr result (world_refusal self.old event.now ≡ None) }
         ensures err { OnErr result (self.new ≡ self.old) }
     {
         steps_are_followed();
@@ -100,12 +106,15 @@ impl World {
     ///
     /// # Errors
     ///
-    /// `AllocError` when out of memory, or where 2^62 datagrams were sent; nothing has changed.
+    /// `AllocError` when out of memory, and then no refusal is due, or where 2^62 datagrams were sent; nothing has changed.
     pub fn transmit(&mut self, alloc: Global, end: &ObjName) -> Result<Answer, AllocError>
         ensures ok { IfOk result (λ answer. Makes
             (world_step self.old (world_event.At (event.Transmit end.now))) answer self.new) }
         ensures kept { with_kept_datagrams self.old ≡ self.old }
         ensures ids { HaveOwnIds self.old.devices }
+        ensures refused_first { length self.old.sent < 2 ^ 62
+            → OnErr result (world_refusal self.old (world_event.At (event.Transmit end.now))
+            ≡ None) }
         ensures err { OnErr result (self.new ≡ self.old) }
     {
         if self.fabric.next() > MOST_SENT {
@@ -120,7 +129,8 @@ impl World {
         requires ready { IsReady self.old }
         ensures ok { IfOk result (λ answer. Makes (world_step self.old event.now) answer self.new) }
         ensures touched { IfOk result (λ answer. DeliversWithin event.now self.old self.new) }
-        ensures never_out_of_memory { TakesNoMemory event.now → IsOk result }
+        ensures never_out_of_memory { TakesNoMemory self.old event.now → IsOk result }
+        ensures refused_first { OnErr result (world_refusal self.old event.now ≡ None) }
         ensures err { OnErr result (self.new ≡ self.old) }
     {
         match event {

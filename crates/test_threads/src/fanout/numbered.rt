@@ -9,11 +9,12 @@ use std::alloc::Global;
 use std::sync::Wait;
 use std::thread::Threads;
 
-/// Completions with the ids 0, 1 and so on, below `until`; and those that were given.
+/// Completions with the ids 0, 1 and so on, below `until`; those that were given; and whether memory ran out.
 #[derive(Drop)]
 struct Numbered {
     given: Vec<Completion>,
     until: usize,
+    is_out_of_memory: bool,
 }
 
 /// A completion with that id.
@@ -29,7 +30,11 @@ fn completion(id: u64) -> Completion {
 }
 
 impl Source for Numbered {
+    ghost use Rattle.std.specs.Prelude.{◌≡◌, ◌≤◌, false, length};
+
     ghost given = { λ s. s.given.items };
+
+    ghost ended = { λ s. s.is_out_of_memory ≡ false → s.until ≤ length s.given.items };
 
     fn next<R: Wait>(&mut self, _rt: &R) -> Option<Completion> {
         if self.given.len() >= self.until {
@@ -38,7 +43,10 @@ impl Source for Numbered {
         let next = completion(self.given.len() as u64);
         match self.given.push(next) {
             Ok(()) => Some(next),
-            Err(_) => None,
+            Err(_) => {
+                self.is_out_of_memory = true;
+                None
+            }
         }
     }
 }
@@ -61,11 +69,12 @@ fn handed_with<R: Threads + Wait + Sync>(
     capacity: usize,
     room: usize,
 ) -> Option<Counts>
-    requires { (1 ≤ consumers) × (consumers ≤ 4) × (1 ≤ capacity) }
+    requires { (1 ≤ consumers) × (consumers ≤ 4) }
 {
     let source = Numbered {
         given: Vec::new(alloc),
         until,
+        is_out_of_memory: false,
     };
     let (out, source, ()) = hand_out(
         rt,
@@ -97,7 +106,7 @@ fn handed<R: Threads + Wait + Sync>(
     until: usize,
     capacity: usize,
 ) -> Option<Counts>
-    requires { (1 ≤ consumers) × (consumers ≤ 4) × (1 ≤ capacity) }
+    requires { (1 ≤ consumers) × (consumers ≤ 4) }
 {
     handed_with(rt, alloc, consumers, until, capacity, until)
 }

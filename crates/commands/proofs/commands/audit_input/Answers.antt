@@ -1,6 +1,5 @@
-use Rattle.std.proofs.Common.{Err, Ok, ap, refl, subst, sym}
+use Rattle.std.proofs.Common.{Err, Ok, ap, refl, subst}
 use Rattle.host_ports.specs.declared.reading.ReadAllFault.TheVariants as read
-use Rattle.script_runner.specs.declared.fault.PlayFault.TheVariants as play
 use Rattle.script_runner.proofs.Prefixes.{if_err_is}
 use Rattle.commands.specs.declared.stop.Stop.TheVariants as stop
 use Rattle.run_traces.specs.Verdicts.{Audits}

@@ -1,8 +1,7 @@
-use Rattle.std.proofs.Common.{Err, Ok, ap, refl, sym}
+use Rattle.std.proofs.Common.{Err, Ok, ap, refl}
 use Rattle.host_ports.specs.declared.reading.ReadAllFault.TheVariants as read
 use Rattle.script_runner.specs.declared.fault.PlayFault.TheVariants as play
 use Rattle.script_runner.proofs.Prefixes.{if_err_is}
-use Rattle.commands.specs.declared.stop.Stop.TheVariants as stop
 use Rattle.commands.specs.Stopping.{PlayStops, counts_of, over, stop_of_play, stop_of_read}
 use Rattle.commands.proofs.Stops.{counted_err, ok_or, output_counts, played_counts, read_stopped, same_err, unread_counts}
 use Rattle.commands.proofs.commands.play_input.Goals as goal

@@ -1,4 +1,4 @@
-use Rattle.std.proofs.Common.{Err, Ok, ap, refl, subst, sym}
+use Rattle.std.proofs.Common.{Err, Ok, ap, refl, subst}
 use Rattle.host_ports.specs.declared.reading.ReadAllFault.TheVariants as read
 use Rattle.host_ports.specs.Streams.{Puts}
 use Rattle.trace_rules.specs.Recording.{IsFaultOf, IsTraceOf}

@@ -1,4 +1,4 @@
-use Rattle.std.proofs.Common.{Err, ap, refl, sym, ◌∙◌}
+use Rattle.std.proofs.Common.{Err, ap, sym, ◌∙◌}
 use Rattle.dump_writer.specs.Text.{text_of}
 use Rattle.commands.specs.Stopping.{run_of}
 use Rattle.commands.proofs.Ending.{cut_ends, done_ends, stop_4, stop_7, stop_ends}

@@ -47,6 +47,14 @@ pub returns-clause-address : goal.returns-clause-address
 unfolding usage_sentence sentence named complaint shown wanted cause meaning line_meaning dump_meaning trace_meaning stay_meaning begins ends form_of is_alone number_in name_of address_of host_of part_of cut_at digits
 returns-clause-address c = refl
 
+pub returns-clause-option : goal.returns-clause-option
+unfolding usage_sentence sentence named complaint shown wanted cause meaning line_meaning dump_meaning trace_meaning stay_meaning begins ends form_of is_alone number_in name_of address_of host_of part_of cut_at digits
+returns-clause-option c = refl
+
+pub returns-clause-behind : goal.returns-clause-behind
+unfolding usage_sentence sentence named complaint shown wanted cause meaning line_meaning dump_meaning trace_meaning stay_meaning begins ends form_of is_alone number_in name_of address_of host_of part_of cut_at digits
+returns-clause-behind c = refl
+
 pub returns-clause-twice : goal.returns-clause-twice
 unfolding usage_sentence sentence named complaint shown wanted cause meaning line_meaning dump_meaning trace_meaning stay_meaning begins ends form_of is_alone number_in name_of address_of host_of part_of cut_at digits
 returns-clause-twice c = refl

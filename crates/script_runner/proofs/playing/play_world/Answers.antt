@@ -1,8 +1,9 @@
-use Rattle.std.proofs.Common.{arith, Err, inl, inr, subst, sym, refl, ◌∙◌}
+use Rattle.std.proofs.Common.{ℕ, ap, arith, Err, inl, inr, subst, sym, refl, ◌∙◌}
+use Rattle.host_ports.specs.Streams.{FaultsCounted}
 use Rattle.protocol.specs.State.{World, empty_world}
 use Rattle.script_runner.specs.Playing.{IfBadLine, IsPlayedTo, IsStoppedAt}
 use Rattle.script_runner.specs.declared.fault.PlayFault.TheVariants.{WriteFault}
-use Rattle.script_runner.proofs.Faults.{still_err}
+use Rattle.script_runner.proofs.Faults.{still_err, was_err}
 use Rattle.script_runner.proofs.Prefixes.{if_err_is, on_err}
 use Rattle.script_runner.proofs.Played.{next_number, start, whole, world_after}
 use Rattle.script_runner.proofs.playing.play_world.Goals as goal
@@ -25,6 +26,14 @@ returns-in_err-play_line-clause-faults_unchanged g c = elim c.in_err-play_line.e
   | inl e ↦ inl (still_err c.from_residual-in_err-play_line.result (Err c.in_err-play_line.field-0.0) c.in_err-play_line.field-0.0 WriteFault c.from_residual-in_err-play_line.ensures.1 refl e)
   | inr h ↦ inr (h ∙ c.loop-line.invariant.faults_unchanged)
 ]
+
+pub returns-in_err-play_line-clause-faults_counted : goal.returns-in_err-play_line-clause-faults_counted
+returns-in_err-play_line-clause-faults_counted g c = λ h.
+    subst (λ (n : ℕ). FaultsCounted n (g.K.Sink.faults c.play_line.new.output)) c.loop-line.invariant.faults_unchanged
+    (c.in_err-play_line.ensures.faults_counted (ap (λ f. Err f) (was_err c.from_residual-in_err-play_line.result c.in_err-play_line.field-0.0 WriteFault c.from_residual-in_err-play_line.ensures.1 h)))
+
+pub returns-in_err-play_line-clause-followed : goal.returns-in_err-play_line-clause-followed
+returns-in_err-play_line-clause-followed g c = c.scripts_are_followed.ensures.whole c.args.input.now
 
 pub returns-clause-whole : goal.returns-clause-whole
 returns-clause-whole g c = (whole c.scripts_are_played_line_by_line.ensures.ends (g.K.Sink.held c.args.output.now) (g.K.Sink.held c.loop-line.output) c.args.input.now c.loop-line.world c.loop-line.number c.loop-line.lines c.in_default.ensures.end c.loop-line.invariant.played).1

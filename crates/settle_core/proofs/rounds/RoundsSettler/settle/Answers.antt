@@ -24,7 +24,7 @@ returns-clause-settled c =
     c.in_ok-rounds.ensures.ok c.in_ok-unfinished.ensures
 
 pub returns-clause-quiet : goal.returns-clause-quiet
-returns-clause-quiet c = λ lawful. c.settled_worlds_are_quiet.ensures c.args.world.now c.go_round.new.world _ lawful (returns-clause-settled c)
+returns-clause-quiet c = c.settled_worlds_are_quiet.ensures c.args.world.now c.go_round.new.world _ c.next-next.ensures.lawful (returns-clause-settled c)
 
 pub returns-clause-bounded : goal.returns-clause-bounded
 returns-clause-bounded c =

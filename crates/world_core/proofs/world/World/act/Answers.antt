@@ -1,10 +1,12 @@
 -- Each event is done by its own call.
-use Rattle.std.proofs.Common.{sym, subst}
-use Rattle.std.specs.Prelude.{IfOk}
+use Rattle.std.proofs.Common.{◌≡◌, refl, sym, subst}
+use Rattle.std.specs.Prelude.{IfOk, IsOk, None, OnErr}
 use Rattle.protocol.specs.WorldStep.{world_step}
-use Rattle.world_core.specs.Kept.{Makes}
+use Rattle.world_core.specs.Causes.{world_refusal}
+use Rattle.world_core.specs.Kept.{Makes, TakesNoMemory}
 use Rattle.world_core.specs.Delivered.{DeliversWithin}
 use Rattle.world_core.proofs.Delivering.{delivers-other, delivers-otherwise}
+use Rattle.world_core.proofs.Lacking.{holds_at_err, never_err}
 use Rattle.world_core.proofs.world.World.act.Goals as goal
 
 pub returns-in-AddDevice-clause-ok : goal.returns-in-AddDevice-clause-ok
@@ -76,3 +78,36 @@ returns-in-Release-clause-touched c = delivers-other _ _ _ _ _ c.in-Release.is t
 
 pub returns-in-Deliver-clause-touched : goal.returns-in-Deliver-clause-touched
 returns-in-Deliver-clause-touched c = subst (λ e. IfOk c.deliver.result (λ answer. DeliversWithin e c.args.self.now c.deliver.new.self)) (sym c.in-Deliver.is) c.deliver.ensures.touched
+
+pub returns-in-AddDevice-clause-refused_first : goal.returns-in-AddDevice-clause-refused_first
+returns-in-AddDevice-clause-refused_first c = subst (λ e. OnErr c.add_device.result (world_refusal c.args.self.now e ≡ None)) (sym c.in-AddDevice.is) c.add_device.ensures.refused_first
+
+pub returns-in-MakeContext-clause-refused_first : goal.returns-in-MakeContext-clause-refused_first
+returns-in-MakeContext-clause-refused_first c = subst (λ e. OnErr c.make_context.result (world_refusal c.args.self.now e ≡ None)) (sym c.in-MakeContext.is) c.make_context.ensures.refused_first
+
+pub returns-in-At-clause-refused_first : goal.returns-in-At-clause-refused_first
+returns-in-At-clause-refused_first c = subst (λ e. OnErr c.step_at.result (world_refusal c.args.self.now e ≡ None)) (sym c.in-At.is) c.step_at.ensures.refused_first
+
+pub returns-in-Deliver-clause-refused_first : goal.returns-in-Deliver-clause-refused_first
+returns-in-Deliver-clause-refused_first c = subst (λ e. OnErr c.deliver.result (world_refusal c.args.self.now e ≡ None)) (sym c.in-Deliver.is) (holds_at_err c.deliver.result refl)
+
+pub returns-in-Wire-clause-refused_first : goal.returns-in-Wire-clause-refused_first
+returns-in-Wire-clause-refused_first c = subst (λ e. OnErr c.wire.result (world_refusal c.args.self.now e ≡ None)) (sym c.in-Wire.is) (holds_at_err c.wire.result refl)
+
+pub returns-in-Stop-clause-refused_first : goal.returns-in-Stop-clause-refused_first
+returns-in-Stop-clause-refused_first c = subst (λ e. OnErr c.stop.result (world_refusal c.args.self.now e ≡ None)) (sym c.in-Stop.is) c.stop.ensures.refused_first
+
+pub returns-in-Restore-clause-refused_first : goal.returns-in-Restore-clause-refused_first
+returns-in-Restore-clause-refused_first c = subst (λ e. OnErr c.restore.result (world_refusal c.args.self.now e ≡ None)) (sym c.in-Restore.is) c.restore.ensures.refused_first
+
+pub returns-in-Release-clause-refused_first : goal.returns-in-Release-clause-refused_first
+returns-in-Release-clause-refused_first c = subst (λ e. OnErr c.release.result (world_refusal c.args.self.now e ≡ None)) (sym c.in-Release.is) (never_err _ c.release.result c.release.ensures.never_out_of_memory)
+
+pub returns-in-At-clause-never_out_of_memory : goal.returns-in-At-clause-never_out_of_memory
+returns-in-At-clause-never_out_of_memory c = subst (λ e. TakesNoMemory c.args.self.now e → IsOk c.step_at.result) (sym c.in-At.is) c.step_at.ensures.never_out_of_memory
+
+pub returns-in-Deliver-clause-never_out_of_memory : goal.returns-in-Deliver-clause-never_out_of_memory
+returns-in-Deliver-clause-never_out_of_memory c = subst (λ e. TakesNoMemory c.args.self.now e → IsOk c.deliver.result) (sym c.in-Deliver.is) c.deliver.ensures.never_out_of_memory
+
+pub returns-in-Release-clause-never_out_of_memory : goal.returns-in-Release-clause-never_out_of_memory
+returns-in-Release-clause-never_out_of_memory c = λ none. c.release.ensures.never_out_of_memory

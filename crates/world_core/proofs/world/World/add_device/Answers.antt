@@ -1,5 +1,5 @@
 -- A device more, whose id is its own.
-use Rattle.std.proofs.Common.{◌≡◌, ◌∙◌, ◌∷◌, [], ◌++◌, false, refl, reverse, ap, sym, length, nat_eq, nat_le}
+use Rattle.std.proofs.Common.{◌≡◌, ◌∙◌, ◌∷◌, [], ◌++◌, false, refl, ap, sym, length, nat_eq, nat_le}
 use Rattle.rdma_types.specs.Causes.{first_cause}
 use Rattle.rdma_types.specs.Limits.{most_devices}
 use Rattle.rdma_types.specs.Lists.{some}
@@ -26,7 +26,7 @@ invariant_of-self-2 c =
     not_taken (has_device c.args.self.now c.args.id) (some (λ d. same_address d.address c.args.address) c.args.self.now.devices) (nat_le most_devices (length c.args.self.now.devices)) (sym c.device_refusal.ensures ∙ c.in_default.is) in
     let apart : some (λ d. same_address d.address c.args.address) c.args.self.now.devices ≡ false =
     free_address (has_device c.args.self.now c.args.id) (some (λ d. same_address d.address c.args.address) c.args.self.now.devices) (nat_le most_devices (length c.args.self.now.devices)) (sym c.device_refusal.ensures ∙ c.in_default.is) in
-    parts_more c.args.self.now (λ k. get nat_eq c.self.inside.ids k) _ (λ a. get port_eq c.self.inside.ports a) _ _ c.self.inside.devices.items c.self.inside.carried.items c.push_reserved.new.self.items c.in_ok-device.device c.args.id c.args.address
+    parts_more c.args.self.now (λ k. get nat_eq c.self.inside.ids k) _ (λ a. get port_eq c.self.inside.ports a) _ _ c.self.inside.devices.items c.self.inside.stops.carried c.push_reserved.new.self.items c.in_ok-device.device c.args.id c.args.address
     (ap (λ (w : World). w.devices) c.self.view_is) c.self.invariant free apart c.in_ok-device.ensures
     (c.push_reserved.ensures.items ∙ ap (λ ds. ds ++ c.in_ok-device.device ∷ []) c.reserve.ensures.items)
     (put_noted nat_eq _ _ _ _ _ _ c.put_place.ensures place c.reserve-2.ensures.entries)
@@ -35,7 +35,7 @@ invariant_of-self-2 c =
 pub returns-clause-ok : goal.returns-clause-ok
 unfolding adds_device
 returns-clause-ok c =
-    let v : World = record { devices = c.self.inside.devices.items; sent = c.self.inside.fabric; carried = c.self.inside.carried.items; stopped = reverse c.self.inside.stopped.items } in
+    let v : World = record { devices = c.self.inside.devices.items; sent = c.self.inside.fabric; carried = c.self.inside.stops.carried; stopped = c.self.inside.stops.stopped } in
     passes c.args.self.now (first_cause (device_causes c.args.self.now c.args.id c.args.address)) _ answer.Done _ (sym c.device_refusal.ensures ∙ c.in_default.is)
     (record {
       answered = refl;

@@ -1,13 +1,12 @@
 -- The first carried image with the name.
-use Rattle.std.proofs.Common.{◌≡◌, ◌∙◌, sym, ap, subst, bytes_eq, Bor, Option, None, Some, rules, tests}
+use Rattle.std.proofs.Common.{◌≡◌, ◌∙◌, sym, ap, subst, bytes_eq, Bor, Option, None, Some}
 use Rattle.std.specs.Prelude.{IfSome}
 use Rattle.protocol.specs.Lawful.{IsLawful}
 use Rattle.protocol.specs.declared.images.ContextImage.{ContextImage}
 use Rattle.std.specs.List.{find}
 use Rattle.std.specs.Option.{option_copied}
-use Rattle.std.proofs.lemmas.Iterator.{YieldsList-from_slice}
-use Rattle.std.proofs.lemmas.Iterator.Search.{find_from_yields_List}
 use Rattle.rdma_types.specs.Lists.{first_that}
+use Rattle.protocol.specs.State.{World}
 use Rattle.protocol.specs.WorldStep.{carried_image}
 use Rattle.world_core.proofs.Places.{find_keeps, first_that-find}
 use Rattle.world_core.proofs.world.World.carried.Goals as goal
@@ -19,12 +18,10 @@ is_lawful (Some image) h = h
 pub returns-clause-image : goal.returns-clause-image
 unfolding carried_image
 returns-clause-image c =
-    let found : option_copied c.find.result ≡ find (λ x. bytes_eq x.name c.args.context) c.self.inside.carried.items =
-    find_from_yields_List (λ x. bytes_eq x.name c.args.context) _ _ c.find.result c.find.ensures.ran (YieldsList-from_slice c.self.inside.carried.items cc) (λ x b q k. search (rules, tests)) in
-    found ∙ (sym (first_that-find (λ x. bytes_eq x.name c.args.context) c.self.inside.carried.items) ∙ ap (λ w. first_that (λ x. bytes_eq x.name c.args.context) w.carried) c.self.view_is)
+    c.image_of.ensures ∙ ap (λ (w : World). first_that (λ x. bytes_eq x.name c.args.context) w.carried) c.self.view_is
 
 pub returns-clause-lawful : goal.returns-clause-lawful
 returns-clause-lawful c =
-    let found : option_copied c.find.result ≡ find (λ x. bytes_eq x.name c.args.context) c.self.inside.carried.items =
-    find_from_yields_List (λ x. bytes_eq x.name c.args.context) _ _ c.find.result c.find.ensures.ran (YieldsList-from_slice c.self.inside.carried.items cc) (λ x b q k. search (rules, tests)) in
-    is_lawful c.find.result (subst (λ o. IfSome o IsLawful) (sym found) (find_keeps IsLawful (λ x. bytes_eq x.name c.args.context) c.self.inside.carried.items c.self.invariant.lawful))
+    let found : option_copied c.image_of.result ≡ find (λ x. bytes_eq x.name c.args.context) c.self.inside.stops.carried =
+    c.image_of.ensures ∙ first_that-find (λ x. bytes_eq x.name c.args.context) c.self.inside.stops.carried in
+    is_lawful c.image_of.result (subst (λ o. IfSome o IsLawful) (sym found) (find_keeps IsLawful (λ x. bytes_eq x.name c.args.context) c.self.inside.stops.carried c.self.invariant.lawful))

@@ -14,7 +14,7 @@ invariant_of-self c =
     let lt : c.args.here.now.place < length ds = subst (λ (w : World). c.args.here.now.place < length w.devices) (sym c.self.view_is) c.requires.here in
     let here : slice_get ds c.args.here.now.place ≡ Some c.index_mut.result.now = slice_get_read ds (length ds) c.args.here.now.place c.index_mut.result.now refl lt c.index_mut.ensures.value in
     let step : device_step c.index_mut.result.now (event.Connect c.args.end.now c.args.there.now.number c.args.there.now.address c.args.terms.now) ≡ record { device = c.step.new.self; outcome = c.unwrap-outcome.result } = search rules in
-    parts_after _ _ _ _ ds c.self.inside.carried.items c.args.here.now.place c.index_mut.result.now c.step.new.self
+    parts_after _ _ _ _ ds c.self.inside.stops.carried c.args.here.now.place c.index_mut.result.now c.step.new.self
     (event.Connect c.args.end.now c.args.there.now.number c.args.there.now.address c.args.terms.now) c.unwrap-outcome.result c.self.invariant here c.step.ensures.id c.step.ensures.address step (λ m. refl)
 
 pub returns-clause-joined : goal.returns-clause-joined

@@ -4,6 +4,7 @@ use Rattle.rdma_types.specs.declared.answers.Answer.TheVariants as answer
 use Rattle.protocol.specs.Fabric.{IsGone, IsLost, took}
 use Rattle.protocol.specs.State.{World}
 use Rattle.world_core.proofs.Delivering.{delivered-by, delivers-nothing}
+use Rattle.world_core.proofs.Lacking.{comes_nothing}
 use Rattle.world_core.proofs.Networks.{comes_found, taken_aged, taken_by, taken_nowhere, untaken}
 use Rattle.world_core.proofs.world.World.deliver.Goals as goal
 
@@ -45,3 +46,6 @@ returns-in-Comes-clause-touched c = delivered-by c.arrive.result c.args.self.now
 
 pub arrive-requires-clause-found : goal.arrive-requires-clause-found
 arrive-requires-clause-found c = comes_found c.in-Comes.ensures
+
+pub returns-in-Comes-clause-never_out_of_memory : goal.returns-in-Comes-clause-never_out_of_memory
+returns-in-Comes-clause-never_out_of_memory c = λ none. c.arrive.ensures.never_out_of_memory (comes_nothing c.args.self.now c.args.k c.in-Comes.place c.in-Comes.found c.in-Comes.ensures none)

@@ -12,6 +12,6 @@ use Rattle.world_core.proofs.world.World.has_ended_carried.Goals as goal
 
 pub returns : goal.returns
 returns c =
-    let found : c.any.result ≡ list_any (λ x. some (λ e. e.number == c.args.number && is_ended_image e) x.ends) c.self.inside.carried.items =
-    any_from_yields_List (λ x. some (λ e. e.number == c.args.number && is_ended_image e) x.ends) _ _ c.any.result c.any.ensures.ran (YieldsList-from_slice c.self.inside.carried.items cc) (λ x b q k. search (rules, tests)) in
-    found ∙ (sym (some-any (λ x. some (λ e. e.number == c.args.number && is_ended_image e) x.ends) c.self.inside.carried.items) ∙ ap (λ (w : World). some (λ x. some (λ e. e.number == c.args.number && is_ended_image e) x.ends) w.carried) c.self.view_is)
+    let found : c.any.result ≡ list_any (λ x. some (λ e. e.number == c.args.number && is_ended_image e) x.ends) c.self.inside.stops.carried =
+    any_from_yields_List (λ x. some (λ e. e.number == c.args.number && is_ended_image e) x.ends) _ _ c.any.result c.any.ensures.ran (YieldsList-from_slice c.self.inside.stops.carried cc) (λ x b q k. search (rules, tests)) in
+    found ∙ (sym (some-any (λ x. some (λ e. e.number == c.args.number && is_ended_image e) x.ends) c.self.inside.stops.carried) ∙ ap (λ (w : World). some (λ x. some (λ e. e.number == c.args.number && is_ended_image e) x.ends) w.carried) c.self.view_is)

@@ -1,7 +1,7 @@
 -- It lives, or its image is carried.
 use Rattle.std.proofs.Common.{◌≡◌, ◌∙◌, ap, sym, is_some, true, false, ◌||◌}
 use Rattle.protocol.specs.WorldStep.{is_carried, is_live}
-use Rattle.world_core.proofs.Worlds.{carried_there, lives_there}
+use Rattle.world_core.proofs.Worlds.{lives_there}
 use Rattle.world_core.proofs.world.World.is_known.Goals as goal
 
 pub returns-then-is_some : goal.returns-then-is_some
@@ -14,4 +14,4 @@ pub returns-else-is_some : goal.returns-else-is_some
 returns-else-is_some c =
     let w = c.args.self.now in
     let live : is_live w c.args.context ≡ false = sym (lives_there w c.args.context) ∙ (ap (λ o. is_some o) (sym c.home_of.ensures) ∙ (sym c.is_some.ensures ∙ c.if-is_some.false)) in
-    c.is_some-else-is_some.ensures ∙ (ap (λ o. is_some o) c.image_of.ensures ∙ (carried_there w c.args.context ∙ sym (ap (λ b. b || is_carried w c.args.context) live)))
+    c.is_carried.ensures ∙ sym (ap (λ b. b || is_carried w c.args.context) live)

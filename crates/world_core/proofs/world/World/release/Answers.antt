@@ -25,3 +25,6 @@ returns-in-None-clause-ok c =
     let w = c.args.self.now in
     refused w _ refusal.NoSuch _ c.requires.ready.kept
     (holds_first refusal.NoSuch (not (has_device w c.args.device)) _ (not_false _ (no_device_there w c.args.device (sym c.place_of.ensures ∙ c.in-None.is))))
+
+pub returns-in-Some-clause-never_out_of_memory : goal.returns-in-Some-clause-never_out_of_memory
+returns-in-Some-clause-never_out_of_memory c = c.run.ensures.never_out_of_memory tt

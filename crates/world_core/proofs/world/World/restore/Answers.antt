@@ -7,7 +7,7 @@ use Rattle.rdma_types.specs.declared.answers.Refusal.TheVariants as refusal
 use Rattle.protocol.specs.WorldStep.{carried_image, has_device, restores, restores_image}
 use Rattle.world_core.specs.Kept.{Makes}
 use Rattle.world_core.proofs.Causes.{holds_first, holds_not, no_cause, not_false, not_true, or_left, or_neither, or_right}
-use Rattle.world_core.proofs.Restoring.{not_carried, restores_there}
+use Rattle.world_core.proofs.Restoring.{none_due_there, not_carried, restores_there}
 use Rattle.world_core.proofs.Worlds.{device_stays, no_device_there, passes, refused, stays}
 use Rattle.world_core.proofs.world.World.restore.Goals as goal
 
@@ -41,4 +41,9 @@ returns-in_default-image_of-clause-ok c =
 pub returns-clause-ok : goal.returns-clause-ok
 returns-clause-ok c =
     restores_there c.put_back.result c.args.self.now c.put_back.new.self c.args.context c.args.device c.in-Some.place c.in-Some-image_of.spot c.put_back.ensures.ok
+    (sym c.place_of.ensures ∙ c.in-Some.is) (sym c.was_stopped.ensures ∙ c.if-not-was_stopped.false) (sym c.image_of.ensures ∙ c.in-Some-image_of.is)
+
+pub returns-clause-refused_first : goal.returns-clause-refused_first
+returns-clause-refused_first c =
+    none_due_there c.put_back.result c.args.self.now c.args.context c.args.device c.in-Some.place c.in-Some-image_of.spot c.put_back.ensures.refused_first
     (sym c.place_of.ensures ∙ c.in-Some.is) (sym c.was_stopped.ensures ∙ c.if-not-was_stopped.false) (sym c.image_of.ensures ∙ c.in-Some-image_of.is)

@@ -6,6 +6,7 @@ use Rattle.rdma_types.specs.declared.answers.Refusal.TheVariants as refusal
 use Rattle.protocol.specs.declared.events.Event.TheVariants as event
 use Rattle.protocol.specs.WorldStep.{home, is_carried, is_live, live_context, partner_moves, runs, stops}
 use Rattle.world_core.proofs.Causes.{at_home, holds_first, holds_not, no_cause}
+use Rattle.world_core.proofs.Lacking.{none_due}
 use Rattle.world_core.proofs.Worlds.{lives, passes, refused, run_makes}
 use Rattle.world_core.proofs.world.World.stop.Goals as goal
 
@@ -31,7 +32,18 @@ returns-clause-ok c =
     let n = c.args.context in
     let at = lives w n c.in-Ok.place c.in-Ok.ensures.home in
     let stays : some (λ e. partner_moves w e.link) (live_context w n).ends ≡ false = sym (c.is_held.ensures (home w n) at.here) ∙ c.if-is_held.false in
-    run_makes c.run.result w c.run.new.self c.in-Ok.place (home w n) (event.Stop n false) _ c.run.ensures.ok at.here
-    (λ a made. passes w _ (runs w (home w n) (event.Stop n false)) a c.run.new.self
+    run_makes c.run_moving.result w c.run_moving.new.self c.in-Ok.place (home w n) (event.Stop n false) _ c.run_moving.ensures.ok at.here
+    (λ a made. passes w _ (runs w (home w n) (event.Stop n false)) a c.run_moving.new.self
     (at_home (is_live w n) (is_carried w n) (cause refusal.PeerMoving (some (λ e. partner_moves w e.link) (live_context w n).ends) ∷ []) at.live
     ∙ (holds_not refusal.PeerMoving (some (λ e. partner_moves w e.link) (live_context w n).ends) [] stays ∙ no_cause)) made)
+
+pub returns-clause-refused_first : goal.returns-clause-refused_first
+unfolding live_context
+returns-clause-refused_first c =
+    let w = c.args.self.now in
+    let n = c.args.context in
+    let at = lives w n c.in-Ok.place c.in-Ok.ensures.home in
+    let stays : some (λ e. partner_moves w e.link) (live_context w n).ends ≡ false = sym (c.is_held.ensures (home w n) at.here) ∙ c.if-is_held.false in
+    none_due c.run_moving.result w c.in-Ok.place (home w n) (event.Stop n false) _
+    (at_home (is_live w n) (is_carried w n) (cause refusal.PeerMoving (some (λ e. partner_moves w e.link) (live_context w n).ends) ∷ []) at.live
+    ∙ (holds_not refusal.PeerMoving (some (λ e. partner_moves w e.link) (live_context w n).ends) [] stays ∙ no_cause)) at.here c.run_moving.ensures.refused_first

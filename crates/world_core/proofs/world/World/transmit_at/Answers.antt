@@ -3,6 +3,7 @@ use Rattle.std.proofs.Common.{◌∙◌, []}
 use Rattle.protocol.specs.WorldStep.{home, is_carried, is_live, runs, steps_at}
 use Rattle.protocol.specs.declared.events.Event.TheVariants as event
 use Rattle.world_core.proofs.Causes.{at_home, no_cause}
+use Rattle.world_core.proofs.Lacking.{none_due}
 use Rattle.world_core.proofs.Worlds.{lives, passes, refused, run_makes}
 use Rattle.world_core.proofs.world.World.transmit_at.Goals as goal
 
@@ -18,3 +19,10 @@ returns-in-Ok-clause-ok c =
 pub returns-in-Err-clause-ok : goal.returns-in-Err-clause-ok
 unfolding steps_at
 returns-in-Err-clause-ok c = refused c.args.self.now _ c.in-Err.refusal _ c.requires.ready.kept (c.in-Err.ensures.refusal [])
+
+pub returns-in-Ok-clause-refused_first : goal.returns-in-Ok-clause-refused_first
+returns-in-Ok-clause-refused_first c =
+    let w = c.args.self.now in
+    let n = c.args.end.now.context in
+    let at = lives w n c.in-Ok.place c.in-Ok.ensures.home in
+    none_due c.transmit_from.result w c.in-Ok.place (home w n) (event.Transmit c.args.end.now) _ (at_home (is_live w n) (is_carried w n) [] at.live ∙ no_cause) at.here c.transmit_from.ensures.refused_first

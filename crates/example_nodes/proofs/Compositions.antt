@@ -1,0 +1,233 @@
+-- The calls of a plan where the outside answers so, and what the three nodes do.
+use Rattle.std.proofs.Common.{arith, ◌≡◌, ℕ, ◌<◌, true, List, [], ◌∷◌, ◌++◌, length, Some, ap, inl, refl, subst, sym}
+use Rattle.std.specs.Prelude.{All, codes}
+use Rattle.std.proofs.lemmas.List.Elements.{All-cons, All-nil}
+use Rattle.protocol.specs.declared.events.WorldEvent.{WorldEvent}
+use Rattle.protocol.specs.State.{empty_world}
+use Rattle.protocol.specs.WorldStep.{world_after}
+use Rattle.law_simulation.specs.Law.{IsInRange, IsRequestInRange}
+use Rattle.node_rules.specs.Plan.{Asks, Leads, Looks, Plan, Puts, Removes, Sends, Starts, Takes, Writes}
+use Rattle.node_rules.specs.Script.{node_plan}
+use Rattle.order_rules.specs.AnyOpening.{ArePreparing}
+use Rattle.order_rules.specs.Evaluate.{opened}
+use Rattle.order_rules.specs.Sides.{IsInTimeLine, IsOneSidedLine}
+use Rattle.law_nodes.specs.Acts as act
+use Rattle.law_nodes.specs.Acts.{IsDump, MayDoAll, Standing, beginning, outcome_of}
+use Rattle.protocol.specs.declared.events.Event.TheVariants as event
+use Rattle.protocol.specs.declared.images.Outcome.{Outcome}
+use Rattle.law_nodes.specs.Composed.{AreComposed, AreDumpsTaken, Deed, IsAtHome, IsNodeRun, IsOfNode, IsPreparedBy, IsWholeIn, MakesNone, ReadsBack, dump_if, moved_on, acts_on, lines_from, lines_of_deeds, node_at, openings_of, standings_of}
+use Rattle.example_rules.proofs.WorldOrders.{EachAfter, each_of}
+use Rattle.example_nodes.specs.Composition.{Gives, Holds, Reply, Ticks, before_the_stop, calls_with, dump, events, left_with, moving, nodes, order, partner, partner_hears, partner_polls, partner_posts, partner_prepares, partner_script, partner_serves, request, source, source_hears, source_prepares, source_script, source_serves, stops_b, target, target_hears, target_loads, target_restores, target_script, three}
+use Rattle.example_nodes.specs.Things.{one, two}
+use Rattle.example_nodes.specs.Evaluate.{run_of, spelled}
+
+-- the plan leads through them
+pub leads_with : (p : Plan) (rs : List Reply) → Leads p (calls_with p rs) (left_with p rs)
+unfolding calls_with left_with
+leads_with (Starts own more) rs = (more, (refl, refl), leads_with more rs)
+leads_with (Sends datagram more) rs = (more, (refl, refl), leads_with more rs)
+leads_with (Puts name bytes more) rs = (more, (refl, refl, refl), leads_with more rs)
+leads_with (Writes text more) rs = (more, (refl, refl), leads_with more rs)
+leads_with (Takes more) (Gives got ∷ rs) = (more got, refl, leads_with (more got) rs)
+leads_with (Asks more) (Ticks moment ∷ rs) = (more moment, refl, leads_with (more moment) rs)
+leads_with (Looks name more) (Holds found ∷ rs) = (more found, (refl, refl), leads_with (more found) rs)
+leads_with (Removes name more) (Holds found ∷ rs) = (more found, (refl, refl), leads_with (more found) rs)
+leads_with plan rs = refl
+
+-- ---- the dump
+
+reads : IsDump dump moving
+unfolding opened run_of spelled
+reads = (length dump, [], refl)
+
+-- where the nodes stand after some deeds
+abbrev moved : (ℕ → Standing) → List Deed → ℕ → Standing
+moved at [] = at
+moved at (x ∷ xs) = moved (moved_on at x) xs
+
+abbrev stopped : Outcome
+stopped = outcome_of (moved (standings_of nodes) before_the_stop 2) (event.Stop (codes "b") true)
+
+image_is : stopped.image ≡ Some moving
+unfolding opened run_of spelled node_at
+image_is = refl
+
+-- ---- the runs
+
+request_in_range : IsRequestInRange request
+request_in_range = record { remote = omega arith; rkey = omega arith; swap_add = omega arith; compare = omega arith; no_compare = λ h. refl; imm = tt; word = λ h. absurd (cc) }
+
+bytes_in_range : All (λ b. b < 256) (222 ∷ 173 ∷ 190 ∷ 239 ∷ [])
+bytes_in_range = All-cons (λ b. b < 256) 222 (173 ∷ 190 ∷ 239 ∷ []) (omega arith) (All-cons (λ b. b < 256) 173 (190 ∷ 239 ∷ []) (omega arith) (All-cons (λ b. b < 256) 190 (239 ∷ []) (omega arith) (All-cons (λ b. b < 256) 239 [] (omega arith) (All-nil (λ b. b < 256)))))
+
+may_partner : MayDoAll (beginning 1 one) (partner_prepares ++ (partner_posts ++ (partner_serves ++ partner_polls ∷ [])))
+may_partner = (tt, (tt, (tt, ((omega arith, omega arith, omega arith, omega arith), ((omega arith, omega arith), ((omega arith, omega arith, omega arith, omega arith), (tt, (bytes_in_range, (request_in_range, (tt, (tt, (tt, (tt, (tt, (tt, (tt, (tt, (tt, tt))))))))))))))))))
+
+may_source : MayDoAll (beginning 2 two) (source_prepares ++ (source_serves ++ stops_b ∷ []))
+may_source = (tt, (tt, (tt, ((omega arith, omega arith, omega arith, omega arith), ((omega arith, omega arith), ((omega arith, omega arith, omega arith, omega arith), (tt, (tt, (tt, (tt, (tt, (tt, tt))))))))))))
+
+pub partner_runs : IsNodeRun partner
+unfolding run_of spelled calls_with
+partner_runs = record {
+  left = left_with (node_plan 1 one partner_script) partner_hears;
+  leads = leads_with (node_plan 1 one partner_script) partner_hears;
+  done = record { acts = partner_prepares ++ (partner_posts ++ (partner_serves ++ partner_polls ∷ [])); may = may_partner; unmade = []; made = refl; cut = inl refl };
+  acts = refl;
+}
+
+pub source_runs : IsNodeRun source
+unfolding run_of spelled calls_with
+source_runs = record {
+  left = left_with (node_plan 2 two source_script) source_hears;
+  leads = leads_with (node_plan 2 two source_script) source_hears;
+  done = record { acts = source_prepares ++ (source_serves ++ stops_b ∷ []); may = may_source; unmade = []; made = refl; cut = inl refl };
+  acts = refl;
+}
+
+pub target_runs : IsNodeRun target
+unfolding run_of spelled calls_with
+target_runs = record {
+  left = left_with (node_plan 3 three target_script) target_hears;
+  leads = leads_with (node_plan 3 three target_script) target_hears;
+  done = record { acts = act.Starts three ∷ (target_restores ++ target_loads ∷ []); may = (tt, (tt, ((reads, refl), (tt, (tt, tt))))); unmade = []; made = refl; cut = inl refl };
+  acts = refl;
+}
+
+runs : All IsNodeRun nodes
+runs =
+    All-cons IsNodeRun partner (source ∷ target ∷ []) partner_runs
+    (All-cons IsNodeRun source (target ∷ []) source_runs (All-cons IsNodeRun target [] target_runs (All-nil IsNodeRun)))
+
+-- ---- the opening
+
+abbrev AreInRange : List WorldEvent → Type 0
+AreInRange [] = Unit {0}
+AreInRange (e ∷ es) = IsInRange e × AreInRange es
+
+all_in_range : (es : List WorldEvent) → AreInRange es → All IsInRange es
+all_in_range [] each = All-nil IsInRange
+all_in_range (e ∷ es) each = All-cons IsInRange e es each.0 (all_in_range es each.1)
+
+in_range : AreInRange events
+in_range = ((omega arith, omega arith, omega arith, omega arith), ((omega arith, omega arith, omega arith, omega arith), ((omega arith, omega arith, omega arith, omega arith), (tt, (tt, (tt, (tt, ((omega arith, omega arith, omega arith, omega arith), ((omega arith, omega arith, omega arith, omega arith), ((omega arith, omega arith), ((omega arith, omega arith), ((omega arith, omega arith, omega arith, omega arith), ((omega arith, omega arith, omega arith, omega arith), (record { mtu = refl; own_start = omega arith; peer_start = omega arith; retry = omega arith; rnr = omega arith; some_reads = omega arith; few_reads = omega arith }, tt))))))))))))))
+
+preparing : ArePreparing events
+preparing = record { in_range = all_in_range events in_range; prepare = refl }
+
+prepared : (world_after empty_world events).devices ≡ openings_of nodes
+unfolding opened run_of spelled
+prepared = refl
+
+-- ---- the order
+
+abbrev AreOfNodes : List Deed → Type 0
+AreOfNodes [] = Unit {0}
+AreOfNodes (x ∷ xs) = IsOfNode nodes x × AreOfNodes xs
+
+all_of_nodes : (xs : List Deed) → AreOfNodes xs → All (IsOfNode nodes) xs
+all_of_nodes [] each = All-nil (IsOfNode nodes)
+all_of_nodes (x ∷ xs) each = All-cons (IsOfNode nodes) x xs each.0 (all_of_nodes xs each.1)
+
+of_nodes : AreOfNodes order
+unfolding opened run_of spelled
+of_nodes = (refl, (refl, (refl, (refl, (refl, (refl, (refl, (refl, (refl, (refl, (refl, (refl, (refl, (refl, (refl, (refl, (refl, (refl, (refl, (refl, tt))))))))))))))))))))
+
+whole : All (IsWholeIn order) nodes
+unfolding acts_on
+whole = All-cons (IsWholeIn order) partner (source ∷ target ∷ []) refl (All-cons (IsWholeIn order) source (target ∷ []) refl (All-cons (IsWholeIn order) target [] refl (All-nil (IsWholeIn order))))
+
+dumps : AreDumpsTaken (standings_of nodes) [] order
+dumps = (
+  [],
+  refl,
+  tt,
+  (
+    [],
+    refl,
+    tt,
+    (
+      [],
+      refl,
+      tt,
+      (
+        [],
+        refl,
+        tt,
+        (
+          [],
+          refl,
+          tt,
+          (
+            [],
+            refl,
+            tt,
+            (
+              [],
+              refl,
+              tt,
+              (
+                [],
+                refl,
+                subst ReadsBack (sym image_is) reads,
+                (
+                  (codes "f", dump) ∷ [],
+                  ap (dump_if (codes "f")) (sym image_is),
+                  tt,
+                  (
+                    [],
+                    (refl, record { front = []; back = []; there = refl; left = refl }),
+                    tt,
+                    ([], refl, tt, ([], refl, tt, ([], refl, tt, ([], refl, tt, ([], refl, tt, ([], refl, tt, ([], refl, tt, ([], refl, tt, ([], refl, tt, ([], refl, tt, tt)))))))))),
+                  ),
+                ),
+              ),
+            ),
+          ),
+        ),
+      ),
+    ),
+  ),
+)
+
+in_time : EachAfter (IsInTimeLine (openings_of nodes)) [] (lines_of_deeds nodes order)
+unfolding opened run_of spelled node_at lines_from
+in_time =
+    (tt, (tt, (tt, ((0, _, record { there = refl; sender = refl; receiver = refl; says = refl }, refl), (tt, (tt, (tt, (tt, ((1, _, record { there = refl; sender = refl; receiver = refl; says = refl }, refl), (tt, ((2, _, record { there = refl; sender = refl; receiver = refl; says = refl }, refl), (tt, (tt, (tt, tt))))))))))))))
+
+one_sided : EachAfter (IsOneSidedLine (openings_of nodes)) [] (lines_of_deeds nodes order)
+unfolding opened run_of spelled node_at lines_from
+one_sided = (refl, (refl, (refl, (refl, (refl, (refl, (refl, (refl, (refl, (refl, (refl, (refl, (refl, (refl, tt))))))))))))))
+
+at_home : EachAfter (IsAtHome (openings_of nodes)) [] (lines_of_deeds nodes order)
+unfolding opened run_of spelled node_at lines_from
+at_home = (refl, (refl, (refl, (refl, (refl, (refl, (refl, (refl, (refl, (refl, (refl, (refl, (refl, (refl, tt))))))))))))))
+
+abbrev AreMade : List Deed → Type 0
+AreMade [] = Unit {0}
+AreMade (x ∷ xs) = MakesNone x.act × AreMade xs
+
+all_made : (xs : List Deed) → AreMade xs → All (λ x. MakesNone x.act) xs
+all_made [] each = All-nil (λ (x : Deed). MakesNone x.act)
+all_made (x ∷ xs) each = All-cons (λ (y : Deed). MakesNone y.act) x xs each.0 (all_made xs each.1)
+
+made : AreMade order
+made = (tt, (tt, (tt, (tt, (tt, (tt, (tt, (tt, (tt, (tt, (tt, (tt, (tt, (tt, (tt, (tt, (tt, (tt, (tt, (tt, tt))))))))))))))))))))
+
+answered : All (IsPreparedBy events) nodes
+unfolding opened run_of spelled
+answered = All-cons (IsPreparedBy events) partner (source ∷ target ∷ []) refl (All-cons (IsPreparedBy events) source (target ∷ []) refl (All-cons (IsPreparedBy events) target [] refl (All-nil (IsPreparedBy events))))
+
+pub composed : AreComposed nodes events order
+composed = record {
+  runs = runs;
+  preparing = preparing;
+  prepared = prepared;
+  answered = answered;
+  of_nodes = all_of_nodes order of_nodes;
+  whole = whole;
+  dumps = dumps;
+  in_time = each_of (IsInTimeLine (openings_of nodes)) (lines_of_deeds nodes order) in_time;
+  one_sided = each_of (IsOneSidedLine (openings_of nodes)) (lines_of_deeds nodes order) one_sided;
+  at_home = each_of (IsAtHome (openings_of nodes)) (lines_of_deeds nodes order) at_home;
+  made = all_made order made;
+}

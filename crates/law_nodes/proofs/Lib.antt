@@ -1,0 +1,4 @@
+pub mod Parts
+pub mod Ranges
+pub mod Doing
+pub mod Composing

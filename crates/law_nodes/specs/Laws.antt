@@ -1,0 +1,29 @@
+-- Laws of nodes (this project's choice).
+use Rattle.std.specs.Prelude.{ℕ, List, ◌++◌, Some}
+use Rattle.rdma_types.specs.declared.requests.Address.{Address}
+use Rattle.node_rules.specs.Plan.{Call, Leads, Plan}
+use Rattle.node_rules.specs.Script.{node_plan}
+use Rattle.order_rules.specs.Hears.{heard}
+use Rattle.packetless_machine.specs.Legal.{IsLegal}
+use Rattle.protocol.specs.declared.events.WorldEvent.{WorldEvent}
+use Rattle.protocol.specs.State.{empty_world}
+use Rattle.law_simulation.specs.Law.{kept}
+use Rattle.law_dump_round_trip.specs.Fits.{FitsFields}
+use Rattle.protocol.specs.declared.images.ContextImage.{ContextImage}
+use Rattle.protocol.specs.Lawful.{IsLawful}
+use Rattle.law_nodes.specs.Acts.{HasDone, beginning}
+use Rattle.law_nodes.specs.Composed.{AreComposed, Deed, NodeRun, ReadsBack, lines_of_deeds}
+
+-- wherever a run of a node is cut off, its calls are those of acts on a new device: each datagram that was taken arrives, what is
+-- sent is what the steps of the device send, and what is written is the answers of these steps
+abbrev pub CallsAreActs : Type 0
+CallsAreActs = (id : ℕ) (own : Address) (text : List ℕ) (calls : List Call) (left : Plan) → Leads (node_plan id own text) calls left → HasDone (beginning id own) calls
+
+-- the answers that nodes hear, in the order of what they do, are answers that the packetless machine gives, after those that were
+-- heard while their devices were prepared
+abbrev pub NodesAreFollowed : Type 0
+NodesAreFollowed = (nodes : List NodeRun) (es : List WorldEvent) (order : List Deed) → AreComposed nodes es order → IsLegal (kept empty_world es ++ heard (lines_of_deeds nodes order))
+
+-- the dump of a lawful image whose numbers fit their fields reads as that image
+abbrev pub FittingDumpsReadBack : Type 0
+FittingDumpsReadBack = (image : ContextImage) → IsLawful image → FitsFields image → ReadsBack (Some image)

@@ -1,0 +1,5 @@
+pub mod Turning
+pub mod Moves
+pub mod FromLink
+pub mod Restores
+pub mod ReadLines

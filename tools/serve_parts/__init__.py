@@ -1,0 +1,1 @@
+"""Parts of the tools that drive processes of `jichurpa serve`."""
