@@ -166,10 +166,10 @@ class Dumps(unittest.TestCase):
             self.assertEqual((caught.exception.place, caught.exception.why), (place, why))
 
     def test_all_sample_dumps(self):
-        """The dumps and near-dumps of crates/show_dumps, with what two other implementations say of them; the files of depots."""
-        folder = TOP / "crates" / "show_dumps"
-        samples = [bytes.fromhex(line) for line in (folder / "stdin").read_text().splitlines()]
-        told = (folder / "stdout").read_text().splitlines()
+        """The dumps and near-dumps of crates/show_cases, with what two other implementations say of them; the files of depots."""
+        folder = TOP / "crates" / "show_cases"
+        cases = zip((folder / "stdin").read_text().splitlines(), (folder / "stdout").read_text().splitlines(), strict=True)
+        samples, told = zip(*((bytes.fromhex(line[5:]), said) for line, said in cases if line.startswith("dump ")))
         self.assertEqual((len(samples), told.count("ok")), (len(told), 36))
         for place, (data, words) in enumerate(zip(samples, told), 1):
             with self.subTest(f"line {place}: {words}"):

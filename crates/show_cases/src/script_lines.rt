@@ -1,10 +1,7 @@
-//! Says of each line of standard input, `play` or `node` and the bytes of a script's line in hex, what is wrong with that
-//! line first and in which column, or else that it is read.
-#![tactic(auto)]
+//! Lines of scripts: what is wrong with one first and in which column, or else that it is read.
 
 use script_lang::{Line, LineFault, LineWhy, NodeLine, parse_line, parse_node_line};
 use std::alloc::{AllocError, Global};
-use std::io;
 
 /// A reason in one word, as a bad line is answered with.
 fn word(why: LineWhy) -> &'static str {
@@ -30,7 +27,8 @@ fn say_fault(alloc: Global, fault: LineFault) -> Result<String, AllocError> {
     }
 }
 
-fn say_line(alloc: Global, line: &[u8]) -> Result<String, AllocError> {
+/// What is said of a line of `play`.
+pub fn say_line(alloc: Global, line: &[u8]) -> Result<String, AllocError> {
     match parse_line(alloc, line) {
         Ok(Line::Blank) => String::from_str(alloc, "blank"),
         Ok(_) => String::from_str(alloc, "ok"),
@@ -38,32 +36,11 @@ fn say_line(alloc: Global, line: &[u8]) -> Result<String, AllocError> {
     }
 }
 
-fn say_node_line(alloc: Global, line: &[u8]) -> Result<String, AllocError> {
+/// What is said of a line of `node`.
+pub fn say_node_line(alloc: Global, line: &[u8]) -> Result<String, AllocError> {
     match parse_node_line(alloc, line) {
         Ok(NodeLine::Blank) => String::from_str(alloc, "blank"),
         Ok(_) => String::from_str(alloc, "ok"),
         Err(fault) => say_fault(alloc, fault),
     }
-}
-
-/// What is said of `play` or `node` and a line in hex.
-fn say(alloc: Global, given: &str) -> Result<String, AllocError> {
-    let Some((kind, digits)) = given.split_once(' ') else {
-        return String::from_str(alloc, "no line");
-    };
-    match hex::decode(alloc, digits) {
-        Ok(line) if kind == "play" => say_line(alloc, &line),
-        Ok(line) => say_node_line(alloc, &line),
-        Err(hex::FromHexError::OutOfMemory) => Err(AllocError),
-        Err(_) => String::from_str(alloc, "no hex"),
-    }
-}
-
-fn main(rt: HostRuntime) -> io::Result<()> {
-    for given in rt.lines(rt.alloc()) {
-        let given = given?;
-        let said = say(rt.alloc(), given.as_str())?;
-        println!(rt; "{given} {said}")?;
-    }
-    Ok(())
 }

@@ -1,16 +1,12 @@
-//! Says of each line of standard input, the bytes of a dump in hex, that they are a dump, or else what is wrong with them
-//! first and where. Each is read in one piece, and in pieces of 1, 2, 7 and 4,096 bytes; a dump is written again, in one
-//! piece and in pieces. Where two ways differ, the line says which.
-#![tactic(auto)]
+//! Dumps: that bytes are one, or else what is wrong with them first and where. Each is read in one piece, and in pieces of
+//! 1, 2, 7 and 4,096 bytes; a dump is written again, in one piece and in pieces. Where two ways differ, that is said.
 
 ghost use Rattle.std.specs.Prelude.{◌<◌, IfOk};
 ghost use Rattle.protocol.specs.Lawful.{IsLawful};
 
 use context_dump::{DumpFault, DumpReader, DumpWriter, decode_dump, encode_dump};
-use hex::FromHexError;
 use protocol::{ContextImage, DumpWhy};
 use std::alloc::{AllocError, Global};
-use std::io;
 
 /// A reason in one word.
 fn word(why: DumpWhy) -> &'static str {
@@ -63,7 +59,7 @@ fn say_image(alloc: Global, bytes: &[u8], image: &ContextImage) -> Result<String
     String::from_str(alloc, said)
 }
 
-fn say(
+fn say_read(
     alloc: Global,
     bytes: &[u8],
     read: Result<ContextImage, DumpFault>,
@@ -89,31 +85,14 @@ fn decode_in_pieces(alloc: Global, bytes: &[u8], size: usize) -> Result<ContextI
     reader.finish()
 }
 
-/// What is said of bytes, and of the same bytes in pieces where that differs.
-fn say_bytes(alloc: Global, bytes: &[u8]) -> Result<String, AllocError> {
-    let said = say(alloc, bytes, decode_dump(alloc, bytes))?;
+/// What is said of the bytes of a dump, and of the same bytes in pieces where that differs.
+pub fn say(alloc: Global, bytes: &[u8]) -> Result<String, AllocError> {
+    let said = say_read(alloc, bytes, decode_dump(alloc, bytes))?;
     for size in [1, 2, 7, 4096] {
-        let again = say(alloc, bytes, decode_in_pieces(alloc, bytes, size))?;
+        let again = say_read(alloc, bytes, decode_in_pieces(alloc, bytes, size))?;
         if again != said {
             return format!(in alloc; "{said}, but in pieces of {size} {again}");
         }
     }
     Ok(said)
-}
-
-fn say_line(alloc: Global, line: &str) -> Result<String, AllocError> {
-    match hex::decode(alloc, line) {
-        Ok(bytes) => say_bytes(alloc, &bytes),
-        Err(FromHexError::OutOfMemory) => Err(AllocError),
-        Err(_) => String::from_str(alloc, "no hex"),
-    }
-}
-
-fn main(rt: HostRuntime) -> io::Result<()> {
-    for line in rt.lines(rt.alloc()) {
-        let line = line?;
-        let said = say_line(rt.alloc(), line.as_str())?;
-        println!(rt; "{said}")?;
-    }
-    Ok(())
 }

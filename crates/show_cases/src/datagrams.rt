@@ -1,11 +1,7 @@
-//! Says of each line of standard input, a datagram in hex or `-` for no bytes, what is wrong with it first and where, or
-//! else what it says and how it is written.
-#![tactic(auto)]
+//! Datagrams: what is wrong with one first and where, or else what it says and how it is written.
 
-use hex::FromHexError;
 use roce_headers::{Datagram, Malformed, MalformedWhy, decode, encode, encoded_len};
 use std::alloc::{AllocError, Global};
-use std::io;
 
 /// A reason in one word.
 fn word(why: MalformedWhy) -> &'static str {
@@ -27,7 +23,8 @@ fn digits(alloc: Global, bytes: &[u8]) -> Result<String, AllocError> {
     hex::encode(alloc, bytes)
 }
 
-fn say(alloc: Global, bytes: &[u8]) -> Result<String, AllocError> {
+/// What is said of the bytes of a datagram.
+pub fn say(alloc: Global, bytes: &[u8]) -> Result<String, AllocError> {
     match decode(bytes) {
         Err(Malformed { place, why }) => format!(in alloc; "malformed {place} {}", word(why)),
         Ok(d) => {
@@ -42,22 +39,4 @@ fn say(alloc: Global, bytes: &[u8]) -> Result<String, AllocError> {
             )
         }
     }
-}
-
-fn say_line(alloc: Global, line: &str) -> Result<String, AllocError> {
-    let text = if line == "-" { "" } else { line };
-    match hex::decode(alloc, text) {
-        Ok(bytes) => say(alloc, &bytes),
-        Err(FromHexError::OutOfMemory) => Err(AllocError),
-        Err(_) => String::from_str(alloc, "no hex"),
-    }
-}
-
-fn main(rt: HostRuntime) -> io::Result<()> {
-    for line in rt.lines(rt.alloc()) {
-        let line = line?;
-        let said = say_line(rt.alloc(), line.as_str())?;
-        println!(rt; "{line} {said}")?;
-    }
-    Ok(())
 }
