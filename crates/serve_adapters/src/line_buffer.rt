@@ -136,21 +136,48 @@ mod tests {
     use super::*;
     use std::test::Fail;
 
+    /// Takes each line that is held.
+    fn take_lines(
+        alloc: Global,
+        buffer: &mut LineBuffer,
+        is_all_read: bool,
+        lines: &mut Vec<Vec<u8>>,
+    ) -> Result<(), Fail> {
+        for _ in 0..ROOM {
+            match buffer.take_line(alloc, is_all_read)? {
+                Some(line) => lines.push(line)?,
+                None => break,
+            }
+        }
+        Ok(())
+    }
+
+    /// Reads a piece of text to its end, and takes the lines that it ends.
+    fn read_piece(
+        alloc: Global,
+        buffer: &mut LineBuffer,
+        piece: &[u8],
+        lines: &mut Vec<Vec<u8>>,
+    ) -> Result<(), Fail> {
+        let mut rest = piece;
+        for _ in 0..piece.len() {
+            if rest.is_empty() {
+                break;
+            }
+            buffer.fill(&mut rest)?;
+            take_lines(alloc, buffer, false, lines)?;
+        }
+        Ok(())
+    }
+
     /// The lines of a text, read in pieces of at most so many bytes.
     fn lines_of(alloc: Global, text: &[u8], most: usize) -> Result<Vec<Vec<u8>>, Fail> {
         let mut buffer = LineBuffer::new();
         let mut lines = Vec::new(alloc);
-        for mut piece in text.chunks(most) {
-            while !piece.is_empty() {
-                buffer.fill(&mut piece)?;
-                while let Some(line) = buffer.take_line(alloc, false)? {
-                    lines.push(line)?;
-                }
-            }
+        for piece in text.chunks(most.max(1)) {
+            read_piece(alloc, &mut buffer, piece, &mut lines)?;
         }
-        while let Some(line) = buffer.take_line(alloc, true)? {
-            lines.push(line)?;
-        }
+        take_lines(alloc, &mut buffer, true, &mut lines)?;
         Ok(lines)
     }
 
