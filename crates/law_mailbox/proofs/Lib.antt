@@ -1,4 +1,5 @@
 pub mod connection
+pub mod flags
 pub mod opening
 pub mod queue_room
 pub mod settling

@@ -1,6 +1,7 @@
 pub mod Afterwards
 pub mod Ahead
 pub mod Answering
+pub mod AtRest
 pub mod Continuing
 pub mod Finishing
 pub mod Given
@@ -12,6 +13,7 @@ pub mod Rounds
 pub mod Settling
 pub mod Stops
 pub mod Taking
+pub mod Tied
 pub mod Untold
 pub mod Weights
 pub mod Whole

@@ -1,10 +1,15 @@
+pub mod Accepted
 pub mod AlwaysFew
 pub mod Answered
 pub mod Arrived
 pub mod Beginning
 pub mod Calls
+pub mod Delivered
+pub mod Ending
+pub mod Example
 pub mod Few
 pub mod Finished
+pub mod Flagged
 pub mod Headers
 pub mod Held
 pub mod Kept
@@ -19,5 +24,6 @@ pub mod Seen
 pub mod Settled
 pub mod Short
 pub mod Stops
+pub mod Tied
 pub mod Whole
 pub mod Works

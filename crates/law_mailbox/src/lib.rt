@@ -3,13 +3,18 @@
 //! The functions do nothing. Each promises the law that it names.
 #![tactic(auto)]
 
+ghost use Rattle.law_mailbox.specs.Accepted.{SendsAreAccepted};
 ghost use Rattle.law_mailbox.specs.AlwaysFew.{AllAreFew, BeginningIsFew, WorkAlwaysFindsRoom};
 ghost use Rattle.law_mailbox.specs.Answered.{EventsLeaveFurnished, FirstIsFurnished, SendsAreAnswered, SendsLeaveFurnished, StoresLeaveFurnished, WorksLeaveFurnished};
 ghost use Rattle.law_mailbox.specs.Arrived.{LettersAreGiven, OpenLettersWereSent};
 ghost use Rattle.law_mailbox.specs.Beginning.{BeginningIsHeld};
 ghost use Rattle.law_mailbox.specs.Calls.{SendsAreKept, StoresAreKept, WorksAreKept};
+ghost use Rattle.law_mailbox.specs.Delivered.{AllIsDelivered};
+ghost use Rattle.law_mailbox.specs.Ending.{EndsEndSo, NoRequestIsRefused};
+ghost use Rattle.law_mailbox.specs.Example.{OneLetterIsDelivered, OneLetterIsSeenCalm};
 ghost use Rattle.law_mailbox.specs.Few.{FewHaveRoom, StepsKeepFew, WorksKeepFew};
 ghost use Rattle.law_mailbox.specs.Finished.{AllIsGiven, BeginsSo, DuesAreSeen, EventsKeepSo, NoneIsFull, WorkingIsEnough, WorksAreSeen, WorksKeepSo};
+ghost use Rattle.law_mailbox.specs.Flagged.{FlagsAreTrue};
 ghost use Rattle.law_mailbox.specs.Headers.{HeadersAreRead, MessagesAreRead};
 ghost use Rattle.law_mailbox.specs.Held.{KeepingIsEnough};
 ghost use Rattle.law_mailbox.specs.Moves.{MovesKeep};
@@ -23,6 +28,7 @@ ghost use Rattle.law_mailbox.specs.Ready.{IsReadyMail};
 ghost use Rattle.law_mailbox.specs.Stops.{LittleStaysOwed, WorkStopsInTime};
 ghost use Rattle.law_mailbox.specs.Reached.{AllIsPosted, LettersAreHereAfterSettling, LettersAreKeptWhereWorkFindsRoom};
 ghost use Rattle.law_mailbox.specs.Settled.{MovesAreAhead, MovesKeepPosted, ThreeRoundsAreEnough, WorkKeepsPosted, WorksGoAhead};
+ghost use Rattle.law_mailbox.specs.Tied.{CountsAreTied};
 ghost use Rattle.law_mailbox.specs.Whole.{AllIsKept, LettersAreTakenWhole};
 ghost use Rattle.law_mailbox.specs.Works.{WorkKeeps};
 ghost use Rattle.mailbox_rules.specs.Theorem.{LettersAreKept};
@@ -371,6 +377,55 @@ pub fn all_is_posted()
     work_stops_in_time();
 }
 
+/// After any calls, an end counts as ended only where it is in Error, or where so many letters were sent that its packet numbers may be
+/// used up: a completion with an error stands only where its end is in Error, and a posting is refused so for nothing else.
+pub fn flags_are_true()
+    ensures { FlagsAreTrue }
+{
+    steps_keep_few();
+    works_keep_few();
+    beginning_is_held();
+    sends_are_answered_after_work();
+    all_is_kept();
+    steps_are_named();
+    events_follow();
+    settling_is_named();
+    work_stops_in_time();
+    starts();
+}
+
+/// After any calls a letter is accepted exactly where its sender is known and not carried, the body is no longer than a slot, fewer than
+/// 16 Sends of the sender are untold and, for a body that is fetched, each long letter before has freed the slot: unless the sender's end
+/// is in Error, or 2 ^ 48 letters were sent. And a letter is refused as Ended for these two alone.
+pub fn sends_are_accepted()
+    ensures { SendsAreAccepted }
+{
+    steps_keep_few();
+    works_keep_few();
+    beginning_is_held();
+    sends_are_answered_after_work();
+    all_is_kept();
+    steps_are_named();
+    events_follow();
+    settling_is_named();
+    work_stops_in_time();
+    starts();
+    stopped_work_is_over();
+}
+
+/// After any calls and work, what is counted of a connection is tied to what the packetless machine did: no message is copied before its
+/// Send acted, and no body before its Read was told; and where the receiver is not carried all of these are copied. So `take` gives the
+/// first open letter with the asked tag exactly where its Send acted and its Read was told, unless the receiver's end is in Error.
+pub fn counts_are_tied()
+    ensures { CountsAreTied }
+{
+    all_is_posted();
+    work_finds_room();
+    work_stops_in_time();
+    stopped_work_is_over();
+    works_are_kept();
+}
+
 /// So after any calls everything is here once settling and working three times left nothing and no end ended.
 pub fn letters_are_here_after_settling()
     ensures { LettersAreHereAfterSettling }
@@ -397,3 +452,36 @@ pub fn letters_are_kept()
     work_finds_room();
     letters_are_kept_where_work_finds_room();
 }
+
+/// All letters of a sender that were accepted are delivered, by what a caller sees: where `settle` answers three times that nothing is left,
+/// each time with `work` behind it, and then the receiver is not carried and neither end of that sender's connection is in Error, each open
+/// letter that is asked for is given, and none is refused as Full. No flag and no other connection is looked at.
+pub fn all_is_delivered()
+    ensures { AllIsDelivered }
+{
+    all_is_posted();
+    work_finds_room();
+    work_stops_in_time();
+    stopped_work_is_over();
+    settling_is_named();
+    events_follow();
+    steps_are_named();
+    flags_are_true();
+}
+
+/// A letter of two bytes from a beginning with one sender: what a caller then sees of settling and working three times, as the rules compute
+/// it, are the premises of `all_is_delivered`; so the letter is delivered.
+pub fn one_letter_is_delivered()
+    ensures calm { OneLetterIsSeenCalm }
+    ensures delivered { OneLetterIsDelivered }
+{
+    all_is_delivered();
+}
+
+/// No end of a connection refuses a request of its peer, whatever the network does: a Send fits its receive, and a Read names granted bytes.
+/// So an end comes to Error by an expiry, when as many were counted of its first untold request as it has retries; by a wait, where waits
+/// are limited and as many were counted; or where it learns of a refusal, and no step makes one.
+pub fn ends_end_so()
+    ensures unrefused { NoRequestIsRefused }
+    ensures ends { EndsEndSo }
+{}

@@ -108,7 +108,7 @@ unfolding untold_count used_count
 first_few i = record { receives = omega arith; requests = omega arith }
 
 -- every channel is fresh
-first_channel : (n k : ℕ) → or_fresh (slice_get (replicate n fresh_channel) k) ≡ fresh_channel
+pub first_channel : (n k : ℕ) → or_fresh (slice_get (replicate n fresh_channel) k) ≡ fresh_channel
 first_channel zero k = refl
 first_channel (suc n) zero = refl
 first_channel (suc n) (suc k) = first_channel n k

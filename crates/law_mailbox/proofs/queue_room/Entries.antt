@@ -1,6 +1,6 @@
 -- What an end completes in the queue of letters of its context, counted by kind: it had as much left to complete.
 use Rattle.std.proofs.Common.{arith, ◌≡◌, ◌≢◌, ℕ, suc, ◌+◌, ◌<◌, ◌≤◌, List, [], ◌∷◌, ◌++◌, length, true, false, Bool, refl, sym, subst, ap, ◌∙◌, Some, None, Option, append-nil, append_assoc, length-drop, ne_eqb}
-use Rattle.std.specs.Prelude.{All, count_by, if◌then◌else◌, not, ◌==◌, ◌&&◌}
+use Rattle.std.specs.Prelude.{All, count_by, drop, if◌then◌else◌, is_some, not, ◌==◌, ◌&&◌}
 use Rattle.std.proofs.lemmas.List.Elements.{All-append, All-cons, All-head, All-nil, All-tail}
 use Rattle.rdma_types.specs.declared.answers.RefusalReason.{RefusalReason}
 use Rattle.rdma_types.specs.declared.answers.RefusalReason.TheVariants as whys
@@ -9,6 +9,7 @@ use Rattle.rdma_types.specs.declared.requests.Completion.{Completion}
 use Rattle.rdma_types.specs.declared.requests.Kind.{Kind}
 use Rattle.rdma_types.specs.declared.requests.Kind.TheVariants as kind
 use Rattle.rdma_types.specs.declared.requests.Receive.{Receive}
+use Rattle.rdma_types.specs.declared.requests.Shape.{Shape}
 use Rattle.rdma_types.specs.declared.requests.WcKind.{WcKind}
 use Rattle.rdma_types.specs.declared.requests.WcKind.TheVariants as wc
 use Rattle.rdma_types.specs.declared.requests.WcStatus.{WcStatus}
@@ -17,9 +18,10 @@ use Rattle.rdma_types.specs.Kinds.{completed_kind, is_send, kind_of, receive_don
 use Rattle.rdma_types.specs.Lists.{has_name}
 use Rattle.rdma_types.specs.Objects.{CompletionQueue, Posted, no_queue}
 use Rattle.packetless_machine.specs.Machine.{End, completed, untold_count, used_count}
-use Rattle.packetless_machine.specs.Steps.{arrivals, closed, current, failed_queues, failed_receives, failed_requests, fills, front, receive_for, received_whole, receives_of, receiving, refused_entries, refused_queues, refused_receives, success, told_one, too_long, untold, used_by}
+use Rattle.packetless_machine.specs.Steps.{arrivals, closed, current, failed_queues, failed_receives, failed_requests, fills, front, receive_for, received_whole, receives_of, receiving, refused_entries, refused_queues, refused_receives, success, told_one, too_long, untold, unused_after, used_by}
 use Rattle.law_simulation.proofs.relation.Tables.{name-named_there}
 use Rattle.mailbox_rules.specs.Opening.{connection_of, queue_name}
+use Rattle.mailbox_rules.specs.Working.{is_success}
 use Rattle.law_mailbox.specs.Few.{is_receive}
 use Rattle.law_mailbox.proofs.queue_room.Counts.{count_both, count_cons, one_if}
 use Rattle.law_mailbox.proofs.connection.Ends.{longer_here, still_named}
@@ -141,6 +143,53 @@ success_are e r = by r.request.signaled
     by true = one_request (connection_of e.number) 0 0 (request_done e.number r status.Success (size_of r)) [] refl (none_of (connection_of e.number)) (never_receive (kind_of r))
     by false = record { of_it = All-nil (λ x. connection_of x.qp ≡ connection_of e.number); receives_within = omega arith; requests_within = omega arith }
 
+-- those of requests that are told, and of messages that are whole, have status 0
+abbrev Succeeds : Completion → Type 0
+Succeeds x = is_success x.status ≡ true
+
+success_succeeds : (e : End) (r : Posted) → All Succeeds (success e r)
+unfolding success request_done
+success_succeeds e r = by r.request.signaled
+  where
+    by : (b : Bool) → All Succeeds (if b then request_done e.number r status.Success (size_of r) ∷ [] else [])
+    by true = All-cons Succeeds (request_done e.number r status.Success (size_of r)) [] refl (All-nil Succeeds)
+    by false = All-nil Succeeds
+
+whole_succeeds : (number : ℕ) (r : Posted) (o : Option Receive) → All Succeeds (received_whole number r o)
+unfolding received_whole receive_done
+whole_succeeds number r None = All-nil Succeeds
+whole_succeeds number r (Some v) = All-cons Succeeds (receive_done number v (if is_send (kind_of r) then wc.Recv else wc.RecvImm) status.Success (size_of r) r.request.shape.imm) [] refl (All-nil Succeeds)
+
+arrived_succeed : (e : End) (n : ℕ) (x : End) → All Succeeds (arrivals e n x)
+unfolding arrivals
+arrived_succeed e n x = by (fills e n)
+  where
+    by : (b : Bool) → All Succeeds (if b then received_whole x.number (current e) (used_by (current e) x) else [])
+    by true = whole_succeeds x.number (current e) (used_by (current e) x)
+    by false = All-nil Succeeds
+
+-- of these none says that the end has ended; and where it has, each may
+abbrev IsErrorOf : End → Completion → Type 0
+IsErrorOf e x = is_success x.status ≡ false → e.ended ≡ true
+
+none_over : (e : End) (xs : List Completion) → All Succeeds xs → All (IsErrorOf e) xs
+none_over e [] all = All-nil (IsErrorOf e)
+none_over e (x ∷ xs) all = All-cons (IsErrorOf e) x xs (λ error. let is : is_success x.status ≡ true = All-head Succeeds x xs all in let no : true ≡ false = sym is ∙ error in cc) (none_over e xs (All-tail Succeeds x xs all))
+
+all_over : (e : End) → e.ended ≡ true → (xs : List Completion) → All (IsErrorOf e) xs
+all_over e ended [] = All-nil (IsErrorOf e)
+all_over e ended (x ∷ xs) = All-cons (IsErrorOf e) x xs (λ error. ended) (all_over e ended xs)
+
+-- an end that receives has ended as before
+pub received_stays : (shape : Shape) (whole : Bool) (x : End) → (receiving shape whole x).ended ≡ x.ended
+unfolding receiving
+received_stays shape whole x = by (is_send shape.kind) (is_some shape.imm && whole)
+  where
+    by : (a b : Bool) → (if a then record x { in_use = if whole then None else receive_for x; unused = unused_after x } else if b then record x { unused = drop 1 x.unused } else x).ended ≡ x.ended
+    by true b = refl
+    by false true = refl
+    by false false = refl
+
 -- ---- queues of a context, of which that of letters has more entries
 
 pub record IsLonger (queues queues' : List CompletionQueue) (more : List Completion) : Type 0 where
@@ -176,6 +225,17 @@ pub record IsCompleted (e e' : End) (queues queues' : List CompletionQueue) : Ty
   pub are : AreOf (connection_of e.number) receives requests more
   pub receives_fit : receives + receives_left e' ≤ receives_left e
   pub requests_fit : requests + untold_count e' ≤ untold_count e
+  -- only an end that has ended completes something with an error, and it stays so
+  pub errors : All (λ x. is_success x.status ≡ false → e'.ended ≡ true) more
+  pub stays_ended : e.ended ≡ true → e'.ended ≡ true
+
+pub told_ended : (e : End) → (told_one e).ended ≡ e.ended
+unfolding told_one
+told_ended e = refl
+
+closed_ended : (e : End) → (closed e).ended ≡ true
+unfolding closed
+closed_ended e = refl
 
 closed_receives : (e : End) → receives_left (closed e) ≡ 0
 unfolding closed used_count
@@ -205,6 +265,8 @@ module _ (queues : List CompletionQueue) (there : has_name (λ x. x.name) queue_
             (receives_are e.number vs);
         receives_fit = let none = closed_receives e in omega (arith, few, none);
         requests_fit = let none = closed_requests e in let all = untold_long e in omega (arith, none, all);
+        errors = all_over (closed e) (closed_ended e) ((before ++ failed_requests e.number s (untold e)) ++ failed_receives e.number vs);
+        stays_ended = λ was. closed_ended e;
       }
 
   pub end_completes : (s : WcStatus) → IsCompleted e (closed e) queues (failed_queues e s (receives_of e) queues)
@@ -226,6 +288,8 @@ module _ (queues : List CompletionQueue) (there : has_name (λ x. x.name) queue_
     are = success_are e (front e);
     receives_fit = omega arith;
     requests_fit = omega (arith, some');
+    errors = none_over (told_one e) (success e (front e)) (success_succeeds e (front e));
+    stays_ended = λ was. was;
   }
 
   -- the end s makes n bytes come here
@@ -242,4 +306,6 @@ module _ (queues : List CompletionQueue) (there : has_name (λ x. x.name) queue_
         are = arrived_are s n e;
         receives_fit = fit.0;
         requests_fit = let same = fit.1 in omega (arith, same);
+        errors = none_over (receiving (current s).request.shape (fills s n) e) (arrivals s n e) (arrived_succeed s n e);
+        stays_ended = λ was. received_stays (current s).request.shape (fills s n) e ∙ was;
       }

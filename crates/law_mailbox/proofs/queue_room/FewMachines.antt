@@ -57,6 +57,7 @@ pub record IsOwnedAlike (e e' : End) : Type 0 where
   pub untold_same : untold_count e' ≡ untold_count e
   pub in_use_same : e'.in_use ≡ e.in_use
   pub unused_same : e'.unused ≡ e.unused
+  pub ended_same : e'.ended ≡ e.ended
 
 owned_alike : (e e' : End) → owned e' ≡ owned e → IsOwnedAlike e e'
 unfolding owned
@@ -64,10 +65,11 @@ owned_alike e e' same = record {
   untold_same = sym (untold_long e') ∙ (ap (λ (o : Owned). length o.untold) same ∙ untold_long e);
   in_use_same = ap (λ (o : Owned). o.in_use) same;
   unused_same = ap (λ (o : Owned). o.unused) same;
+  ended_same = ap (λ (o : Owned). o.ended) same;
 }
 
 module _ (w : World) (m m' : Machine) (s : Stands w m) (s' : Stands w m') where
-  there_too : (o : ObjName) → has_end m o ≡ true → has_end m' o ≡ true
+  pub there_too : (o : ObjName) → has_end m o ≡ true → has_end m' o ≡ true
   unfolding has_end
   there_too o there = sym (end_there o.name (views.context_of w o.context).ends (context_of m' o.context).ends (s'.same o.context).ends) ∙ (end_there o.name (views.context_of w o.context).ends (context_of m o.context).ends (s.same o.context).ends ∙ there)
 
@@ -77,6 +79,11 @@ module _ (w : World) (m m' : Machine) (s : Stands w m) (s' : Stands w m') where
 
   pub ends_alike : (o : ObjName) → has_end m o ≡ true → IsOwnedAlike (end_of m o) (end_of m' o)
   ends_alike o there = owned_alike (end_of m o) (end_of m' o) (owned_in m' o s' (there_too o there) ∙ sym (owned_in m o s there))
+
+  -- an end has ended where it is in Error in the world
+  pub failed_as : (o : ObjName) → has_end m o ≡ true → (end_of m o).ended ≡ (views.link_of w o).ended
+  unfolding owned owned_there
+  failed_as o there = ap (λ (x : Owned). x.ended) (owned_in m o s there)
 
   pub stands_alike : (c : Name) → standing m' c ≡ standing m c
   stands_alike c = sym (waits_as w m' c s') ∙ waits_as w m c s

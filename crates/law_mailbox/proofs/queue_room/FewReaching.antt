@@ -50,7 +50,7 @@ module _ (steps : StepsKeepFew) (works : WorksKeepFew) (begins : BeginningIsFew)
       let inner = is_inner machine s both.0 in
       run_few ts m (effect machine s) ss run.1 both.1 (keep.steps ts m machine s inner run.0 all) (steps peers ts m machine s inner run.0 all few)
 
-  event_few : (ts : List Turn) (m : Mail) (e : WorldEvent) → is_of_network e ≡ true → IsHeldFew peers ts m → IsHeldFew peers ts (with_world m (world_step m.world e).world)
+  pub event_few : (ts : List Turn) (m : Mail) (e : WorldEvent) → is_of_network e ≡ true → IsHeldFew peers ts m → IsHeldFew peers ts (with_world m (world_step m.world e).world)
   event_few ts m e net h =
       let f : Follows m.world h.machine e = follow e m.world h.machine (in_range e net) h.stands in
       let both = run_few ts m h.machine f.steps f.is_run (f.heard ∙ unheard m.world e (world_step m.world e).answer net) h.all h.few in
@@ -66,21 +66,21 @@ module _ (steps : StepsKeepFew) (works : WorksKeepFew) (begins : BeginningIsFew)
 
   -- ---- letters
 
-  idle_few : (ts : List Turn) (m : Mail) (c : Call) (r : Reply) → IsIdle c r → IsHeldFew peers ts m → IsHeldFew peers (and_then ts c r) m
+  pub idle_few : (ts : List Turn) (m : Mail) (c : Call) (r : Reply) → IsIdle c r → IsHeldFew peers ts m → IsHeldFew peers (and_then ts c r) m
   idle_few ts m c r idle h = turn_few peers ts m m c r h (idle_as peers ts m c r idle (held_of h))
 
-  taken_few : (ts : List Turn) (m : Mail) (i : ℕ) (tag : Option ℕ) → IsHeldFew peers ts m → IsHeldFew peers (and_then ts (Take i tag) (takes m i tag).reply) (takes m i tag).mail
+  pub taken_few : (ts : List Turn) (m : Mail) (i : ℕ) (tag : Option ℕ) → IsHeldFew peers ts m → IsHeldFew peers (and_then ts (Take i tag) (takes m i tag).reply) (takes m i tag).mail
   taken_few ts m i tag h = turn_few peers ts m (takes m i tag).mail (Take i tag) (takes m i tag).reply h (take_as peers ts m i tag (held_of h))
 
-  stored_few : (ts : List Turn) (m : Mail) (i : ℕ) (l : Letter) (m' : Mail) → MayBeSent l → send_fault (working m) i l.body ≡ None → IsPartlyStored (working m) i l m' → IsReadyMail peers m → IsHeldFew peers ts m → IsHeldFew peers ts (working m) → IsHeldFew peers ts m'
+  pub stored_few : (ts : List Turn) (m : Mail) (i : ℕ) (l : Letter) (m' : Mail) → MayBeSent l → send_fault (working m) i l.body ≡ None → IsPartlyStored (working m) i l m' → IsReadyMail peers m → IsHeldFew peers ts m → IsHeldFew peers ts (working m) → IsHeldFew peers ts m'
   stored_few ts m i l m' may e part ready h w =
       few_as peers ts ts (working m) m' (λ q. []) (λ q. sym (append-nil (sent_letters q ts))) w (stored_as by_name peers small ts (working m) i l may (held_of w) (may_send (working m) i l.body e) part)
 
-  worked_ready : (ts : List Turn) (m : Mail) → IsHeld peers ts m → IsReadyMail peers m → IsReadyMail peers (working m)
+  pub worked_ready : (ts : List Turn) (m : Mail) → IsHeld peers ts m → IsReadyMail peers m → IsReadyMail peers (working m)
   unfolding calls
   worked_ready ts m h ready = keep.also_called ts m Work tt h ready
 
-  sent_few : (ts : List Turn) (m : Mail) (i : ℕ) (l : Letter) → MayBeSent l → send_fault (working m) i l.body ≡ None → IsReadyMail peers m → IsHeldFew peers ts m → IsHeldFew peers ts (working m) →
+  pub sent_few : (ts : List Turn) (m : Mail) (i : ℕ) (l : Letter) → MayBeSent l → send_fault (working m) i l.body ≡ None → IsReadyMail peers m → IsHeldFew peers ts m → IsHeldFew peers ts (working m) →
       IsHeldFew peers (and_then ts (Send i l.tag l.body) (posts_letter (working m) i l).reply) (posts_letter (working m) i l).mail
   sent_few ts m i l may e ready h w =
       let stopped = stops peers low small ts m (held_of h) ready.little (queues_short peers m ready.furnished) in

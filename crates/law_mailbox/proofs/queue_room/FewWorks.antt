@@ -281,7 +281,7 @@ module _ (follow : EventsFollowByName) (peers : ℕ) (small : peers ≤ 8) (ts :
           let long = h.senders in
           subst (λ (x : Working). IsHeldFew peers ts x.mail) (same_Some (polled w.next (asking w.mail (poll_event w.next))) v f) (poll_held_few follow peers small ts w.mail h w.next (omega (arith, few, long)))
 
-  step_few : (w : Working) → IsHeldFew peers ts w.mail → (v : Working) → work_step w ≡ Some v → IsHeldFew peers ts v.mail
+  pub step_few : (w : Working) → IsHeldFew peers ts w.mail → (v : Working) → work_step w ≡ Some v → IsHeldFew peers ts v.mail
   unfolding work_step
   step_few w h v e = by (position (may_be_done w.mail.world) w.mail.owed) refl e
     where

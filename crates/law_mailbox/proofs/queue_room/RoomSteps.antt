@@ -177,7 +177,7 @@ module _ (m : Machine) (o : ObjName) (some' : (end_of m o).told < length (end_of
 
 -- ---- the peer of an end that steps
 
--- what an end reserves is as before
+-- what an end reserves is as before, and whether it has ended
 pub record IsReservedAs (a b : End) : Type 0 where
   pub number : a.number ≡ b.number
   pub send_queue : a.send_queue ≡ b.send_queue
@@ -186,9 +186,10 @@ pub record IsReservedAs (a b : End) : Type 0 where
   pub told : a.told ≡ b.told
   pub in_use : a.in_use ≡ b.in_use
   pub unused : a.unused ≡ b.unused
+  pub ended : a.ended ≡ b.ended
 
 pub reserved_itself : (a : End) → IsReservedAs a a
-reserved_itself a = record { number = refl; send_queue = refl; receive_queue = refl; posted = refl; told = refl; in_use = refl; unused = refl }
+reserved_itself a = record { number = refl; send_queue = refl; receive_queue = refl; posted = refl; told = refl; in_use = refl; unused = refl; ended = refl }
 
 reserved_as : (q : Name) (a b : End) → IsReservedAs a b → reserved_by q a ≡ reserved_by q b
 unfolding reserved_by untold_count
@@ -221,8 +222,8 @@ refused_load m o why c q =
     let x : End = end_of m (end_of m o).peer in
     let e : End = denied (end_of m o) why in
     let m1 : Machine = with_end m o (denied (end_of m o) why) in
-    let first = same_end m o e (λ n. reserved_as n e (end_of m o) (record { number = refl; send_queue = refl; receive_queue = refl; posted = refl; told = refl; in_use = refl; unused = refl })) c q in
-    let as' : IsReservedAs (end_of m1 p) x = end_related IsReservedAs reserved_itself m o e p refl (record { number = refl; send_queue = refl; receive_queue = refl; posted = refl; told = refl; in_use = refl; unused = refl }) in
+    let first = same_end m o e (λ n. reserved_as n e (end_of m o) (record { number = refl; send_queue = refl; receive_queue = refl; posted = refl; told = refl; in_use = refl; unused = refl; ended = refl })) c q in
+    let as' : IsReservedAs (end_of m1 p) x = end_related IsReservedAs reserved_itself m o e p refl (record { number = refl; send_queue = refl; receive_queue = refl; posted = refl; told = refl; in_use = refl; unused = refl; ended = refl }) in
     let then' = settles m1 p (closed (end_of m1 p)) (refused_queues x why (context_of m p.context).queues)
     (λ n. let w = refused_within n x why (context_of m p.context).queues in
     let a = closed_reserves n x in
@@ -290,8 +291,8 @@ unfolding advanced acted_with
 advanced_as e n = by (fills e n)
   where
     by : (b : Bool) → IsReservedAs (if b then acted_with e Finished else record e { into = e.into + n }) e
-    by true = record { number = refl; send_queue = refl; receive_queue = refl; posted = refl; told = refl; in_use = refl; unused = refl }
-    by false = record { number = refl; send_queue = refl; receive_queue = refl; posted = refl; told = refl; in_use = refl; unused = refl }
+    by true = record { number = refl; send_queue = refl; receive_queue = refl; posted = refl; told = refl; in_use = refl; unused = refl; ended = refl }
+    by false = record { number = refl; send_queue = refl; receive_queue = refl; posted = refl; told = refl; in_use = refl; unused = refl; ended = refl }
 
 pub placed_end : (m : Machine) (c : Name) (e x : End) (new : List ℕ) (o : ObjName) → end_of (placing m c e x new) o ≡ end_of m o
 unfolding placing put_in_receive

@@ -1,5 +1,6 @@
 -- What stands in the receiver's queue: an inner step adds completions of its own connection, which its end there had left to complete.
-use Rattle.std.proofs.Common.{arith, ◌≡◌, ◌≢◌, ℕ, ◌+◌, ◌-◌, ◌≤◌, List, [], ◌∷◌, ◌++◌, drop, length, true, false, Bool, refl, sym, subst, ap, ◌∙◌, Some, None, Option, inl, inr, append-nil}
+use Rattle.std.proofs.Common.{arith, ◌≡◌, ◌≢◌, ℕ, ◌+◌, ◌-◌, ◌≤◌, List, [], ◌∷◌, ◌++◌, drop, length, true, false, Bool, refl, sym, subst, ap, ◌∙◌, Some, None, Option, inl, inr, append-nil, ◌⊎◌, eqb-true}
+use Rattle.std.proofs.lemmas.Bool.{eqb-false}
 use Rattle.std.specs.Prelude.{All, if◌then◌else◌, is_some, option_to_list, slice_get, ◌==◌, ◌&&◌}
 use Rattle.std.proofs.lemmas.List.Elements.{All-append, All-cons, All-head, All-nil, All-tail}
 use Rattle.rdma_types.specs.declared.answers.RefusalReason.{RefusalReason}
@@ -31,11 +32,12 @@ use Rattle.law_simulation.proofs.runs.Acting.{end_related}
 use Rattle.mailbox_rules.specs.declared.due.Due.TheVariants as due
 use Rattle.mailbox_rules.specs.Opening.{connection_of, queue_name, receiver, receiver_end, sender}
 use Rattle.mailbox_rules.specs.Working.{is_success, place_in, received}
+use Rattle.law_mailbox.specs.Ending.{EndsIt}
 use Rattle.law_mailbox.specs.Held.{IsInner, connection_in}
 use Rattle.law_mailbox.specs.Kept.{IsOpened, dues_by, dues_of, standing}
 use Rattle.law_mailbox.specs.Seen.{IsOf}
 use Rattle.law_mailbox.proofs.connection.Connected.{one_kept, placing_kept, stepping}
-use Rattle.law_mailbox.proofs.queue_room.Entries.{AreOf, IsCompleted, end_completes, none_of, receives_left, refusal_completes, run_completes, tell_completes}
+use Rattle.law_mailbox.proofs.queue_room.Entries.{AreOf, IsCompleted, end_completes, none_of, received_stays, receives_left, refusal_completes, run_completes, tell_completes, told_ended}
 use Rattle.law_mailbox.proofs.queue_room.Loads.{end_queues, regions_queues}
 use Rattle.law_mailbox.proofs.connection.OtherBytes.{told_name}
 use Rattle.law_mailbox.proofs.connection.Others.{denied_alike}
@@ -44,6 +46,7 @@ use Rattle.law_mailbox.proofs.connection.Refusals.{closed_name, denied_name, que
 use Rattle.law_mailbox.proofs.queue_room.RoomSteps.{IsReservedAs, advanced_as, may_told, placed_end, placed_queues, reserved_itself}
 use Rattle.law_mailbox.proofs.connection.Sights.{context_there, end_is_changed, end_there, nowhere}
 use Rattle.law_mailbox.proofs.connection.Towards.{advanced_alike, advanced_name, received_name}
+use Rattle.law_mailbox.proofs.work.Channels.{both}
 
 -- ---- what completions of a connection make due is due on it
 
@@ -83,6 +86,7 @@ left_then a b c y x = record {
   told = x.told ∙ y.told;
   in_use = x.in_use ∙ y.in_use;
   unused = x.unused ∙ y.unused;
+  ended = x.ended ∙ y.ended;
 }
 
 receives_as : (a b : End) → IsReservedAs a b → receives_left a ≡ receives_left b
@@ -94,11 +98,11 @@ requests_as a b s = λ k. length (s.posted k) - s.told k
 
 denied_as : (e : End) (why : RefusalReason) → IsReservedAs (denied e why) e
 unfolding denied
-denied_as e why = record { number = refl; send_queue = refl; receive_queue = refl; posted = refl; told = refl; in_use = refl; unused = refl }
+denied_as e why = record { number = refl; send_queue = refl; receive_queue = refl; posted = refl; told = refl; in_use = refl; unused = refl; ended = refl }
 
 closed_as : (a b : End) → IsReservedAs a b → IsReservedAs (closed a) (closed b)
 unfolding closed
-closed_as a b s = record { number = s.number; send_queue = s.send_queue; receive_queue = s.receive_queue; posted = s.posted; told = λ k. length (s.posted k); in_use = refl; unused = refl }
+closed_as a b s = record { number = s.number; send_queue = s.send_queue; receive_queue = s.receive_queue; posted = s.posted; told = λ k. length (s.posted k); in_use = refl; unused = refl; ended = refl }
 
 received_as : (shape : Shape) (whole : Bool) (a b : End) → IsReservedAs a b → IsReservedAs (receiving shape whole a) (receiving shape whole b)
 unfolding receiving step.receive_for step.unused_after
@@ -115,15 +119,16 @@ received_as shape whole a b s = by (is_send shape.kind) (is_some shape.imm && wh
       told = s.told;
       in_use = λ k. if whole then None else step.first_receive (s.in_use k) (s.unused k);
       unused = λ k. if is_some (s.in_use k) then s.unused k else drop 1 (s.unused k);
+      ended = s.ended;
     }
-    by false true = record { number = s.number; send_queue = s.send_queue; receive_queue = s.receive_queue; posted = s.posted; told = s.told; in_use = s.in_use; unused = λ k. drop 1 (s.unused k) }
+    by false true = record { number = s.number; send_queue = s.send_queue; receive_queue = s.receive_queue; posted = s.posted; told = s.told; in_use = s.in_use; unused = λ k. drop 1 (s.unused k); ended = s.ended }
     by false false = s
 
 -- ---- machines in which all ends have the same left, and the queues are the same
 
-record IsQuiet (m m' : Machine) : Type 0 where
-  ends : (q : ObjName) → IsReservedAs (end_of m' q) (end_of m q)
-  queues : (c : Name) → (context_of m' c).queues ≡ (context_of m c).queues
+pub record IsQuiet (m m' : Machine) : Type 0 where
+  pub ends : (q : ObjName) → IsReservedAs (end_of m' q) (end_of m q)
+  pub queues : (c : Name) → (context_of m' c).queues ≡ (context_of m c).queues
 
 quiet_itself : (m : Machine) → IsQuiet m m
 quiet_itself m = record { ends = λ q. reserved_itself (end_of m q); queues = λ c. refl }
@@ -153,7 +158,7 @@ atom_quiet m o =
     let old : ℕ = step.word_there (current (end_of m o)) (step.peer_regions m o) in
     let m1 : Machine = with_end m o (acted_with (end_of m o) (OldValue old)) in
     quiet_then m m1 (atom m o) (quiet_regions m1 (end_of m o).peer.context _)
-    (quiet_end m o (acted_with (end_of m o) (OldValue old)) refl (record { number = refl; send_queue = refl; receive_queue = refl; posted = refl; told = refl; in_use = refl; unused = refl }))
+    (quiet_end m o (acted_with (end_of m o) (OldValue old)) refl (record { number = refl; send_queue = refl; receive_queue = refl; posted = refl; told = refl; in_use = refl; unused = refl; ended = refl }))
 
 land_quiet : (m : Machine) (o : ObjName) (k : ℕ) → IsQuiet m (landed m o k)
 unfolding landed land_at with_known
@@ -161,16 +166,16 @@ land_quiet m o k =
     let bytes : List ℕ = step.bytes_of (slice_get (end_of m o).offers k) in
     let m1 : Machine = step.putting m o.context local_key (front (end_of m o)).request.lkey ((front (end_of m o)).request.local + (end_of m o).known) bytes in
     quiet_then m m1 (landed m o k)
-    (quiet_end m1 o (with_known (end_of m1 o) ((end_of m o).known + length bytes)) refl (record { number = refl; send_queue = refl; receive_queue = refl; posted = refl; told = refl; in_use = refl; unused = refl }))
+    (quiet_end m1 o (with_known (end_of m1 o) ((end_of m o).known + length bytes)) refl (record { number = refl; send_queue = refl; receive_queue = refl; posted = refl; told = refl; in_use = refl; unused = refl; ended = refl }))
     (quiet_regions m o.context _)
 
 -- ---- machines in which one end is another, and so are the queues of its context
 
-record IsSettled (m m' : Machine) (o : ObjName) (e : End) (queues : List CompletionQueue) : Type 0 where
-  here : IsReservedAs (end_of m' o) e
-  others : (q : ObjName) → q ≢ o → IsReservedAs (end_of m' q) (end_of m q)
-  queues_here : (context_of m' o.context).queues ≡ queues
-  queues_apart : (c : Name) → c ≢ o.context → (context_of m' c).queues ≡ (context_of m c).queues
+pub record IsSettled (m m' : Machine) (o : ObjName) (e : End) (queues : List CompletionQueue) : Type 0 where
+  pub here : IsReservedAs (end_of m' o) e
+  pub others : (q : ObjName) → q ≢ o → IsReservedAs (end_of m' q) (end_of m q)
+  pub queues_here : (context_of m' o.context).queues ≡ queues
+  pub queues_apart : (c : Name) → c ≢ o.context → (context_of m' c).queues ≡ (context_of m c).queues
 
 -- an end that is connected is there
 connected_there : (m : Machine) (o : ObjName) → (end_of m o).connected ≡ true → has_end m o ≡ true
@@ -316,6 +321,12 @@ module _ (m m' : Machine) where
 
 -- ---- each step of connection j
 
+-- a step leaves all ends and queues as they are, but for what no queue shows; or it changes one end of the connection and its queue, and
+-- where that end has ended then, it had ended before, or E says why
+pub data IsStepOf (j : ℕ) (E : ObjName → Type 0) (m m' : Machine) : Type 0 where
+  QuietStep : IsQuiet m m' → IsStepOf j E m m'
+  SettledStep : (o : ObjName) (e : End) (queues : List CompletionQueue) → IsOf j o → IsSettled m m' o e queues → IsCompleted (end_of m o) e (context_of m o.context).queues queues → (e.ended ≡ true → ((end_of m o).ended ≡ true) ⊎ E o) → IsStepOf j E m m'
+
 -- a connected end, with its queue
 record IsThere (m : Machine) (o : ObjName) : Type 0 where
   connected : (end_of m o).connected ≡ true
@@ -334,64 +345,74 @@ module _ (m : Machine) (j : ℕ) (y : IsOpened m j) (number : connection_of (end
 
   module _ (o : ObjName) (of : IsOf j o) where
     -- an end that has the same left
-    one_stands : (f : End) → f.name ≡ (end_of m o).name → IsReservedAs f (end_of m o) → IsStandingMore j m (with_end m o f)
-    one_stands f name left = quiet_stands m (with_end m o f) j (quiet_end m o f name left)
+    one_is : (E : ObjName → Type 0) (f : End) → f.name ≡ (end_of m o).name → IsReservedAs f (end_of m o) → IsStepOf j E m (with_end m o f)
+    one_is E f name left = QuietStep (quiet_end m o f name left)
 
-    ends_stands : (s : WcStatus) → IsStandingMore j m (ended_with m o s)
-    ends_stands s =
+    ends_is : (E : ObjName → Type 0) → E o → (s : WcStatus) → IsStepOf j E m (ended_with m o s)
+    ends_is E why s =
         let z = there_of o of in
-        settled_stands m (ended_with m o s) j number o (closed (end_of m o)) (failed_queues (end_of m o) s (receives_of (end_of m o)) (context_of m o.context).queues) of (end_settles m o s z.connected)
-        (end_completes (context_of m o.context).queues z.queue (end_of m o) z.send z.receive s)
+        SettledStep o (closed (end_of m o)) (failed_queues (end_of m o) s (receives_of (end_of m o)) (context_of m o.context).queues) of (end_settles m o s z.connected)
+        (end_completes (context_of m o.context).queues z.queue (end_of m o) z.send z.receive s) (λ ended. inr why)
 
-    expires_stands : IsStandingMore j m (expire m o)
+    expires_is : IsStepOf j (λ p. EndsIt m p (steps.Expire o)) m (expire m o)
     unfolding expire expired
-    expires_stands = by ((end_of m o).spent == (end_of m o).retry)
+    expires_is = by ((end_of m o).spent == (end_of m o).retry) refl
       where
-        by : (b : Bool) → IsStandingMore j m (if b then ended_with m o status.RetryExceeded else in_end m o expired)
-        by true = ends_stands status.RetryExceeded
-        by false = one_stands _ refl (record { number = refl; send_queue = refl; receive_queue = refl; posted = refl; told = refl; in_use = refl; unused = refl })
+        by : (b : Bool) → ((end_of m o).spent == (end_of m o).retry) ≡ b → IsStepOf j (λ p. EndsIt m p (steps.Expire o)) m (if b then ended_with m o status.RetryExceeded else in_end m o expired)
+        by true e = ends_is (λ p. EndsIt m p (steps.Expire o)) (refl, eqb-true (end_of m o).spent (end_of m o).retry e) status.RetryExceeded
+        by false e = one_is (λ p. EndsIt m p (steps.Expire o)) _ refl (record { number = refl; send_queue = refl; receive_queue = refl; posted = refl; told = refl; in_use = refl; unused = refl; ended = refl })
 
-    waits_stands : IsStandingMore j m (wait m o)
+    waits_is : IsStepOf j (λ p. EndsIt m p (steps.Wait o)) m (wait m o)
     unfolding wait waited
-    waits_stands = by ((end_of m o).rnr == 7) ((end_of m o).waits == (end_of m o).rnr)
+    waits_is = by ((end_of m o).rnr == 7) ((end_of m o).waits == (end_of m o).rnr) refl refl
       where
-        by : (a b : Bool) → IsStandingMore j m (if a then m else if b then ended_with m o status.RnrExceeded else in_end m o waited)
-        by true b = quiet_stands m m j (quiet_itself m)
-        by false true = ends_stands status.RnrExceeded
-        by false false = one_stands _ refl (record { number = refl; send_queue = refl; receive_queue = refl; posted = refl; told = refl; in_use = refl; unused = refl })
+        by : (a b : Bool) → ((end_of m o).rnr == 7) ≡ a → ((end_of m o).waits == (end_of m o).rnr) ≡ b → IsStepOf j (λ p. EndsIt m p (steps.Wait o)) m (if a then m else if b then ended_with m o status.RnrExceeded else in_end m o waited)
+        by true b d e = QuietStep (quiet_itself m)
+        by false true d e = ends_is (λ p. EndsIt m p (steps.Wait o)) (refl, eqb-false (end_of m o).rnr 7 d, eqb-true (end_of m o).waits (end_of m o).rnr e) status.RnrExceeded
+        by false false d e = one_is (λ p. EndsIt m p (steps.Wait o)) _ refl (record { number = refl; send_queue = refl; receive_queue = refl; posted = refl; told = refl; in_use = refl; unused = refl; ended = refl })
 
-    tells_stands : step.may_tell m o ≡ true → IsStandingMore j m (tell m o)
-    tells_stands may =
+    tells_is : (E : ObjName → Type 0) → step.may_tell m o ≡ true → IsStepOf j E m (tell m o)
+    tells_is E may =
         let z = there_of o of in
-        settled_stands m (tell m o) j number o (told_one (end_of m o)) (completed (end_of m o).send_queue (success (end_of m o) (front (end_of m o))) (context_of m o.context).queues) of (tell_settles m o z.connected)
-        (tell_completes (context_of m o.context).queues z.queue (end_of m o) z.send z.receive (may_told m o may))
+        SettledStep o (told_one (end_of m o)) (completed (end_of m o).send_queue (success (end_of m o) (front (end_of m o))) (context_of m o.context).queues) of (tell_settles m o z.connected)
+        (tell_completes (context_of m o.context).queues z.queue (end_of m o) z.send z.receive (may_told m o may)) (λ ended. inl (sym (told_ended (end_of m o)) ∙ ended))
 
-    refuses_stands : (why : RefusalReason) → IsStandingMore j m (refuse m o why)
-    refuses_stands why =
+    refuses_is : (why : RefusalReason) → IsStepOf j (λ p. EndsIt m p (steps.Refuse o why)) m (refuse m o why)
+    refuses_is why =
         let p : ObjName = (end_of m o).peer in
         let z = there_of (end_of m o).peer (peer_of_it o of) in
-        settled_stands m (refuse m o why) j number p (closed (end_of m p)) (refused_queues (end_of m p) why (context_of m p.context).queues) (peer_of_it o of) (refuse_settles m o why z.connected)
-        (refusal_completes (context_of m p.context).queues z.queue (end_of m p) z.send z.receive why)
+        SettledStep p (closed (end_of m p)) (refused_queues (end_of m p) why (context_of m p.context).queues) (peer_of_it o of) (refuse_settles m o why z.connected)
+        (refusal_completes (context_of m p.context).queues z.queue (end_of m p) z.send z.receive why) (λ ended. inr refl)
 
-    runs_stands : (n : ℕ) → IsStandingMore j m (run m o n)
-    runs_stands n =
+    runs_is : (E : ObjName → Type 0) (n : ℕ) → IsStepOf j E m (run m o n)
+    runs_is E n =
         let p : ObjName = (end_of m o).peer in
         let z = there_of (end_of m o).peer (peer_of_it o of) in
-        settled_stands m (run m o n) j number p (receiving (current (end_of m o)).request.shape (fills (end_of m o) n) (end_of m p)) (completed (end_of m p).receive_queue (arrivals (end_of m o) n (end_of m p)) (context_of m p.context).queues) (peer_of_it o of)
+        SettledStep p (receiving (current (end_of m o)).request.shape (fills (end_of m o) n) (end_of m p)) (completed (end_of m p).receive_queue (arrivals (end_of m o) n (end_of m p)) (context_of m p.context).queues) (peer_of_it o of)
         (run_settles m o n z.connected) (run_completes (context_of m p.context).queues z.queue (end_of m p) z.send z.receive (end_of m o) n)
+        (λ ended. inl (sym (received_stays (current (end_of m o)).request.shape (fills (end_of m o) n) (end_of m p)) ∙ ended))
 
+  pub steps_are : (s : MachineStep) → IsInner s → IsOf j (stepping s) → is_enabled m s ≡ true → IsStepOf j (λ p. EndsIt m p s) m (effect m s)
+  unfolding read_turn acted_with dried dried_at offered with_offer knowing with_known bounce step.may_bounce
+  steps_are (steps.Verb verb given) inner of may = absurd inner
+  steps_are (steps.Run o n) inner of may = runs_is o of (λ p. EndsIt m p (steps.Run o n)) n
+  steps_are (steps.Atom o) inner of may = QuietStep (atom_quiet m o)
+  steps_are (steps.ReadTurn o) inner of may = one_is o of (λ p. EndsIt m p (steps.ReadTurn o)) _ refl (record { number = refl; send_queue = refl; receive_queue = refl; posted = refl; told = refl; in_use = refl; unused = refl; ended = refl })
+  steps_are (steps.Refuse o why) inner of may = refuses_is o of why
+  steps_are (steps.Dry o) inner of may = one_is o of (λ p. EndsIt m p (steps.Dry o)) _ refl (record { number = refl; send_queue = refl; receive_queue = refl; posted = refl; told = refl; in_use = refl; unused = refl; ended = refl })
+  steps_are (steps.Offer o k offset n) inner of may = one_is o of (λ p. EndsIt m p (steps.Offer o k offset n)) _ refl (record { number = refl; send_queue = refl; receive_queue = refl; posted = refl; told = refl; in_use = refl; unused = refl; ended = refl })
+  steps_are (steps.Land o k) inner of may = QuietStep (land_quiet m o k)
+  steps_are (steps.Known o bytes) inner of may = one_is o of (λ p. EndsIt m p (steps.Known o bytes)) _ refl (record { number = refl; send_queue = refl; receive_queue = refl; posted = refl; told = refl; in_use = refl; unused = refl; ended = refl })
+  steps_are (steps.Tell o) inner of may = tells_is o of (λ p. EndsIt m p (steps.Tell o)) may
+  steps_are (steps.Expire o) inner of may = expires_is o of
+  steps_are (steps.Wait o) inner of may = waits_is o of
+  steps_are (steps.Bounce o) inner of may =
+      ends_is o of (λ p. EndsIt m p (steps.Bounce o)) (refl, (both (step.has_untold m o) (step.is_denied (slice_get (end_of m o).answers (end_of m o).told)) may).1) (bounce_status (slice_get (end_of m o).answers (end_of m o).told))
+
+  -- .. so more stands of that connection at most
   pub steps_stand : (s : MachineStep) → IsInner s → IsOf j (stepping s) → is_enabled m s ≡ true → IsStandingMore j m (effect m s)
-  unfolding read_turn acted_with dried dried_at offered with_offer knowing with_known bounce
-  steps_stand (steps.Verb verb given) inner of may = absurd inner
-  steps_stand (steps.Run o n) inner of may = runs_stands o of n
-  steps_stand (steps.Atom o) inner of may = quiet_stands m (atom m o) j (atom_quiet m o)
-  steps_stand (steps.ReadTurn o) inner of may = one_stands o of _ refl (record { number = refl; send_queue = refl; receive_queue = refl; posted = refl; told = refl; in_use = refl; unused = refl })
-  steps_stand (steps.Refuse o why) inner of may = refuses_stands o of why
-  steps_stand (steps.Dry o) inner of may = one_stands o of _ refl (record { number = refl; send_queue = refl; receive_queue = refl; posted = refl; told = refl; in_use = refl; unused = refl })
-  steps_stand (steps.Offer o k offset n) inner of may = one_stands o of _ refl (record { number = refl; send_queue = refl; receive_queue = refl; posted = refl; told = refl; in_use = refl; unused = refl })
-  steps_stand (steps.Land o k) inner of may = quiet_stands m (landed m o k) j (land_quiet m o k)
-  steps_stand (steps.Known o bytes) inner of may = one_stands o of _ refl (record { number = refl; send_queue = refl; receive_queue = refl; posted = refl; told = refl; in_use = refl; unused = refl })
-  steps_stand (steps.Tell o) inner of may = tells_stands o of may
-  steps_stand (steps.Expire o) inner of may = expires_stands o of
-  steps_stand (steps.Wait o) inner of may = waits_stands o of
-  steps_stand (steps.Bounce o) inner of may = ends_stands o of (bounce_status (slice_get (end_of m o).answers (end_of m o).told))
+  steps_stand s inner of may = by (effect m s) (steps_are s inner of may)
+    where
+      by : (m' : Machine) → IsStepOf j (λ p. EndsIt m p s) m m' → IsStandingMore j m m'
+      by m' (QuietStep quiet) = quiet_stands m m' j quiet
+      by m' (SettledStep o e queues is t k why) = settled_stands m m' j number o e queues is t k

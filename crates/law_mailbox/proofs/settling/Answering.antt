@@ -128,7 +128,7 @@ module _ (m : Machine) (i : ℕ) (opened : IsOpened m i) where
       let low : nat_le r.base staging_address ≡ true = le-leb r.base staging_address (omega (arith, begins)) in
       let high : nat_le (staging_address + n) (r.base + r.length) ≡ true = le-leb (staging_address + n) (r.base + r.length) (omega (arith, begins, long, fits)) in
       let all : grants local_key domain_name (sender_key i) staging_address n NoRight (named (λ x. x.name) no_region (sender_region i).name (regions_of m (sender i))) ≡ true = and_both _ _ domain (and_both _ _ key (and_both _ _ low high)) in
-      let some' = some_granted domain_name (sender_key i) staging_address n NoRight (sender_region i).name (regions_of m (sender i)) opened.sender_region_there all in
+      let some' = some_granted local_key domain_name (sender_key i) staging_address n NoRight (sender_region i).name (regions_of m (sender i)) opened.sender_region_there all in
       subst (λ (d : Name). ((n == 0) || is_some (first_that (grants local_key d (sender_key i) staging_address n NoRight) (regions_of m (sender i)))) ≡ true) (sym opened.sender_joined.domain) (or_some (n == 0) _ some')
     where
       or_some : (a b : Bool) → b ≡ true → (a || b) ≡ true

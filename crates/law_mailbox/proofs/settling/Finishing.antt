@@ -20,13 +20,16 @@ use Rattle.mailbox_rules.specs.declared.due.Due.TheVariants as due
 use Rattle.rdma_types.specs.declared.requests.Completion.{Completion}
 use Rattle.law_simulation.specs.Named.{EventsFollowByName}
 use Rattle.std.proofs.lemmas.List.Concat.{flat_map-append}
+use Rattle.mailbox_rules.specs.declared.faults.MailFault.TheVariants as fault
 use Rattle.mailbox_rules.specs.declared.letters.Letter.{Letter}
-use Rattle.mailbox_rules.specs.Calls.{After, Call, Send, Settle, Take, Work, after, calls, sends, settled_thrice, settles, takes}
+use Rattle.mailbox_rules.specs.Calls.{After, Call, Refused, Send, Settle, Take, Work, after, calls, sends, settled_thrice, settles, takes, untold_at}
 use Rattle.mailbox_rules.specs.Histories.{Turn, first_wanted, placed_letters, sent_letters}
 use Rattle.mailbox_rules.specs.Opening.{receiver, receiver_end, sender, sender_end}
 use Rattle.mailbox_rules.specs.State.{Channel, Mail, channel, context_at, fresh_channel, is_away, is_sender, or_fresh, with_world}
 use Rattle.mailbox_rules.specs.Theorem.{AllIsHere, AllTakenAfterSettling, IsGiven, LeavesNothing, has_no_ended, is_some_end_in_error}
 use Rattle.mailbox_rules.specs.Working.{context_of, may_be_done, most_steps, working}
+use Rattle.law_mailbox.specs.Delivered.{IsDelivered}
+use Rattle.law_mailbox.specs.Flagged.{has_failed}
 use Rattle.law_mailbox.specs.Finished.{AllWorkFinishes, IsHeldIn, IsWorkSeen, WorkFinishes, WorkingIsEnough, line_of}
 use Rattle.law_mailbox.specs.Kept.{bodies, body_in, copies, copy_in, dues_of, fetch_in, fetches, free_in, frees, long_letters, sight_of, slot_in, slots, standing}
 use Rattle.law_mailbox.specs.Over.{IsWorkOver, StoppedWorkIsOver}
@@ -35,6 +38,7 @@ use Rattle.law_mailbox.specs.Works.{IsKeptLine, Line}
 use Rattle.law_mailbox.proofs.settling.Ahead.{works_go_ahead}
 use Rattle.law_mailbox.proofs.work.Chains.{to_work}
 use Rattle.law_mailbox.proofs.work.Channels.{IsSender, sender_is}
+use Rattle.law_mailbox.proofs.queue_room.FewMachines.{failed_as}
 use Rattle.law_mailbox.proofs.queue_room.Gaining.{nothing_of_sender}
 use Rattle.law_mailbox.proofs.settling.Given.{all_given, none_full}
 use Rattle.law_mailbox.proofs.work.Noting.{no_slots_at_receiver}
@@ -112,11 +116,11 @@ two_rounds m = calls_are m (Settle ∷ (Work ∷ [])) ∙ one_round (round_mail 
 all_rounds : (m : Mail) → after m settled_thrice ≡ round_mail (round_mail (round_mail m))
 all_rounds m = calls_are m (Settle ∷ (Work ∷ (Settle ∷ (Work ∷ [])))) ∙ two_rounds (round_mail m)
 
-taken_after : (m : Mail) (i : ℕ) (tag : Option ℕ) → calls m (Take i tag) ≡ takes (working m) i tag
+pub taken_after : (m : Mail) (i : ℕ) (tag : Option ℕ) → calls m (Take i tag) ≡ takes (working m) i tag
 unfolding calls
 taken_after m i tag = refl
 
-sent_after : (m : Mail) (i tag : ℕ) (body : List ℕ) → calls m (Send i tag body) ≡ sends (working m) i (record { tag = tag; body = body })
+pub sent_after : (m : Mail) (i tag : ℕ) (body : List ℕ) → calls m (Send i tag body) ≡ sends (working m) i (record { tag = tag; body = body })
 unfolding calls
 sent_after m i tag body = refl
 
@@ -162,11 +166,11 @@ module _ (i : ℕ) (x y : Line) (h : IsKeptLine i x) (w : IsWorkedOn i x y) (cop
 -- ---- work that finishes
 
 -- nothing is due at the receiver
-record IsReceiverDone (i : ℕ) (ds : List Due) : Type 0 where
-  copied : copies i ds ≡ []
-  fetched : fetches i ds ≡ []
-  filled : bodies i ds ≡ []
-  freed : frees i ds ≡ []
+pub record IsReceiverDone (i : ℕ) (ds : List Due) : Type 0 where
+  pub copied : copies i ds ≡ []
+  pub fetched : fetches i ds ≡ []
+  pub filled : bodies i ds ≡ []
+  pub freed : frees i ds ≡ []
 
 -- work is seen, and nothing is due any more where a context lives
 record IsWorkDone (peers : ℕ) (ts : List Turn) (m : Mail) (machine : Machine) : Type 0 where
@@ -232,31 +236,35 @@ no_slot i (due.PostFree j) other = refl
 no_slot i (due.FreeSlot j place) other = rw (ne_eqb j i other) refl
 no_slot i (due.RepostAtSender j place) other = refl
 
-module _ (peers : ℕ) (ts : List Turn) (m : Mail) (machine : Machine) (seen : IsWorkSeen peers ts m (working m) machine) (f : IsWorkOver peers (working m)) where
-  receiver_nil : {Y : Type 0} (part : Due → List Y) → ((d : Due) → context_of d ≢ 0 → part d ≡ []) → ((n place : ℕ) → part (due.FreeSlot n place) ≡ []) → is_away (working m).world 0 ≡ false → (i : ℕ) → 1 ≤ i →
-      flat_map part (sight_of seen.machine' (working m).owed i).dues ≡ []
+-- where work is over nothing is due in a context that lives
+module _ (peers : ℕ) (m : Mail) (machine : Machine) (stands : Stands m.world machine) (f : IsWorkOver peers m) where
+  receiver_nil : {Y : Type 0} (part : Due → List Y) → ((d : Due) → context_of d ≢ 0 → part d ≡ []) → ((n place : ℕ) → part (due.FreeSlot n place) ≡ []) → is_away m.world 0 ≡ false → (i : ℕ) → 1 ≤ i →
+      flat_map part (sight_of machine m.owed i).dues ≡ []
   receiver_nil part none no_slots home' i low =
-      let empty : standing seen.machine' receiver ≡ [] = f.none_standing seen.machine' seen.stands 0 (omega arith) home' in
-      three_nil part (working m).owed (dues_of 0 (standing seen.machine' receiver)) (dues_of i (standing seen.machine' (sender i))) (none_due part (working m).world 0 home' none (working m).owed f.none_owed)
-      (ap (λ (xs : List Completion). flat_map part (dues_of 0 xs)) empty) (nothing_of_sender part no_slots i (standing seen.machine' (sender i)) low)
+      let empty : standing machine receiver ≡ [] = f.none_standing machine stands 0 (omega arith) home' in
+      three_nil part m.owed (dues_of 0 (standing machine receiver)) (dues_of i (standing machine (sender i))) (none_due part m.world 0 home' none m.owed f.none_owed)
+      (ap (λ (xs : List Completion). flat_map part (dues_of 0 xs)) empty) (nothing_of_sender part no_slots i (standing machine (sender i)) low)
 
-  sender_nil : (i : ℕ) → 1 ≤ i → i ≤ peers → is_away (working m).world i ≡ false → slots i (sight_of seen.machine' (working m).owed i).dues ≡ []
-  sender_nil i low high home' =
-      let empty : standing seen.machine' (sender i) ≡ [] = subst (λ (c : Name). standing seen.machine' c ≡ []) (context_is i low) (f.none_standing seen.machine' seen.stands i high home') in
-      three_nil (slot_in i) (working m).owed (dues_of 0 (standing seen.machine' receiver)) (dues_of i (standing seen.machine' (sender i))) (none_due (slot_in i) (working m).world i home' (no_slot i) (working m).owed f.none_owed)
-      (no_slots_at_receiver i (standing seen.machine' receiver)) (ap (λ (xs : List Completion). slots i (dues_of i xs)) empty)
-
-  finished : IsWorkDone peers ts m machine
-  finished = record {
-    seen = seen;
-    receiver_done = λ home' i low high. record {
-      copied = receiver_nil (copy_in i) (no_copy i) (λ n place. refl) home' i low;
-      fetched = receiver_nil (fetch_in i) (no_fetch i) (λ n place. refl) home' i low;
-      filled = receiver_nil (body_in i) (no_body i) (λ n place. refl) home' i low;
-      freed = receiver_nil (free_in i) (no_free i) (λ n place. refl) home' i low;
-    };
-    sender_done = λ i low high home'. sender_nil i low high home';
+  pub receiver_over : is_away m.world 0 ≡ false → (i : ℕ) → 1 ≤ i → IsReceiverDone i (sight_of machine m.owed i).dues
+  receiver_over home' i low = record {
+    copied = receiver_nil (copy_in i) (no_copy i) (λ n place. refl) home' i low;
+    fetched = receiver_nil (fetch_in i) (no_fetch i) (λ n place. refl) home' i low;
+    filled = receiver_nil (body_in i) (no_body i) (λ n place. refl) home' i low;
+    freed = receiver_nil (free_in i) (no_free i) (λ n place. refl) home' i low;
   }
+
+  pub sender_over : (i : ℕ) → 1 ≤ i → i ≤ peers → is_away m.world i ≡ false → slots i (sight_of machine m.owed i).dues ≡ []
+  sender_over i low high home' =
+      let empty : standing machine (sender i) ≡ [] = subst (λ (c : Name). standing machine c ≡ []) (context_is i low) (f.none_standing machine stands i high home') in
+      three_nil (slot_in i) m.owed (dues_of 0 (standing machine receiver)) (dues_of i (standing machine (sender i))) (none_due (slot_in i) m.world i home' (no_slot i) m.owed f.none_owed)
+      (no_slots_at_receiver i (standing machine receiver)) (ap (λ (xs : List Completion). slots i (dues_of i xs)) empty)
+
+finished : (peers : ℕ) (ts : List Turn) (m : Mail) (machine : Machine) → IsWorkSeen peers ts m (working m) machine → IsWorkOver peers (working m) → IsWorkDone peers ts m machine
+finished peers ts m machine seen f = record {
+  seen = seen;
+  receiver_done = λ home' i low high. receiver_over peers (working m) seen.machine' seen.stands f home' i low;
+  sender_done = λ i low high home'. sender_over peers (working m) seen.machine' seen.stands f i low high home';
+}
 
 working_moves_none : (m : Mail) (n : ℕ) → is_away (working m).world n ≡ is_away m.world n
 working_moves_none m n = ap (λ (x : Mail). is_away x.world n) (is_worked m) ∙ work_moves_none most_steps m n
@@ -328,7 +336,6 @@ module _ (named : SettlingHasEvents) (follow : (e : WorldEvent) → AlwaysFollow
 
   module _ (m : Mail) (machine : Machine) (h : IsHeldIn peers ts m machine) (first_left : unfinished (settled m.world).world ≡ []) (second_left : unfinished (settled (round_mail m).world).world ≡ [])
       (third_left : unfinished (settled (round_mail (round_mail m)).world).world ≡ []) (home' : is_away (round_mail (round_mail (round_mail m))).world 0 ≡ false)
-      (none_in_error : is_some_end_in_error (round_mail (round_mail (round_mail m))).world ≡ false) (unflagged : All (λ c. has_no_ended c ≡ true) (round_mail (round_mail (round_mail m))).channels)
       (finishes1 : WorkFinishes (settled_mail m)) (finishes2 : WorkFinishes (settled_mail (round_mail m))) (finishes3 : WorkFinishes (settled_mail (round_mail (round_mail m)))) (finishes4 : WorkFinishes (round_mail (round_mail (round_mail m)))) where
     abbrev m1 : Mail
     m1 = round_mail m
@@ -369,18 +376,18 @@ module _ (named : SettlingHasEvents) (follow : (e : WorldEvent) → AlwaysFollow
     held4 : IsHeldIn peers ts (working m3) d4.seen.machine'
     held4 = work_held m3 r3.done.seen.machine' held3 d4
 
-    live3 : (i : ℕ) → 1 ≤ i → i ≤ peers → IsLive (line_of r3.done.seen.machine' m3 ts i)
-    live3 i low high =
+    -- connection i lives, where its ends are not in Error and do not count as ended
+    live_at : (i : ℕ) → 1 ≤ i → i ≤ peers → has_failed m3.world (sender_end i) ≡ false → has_failed m3.world (receiver_end i) ≡ false → (channel m3 i).receiver_ended ≡ false → IsLive (line_of r3.done.seen.machine' m3 ts i)
+    live_at i low high sender_fine receiver_fine unset =
         let opened = held3.all.opened i low high in
-        let flags : has_no_ended (channel m3 i) ≡ true = channel_is (λ c. has_no_ended c ≡ true) m3.channels (i - 1) refl unflagged in
         record {
-          sender_lives = none_ended m3.world r3.done.seen.machine' held3.stands none_in_error (sender_end i) opened.sender_there;
-          receiver_lives = none_ended m3.world r3.done.seen.machine' held3.stands none_in_error (receiver_end i) opened.receiver_there;
-          unflagged = not_flagged (channel m3 i).receiver_ended (channel m3 i).sender_ended flags;
+          sender_lives = failed_as m3.world r3.done.seen.machine' r3.done.seen.machine' held3.stands held3.stands (sender_end i) opened.sender_there ∙ sender_fine;
+          receiver_lives = failed_as m3.world r3.done.seen.machine' r3.done.seen.machine' held3.stands held3.stands (receiver_end i) opened.receiver_there ∙ receiver_fine;
+          unflagged = unset;
         }
 
-    copied3 : (i : ℕ) → 1 ≤ i → i ≤ peers → IsAllCopied i (line_of r3.done.seen.machine' m3 ts i)
-    copied3 i low high =
+    copied3 : (i : ℕ) → 1 ≤ i → i ≤ peers → IsLive (line_of r3.done.seen.machine' m3 ts i) → IsAllCopied i (line_of r3.done.seen.machine' m3 ts i)
+    copied3 i low high live =
         let x0 : Line = line_of machine m ts i in
         let x1 : Line = line_of r1.done.seen.machine' m1 ts i in
         let x2 : Line = line_of r2.done.seen.machine' m2 ts i in
@@ -388,12 +395,12 @@ module _ (named : SettlingHasEvents) (follow : (e : WorldEvent) → AlwaysFollow
         let a1 : Line = line_of r1.first.machine' (settled_mail m) ts i in
         let a2 : Line = line_of r2.first.machine' (settled_mail m1) ts i in
         let a3 : Line = line_of r3.first.machine' (settled_mail m2) ts i in
-        let third = is_round m2 r2.done.seen.machine' r3 third_left home' i low high (live3 i low high) in
-        let live2 = lived i x2 a3 x3 third (live3 i low high) in
+        let third = is_round m2 r2.done.seen.machine' r3 third_left home' i low high live in
+        let live2 = lived i x2 a3 x3 third live in
         let second = is_round m1 r1.done.seen.machine' r2 second_left home2 i low high live2 in
         let live1 = lived i x1 a2 x2 second live2 in
         let first = is_round m machine r1 first_left home1 i low high live1 in
-        three_rounds i x0 a1 x1 a2 x2 a3 x3 first second third (live3 i low high)
+        three_rounds i x0 a1 x1 a2 x2 a3 x3 first second third live
 
     worked4 : (i : ℕ) → 1 ≤ i → i ≤ peers → IsWorkedOn i (line_of r3.done.seen.machine' m3 ts i) (line_of d4.seen.machine' (working m3) ts i)
     worked4 i low high = worked_on m3 r3.done.seen.machine' held3 d4 i low high
@@ -417,34 +424,58 @@ module _ (named : SettlingHasEvents) (follow : (e : WorldEvent) → AlwaysFollow
     still_there : (i : ℕ) → is_sender m3 i ≡ true → is_sender (working m3) i ≡ true
     still_there i there = ap (λ (n : ℕ). nat_le 1 i && nat_le i n) (held4.senders ∙ sym held3.senders) ∙ there
 
-    all_here : AllIsHere m3 ts
-    all_here = record {
-      given = λ i tag there.
-          let there4 = still_there i there in
-          let range = among i there4 in
-          let low = range.0 in
-          let high = range.1 in
-          let x : Line = line_of r3.done.seen.machine' m3 ts i in
-          let y : Line = line_of d4.seen.machine' (working m3) ts i in
+    -- ---- of a connection that lives
+
+    module _ (i : ℕ) (low : 1 ≤ i) (high : i ≤ peers) (live : IsLive (line_of r3.done.seen.machine' m3 ts i)) where
+      abbrev x : Line
+      x = line_of r3.done.seen.machine' m3 ts i
+
+      abbrev y : Line
+      y = line_of d4.seen.machine' (working m3) ts i
+
+      given_of : (tag : Option ℕ) → is_sender m3 i ≡ true → IsGiven (first_wanted tag (placed_letters i ts)) (calls m3 (Take i tag)).reply
+      given_of tag there =
           let kept3 = held3.all.kept i low high in
           subst (λ (a : After). IsGiven (first_wanted tag (placed_letters i ts)) a.reply) (sym (taken_after m3 i tag))
-          (all_given (working m3) i (sent_letters i ts) (placed_letters i ts) tag there4 (were_sent i ts) (held4.all.kept i low high).arrived
-          (still_received i x y kept3 (worked4 i low high) (copied3 i low high)) (still_read i x y kept3 (worked4 i low high) (copied3 i low high)));
-      room = λ i tag body refused.
-          none_full (working m3) i (record { tag = tag; body = body })
-          (λ there4 live4.
-          let range = among i there4 in
-          let low = range.0 in
-          let high = range.1 in
-          let x : Line = line_of r3.done.seen.machine' m3 ts i in
-          let y : Line = line_of d4.seen.machine' (working m3) ts i in
-          let live3' : is_away m3.world i ≡ false = sym (working_moves_none m3 i) ∙ live4 in (
+          (all_given (working m3) i (sent_letters i ts) (placed_letters i ts) tag (still_there i there) (were_sent i ts) (held4.all.kept i low high).arrived
+          (still_received i x y kept3 (worked4 i low high) (copied3 i low high live)) (still_read i x y kept3 (worked4 i low high) (copied3 i low high live)))
+
+      -- a sender that lives has room
+      room_of : is_away (working m3).world i ≡ false → (untold_at (working m3).world i ≡ 0) × ((channel (working m3) i).slot_in_use ≡ false)
+      room_of live4 =
+          let live3 : is_away m3.world i ≡ false = sym (working_moves_none m3 i) ∙ live4 in (
             nothing_untold_at peers (working m3).world d4.seen.machine' held4.stands held4.all.joined i (told4 i low high)
                 (subst (λ (c : Name). is_live (working m3).world c ≡ true) (context_is i low) (lives (working m3).world d4.seen.machine' i held4.stands (has_context_at i low high) live4)),
-            still_free i x y (held3.all.kept i low high) (worked4 i low high) (copied3 i low high) (r3.done.sender_done i low high live3') (d4.sender_done i low high live4),
-          ))
-          (ap (λ (a : After). a.reply) (sym (sent_after m3 i tag body)) ∙ refused);
-    }
+            still_free i x y (held3.all.kept i low high) (worked4 i low high) (copied3 i low high live) (r3.done.sender_done i low high live3) (d4.sender_done i low high live4),
+          )
+
+    -- where those of a sender that is known live, none is refused as Full
+    room_at : (i tag : ℕ) (body : List ℕ) → ((low : 1 ≤ i) (high : i ≤ peers) → IsLive (line_of r3.done.seen.machine' m3 ts i)) → (calls m3 (Send i tag body)).reply ≡ Refused fault.Full → ⊥
+    room_at i tag body live refused =
+        none_full (working m3) i (record { tag = tag; body = body }) (λ there4 live4. let range = among i there4 in room_of i range.0 range.1 (live range.0 range.1) live4)
+        (ap (λ (a : After). a.reply) (sym (sent_after m3 i tag body)) ∙ refused)
+
+    here_of : (i : ℕ) → 1 ≤ i → i ≤ peers → IsLive (line_of r3.done.seen.machine' m3 ts i) → IsDelivered m3 ts i
+    here_of i low high live = record { given = λ tag there. given_of i low high live tag there; room = λ tag body refused. room_at i tag body (λ a b. live) refused }
+
+    -- ---- of all
+
+    module _ (none_in_error : is_some_end_in_error m3.world ≡ false) (unflagged : All (λ c. has_no_ended c ≡ true) m3.channels) where
+      live3 : (i : ℕ) → 1 ≤ i → i ≤ peers → IsLive (line_of r3.done.seen.machine' m3 ts i)
+      live3 i low high =
+          let opened = held3.all.opened i low high in
+          let flags : has_no_ended (channel m3 i) ≡ true = channel_is (λ c. has_no_ended c ≡ true) m3.channels (i - 1) refl unflagged in
+          record {
+            sender_lives = none_ended m3.world r3.done.seen.machine' held3.stands none_in_error (sender_end i) opened.sender_there;
+            receiver_lives = none_ended m3.world r3.done.seen.machine' held3.stands none_in_error (receiver_end i) opened.receiver_there;
+            unflagged = not_flagged (channel m3 i).receiver_ended (channel m3 i).sender_ended flags;
+          }
+
+      all_here : AllIsHere m3 ts
+      all_here = record {
+        given = λ i tag there. let range = among i (still_there i there) in given_of i range.0 range.1 (live3 i range.0 range.1) tag there;
+        room = λ i tag body refused. room_at i tag body (live3 i) refused;
+      }
 
   all_taken : (m : Mail) (machine : Machine) → IsHeldIn peers ts m machine → AllWorkFinishes m → AllTakenAfterSettling m ts
   all_taken m machine h finishes calm =
@@ -453,12 +484,28 @@ module _ (named : SettlingHasEvents) (follow : (e : WorldEvent) → AlwaysFollow
       subst (λ (n : Mail). AllIsHere n ts) (sym (all_rounds m))
       (all_here m machine h calm.first second third
       (subst (λ (n : Mail). is_away n.world 0 ≡ false) (all_rounds m) calm.receiver_lives)
-      (subst (λ (n : Mail). is_some_end_in_error n.world ≡ false) (all_rounds m) calm.none_in_error)
-      (subst (λ (n : Mail). All (λ c. has_no_ended c ≡ true) n.channels) (all_rounds m) calm.none_ended)
       (subst WorkFinishes (just_settled m) finishes.first)
       (subst WorkFinishes (calls_are m (Settle ∷ []) ∙ just_settled (round_mail m)) finishes.second)
       (subst WorkFinishes (calls_are m (Settle ∷ (Work ∷ (Settle ∷ []))) ∙ (calls_are (round_mail m) (Settle ∷ []) ∙ just_settled (round_mail (round_mail m)))) finishes.third)
-      (subst WorkFinishes (all_rounds m) finishes.last))
+      (subst WorkFinishes (all_rounds m) finishes.last)
+      (subst (λ (n : Mail). is_some_end_in_error n.world ≡ false) (all_rounds m) calm.none_in_error)
+      (subst (λ (n : Mail). All (λ c. has_no_ended c ≡ true) n.channels) (all_rounds m) calm.none_ended))
+
+  -- the letters of sender i alone
+  pub delivered_of : (m : Mail) (machine : Machine) → IsHeldIn peers ts m machine → AllWorkFinishes m → LeavesNothing m → LeavesNothing (after m (Settle ∷ Work ∷ [])) → LeavesNothing (after m (Settle ∷ Work ∷ Settle ∷ Work ∷ [])) → is_away (after m settled_thrice).world 0 ≡ false →
+      (i : ℕ) → 1 ≤ i → i ≤ peers → has_failed (after m settled_thrice).world (sender_end i) ≡ false → has_failed (after m settled_thrice).world (receiver_end i) ≡ false → (channel (after m settled_thrice) i).receiver_ended ≡ false → IsDelivered (after m settled_thrice) ts i
+  delivered_of m machine h finishes first second third home i low high sender_fine receiver_fine unset =
+      let second' : LeavesNothing (round_mail m) = subst LeavesNothing (one_round m) second in
+      let third' : LeavesNothing (round_mail (round_mail m)) = subst LeavesNothing (two_rounds m) third in
+      let home' : is_away (round_mail (round_mail (round_mail m))).world 0 ≡ false = subst (λ (n : Mail). is_away n.world 0 ≡ false) (all_rounds m) home in
+      let f1 : WorkFinishes (settled_mail m) = subst WorkFinishes (just_settled m) finishes.first in
+      let f2 : WorkFinishes (settled_mail (round_mail m)) = subst WorkFinishes (calls_are m (Settle ∷ []) ∙ just_settled (round_mail m)) finishes.second in
+      let f3 : WorkFinishes (settled_mail (round_mail (round_mail m))) = subst WorkFinishes (calls_are m (Settle ∷ (Work ∷ (Settle ∷ []))) ∙ (calls_are (round_mail m) (Settle ∷ []) ∙ just_settled (round_mail (round_mail m)))) finishes.third in
+      let f4 : WorkFinishes (round_mail (round_mail (round_mail m))) = subst WorkFinishes (all_rounds m) finishes.last in
+      subst (λ (n : Mail). IsDelivered n ts i) (sym (all_rounds m))
+      (here_of m machine h first second' third' home' f1 f2 f3 f4 i low high
+      (live_at m machine h first second' third' home' f1 f2 f3 f4 i low high (subst (λ (n : Mail). has_failed n.world (sender_end i) ≡ false) (all_rounds m) sender_fine)
+      (subst (λ (n : Mail). has_failed n.world (receiver_end i) ≡ false) (all_rounds m) receiver_fine) (subst (λ (n : Mail). (channel n i).receiver_ended ≡ false) (all_rounds m) unset)))
 
 pub enough_working : SettlingHasEvents → ((e : WorldEvent) → AlwaysFollows e) → EventsFollowByName → StoppedWorkIsOver → WorkingIsEnough
 enough_working named follow by_name over peers positive small ts m machine h finishes = all_taken named follow by_name over peers positive small ts m machine h finishes

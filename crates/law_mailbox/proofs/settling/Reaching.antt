@@ -103,7 +103,7 @@ module _ (posted : AllIsPosted) (stops : WorkStopsInTime) (peers : ℕ) (low : 1
   finishes_after [] may ts m r = finishes_at ts m r
   finishes_after (c ∷ cs) may ts m r = finishes_after cs may.1 (ts ++ record { call = c; reply = (calls m c).reply } ∷ []) (calls m c).mail (Replied c may.0 r)
 
-  all_finish : (ts : List Turn) (m : Mail) → IsReached (made peers) ts m → AllWorkFinishes m
+  pub all_finish : (ts : List Turn) (m : Mail) → IsReached (made peers) ts m → AllWorkFinishes m
   all_finish ts m r = record {
     first = finishes_after (Settle ∷ []) (tt, tt) ts m r;
     second = finishes_after (Settle ∷ Work ∷ Settle ∷ []) (tt, (tt, (tt, tt))) ts m r;

@@ -143,15 +143,15 @@ module _ (w : World) (o : ObjName) (r : Request) (live : is_live w o.context ≡
 
 -- ---- the machine refuses neither
 
-pub some_granted : (domain : Name) (key at count : ℕ) (right : Right) (n : Name) (rs : List Region) → has_name (λ r. r.name) n rs ≡ true → grants local_key domain key at count right (named (λ r. r.name) no_region n rs) ≡ true →
-    is_some (first_that (grants local_key domain key at count right) rs) ≡ true
+pub some_granted : (key_of : Region → ℕ) (domain : Name) (key at count : ℕ) (right : Right) (n : Name) (rs : List Region) → has_name (λ r. r.name) n rs ≡ true → grants key_of domain key at count right (named (λ r. r.name) no_region n rs) ≡ true →
+    is_some (first_that (grants key_of domain key at count right) rs) ≡ true
 unfolding has_name named first_that
-some_granted domain key at count right n [] there g = cc
-some_granted domain key at count right n (r ∷ rs) there g = by (grants local_key domain key at count right r) refl (bytes_eq r.name n) (some_granted domain key at count right n rs) there g
+some_granted key_of domain key at count right n [] there g = cc
+some_granted key_of domain key at count right n (r ∷ rs) there g = by (grants key_of domain key at count right r) refl (bytes_eq r.name n) (some_granted key_of domain key at count right n rs) there g
   where
-    by : (t : Bool) → grants local_key domain key at count right r ≡ t → (b : Bool) →
-        (has_name (λ x. x.name) n rs ≡ true → grants local_key domain key at count right (named (λ x. x.name) no_region n rs) ≡ true → is_some (first_that (grants local_key domain key at count right) rs) ≡ true) →
-        (b || has_name (λ x. x.name) n rs) ≡ true → grants local_key domain key at count right (if b then r else named (λ x. x.name) no_region n rs) ≡ true → is_some (if t then Some r else first_that (grants local_key domain key at count right) rs) ≡ true
+    by : (t : Bool) → grants key_of domain key at count right r ≡ t → (b : Bool) →
+        (has_name (λ x. x.name) n rs ≡ true → grants key_of domain key at count right (named (λ x. x.name) no_region n rs) ≡ true → is_some (first_that (grants key_of domain key at count right) rs) ≡ true) →
+        (b || has_name (λ x. x.name) n rs) ≡ true → grants key_of domain key at count right (if b then r else named (λ x. x.name) no_region n rs) ≡ true → is_some (if t then Some r else first_that (grants key_of domain key at count right) rs) ≡ true
     by true e b rest f k = refl
     by false e true rest f k = let no : true ≡ false = sym k ∙ e in cc
     by false e false rest f k = rest f k
@@ -180,7 +180,7 @@ module _ (machine : Machine) (j : ℕ) (opened : IsOpened machine j) where
       let low : nat_le r.base (landing_address j) ≡ true = le-leb r.base (landing_address j) (omega (arith, begins)) in
       let high : nat_le (landing_address j + n) (r.base + r.length) ≡ true = le-leb (landing_address j + n) (r.base + r.length) (omega (arith, begins, long, fits)) in
       let all : grants local_key domain_name (receiver_key j) (landing_address j) n LocalWrite (named (λ x. x.name) no_region (receiver_region j).name (regions_of machine receiver)) ≡ true = and_both _ _ domain (and_both _ _ key (and_both _ _ right (and_both _ _ low high))) in
-      let some' = some_granted domain_name (receiver_key j) (landing_address j) n LocalWrite (receiver_region j).name (regions_of machine receiver) opened.receiver_region_there all in
+      let some' = some_granted local_key domain_name (receiver_key j) (landing_address j) n LocalWrite (receiver_region j).name (regions_of machine receiver) opened.receiver_region_there all in
       subst (λ (d : Name). ((n == 0) || is_some (first_that (grants local_key d (receiver_key j) (landing_address j) n LocalWrite) (regions_of machine receiver))) ≡ true) (sym opened.receiver_joined.domain) (or_some (n == 0) _ some')
     where
       or_some : (a b : Bool) → b ≡ true → (a || b) ≡ true

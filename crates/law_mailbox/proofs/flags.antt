@@ -1,0 +1,13 @@
+pub mod Accepted
+pub mod AfterWork
+pub mod Delivered
+pub mod Ending
+pub mod Errors
+pub mod Example
+pub mod First
+pub mod Reaching
+pub mod Setting
+pub mod Truth
+pub mod Unrefused
+pub mod UsedUp
+pub mod Works
