@@ -1,6 +1,8 @@
 -- The calls of a plan where the outside answers so, and what the three nodes do.
-use Rattle.std.proofs.Common.{arith, ◌≡◌, ℕ, ◌<◌, true, List, [], ◌∷◌, ◌++◌, length, Some, ap, inl, refl, subst, sym}
-use Rattle.std.specs.Prelude.{All, codes}
+use Rattle.std.proofs.Common.{arith, ◌≡◌, ℕ, ◌<◌, ◌^◌, true, List, [], ◌∷◌, ◌++◌, length, Some, ap, inl, refl, subst, sym}
+use Rattle.std.specs.Prelude.{All, codes, Bool, false, nat_lt, ◌&&◌}
+use Rattle.std.specs.List.{list_all}
+use Rattle.std.proofs.lemmas.Bool.Decides.{nat_tests}
 use Rattle.std.proofs.lemmas.List.Elements.{All-cons, All-nil}
 use Rattle.protocol.specs.declared.events.WorldEvent.{WorldEvent}
 use Rattle.protocol.specs.State.{empty_world}
@@ -12,8 +14,14 @@ use Rattle.order_rules.specs.AnyOpening.{ArePreparing}
 use Rattle.order_rules.specs.Evaluate.{opened}
 use Rattle.order_rules.specs.Sides.{IsInTimeLine, IsOneSidedLine}
 use Rattle.law_nodes.specs.Acts as act
-use Rattle.law_nodes.specs.Acts.{IsDump, MayDoAll, Standing, beginning, outcome_of}
+use Rattle.law_nodes.specs.Bounded.{AreRunning, IsOfBytes, IsRunning}
+use Rattle.law_nodes.specs.Acts.{Act, IsAsked, IsDump, IsOfLine, MayDoAll, Standing, beginning, outcome_of}
+use Rattle.law_devices.specs.Sound.{GivesNames}
+use Rattle.protocol.specs.declared.events.Event.{Event}
 use Rattle.protocol.specs.declared.events.Event.TheVariants as event
+use Rattle.protocol.specs.Events.{IsLawfulEvent}
+use Rattle.rdma_types.specs.Limits.{AreTerms}
+use Rattle.rdma_types.specs.Shapes.{IsLawfulShape}
 use Rattle.protocol.specs.declared.images.Outcome.{Outcome}
 use Rattle.law_nodes.specs.Composed.{AreComposed, AreDumpsTaken, Deed, IsAtHome, IsNodeRun, IsOfNode, IsPreparedBy, IsWholeIn, MakesNone, ReadsBack, dump_if, moved_on, acts_on, lines_from, lines_of_deeds, node_at, openings_of, standings_of}
 use Rattle.example_rules.proofs.WorldOrders.{EachAfter, each_of}
@@ -60,11 +68,23 @@ request_in_range = record { remote = omega arith; rkey = omega arith; swap_add =
 bytes_in_range : All (λ b. b < 256) (222 ∷ 173 ∷ 190 ∷ 239 ∷ [])
 bytes_in_range = All-cons (λ b. b < 256) 222 (173 ∷ 190 ∷ 239 ∷ []) (omega arith) (All-cons (λ b. b < 256) 173 (190 ∷ 239 ∷ []) (omega arith) (All-cons (λ b. b < 256) 190 (239 ∷ []) (omega arith) (All-cons (λ b. b < 256) 239 [] (omega arith) (All-nil (λ b. b < 256)))))
 
+-- a line that makes a thing, and one that does not
+pub of_line : {e : Event} → IsAsked e → IsLawfulEvent e → GivesNames e → IsOfLine e
+of_line asked lawful names = record { asked = asked; lawful = lawful; names = names }
+
+pub terms_in_range : (own peer : ℕ) → own < 2 ^ 24 → peer < 2 ^ 24 → AreTerms (record { mtu = 256; own_start = own; peer_start = peer; retry = 7; rnr = 7; reads = 4 })
+terms_in_range own peer few less = record { mtu = refl; own_start = few; peer_start = less; retry = omega arith; rnr = omega arith; some_reads = omega arith; few_reads = omega arith }
+
+lawful_shape : IsLawfulShape request.shape
+lawful_shape = record { word = λ h. absurd (cc h); imm = λ h. absurd (cc h); remote = λ h. absurd (cc h); rkey = λ h. absurd (cc h); swap_add = λ h. refl; compare = λ h. refl }
+
 may_partner : MayDoAll (beginning 1 one) (partner_prepares ++ (partner_posts ++ (partner_serves ++ partner_polls ∷ [])))
-may_partner = (tt, (tt, (tt, ((omega arith, omega arith, omega arith, omega arith), ((omega arith, omega arith), ((omega arith, omega arith, omega arith, omega arith), (tt, (bytes_in_range, (request_in_range, (tt, (tt, (tt, (tt, (tt, (tt, (tt, (tt, (tt, tt))))))))))))))))))
+may_partner =
+    (tt, (of_line tt tt refl, (of_line tt tt refl, (of_line (omega arith, omega arith, omega arith, omega arith) (omega arith, omega arith, omega arith, omega arith) refl, (of_line (omega arith, omega arith) (omega arith, omega arith) refl, (of_line (omega arith, omega arith, omega arith, omega arith) ((omega arith, omega arith), (omega arith, omega arith)) refl, (of_line tt (omega arith, terms_in_range 100 200 (omega arith) (omega arith)) tt, (of_line bytes_in_range tt tt, (of_line request_in_range lawful_shape tt, (of_line tt tt tt, (tt, (tt, (tt, (tt, (tt, (tt, (tt, (of_line tt tt tt, tt))))))))))))))))))
 
 may_source : MayDoAll (beginning 2 two) (source_prepares ++ (source_serves ++ stops_b ∷ []))
-may_source = (tt, (tt, (tt, ((omega arith, omega arith, omega arith, omega arith), ((omega arith, omega arith), ((omega arith, omega arith, omega arith, omega arith), (tt, (tt, (tt, (tt, (tt, (tt, tt))))))))))))
+may_source =
+    (tt, (of_line tt tt refl, (of_line tt tt refl, (of_line (omega arith, omega arith, omega arith, omega arith) (omega arith, omega arith, omega arith, omega arith) refl, (of_line (omega arith, omega arith) (omega arith, omega arith) refl, (of_line (omega arith, omega arith, omega arith, omega arith) ((omega arith, omega arith), (omega arith, omega arith)) refl, (of_line tt (omega arith, terms_in_range 200 100 (omega arith) (omega arith)) tt, (tt, (tt, (tt, (tt, (tt, tt))))))))))))
 
 pub partner_runs : IsNodeRun partner
 unfolding run_of spelled calls_with
@@ -89,7 +109,7 @@ unfolding run_of spelled calls_with
 target_runs = record {
   left = left_with (node_plan 3 three target_script) target_hears;
   leads = leads_with (node_plan 3 three target_script) target_hears;
-  done = record { acts = act.Starts three ∷ (target_restores ++ target_loads ∷ []); may = (tt, (tt, ((reads, refl), (tt, (tt, tt))))); unmade = []; made = refl; cut = inl refl };
+  done = record { acts = act.Starts three ∷ (target_restores ++ target_loads ∷ []); may = (tt, (tt, ((reads, refl), (of_line tt tt tt, (of_line tt tt tt, tt))))); unmade = []; made = refl; cut = inl refl };
   acts = refl;
 }
 
@@ -230,4 +250,57 @@ composed = record {
   one_sided = each_of (IsOneSidedLine (openings_of nodes)) (lines_of_deeds nodes order) one_sided;
   at_home = each_of (IsAtHome (openings_of nodes)) (lines_of_deeds nodes order) at_home;
   made = all_made order made;
+}
+
+-- ---- what is asked of nodes, whatever they take
+
+abbrev AreOfBytes : List Act → Type 0
+AreOfBytes [] = Unit {0}
+AreOfBytes (a ∷ more) = IsOfBytes a × AreOfBytes more
+
+pub all_of_bytes : (acts : List Act) → AreOfBytes acts → All IsOfBytes acts
+all_of_bytes [] each = All-nil IsOfBytes
+all_of_bytes (a ∷ more) each = All-cons IsOfBytes a more each.0 (all_of_bytes more each.1)
+
+bytes_pass : (bs : List ℕ) → list_all (λ b. nat_lt b 256) bs ≡ true → All (λ b. b < 256) bs
+bytes_pass [] h = All-nil (λ (b : ℕ). b < 256)
+bytes_pass (b ∷ bs) h = by (nat_lt b 256) refl h (λ g. bytes_pass bs g)
+  where
+    by : (x : Bool) → nat_lt b 256 ≡ x → (x && list_all (λ y. nat_lt y 256) bs) ≡ true → (list_all (λ y. nat_lt y 256) bs ≡ true → All (λ y. y < 256) bs) → All (λ y. y < 256) (b ∷ bs)
+    by true t g later = All-cons (λ (y : ℕ). y < 256) b bs (grind (arith, nat_tests, t)) (later g)
+    by false t g later = absurd (cc)
+
+dump_of_bytes : list_all (λ b. nat_lt b 256) dump ≡ true
+unfolding opened run_of spelled
+dump_of_bytes = refl
+
+partner_is_running : IsRunning partner
+partner_is_running = record {
+  run = partner_runs;
+  some_id = omega arith;
+  few_ids = omega arith;
+  of_bytes = all_of_bytes (partner_prepares ++ (partner_posts ++ (partner_serves ++ partner_polls ∷ []))) (tt, (tt, (tt, (tt, (tt, (tt, (tt, (tt, (tt, (tt, (tt, (tt, (tt, (tt, (tt, (tt, (tt, (tt, tt))))))))))))))))));
+}
+
+source_is_running : IsRunning source
+source_is_running = record {
+  run = source_runs;
+  some_id = omega arith;
+  few_ids = omega arith;
+  of_bytes = all_of_bytes (source_prepares ++ (source_serves ++ stops_b ∷ [])) (tt, (tt, (tt, (tt, (tt, (tt, (tt, (tt, (tt, (tt, (tt, (tt, tt))))))))))));
+}
+
+target_is_running : IsRunning target
+target_is_running = record {
+  run = target_runs;
+  some_id = omega arith;
+  few_ids = omega arith;
+  of_bytes = all_of_bytes (act.Starts three ∷ (target_restores ++ target_loads ∷ [])) (tt, (tt, (bytes_pass dump dump_of_bytes, (tt, (tt, tt)))));
+}
+
+pub running : AreRunning nodes order
+running = record {
+  runs = All-cons IsRunning partner (source ∷ target ∷ []) partner_is_running (All-cons IsRunning source (target ∷ []) source_is_running (All-cons IsRunning target [] target_is_running (All-nil IsRunning)));
+  of_nodes = all_of_nodes order of_nodes;
+  whole = whole;
 }

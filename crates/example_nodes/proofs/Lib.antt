@@ -1,1 +1,2 @@
 pub mod Compositions
+pub mod Forging

@@ -1,3 +1,4 @@
 pub mod Evaluate
 pub mod Things
 pub mod Composition
+pub mod Forged

@@ -1,6 +1,5 @@
 -- An order of what nodes do is a fair order of the steps of their devices.
 use Rattle.std.proofs.Common.{arith, ◌≡◌, ◌∙◌, ℕ, zero, suc, ◌+◌, ◌==◌, Bool, true, false, List, [], ◌∷◌, ◌++◌, length, take, slice_get, All, Option, None, Some, refl, sym, ap, subst, if◌then◌else◌}
-use Rattle.std.specs.Prelude.{◌||◌}
 use Rattle.std.proofs.lemmas.Bool.Decides.{nat_tests, eqb_tells}
 use Rattle.std.proofs.lemmas.List.{append-nil}
 use Rattle.std.proofs.lemmas.List.Elements.{All-head, All-tail}
@@ -23,10 +22,11 @@ use Rattle.order_rules.specs.Lines.{Line, device_after, events_on, flown, openin
 use Rattle.order_rules.specs.Order.{AreRestored, Each, HasArrived, IsLine, IsTaken, Takes, with_stopped}
 use Rattle.order_rules.specs.Sides.{IsInTime, IsInTimeLine}
 use Rattle.order_rules.proofs.Growing.{each_push, restored-push}
-use Rattle.law_orders.proofs.Devices.{IsNoStop, step_itself, step_plain}
+use Rattle.law_orders.proofs.Devices.{IsNoStop, step_plain}
 use Rattle.law_orders.proofs.Orders.{after_here, after_other}
-use Rattle.law_nodes.specs.Acts.{Act, Declines, Does, IsDump, IsOfEnd, IsOfLine, MayDo, MayDoAll, Restores, Standing, Stops, Takes as TakesIn, Turns, after_act, after_acts, after_if, beginning, event_in, outcome_of}
-use Rattle.law_nodes.specs.Composed.{AreComposed, AreDumpsTaken, Deed, Dump, IsNodeRun, IsOfNode, IsWholeIn, MakesNone, NodeRun, PutsReadable, ReadsBack, TakesDump, acts_on, device_of, dump_if, dump_put, event_of_deed, line_at, lines_from, lines_of_deeds, moved_on, node_at, openings_of, standing_of, standings_of, with_line}
+use Rattle.law_nodes.proofs.Doers.{GoesOn, IsKnown, along_after, goes_on, id_of, is_now, is_then, number_is}
+use Rattle.law_nodes.specs.Acts.{Act, Declines, Does, IsAsked, IsDump, IsOfEnd, MayDo, MayDoAll, Restores, Standing, Stops, Takes as TakesIn, Turns, after_act, beginning, outcome_of}
+use Rattle.law_nodes.specs.Composed.{AreComposed, AreDumpsTaken, Deed, Dump, IsNodeRun, MakesNone, NodeRun, PutsReadable, ReadsBack, TakesDump, device_of, dump_if, dump_put, event_of_deed, line_at, lines_from, lines_of_deeds, moved_on, node_at, openings_of, standing_of, standings_of, with_line}
 
 -- ---- devices
 
@@ -41,22 +41,13 @@ unfolding device_step
 declined_keeps d image h = kept_by d image (refusal_of d (event.Restore image)) h
 
 -- where an act leads that shows so
-abbrev DeviceGoes : Standing → Act → Option Event → Type 0
+abbrev pub DeviceGoes : Standing → Act → Option Event → Type 0
 DeviceGoes s a None = (after_act s a).device ≡ s.device
 DeviceGoes s a (Some e) = (after_act s a).device ≡ (device_step s.device e).device
 
-device_goes : (s : Standing) (a : Act) → MayDo s a → DeviceGoes s a (event_of_deed a)
+pub device_goes : (s : Standing) (a : Act) → MayDo s a → DeviceGoes s a (event_of_deed a)
 device_goes s (Declines bytes image) may = declined_keeps s.device image may.1
 device_goes s other may = refl
-
--- the id of a device stays
-id_kept : (s : Standing) (o : Option Event) → (after_if s o).device.id ≡ s.device.id
-id_kept s None = refl
-id_kept s (Some e) = (step_itself s.device e).id
-
-ids_kept : (s : Standing) (more : List Act) → (after_acts s more).device.id ≡ s.device.id
-ids_kept s [] = refl
-ids_kept s (a ∷ more) = ids_kept (after_act s a) more ∙ id_kept s (event_in a)
 
 -- ---- images of dumps
 
@@ -117,7 +108,7 @@ end_images s (event.Expire o) dumps others images of same are = (images, refl, p
 end_images s (event.RnrOver o) dumps others images of same are = (images, refl, plain_images s (event.RnrOver o) dumps others images tt same are)
 end_images s other dumps others images of same are = absurd of
 
-line_images : (s : Standing) (e : Event) (dumps others : List Dump) (images : List ContextImage) → IsOfLine e → others ≡ dumps → AreDumpsOf dumps images → ImagesGo s (others ++ []) images (Some e)
+line_images : (s : Standing) (e : Event) (dumps others : List Dump) (images : List ContextImage) → IsAsked e → others ≡ dumps → AreDumpsOf dumps images → ImagesGo s (others ++ []) images (Some e)
 line_images s (event.Arrive from bytes) dumps others images of same are = absurd of
 line_images s (event.Stop name alone) dumps others images of same are = absurd of
 line_images s (event.Restore image) dumps others images of same are = absurd of
@@ -137,7 +128,7 @@ restore_images s file bytes removed image dumps others images is_dump takes are 
 images_go : (s : Standing) (a : Act) (dumps others : List Dump) (images : List ContextImage) → MayDo s a → TakesDump dumps a others → PutsReadable s a → AreDumpsOf dumps images → ImagesGo s (others ++ dump_put s a) images (event_of_deed a)
 images_go s (TakesIn d) dumps others images may takes reads are = (images, refl, plain_images s (event.Arrive d.0 d.1) dumps others images tt takes are)
 images_go s (Turns e) dumps others images may takes reads are = end_images s e dumps others images may takes are
-images_go s (Does e) dumps others images may takes reads are = line_images s e dumps others images may takes are
+images_go s (Does e) dumps others images may takes reads are = line_images s e dumps others images may.asked takes are
 images_go s (Stops name file) dumps others images may takes reads are = (images, refl, stop_images s name file (outcome_of s (event.Stop name true)).image dumps others images takes reads are)
 images_go s (Restores file bytes image removed) dumps others images may takes reads are = restore_images s file bytes removed image dumps others images may.0 takes are
 images_go s other dumps others images may takes reads are = no_images dumps others images takes are
@@ -155,7 +146,7 @@ turn_asks (event.Expire o) of = tt
 turn_asks (event.RnrOver o) of = tt
 turn_asks other of = absurd of
 
-line_asks : (e : Event) → IsOfLine e → MakesNone (Does e) → IsAskable e
+line_asks : (e : Event) → IsAsked e → MakesNone (Does e) → IsAskable e
 line_asks (event.MakeContext name) of none = absurd none
 line_asks (event.Connect o peer partner terms) of none = absurd none
 line_asks (event.Arrive from bytes) of none = tt
@@ -166,7 +157,7 @@ line_asks other of none = of
 
 may_ask : (s : Standing) (a : Act) → MayDo s a → MakesNone a → MayAsk (event_of_deed a)
 may_ask s (Turns e) may none = turn_asks e may
-may_ask s (Does e) may none = line_asks e may none
+may_ask s (Does e) may none = line_asks e may.asked none
 may_ask s other may none = tt
 
 -- ---- the walk
@@ -187,9 +178,6 @@ record Walked (os : List Device) (at : ℕ → Standing) (earlier : List Line) (
   images : List ContextImage
   restored : AreRestored [] earlier images
   are : AreDumpsOf dumps images
-
-number_is : (a b : ℕ) → (a == b) ≡ true → a ≡ b
-number_is a b h = grind (arith, nat_tests, eqb_tells a b, h)
 
 -- where nodes stand after a deed that does not show
 still_same : (os : List Device) (at : ℕ → Standing) (earlier : List Line) (x : Deed) → ((id : ℕ) → (at id).device ≡ device_after os earlier id) → (after_act (at x.node) x.act).device ≡ (at x.node).device → (id : ℕ) (b : Bool) → (x.node == id) ≡ b → (if b then after_act (at id) x.act else at id).device ≡ device_after os earlier id
@@ -218,51 +206,25 @@ go_on os at earlier dumps dumps' x w known (Some e) goes images asks =
       are = images.2;
     }
 
--- what each node may do in the rest of an order
-abbrev MayGoOn : (ℕ → Standing) → List Deed → Type 0
-MayGoOn at xs = (id : ℕ) → MayDoAll (at id) (acts_on id xs)
-
-may_first : (s : Standing) (a : Act) (more : List Act) (b : Bool) → b ≡ true → MayDoAll s (if b then a ∷ more else more) → MayDo s a
-may_first s a more true is may = may.0
-may_first s a more false is may = absurd (cc)
-
-may_rest : (s : Standing) (a : Act) (more : List Act) (b : Bool) → MayDoAll s (if b then a ∷ more else more) → MayDoAll (if b then after_act s a else s) more
-may_rest s a more true may = may.1
-may_rest s a more false may = may
-
-may_now : (at : ℕ → Standing) (x : Deed) (xs : List Deed) → MayGoOn at (x ∷ xs) → MayDo (at x.node) x.act
-unfolding acts_on
-may_now at x xs may = may_first (at x.node) x.act (acts_on x.node xs) (x.node == x.node) (grind (arith, nat_tests, eqb_tells x.node x.node)) (may x.node)
-
-may_then : (at : ℕ → Standing) (x : Deed) (xs : List Deed) → MayGoOn at (x ∷ xs) → MayGoOn (moved_on at x) xs
-unfolding acts_on
-may_then at x xs may id = may_rest (at id) x.act (acts_on id xs) (x.node == id) (may id)
-
 -- what holds of the lines of a whole order
 record IsWalked (os : List Device) (ls : List Line) : Type 0 where
   each : Each (IsPlaced os) ls
   untaken : List ContextImage
   restored : AreRestored [] ls untaken
 
-abbrev IsKnown : List Device → Deed → Type 0
-IsKnown os x = has (λ d. d.id) x.node os ≡ true
-
-walks : (os : List Device) (at : ℕ → Standing) (earlier : List Line) (dumps : List Dump) (order : List Deed) → Walked os at earlier dumps → All (IsKnown os) order → All (λ (x : Deed). MakesNone x.act) order → MayGoOn at order → AreDumpsTaken at dumps order → IsWalked os (lines_from os at earlier order)
+walks : (os : List Device) (at : ℕ → Standing) (earlier : List Line) (dumps : List Dump) (order : List Deed) → Walked os at earlier dumps → All (IsKnown os) order → All (λ (x : Deed). MakesNone x.act) order → GoesOn MayDo at order → AreDumpsTaken at dumps order → IsWalked os (lines_from os at earlier order)
 unfolding lines_from
 walks os at earlier dumps [] w known none may taken = record { each = w.each; untaken = w.images; restored = w.restored }
 walks os at earlier dumps (x ∷ xs) w known none may taken =
-    let m : MayDo (at x.node) x.act = may_now at x xs may in
+    let m : MayDo (at x.node) x.act = is_now MayDo at x xs may in
     walks os (moved_on at x) (with_line os earlier x.node (at x.node) (event_of_deed x.act)) (taken.0 ++ dump_put (at x.node) x.act) xs
     (go_on os at earlier dumps (taken.0 ++ dump_put (at x.node) x.act) x w (All-head (IsKnown os) x xs known) (event_of_deed x.act)
     (device_goes (at x.node) x.act m)
     (images_go (at x.node) x.act dumps taken.0 w.images m taken.1 taken.2 w.are)
     (may_ask (at x.node) x.act m (All-head (λ (y : Deed). MakesNone y.act) x xs none)))
-    (All-tail (IsKnown os) x xs known) (All-tail (λ (y : Deed). MakesNone y.act) x xs none) (may_then at x xs may) taken.3
+    (All-tail (IsKnown os) x xs known) (All-tail (λ (y : Deed). MakesNone y.act) x xs none) (is_then MayDo at x xs may) taken.3
 
 -- ---- the beginning
-
-id_of : (n : NodeRun) → (device_of n).id ≡ n.id
-id_of n = ids_kept (beginning n.id n.own) n.prepared
 
 -- the device of the node with an id is the opening with that id
 begins_by : (n : NodeRun) (ns : List NodeRun) (id : ℕ) (b c : Bool) → b ≡ c → (standing_of (node_at ns id)).device ≡ opening_of (openings_of ns) id → (standing_of (if b then n else node_at ns id)).device ≡ (if c then device_of n else opening_of (openings_of ns) id)
@@ -285,41 +247,8 @@ begun ns = record { each = λ k l h. absurd (none k l h); same = λ id. begins n
     none (suc k) l h = cc
 
 -- what a node may do once it is prepared
-may_after : (s : Standing) (first more : List Act) → MayDoAll s (first ++ more) → MayDoAll (after_acts s first) more
-may_after s [] more may = may
-may_after s (a ∷ first) more may = may_after (after_act s a) first more may.1
-
-may_serve : (n : NodeRun) → IsNodeRun n → MayDoAll (standing_of n) n.served
-may_serve n run = may_after (beginning n.id n.own) n.prepared n.served (subst (λ x. MayDoAll (beginning n.id n.own) x) run.acts run.done.may)
-
--- a node that is not there does nothing
-absent_by : (os : List Device) (x : Deed) (more : List Act) (id : ℕ) (b : Bool) → (x.node == id) ≡ b → IsKnown os x → has (λ d. d.id) id os ≡ false → more ≡ [] → (if b then x.act ∷ more else more) ≡ []
-absent_by os x more id true is known none h = absurd (cc (ap (λ k. has (λ d. d.id) k os) (number_is x.node id is)))
-absent_by os x more id false is known none h = h
-
-absent : (os : List Device) (order : List Deed) (id : ℕ) → All (IsKnown os) order → has (λ d. d.id) id os ≡ false → acts_on id order ≡ []
-unfolding acts_on
-absent os [] id known none = refl
-absent os (x ∷ xs) id known none =
-    absent_by os x (acts_on id xs) id (x.node == id) refl (All-head (IsKnown os) x xs known) none (absent os xs id (All-tail (IsKnown os) x xs known) none)
-
--- what a node that is there may do
-present_by : (order : List Deed) (n m : NodeRun) (id : ℕ) (more : Bool) (b : Bool) → (n.id == id) ≡ b → IsNodeRun n → IsWholeIn order n → (b || more) ≡ true → (more ≡ true → MayDoAll (standing_of m) (acts_on id order)) → MayDoAll (standing_of (if b then n else m)) (acts_on id order)
-present_by order n m id more true is run whole there h =
-    subst (λ k. MayDoAll (standing_of n) (acts_on k order)) (number_is n.id id is) (subst (λ x. MayDoAll (standing_of n) x) (sym whole) (may_serve n run))
-present_by order n m id more false is run whole there h = h there
-
-present : (order : List Deed) (ns : List NodeRun) (id : ℕ) → All IsNodeRun ns → All (IsWholeIn order) ns → has (λ d. d.id) id (openings_of ns) ≡ true → MayDoAll (standings_of ns id) (acts_on id order)
-unfolding node_at has
-present order [] id runs whole there = absurd (cc)
-present order (n ∷ ns) id runs whole there =
-    present_by order n (node_at ns id) id (has (λ d. d.id) id (openings_of ns)) (n.id == id) refl (All-head IsNodeRun n ns runs) (All-head (IsWholeIn order) n ns whole)
-    (subst (λ k. ((k == id) || has (λ d. d.id) id (openings_of ns)) ≡ true) (id_of n) there)
-    (present order ns id (All-tail IsNodeRun n ns runs) (All-tail (IsWholeIn order) n ns whole))
-
-may_go_on : (order : List Deed) (ns : List NodeRun) → All IsNodeRun ns → All (IsOfNode ns) order → All (IsWholeIn order) ns → (id : ℕ) (b : Bool) → has (λ d. d.id) id (openings_of ns) ≡ b → MayDoAll (standings_of ns id) (acts_on id order)
-may_go_on order ns runs known whole id true there = present order ns id runs whole there
-may_go_on order ns runs known whole id false none = subst (λ x. MayDoAll (standings_of ns id) x) (sym (absent (openings_of ns) order id known none)) tt
+pub may_serve : (n : NodeRun) → IsNodeRun n → MayDoAll (standing_of n) n.served
+may_serve n run = along_after MayDo (beginning n.id n.own) n.prepared n.served (subst (λ x. MayDoAll (beginning n.id n.own) x) run.acts run.done.may)
 
 -- ---- the whole
 
@@ -337,7 +266,7 @@ order_is_fair nodes es order c =
     let os : List Device = openings_of nodes in
     let ls : List Line = lines_of_deeds nodes order in
     let w : IsWalked os ls =
-    walks os (standings_of nodes) [] [] order (begun nodes) c.of_nodes c.made (λ id. may_go_on order nodes c.runs c.of_nodes c.whole id (has (λ d. d.id) id os) refl) c.dumps in
+    walks os (standings_of nodes) [] [] order (begun nodes) c.of_nodes c.made (goes_on MayDo IsNodeRun may_serve order nodes c.runs c.of_nodes c.whole) c.dumps in
     record {
       order = record { each = λ k l h. line_whole os (take k ls) l (w.each k l h) (c.in_time k l h); untaken = w.untaken; restored = w.restored };
       one_sided = c.one_sided;

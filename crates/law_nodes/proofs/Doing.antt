@@ -32,8 +32,7 @@ use Rattle.node_rules.specs.Script.{lines_do, node_plan, reading_does}
 use Rattle.node_rules.specs.Serve.{arrived, arriving, asked, expiring, expiring_if, is_active, is_due, marking, serving, taking, timing, transmitting, turns, waiting_out}
 use Rattle.law_nodes.specs.Acts.{Asks, Counts, Declines, Does, HasDone, IsDump, IsOfEnd, IsOfLine, Looks, Misses, Restores, Standing, Starts, Stops, Takes, Turns, Waits, after_event, beginning, outcome_of, puts, sends_of, writes_of}
 use Rattle.law_nodes.specs.Laws.{CallsAreActs}
-use Rattle.law_headline.specs.Does.{IsWithinOf, event_happens, event_of}
-use Rattle.law_nodes.proofs.Ranges.{IsNodeLineIn, line_in}
+use Rattle.law_nodes.proofs.Ranges.{IsNodeLineIn, IsVerbIn, line_in}
 use Rattle.law_nodes.proofs.Parts.{IsGood, Makes, act_done, act_good, done_before, end_good, goes_on, makes_both, makes_none, makes_put, makes_sends, makes_text, nothing_done}
 
 -- where a node stands
@@ -259,31 +258,31 @@ restoring_good n file more good (c ∷ calls) left leads = absurd leads.1
 -- ---- lines
 
 -- a verb
-verb_good : (n : Node) (v : Verb) → IsWithinOf (event_happens (event_of v)) → IsGoodPart n (stepped_if n (verb_event v))
+verb_good : (n : Node) (v : Verb) → IsVerbIn v → IsGoodPart n (stepped_if n (verb_event v))
 verb_good n (verb.Context name made) is more good = good n
 verb_good n (verb.Connect one two terms) is more good = good n
-verb_good n (verb.MakeDomain o) is more good = stepped_good n (event.MakeDomain o) is more good
-verb_good n (verb.MakeRegion o domain base size rights) is more good = stepped_good n (event.MakeRegion o domain base size rights) is more good
-verb_good n (verb.MakeCq o capacity) is more good = stepped_good n (event.MakeCq o capacity) is more good
-verb_good n (verb.MakeQp o domain send_cq recv_cq send_depth recv_depth) is more good = stepped_good n (event.MakeQp o domain send_cq recv_cq send_depth recv_depth) is more good
-verb_good n (verb.DropRegion o) is more good = stepped_good n (event.DropRegion o) is more good
-verb_good n (verb.Store o at bytes) is more good = stepped_good n (event.Store o at bytes) is more good
-verb_good n (verb.Load o at size) is more good = stepped_good n (event.Load o at size) is more good
-verb_good n (verb.PostSend o request) is more good = stepped_good n (event.PostSend o request) is more good
-verb_good n (verb.PostRecv o receive) is more good = stepped_good n (event.PostRecv o receive) is more good
-verb_good n (verb.Poll o most) is more good = stepped_good n (event.Poll o most) is more good
+verb_good n (verb.MakeDomain o) is more good = stepped_good n (event.MakeDomain o) (record { asked = is.within; lawful = is.lawful.1; names = is.names }) more good
+verb_good n (verb.MakeRegion o domain base size rights) is more good = stepped_good n (event.MakeRegion o domain base size rights) (record { asked = is.within; lawful = is.lawful.1; names = is.names }) more good
+verb_good n (verb.MakeCq o capacity) is more good = stepped_good n (event.MakeCq o capacity) (record { asked = is.within; lawful = is.lawful.1; names = is.names }) more good
+verb_good n (verb.MakeQp o domain send_cq recv_cq send_depth recv_depth) is more good = stepped_good n (event.MakeQp o domain send_cq recv_cq send_depth recv_depth) (record { asked = is.within; lawful = is.lawful.1; names = is.names }) more good
+verb_good n (verb.DropRegion o) is more good = stepped_good n (event.DropRegion o) (record { asked = is.within; lawful = is.lawful.1; names = tt }) more good
+verb_good n (verb.Store o at bytes) is more good = stepped_good n (event.Store o at bytes) (record { asked = is.within; lawful = is.lawful.1; names = tt }) more good
+verb_good n (verb.Load o at size) is more good = stepped_good n (event.Load o at size) (record { asked = is.within; lawful = is.lawful.1; names = tt }) more good
+verb_good n (verb.PostSend o request) is more good = stepped_good n (event.PostSend o request) (record { asked = is.within; lawful = is.lawful.1; names = tt }) more good
+verb_good n (verb.PostRecv o receive) is more good = stepped_good n (event.PostRecv o receive) (record { asked = is.within; lawful = is.lawful.1; names = tt }) more good
+verb_good n (verb.Poll o most) is more good = stepped_good n (event.Poll o most) (record { asked = is.within; lawful = is.lawful.1; names = tt }) more good
 
 pub line_good : (n : Node) (l : NodeLine) → IsNodeLineIn l → IsGoodPart n (line_does n l)
 line_good n line_is.Blank is more good = good n
 line_good n (line_is.Verb v) is more good = verb_good n v is more good
-line_good n (line_is.Context name) is more good = stepped_good n (event.MakeContext name) tt more good
-line_good n (line_is.Link o peer partner terms) is more good = stepped_good n (event.Connect o peer partner terms) tt more good
-line_good n (line_is.Go o) is more good = stepped_good n (event.Transmit o) tt more good
-line_good n (line_is.Expire o) is more good = stepped_good n (event.Expire o) tt more good
-line_good n (line_is.Rnr o) is more good = stepped_good n (event.RnrOver o) tt more good
+line_good n (line_is.Context name) is more good = stepped_good n (event.MakeContext name) (record { asked = tt; lawful = tt; names = is }) more good
+line_good n (line_is.Link o peer partner terms) is more good = stepped_good n (event.Connect o peer partner terms) (record { asked = tt; lawful = is; names = tt }) more good
+line_good n (line_is.Go o) is more good = stepped_good n (event.Transmit o) (record { asked = tt; lawful = tt; names = tt }) more good
+line_good n (line_is.Expire o) is more good = stepped_good n (event.Expire o) (record { asked = tt; lawful = tt; names = tt }) more good
+line_good n (line_is.Rnr o) is more good = stepped_good n (event.RnrOver o) (record { asked = tt; lawful = tt; names = tt }) more good
 line_good n (line_is.Stop name file) is more good = stopping_good n name file more good
 line_good n (line_is.Restore file) is more good = restoring_good n file more good
-line_good n (line_is.Release name) is more good = stepped_good n (event.Release name) tt more good
+line_good n (line_is.Release name) is more good = stepped_good n (event.Release name) (record { asked = tt; lawful = tt; names = tt }) more good
 line_good n (line_is.Serve count) is more good = serves_good n count more good
 
 reading_good : (number : ℕ) (n : Node) (r : Result NodeLine Offence) → ((l : NodeLine) → r ≡ Ok l → IsNodeLineIn l) → IsGoodPart n (reading_does number n r)

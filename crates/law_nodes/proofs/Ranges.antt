@@ -1,28 +1,46 @@
 -- A verb in a line of a node has its fields in their ranges, by what its words are read as.
-use Rattle.std.proofs.Common.{◌≡◌, ℕ, ◌+◌, ◌==◌, List, [], ◌∷◌, Bool, true, false, Option, None, Some, Result, Ok, Err, length, refl, subst, if◌then◌else◌}
+use Rattle.std.proofs.Common.{◌≡◌, ℕ, ◌+◌, ◌<◌, ◌^◌, ◌==◌, List, [], ◌∷◌, Bool, true, false, Option, None, Some, Result, Ok, Err, length, refl, subst, if◌then◌else◌}
 use Rattle.std.specs.Prelude.{slice_index}
+use Rattle.rdma_types.specs.declared.verbs.Verb.{Verb}
+use Rattle.rdma_types.specs.Limits.{AreTerms}
+use Rattle.rdma_types.specs.Spelled.{is_name}
 use Rattle.script_lang.specs.declared.forms.NodeForm.{NodeForm}
 use Rattle.script_lang.specs.declared.forms.NodeForm.TheVariants as form
+use Rattle.script_lang.specs.declared.lines.Line.TheVariants as world_line
 use Rattle.script_lang.specs.declared.lines.NodeLine.{NodeLine}
 use Rattle.script_lang.specs.declared.lines.NodeLine.TheVariants as line
 use Rattle.script_lang.specs.declared.lines.Offence.{Offence}
-use Rattle.script_lang.specs.Fields.{a_name, a_number, a_queue_pair, an_address, an_object, some_terms}
+use Rattle.script_lang.specs.Fields.{a_name, a_number, an_address, an_object}
 use Rattle.script_lang.specs.Lines.{bytes_offence, link_line, named, node_form_of, node_line_of, node_reading_of, reading_of_words, said, serve_line, stop_line, unless, whole}
-use Rattle.script_lang.specs.Words.{Input, Read, Word, the_end, words_from}
-use Rattle.law_headline.specs.Does.{IsWithinOf, event_happens, event_of}
+use Rattle.script_lang.specs.Words.{Input, Read, Reads, Word, the_end, words_from}
+use Rattle.law_headline.specs.Does.{IsWithinOf, MayBeAskedOf, event_happens, event_of}
+use Rattle.law_headline.proofs.Lawful.{line_asked}
 use Rattle.law_headline.proofs.Reading.{verb_in}
-use Rattle.law_headline.proofs.Tells.{Tells, any, bind, gives}
+use Rattle.law_headline.proofs.Tells.{Tells, any, bind, gives, terms}
+use Rattle.law_nodes.proofs.Names.{NamesNew, name, queue_pair, verb_names}
 
--- the event of a verb is in its ranges
+-- a verb is in its ranges
+pub record IsVerbIn (v : Verb) : Type 0 where
+  pub within : IsWithinOf (event_happens (event_of v))
+  pub lawful : MayBeAskedOf (event_happens (event_of v))
+  pub names : NamesNew v
+
+-- .. and so is a line
 abbrev pub IsNodeLineIn : NodeLine → Type 0
-IsNodeLineIn (line.Verb v) = IsWithinOf (event_happens (event_of v))
+IsNodeLineIn (line.Verb v) = IsVerbIn v
+IsNodeLineIn (line.Context name) = is_name name ≡ true
+IsNodeLineIn (line.Link o peer partner terms) = (peer < 2 ^ 24) × AreTerms terms
 IsNodeLineIn other = Unit {0}
+
+-- what a reader tells twice
+both : {A : Type 0} {P Q : A → Type 0} {r : Reads A} → Tells P r → Tells Q r → Tells (λ a. P a × Q a) r
+both p q = record { each = λ i x h. (p.each i x h, q.each i x h) }
 
 -- ---- forms
 
 link_in : Tells IsNodeLineIn link_line
 unfolding link_line
-link_in = bind (any an_object) (λ o _. bind (any a_queue_pair) (λ peer _. bind (any an_address) (λ partner _. bind (any some_terms) (λ terms _. gives (line.Link o peer partner terms) tt))))
+link_in = bind (any an_object) (λ o _. bind queue_pair (λ peer is. bind (any an_address) (λ partner _. bind terms (λ t are. gives (line.Link o peer partner t) (is, are)))))
 
 stop_in : Tells IsNodeLineIn stop_line
 unfolding stop_line
@@ -34,8 +52,8 @@ serve_in = bind (any (a_number 1 100000)) (λ turns _. gives (line.Serve turns) 
 
 form_in : (f : NodeForm) → Tells IsNodeLineIn (node_line_of f)
 unfolding node_line_of
-form_in (form.Verb v) = bind (verb_in v) (λ said' is. gives (line.Verb said') is.0)
-form_in form.Context = bind (any a_name) (λ name _. gives (line.Context name) tt)
+form_in (form.Verb v) = bind (both (verb_in v) (verb_names v)) (λ said' is. gives (line.Verb said') (record { within = is.0.0; lawful = line_asked (world_line.Verb said') is.0.1; names = is.1 }))
+form_in form.Context = bind name (λ n is. gives (line.Context n) is)
 form_in form.Link = link_in
 form_in form.Go = bind (any an_object) (λ o _. gives (line.Go o) tt)
 form_in form.Expire = bind (any an_object) (λ o _. gives (line.Expire o) tt)

@@ -7,12 +7,14 @@ use Rattle.protocol.specs.declared.images.ContextImage.{ContextImage}
 use Rattle.protocol.specs.declared.images.Outcome.{Outcome}
 use Rattle.protocol.specs.Dumps.{Good, dump_bytes, read_dump}
 use Rattle.protocol.specs.DeviceStep.{device_step}
+use Rattle.protocol.specs.Events.{IsLawfulEvent}
 use Rattle.protocol.specs.State.{Device}
 use Rattle.protocol.specs.WorldStep.{is_done}
 use Rattle.rdma_types.specs.declared.answers.Sent.{Sent}
 use Rattle.rdma_types.specs.declared.names.Name.{Name}
 use Rattle.rdma_types.specs.declared.requests.Address.{Address}
 use Rattle.script_lang.specs.Printed.{printed}
+use Rattle.law_devices.specs.Sound.{GivesNames}
 use Rattle.law_simulation.specs.Law.{IsEventInRange}
 use Rattle.node_rules.specs.Lines.{counting, served_text, version}
 use Rattle.node_rules.specs.Node.{more_by, new_node}
@@ -118,12 +120,18 @@ IsOfEnd (event.Expire o) = Unit {0}
 IsOfEnd (event.RnrOver o) = Unit {0}
 IsOfEnd other = ⊥
 
--- an event that a line asks for, with its fields in their ranges: nothing arrives by it, and no context moves
-abbrev pub IsOfLine : Event → Type 0
-IsOfLine (event.MakeContext name) = Unit {0}
-IsOfLine (event.Connect o peer partner terms) = Unit {0}
-IsOfLine (event.Release name) = Unit {0}
-IsOfLine other = IsEventInRange other
+-- an event that a line may ask for, with its fields in their ranges: nothing arrives by it, and no context moves
+abbrev pub IsAsked : Event → Type 0
+IsAsked (event.MakeContext name) = Unit {0}
+IsAsked (event.Connect o peer partner terms) = Unit {0}
+IsAsked (event.Release name) = Unit {0}
+IsAsked other = IsEventInRange other
+
+-- .. as a line says it: its terms and its shape are lawful too, and new things have names
+pub record IsOfLine (e : Event) : Type 0 where
+  pub asked : IsAsked e
+  pub lawful : IsLawfulEvent e
+  pub names : GivesNames e
 
 -- the bytes are a dump of the image
 abbrev pub IsDump : List ℕ → ContextImage → Type 0
@@ -143,10 +151,14 @@ MayDo s other = Unit {0}
 
 -- ---- many acts
 
+-- each of them is such where the node stands then
+abbrev pub Along : (Standing → Act → Type 0) → Standing → List Act → Type 0
+Along Is s [] = Unit {0}
+Along Is s (a ∷ more) = Is s a × Along Is (after_act s a) more
+
 -- they may be done, one after the other
 abbrev pub MayDoAll : Standing → List Act → Type 0
-MayDoAll s [] = Unit {0}
-MayDoAll s (a ∷ more) = MayDo s a × MayDoAll (after_act s a) more
+MayDoAll s acts = Along MayDo s acts
 
 -- where they lead
 abbrev pub after_acts : Standing → List Act → Standing

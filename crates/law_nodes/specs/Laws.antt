@@ -12,7 +12,8 @@ use Rattle.law_dump_round_trip.specs.Fits.{FitsFields}
 use Rattle.protocol.specs.declared.images.ContextImage.{ContextImage}
 use Rattle.protocol.specs.Lawful.{IsLawful}
 use Rattle.law_nodes.specs.Acts.{HasDone, beginning}
-use Rattle.law_nodes.specs.Composed.{AreComposed, Deed, NodeRun, ReadsBack, lines_of_deeds}
+use Rattle.law_nodes.specs.Bounded.{AreBounded, AreBoundedDeeds, AreRunning, IsRunning}
+use Rattle.law_nodes.specs.Composed.{AreComposed, Deed, NodeRun, ReadsBack, lines_of_deeds, standings_of}
 
 -- wherever a run of a node is cut off, its calls are those of acts on a new device: each datagram that was taken arrives, what is
 -- sent is what the steps of the device send, and what is written is the answers of these steps
@@ -27,3 +28,11 @@ NodesAreFollowed = (nodes : List NodeRun) (es : List WorldEvent) (order : List D
 -- the dump of a lawful image whose numbers fit their fields reads as that image
 abbrev pub FittingDumpsReadBack : Type 0
 FittingDumpsReadBack = (image : ContextImage) → IsLawful image → FitsFields image → ReadsBack (Some image)
+
+-- whatever a node takes from its link, each of its acts changes only what it may, from its beginning on
+abbrev pub NodeIsBounded : Type 0
+NodeIsBounded = (n : NodeRun) → IsRunning n → AreBounded (beginning n.id n.own) (n.prepared ++ n.served)
+
+-- .. and so does each act in an order of what several nodes do, at its own node alone
+abbrev pub NodesAreBounded : Type 0
+NodesAreBounded = (nodes : List NodeRun) (order : List Deed) → AreRunning nodes order → AreBoundedDeeds (standings_of nodes) order

@@ -1,3 +1,5 @@
 pub mod Acts
 pub mod Composed
+pub mod Changes
+pub mod Bounded
 pub mod Laws

@@ -1,9 +1,9 @@
-//! What nodes do: the steps of a device behind the calls of a run, and why the answers of several nodes are legal.
+//! What nodes do: the steps of a device behind the calls of a run, why the answers of several nodes are legal, and what they may change.
 //!
 //! The functions do nothing. Each promises the law that it names.
 #![tactic(auto)]
 
-ghost use Rattle.law_nodes.specs.Laws.{CallsAreActs, FittingDumpsReadBack, NodesAreFollowed};
+ghost use Rattle.law_nodes.specs.Laws.{CallsAreActs, FittingDumpsReadBack, NodeIsBounded, NodesAreBounded, NodesAreFollowed};
 
 use law_dump_round_trip::what_is_written_reads_back;
 use law_orders::prepared_orders_are_legal;
@@ -21,6 +21,15 @@ pub fn nodes_are_followed()
 {
     prepared_orders_are_legal();
 }
+
+/// Whatever datagrams nodes take, also such as none of them sent: a byte of a context's memory changes only by a line of its node that
+/// stores there, or that makes or drops its region; by a stop or a restore of its context; or by an arrival at a connected end, under a
+/// key and a right that grant that byte then, or in a place that a line posted. Of all else an arrival changes that one end and its two
+/// completion queues, and any other act its own context.
+pub fn nodes_change_what_they_may()
+    ensures node { NodeIsBounded }
+    ensures nodes { NodesAreBounded }
+{}
 
 /// The dump of a lawful image whose numbers fit their fields reads as that image, as `AreComposed` asks of dumps that are put.
 pub fn fitting_dumps_read_back()
