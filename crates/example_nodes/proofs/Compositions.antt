@@ -1,6 +1,6 @@
 -- The calls of a plan where the outside answers so, and what the three nodes do.
-use Rattle.std.proofs.Common.{arith, ◌≡◌, ℕ, ◌<◌, ◌^◌, true, List, [], ◌∷◌, ◌++◌, length, Some, ap, inl, refl, subst, sym}
-use Rattle.std.specs.Prelude.{All, codes, Bool, false, nat_lt, ◌&&◌}
+use Rattle.std.proofs.Common.{arith, ◌≡◌, ℕ, ◌<◌, ◌^◌, true, List, [], ◌∷◌, ◌++◌, length, Some, ap, inl, refl, subst, sym, ◌∙◌}
+use Rattle.std.specs.Prelude.{All, codes, Bool, None, bytes_eq, if◌then◌else◌, false, nat_lt, ◌&&◌}
 use Rattle.std.specs.List.{list_all}
 use Rattle.std.proofs.lemmas.Bool.Decides.{nat_tests}
 use Rattle.std.proofs.lemmas.List.Elements.{All-cons, All-nil}
@@ -15,7 +15,17 @@ use Rattle.order_rules.specs.Evaluate.{opened}
 use Rattle.order_rules.specs.Sides.{IsInTimeLine, IsOneSidedLine}
 use Rattle.law_nodes.specs.Acts as act
 use Rattle.law_nodes.specs.Bounded.{AreRunning, IsOfBytes, IsRunning}
-use Rattle.law_nodes.specs.Acts.{Act, IsAsked, IsDump, IsOfLine, MayDoAll, Standing, beginning, outcome_of}
+use Rattle.host_ports.specs.Depots.{Holding, nothing}
+use Rattle.node_rules.specs.Outside.{set}
+use Rattle.protocol.specs.DeviceStep.{device_step}
+use Rattle.rdma_types.specs.declared.verbs.Verb.TheVariants as verbs
+use Rattle.script_lang.specs.declared.lines.NodeLine.TheVariants as line_is
+use Rattle.serve_rules.specs.Lines.{line_reply}
+use Rattle.serve_rules.specs.Moving.{IsDumpOf, IsRestored, with_context}
+use Rattle.serve_rules.specs.Server.{after, outcome_of as outcome_there}
+use Rattle.law_nodes.specs.Served.{AreActsOfAll, AreDone, Says, restores, sent_by}
+use Rattle.law_nodes.proofs.Serving.{line_device, line_waits}
+use Rattle.law_nodes.specs.Acts.{Act, after_act, after_acts, IsAsked, IsDump, IsOfLine, MayDoAll, Standing, beginning, outcome_of}
 use Rattle.law_devices.specs.Sound.{GivesNames}
 use Rattle.protocol.specs.declared.events.Event.{Event}
 use Rattle.protocol.specs.declared.events.Event.TheVariants as event
@@ -25,12 +35,12 @@ use Rattle.rdma_types.specs.Shapes.{IsLawfulShape}
 use Rattle.protocol.specs.declared.images.Outcome.{Outcome}
 use Rattle.law_nodes.specs.Composed.{AreComposed, AreDumpsTaken, Deed, IsAtHome, IsNodeRun, IsOfNode, IsPreparedBy, IsWholeIn, MakesNone, ReadsBack, dump_if, moved_on, acts_on, lines_from, lines_of_deeds, node_at, openings_of, standings_of}
 use Rattle.example_rules.proofs.WorldOrders.{EachAfter, each_of}
-use Rattle.example_nodes.specs.Composition.{Gives, Holds, Reply, Ticks, before_the_stop, calls_with, dump, events, left_with, moving, nodes, order, partner, partner_hears, partner_polls, partner_posts, partner_prepares, partner_script, partner_serves, request, source, source_hears, source_prepares, source_script, source_serves, stops_b, target, target_hears, target_loads, target_restores, target_script, three}
+use Rattle.example_nodes.specs.Composition.{Gives, Heard, Holds, Ticks, before_the_stop, calls_with, dump, events, left_with, moving, nodes, order, partner, partner_hears, partner_polls, partner_posts, partner_prepares, partner_script, partner_serves, request, source, source_hears, source_prepares, source_script, source_serves, stops_b, target, target_does, target_loads, target_restores, before_it, of_b, read, restored, three, went}
 use Rattle.example_nodes.specs.Things.{one, two}
-use Rattle.example_nodes.specs.Evaluate.{run_of, spelled}
+use Rattle.example_nodes.specs.Evaluate.{line_read, run_of, spelled}
 
 -- the plan leads through them
-pub leads_with : (p : Plan) (rs : List Reply) → Leads p (calls_with p rs) (left_with p rs)
+pub leads_with : (p : Plan) (rs : List Heard) → Leads p (calls_with p rs) (left_with p rs)
 unfolding calls_with left_with
 leads_with (Starts own more) rs = (more, (refl, refl), leads_with more rs)
 leads_with (Sends datagram more) rs = (more, (refl, refl), leads_with more rs)
@@ -92,7 +102,7 @@ partner_runs = record {
   left = left_with (node_plan 1 one partner_script) partner_hears;
   leads = leads_with (node_plan 1 one partner_script) partner_hears;
   done = record { acts = partner_prepares ++ (partner_posts ++ (partner_serves ++ partner_polls ∷ [])); may = may_partner; unmade = []; made = refl; cut = inl refl };
-  acts = refl;
+  same = refl;
 }
 
 pub source_runs : IsNodeRun source
@@ -101,17 +111,92 @@ source_runs = record {
   left = left_with (node_plan 2 two source_script) source_hears;
   leads = leads_with (node_plan 2 two source_script) source_hears;
   done = record { acts = source_prepares ++ (source_serves ++ stops_b ∷ []); may = may_source; unmade = []; made = refl; cut = inl refl };
-  acts = refl;
+  same = refl;
 }
 
-pub target_runs : IsNodeRun target
-unfolding run_of spelled calls_with
-target_runs = record {
-  left = left_with (node_plan 3 three target_script) target_hears;
-  leads = leads_with (node_plan 3 three target_script) target_hears;
-  done = record { acts = act.Starts three ∷ (target_restores ++ target_loads ∷ []); may = (tt, (tt, ((reads, refl), (of_line tt tt tt, (of_line tt tt tt, tt))))); unmade = []; made = refl; cut = inl refl };
-  acts = refl;
+-- the store of the target holds the dump, and then nothing
+abbrev holds : Holding
+holds = set nothing (codes "f") (Some dump)
+
+abbrev emptied : Holding
+emptied = λ n. if bytes_eq (codes "f") n then None else holds n
+
+is_restored : IsRestored before_it (codes "f") restored (record { dumps = Some holds; claims = Some [] }) (record { dumps = Some emptied; claims = Some [] })
+unfolding opened run_of spelled after outcome_there
+is_restored = record {
+  bytes = dump;
+  image = moving;
+  found = refl;
+  read = subst (IsDumpOf moving) (sym reads.2) refl;
+  accepted = refl;
+  server = refl;
+  dumps = (emptied, refl, λ n. refl);
+  claims = refl;
 }
+
+goes : Says (codes "go b.q") (event.Transmit (of_b (codes "q")))
+unfolding line_read
+goes = record { line = line_is.Go (of_b (codes "q")); reads = refl; event = refl }
+
+loads : Says (codes "load b.n 8192 4") (event.Load (of_b (codes "n")) 8192 4)
+unfolding line_read
+loads = record { line = line_is.Verb (verbs.Load (of_b (codes "n")) 8192 4); reads = refl; event = refl }
+
+by_rules : AreDone before_it target_does
+unfolding line_reply
+by_rules = ((record { dumps = Some holds; claims = Some [] }, record { dumps = Some emptied; claims = Some [] }, is_restored), ((goes, (refl, refl)), ((loads, (refl, refl)), tt)))
+
+may_target : MayDoAll (beginning 3 three) (target_restores ++ target_loads ∷ [])
+unfolding opened run_of spelled
+may_target = (tt, ((reads, refl), (of_line tt tt tt, (of_line tt tt tt, tt))))
+
+-- where the target stands after each of them
+abbrev at_restored : Standing
+at_restored = after_acts (beginning 3 three) (restores (codes "f") dump moving)
+
+abbrev at_went : Standing
+at_went = after_act at_restored (act.Does (event.Transmit (of_b (codes "q"))))
+
+restored_there : at_restored.device ≡ restored.device
+unfolding with_context after
+restored_there = refl
+
+went_there : at_went.device ≡ went.device
+went_there = ap (λ d. (device_step d (event.Transmit (of_b (codes "q")))).device) restored_there ∙ sym (line_device restored (event.Transmit (of_b (codes "q"))))
+
+restored_waits : restored.outgoing ≡ before_it.outgoing ++ sent_by (beginning 3 three) (restores (codes "f") dump moving)
+unfolding opened run_of spelled with_context after
+restored_waits = refl
+
+are_acts : AreActsOfAll (beginning 3 three) before_it target_does (target_restores ++ target_loads ∷ [])
+are_acts = (
+  act.Does (event.Transmit (of_b (codes "q"))) ∷ target_loads ∷ [],
+  record { own = restores (codes "f") dump moving; of = (dump, moving, refl); leads = restored_there; sends = restored_waits; both = refl },
+  (
+    target_loads ∷ [],
+    record {
+      own = act.Does (event.Transmit (of_b (codes "q"))) ∷ [];
+      of = refl;
+      leads = went_there;
+      sends = line_waits at_restored restored (event.Transmit (of_b (codes "q"))) restored_there;
+      both = refl;
+    },
+    (
+      [],
+      record {
+        own = target_loads ∷ [];
+        of = refl;
+        leads = ap (λ d. (device_step d (event.Load (of_b (codes "n")) 8192 4)).device) went_there ∙ sym (line_device went (event.Load (of_b (codes "n")) 8192 4));
+        sends = line_waits at_went went (event.Load (of_b (codes "n")) 8192 4) went_there;
+        both = refl;
+      },
+      refl,
+    ),
+  ),
+)
+
+pub target_runs : IsNodeRun target
+target_runs = record { by_rules = by_rules; done = record { acts = target_restores ++ target_loads ∷ []; may = may_target; are = are_acts }; same = refl }
 
 runs : All IsNodeRun nodes
 runs =
@@ -295,7 +380,7 @@ target_is_running = record {
   run = target_runs;
   some_id = omega arith;
   few_ids = omega arith;
-  of_bytes = all_of_bytes (act.Starts three ∷ (target_restores ++ target_loads ∷ [])) (tt, (tt, (bytes_pass dump dump_of_bytes, (tt, (tt, tt)))));
+  of_bytes = all_of_bytes (target_restores ++ target_loads ∷ []) (tt, (bytes_pass dump dump_of_bytes, (tt, (tt, tt))));
 }
 
 pub running : AreRunning nodes order

@@ -45,7 +45,7 @@ runs = record {
   left = left_with (node_plan 2 two serving_script) hears;
   leads = leads_with (node_plan 2 two serving_script) hears;
   done = record { acts = prepares ++ serves; may = may; unmade = []; made = refl; cut = inl refl };
-  acts = refl;
+  same = refl;
 }
 
 is_running : IsRunning watched

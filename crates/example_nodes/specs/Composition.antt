@@ -1,4 +1,5 @@
--- A live move among three nodes: a partner with context a, a source from which context b moves, and a target to which it moves.
+-- A live move among three nodes: a partner with context a, a source from which context b moves, and a target to which it moves. Scripts
+-- drive the first two, and lines the target.
 use Rattle.std.specs.Prelude.{ℕ, true, false, List, [], ◌∷◌, ◌++◌, codes, Option, Some, None}
 use Rattle.host_ports.specs.Links.{Addressed}
 use Rattle.rdma_types.specs.declared.answers.Answer.{Answer}
@@ -13,6 +14,7 @@ use Rattle.rdma_types.specs.declared.requests.WcKind.TheVariants as wc_kind
 use Rattle.rdma_types.specs.declared.requests.WcStatus.TheVariants as status
 use Rattle.rdma_types.specs.declared.verbs.Verb.{Verb}
 use Rattle.rdma_types.specs.declared.verbs.Verb.TheVariants as verbs
+use Rattle.protocol.specs.declared.events.Event.{Event}
 use Rattle.protocol.specs.declared.events.Event.TheVariants as event
 use Rattle.protocol.specs.declared.events.WorldEvent.{WorldEvent}
 use Rattle.protocol.specs.declared.events.WorldEvent.TheVariants as world_event
@@ -20,25 +22,31 @@ use Rattle.protocol.specs.declared.images.ContextImage.{ContextImage}
 use Rattle.protocol.specs.declared.images.Progress.TheVariants as progress
 use Rattle.protocol.specs.Dumps.{dump_bytes}
 use Rattle.protocol.specs.WorldStep.{exchanged}
-use Rattle.node_rules.specs.Lines.{version}
+use Rattle.node_rules.specs.Lines.{counting, version}
 use Rattle.node_rules.specs.Plan.{Asked, Asks, Call, Looked, Looks, Plan, Put, Puts, Removed, Removes, Sends, Sent, Started, Starts, Takes, Took, Writes, Wrote}
 use Rattle.node_rules.specs.Script.{node_plan}
 use Rattle.law_nodes.specs.Acts as act
 use Rattle.law_nodes.specs.Acts.{Act}
-use Rattle.law_nodes.specs.Composed.{Deed, NodeRun}
+use Rattle.law_nodes.specs.Composed.{Deed, Lines, NodeRun, Script}
+use Rattle.law_nodes.specs.Served.{Done, Line, Restore}
+use Rattle.serve_lines.specs.declared.replies.Reply.{Reply}
+use Rattle.serve_lines.specs.declared.replies.Reply.TheVariants as reply
+use Rattle.serve_rules.specs.Lines.{line_stepped}
+use Rattle.serve_rules.specs.Moving.{with_context}
+use Rattle.serve_rules.specs.Server.{Server, new_server, outcome_of}
 use Rattle.example_nodes.specs.Things.{one, two}
 use Rattle.example_nodes.specs.Evaluate.{spelled}
 
 -- ---- the calls of a plan, where the outside answers so
 
 -- an answer of the outside
-pub data Reply : Type 0 where
-  Gives : (got : Option Addressed) → Reply  -- the link gives a datagram, or nothing
-  Ticks : (moment : ℕ) → Reply  -- the clock
-  Holds : (found : Option (List ℕ)) → Reply  -- the depot
+pub data Heard : Type 0 where
+  Gives : (got : Option Addressed) → Heard  -- the link gives a datagram, or nothing
+  Ticks : (moment : ℕ) → Heard  -- the clock
+  Holds : (found : Option (List ℕ)) → Heard  -- the depot
 
 -- the calls that are made, up to one for which there is no answer
-unfoldable pub calls_with : Plan → List Reply → List Call
+unfoldable pub calls_with : Plan → List Heard → List Call
 calls_with (Starts own more) rs = Started own ∷ calls_with more rs
 calls_with (Sends datagram more) rs = Sent datagram ∷ calls_with more rs
 calls_with (Puts name bytes more) rs = Put name bytes ∷ calls_with more rs
@@ -50,7 +58,7 @@ calls_with (Removes name more) (Holds found ∷ rs) = Removed name found ∷ cal
 calls_with plan rs = []
 
 -- what is left of the plan then
-unfoldable pub left_with : Plan → List Reply → Plan
+unfoldable pub left_with : Plan → List Heard → Plan
 left_with (Starts own more) rs = left_with more rs
 left_with (Sends datagram more) rs = left_with more rs
 left_with (Puts name bytes more) rs = left_with more rs
@@ -129,10 +137,6 @@ source_script =
     ++ codes "link b.q 010001 10.0.0.1 mtu 256 psn 200 100 retry 7 rnr 7 reads 4\n"
     ++ codes "serve 1\n"
     ++ codes "stop b f\n"
-
--- b is restored on the target, says where it is, and reads what was written
-abbrev pub target_script : List ℕ
-target_script = codes "restore f\n" ++ codes "go b.q\n" ++ codes "load b.n 8192 4\n"
 
 -- ---- what each node does
 
@@ -242,23 +246,44 @@ target_loads = act.Does (event.Load (of_b (codes "n")) 8192 4)
 
 -- ---- the nodes
 
-abbrev pub partner_hears : List Reply
+abbrev pub partner_hears : List Heard
 partner_hears = Gives (Some (two, acknowledgement)) ∷ Ticks 0 ∷ Gives (Some (three, resume)) ∷ Ticks 0 ∷ []
 
-abbrev pub source_hears : List Reply
+abbrev pub source_hears : List Heard
 source_hears = Gives (Some (one, write)) ∷ Ticks 0 ∷ []
 
-abbrev pub target_hears : List Reply
-target_hears = Holds (Some dump) ∷ Holds (Some dump) ∷ []
+-- what the target did: b is restored there, says where it is, and what was written is read
+abbrev pub before_it : Server
+before_it = new_server 3 three 100
+
+abbrev pub restored : Server
+restored = with_context before_it moving
+
+abbrev pub went : Server
+went = line_stepped restored (event.Transmit (of_b (codes "q")))
+
+abbrev pub read : Server
+read = line_stepped went (event.Load (of_b (codes "n")) 8192 4)
+
+-- what is answered to the line of an event
+abbrev pub told : Server → Event → Reply
+told s e = reply.Device (counting (line_stepped s e).tallies.made (outcome_of s e).answer)
+
+abbrev pub target_does : List Done
+target_does =
+    record { doing = Restore (codes "f") reply.Restored; next = restored }
+    ∷ record { doing = Line (codes "go b.q") (event.Transmit (of_b (codes "q"))) (told restored (event.Transmit (of_b (codes "q")))); next = went }
+    ∷ record { doing = Line (codes "load b.n 8192 4") (event.Load (of_b (codes "n")) 8192 4) (told went (event.Load (of_b (codes "n")) 8192 4)); next = read }
+    ∷ []
 
 abbrev pub partner : NodeRun
-partner = record { id = 1; own = one; text = partner_script; calls = calls_with (node_plan 1 one partner_script) partner_hears; prepared = partner_prepares; served = partner_posts ++ (partner_serves ++ partner_polls ∷ []) }
+partner = record { id = 1; own = one; source = Script partner_script (calls_with (node_plan 1 one partner_script) partner_hears); prepared = partner_prepares; served = partner_posts ++ (partner_serves ++ partner_polls ∷ []) }
 
 abbrev pub source : NodeRun
-source = record { id = 2; own = two; text = source_script; calls = calls_with (node_plan 2 two source_script) source_hears; prepared = source_prepares; served = source_serves ++ stops_b ∷ [] }
+source = record { id = 2; own = two; source = Script source_script (calls_with (node_plan 2 two source_script) source_hears); prepared = source_prepares; served = source_serves ++ stops_b ∷ [] }
 
 abbrev pub target : NodeRun
-target = record { id = 3; own = three; text = target_script; calls = calls_with (node_plan 3 three target_script) target_hears; prepared = act.Starts three ∷ []; served = target_restores ++ target_loads ∷ [] }
+target = record { id = 3; own = three; source = Lines 100 target_does; prepared = []; served = target_restores ++ target_loads ∷ [] }
 
 abbrev pub nodes : List NodeRun
 nodes = partner ∷ source ∷ target ∷ []

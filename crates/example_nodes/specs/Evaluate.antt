@@ -1,9 +1,10 @@
 -- What a script of a node does, with all that it computes with opened.
-use Rattle.std.specs.Prelude.{ℕ, List, [], Option, Some, None}
+use Rattle.std.specs.Prelude.{ℕ, List, [], Option, Some, None, Result}
 use Rattle.std.specs.Fmt.{digits}
 use Rattle.hex.specs.Hex.{decode_pairs, encode_with}
 use Rattle.rdma_types.specs.declared.requests.Address.{Address}
 use Rattle.protocol.specs.Evaluate.{computed}
+use Rattle.script_lang.specs.declared.lines.Offence.{Offence}
 use Rattle.script_lang.specs.Fields as in_fields
 use Rattle.script_lang.specs.Lines as in_lines
 use Rattle.script_lang.specs.Printed as in_printed
@@ -11,6 +12,8 @@ use Rattle.script_lang.specs.Scripts as in_scripts
 use Rattle.script_lang.specs.Texts as in_texts
 use Rattle.script_lang.specs.Verbs as in_verbs
 use Rattle.script_lang.specs.Words as in_words
+use Rattle.serve_lines.specs.declared.lines.ServeLine.{ServeLine}
+use Rattle.serve_lines.specs.Reading as in_serve_lines
 use Rattle.node_rules.specs.Node as in_node
 use Rattle.node_rules.specs.Outside as in_outside
 use Rattle.node_rules.specs.Outside.{Outside, Ran}
@@ -33,6 +36,11 @@ unfolding computed
     in_script.lines_do in_script.node_plan
     in_outside.ran in_outside.node_run
 run_of id own text o = in_outside.node_run id own text o
+
+-- what a line of a served device says
+unfoldable pub line_read : List ℕ → Result ServeLine Offence
+unfolding run_of in_serve_lines.serve_reading_of
+line_read text = in_serve_lines.serve_reading_of text
 
 -- the bytes of hexadecimal digits, or none
 abbrev pub or_none : Option (List ℕ) → List ℕ

@@ -5,8 +5,8 @@ use Rattle.protocol.specs.WorldStep.{exchanged}
 use Rattle.node_rules.specs.Script.{node_plan}
 use Rattle.law_nodes.specs.Acts as act
 use Rattle.law_nodes.specs.Acts.{Act}
-use Rattle.law_nodes.specs.Composed.{Deed, NodeRun}
-use Rattle.example_nodes.specs.Composition.{Gives, Reply, Ticks, calls_with, does, of_b, terms}
+use Rattle.law_nodes.specs.Composed.{Deed, NodeRun, Script}
+use Rattle.example_nodes.specs.Composition.{Gives, Heard, Ticks, calls_with, does, of_b, terms}
 use Rattle.example_nodes.specs.Things.{cut, one, serving_script, two, write}
 
 abbrev pub prepares : List Act
@@ -36,11 +36,11 @@ serves =
     ∷ act.Does (event.Load (of_b (codes "n")) 8192 4)
     ∷ []
 
-abbrev pub hears : List Reply
+abbrev pub hears : List Heard
 hears = Gives (Some cut) ∷ Ticks 0 ∷ Gives (Some write) ∷ Ticks 0 ∷ Gives None ∷ Ticks 0 ∷ []
 
 abbrev pub watched : NodeRun
-watched = record { id = 2; own = two; text = serving_script; calls = calls_with (node_plan 2 two serving_script) hears; prepared = prepares; served = serves }
+watched = record { id = 2; own = two; source = Script serving_script (calls_with (node_plan 2 two serving_script) hears); prepared = prepares; served = serves }
 
 abbrev pub nodes : List NodeRun
 nodes = watched ∷ []

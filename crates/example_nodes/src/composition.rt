@@ -17,8 +17,8 @@ ghost use Rattle.example_nodes.specs.Forged as forged;
 
 use law_nodes::{nodes_are_followed, nodes_change_what_they_may};
 
-/// A context moves live from one node to another, while its partner serves: what the three nodes do meets each premise of the
-/// laws of nodes.
+/// A context moves live from one node to another, while its partner serves. Scripts drive two of the nodes, and lines the third, to
+/// which it moves. What they do meets each premise of the laws of nodes.
 pub fn a_live_move_is_composed()
     ensures composed { AreComposed moving.nodes moving.events moving.order }
     ensures running { AreRunning moving.nodes moving.order }

@@ -20,7 +20,7 @@ use Rattle.law_nodes.specs.Changes.{IsSame}
 use Rattle.law_nodes.specs.Composed.{Deed, NodeRun, event_of_deed, moved_on, standing_of, standings_of}
 use Rattle.law_nodes.specs.Laws.{NodeIsBounded, NodesAreBounded}
 use Rattle.law_nodes.proofs.Changing.{all-same, changes-only, stays-distinct}
-use Rattle.law_nodes.proofs.Composing.{DeviceGoes, device_goes}
+use Rattle.law_nodes.proofs.Composing.{DeviceGoes, device_goes, may_run}
 use Rattle.law_nodes.proofs.Doers.{GoesOn, along_after, goes_on, is_now, is_then}
 
 -- ---- events
@@ -104,7 +104,7 @@ begins_well id own some few = record {
 
 run_is_ready : (n : NodeRun) → IsRunning n → Along IsReady (beginning n.id n.own) (n.prepared ++ n.served)
 run_is_ready n r =
-    ready (beginning n.id n.own) (n.prepared ++ n.served) (subst (λ x. MayDoAll (beginning n.id n.own) x) r.run.acts r.run.done.may) r.of_bytes (begins_well n.id n.own r.some_id r.few_ids)
+    ready (beginning n.id n.own) (n.prepared ++ n.served) (may_run n r.run) r.of_bytes (begins_well n.id n.own r.some_id r.few_ids)
 
 pub node_is_bounded : NodeIsBounded
 node_is_bounded n r = all_bounded (beginning n.id n.own) (n.prepared ++ n.served) (run_is_ready n r)

@@ -26,7 +26,7 @@ use Rattle.law_orders.proofs.Devices.{IsNoStop, step_plain}
 use Rattle.law_orders.proofs.Orders.{after_here, after_other}
 use Rattle.law_nodes.proofs.Doers.{GoesOn, IsKnown, along_after, goes_on, id_of, is_now, is_then, number_is}
 use Rattle.law_nodes.specs.Acts.{Act, Declines, Does, IsAsked, IsDump, IsOfEnd, MayDo, MayDoAll, Restores, Standing, Stops, Takes as TakesIn, Turns, after_act, beginning, outcome_of}
-use Rattle.law_nodes.specs.Composed.{AreComposed, AreDumpsTaken, Deed, Dump, IsNodeRun, MakesNone, NodeRun, PutsReadable, ReadsBack, TakesDump, device_of, dump_if, dump_put, event_of_deed, line_at, lines_from, lines_of_deeds, moved_on, node_at, openings_of, standing_of, standings_of, with_line}
+use Rattle.law_nodes.specs.Composed.{Lines, Script, Source, IsRunBy, AreComposed, AreDumpsTaken, Deed, Dump, IsNodeRun, MakesNone, NodeRun, PutsReadable, ReadsBack, TakesDump, device_of, dump_if, dump_put, event_of_deed, line_at, lines_from, lines_of_deeds, moved_on, node_at, openings_of, standing_of, standings_of, with_line}
 
 -- ---- devices
 
@@ -246,9 +246,17 @@ begun ns = record { each = λ k l h. absurd (none k l h); same = λ id. begins n
     none zero l h = cc
     none (suc k) l h = cc
 
--- what a node may do once it is prepared
+-- what a node may do, whatever drives it
+may_by : (source : Source) (id : ℕ) (own : Address) (acts : List Act) → IsRunBy source id own acts → MayDoAll (beginning id own) acts
+may_by (Script text calls) id own acts run = subst (λ x. MayDoAll (beginning id own) x) run.same run.done.may
+may_by (Lines base did) id own acts run = subst (λ x. MayDoAll (beginning id own) x) run.same run.done.may
+
+pub may_run : (n : NodeRun) → IsNodeRun n → MayDoAll (beginning n.id n.own) (n.prepared ++ n.served)
+may_run n run = may_by n.source n.id n.own (n.prepared ++ n.served) run
+
+-- .. once it is prepared
 pub may_serve : (n : NodeRun) → IsNodeRun n → MayDoAll (standing_of n) n.served
-may_serve n run = along_after MayDo (beginning n.id n.own) n.prepared n.served (subst (λ x. MayDoAll (beginning n.id n.own) x) run.acts run.done.may)
+may_serve n run = along_after MayDo (beginning n.id n.own) n.prepared n.served (may_run n run)
 
 -- ---- the whole
 

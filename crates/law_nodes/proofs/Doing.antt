@@ -165,9 +165,13 @@ unfolding stops
 no_datagrams d name None = refl
 no_datagrams d name (Some r) = refl
 
+pub stop_sends_none : (d : Device) (name : Name) → (device_step d (event.Stop name true)).outcome.sent ≡ []
+unfolding device_step
+stop_sends_none d name = no_datagrams d name (refusal_of d (event.Stop name true))
+
 stop_is_silent : (n : Node) (name : Name) → (node_outcome n (event.Stop name true)).sent ≡ []
-unfolding node_outcome device_step
-stop_is_silent n name = no_datagrams n.device name (refusal_of n.device (event.Stop name true))
+unfolding node_outcome
+stop_is_silent n name = stop_sends_none n.device name
 
 makes_puts : (file : Name) (image : Option ContextImage) (a : Answer) (m : Node) (more : Node → Plan) → Makes (storing file image a m more) (puts file image) (answering a m more)
 makes_puts file None a m more = makes_none (answering a m more)
@@ -195,9 +199,13 @@ unfolding restores
 no_datagrams_there d image None = refl
 no_datagrams_there d image (Some r) = refl
 
+pub restore_sends_none : (d : Device) (image : ContextImage) → (device_step d (event.Restore image)).outcome.sent ≡ []
+unfolding device_step
+restore_sends_none d image = no_datagrams_there d image (refusal_of d (event.Restore image))
+
 restore_is_silent : (n : Node) (image : ContextImage) → (node_outcome n (event.Restore image)).sent ≡ []
-unfolding node_outcome device_step
-restore_is_silent n image = no_datagrams_there n.device image (refusal_of n.device (event.Restore image))
+unfolding node_outcome
+restore_is_silent n image = restore_sends_none n.device image
 
 -- the answer to an event, which is like another
 makes_like : (n : Node) (e : Event) (a : Answer) (next : Plan) → a ≡ (outcome_of (standing n) e).answer → Makes (plan.Writes (printed (counting (node_after n e).sent a)) next) (writes_of (standing n) e) next

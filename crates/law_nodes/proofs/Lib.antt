@@ -2,6 +2,9 @@ pub mod Parts
 pub mod Names
 pub mod Ranges
 pub mod Doing
+pub mod ServedLines
+pub mod Turning
+pub mod Serving
 pub mod Doers
 pub mod Composing
 pub mod Changing

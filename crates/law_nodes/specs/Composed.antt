@@ -23,26 +23,46 @@ use Rattle.order_rules.specs.Bridge.{is_at_home}
 use Rattle.order_rules.specs.Lines.{Line, device_after, events_on, flown}
 use Rattle.order_rules.specs.Order.{Each}
 use Rattle.order_rules.specs.Sides.{IsNeverAged, IsOneSided}
+use Rattle.serve_rules.specs.Server.{new_server}
+use Rattle.law_nodes.specs.Served.{AreDone, Done, HasServed}
 use Rattle.law_nodes.specs.Acts.{Act, Declines, Does, HasDone, IsDump, Restores, Standing, Stops, after_act, after_acts, beginning, event_in, outcome_of}
 
 -- ---- nodes
 
--- a run of a node: its id, its address and its script, the calls that were made, and the acts that they are, first those that
--- prepare its device
+-- what drives a node, and what came of it
+pub data Source : Type 0 where
+  Script : (text : List ℕ) → (calls : List Call) → Source  -- a script, and the calls that were made
+  Lines : (base : ℕ) → (done : List Done) → Source  -- the turns and lines of a served device, with the base of its timers
+
+-- a run of a node: its id, its address, what drives it, and the acts that it does, first those that prepare its device
 pub record NodeRun : Type 0 where
   pub id : ℕ
   pub own : Address
-  pub text : List ℕ
-  pub calls : List Call
+  pub source : Source
   pub prepared : List Act
   pub served : List Act
 
--- its plan leads through the calls, and they are those of the acts, wherever the run was cut off
-pub record IsNodeRun (n : NodeRun) : Type 0 where
+-- the plan of a script leads through the calls, and they are those of the acts, wherever the run was cut off
+pub record IsScriptRun (id : ℕ) (own : Address) (text : List ℕ) (calls : List Call) (acts : List Act) : Type 0 where
   pub left : Plan
-  pub leads : Leads (node_plan n.id n.own n.text) n.calls left
-  pub done : HasDone (beginning n.id n.own) n.calls
-  pub acts : done.acts ≡ n.prepared ++ n.served
+  pub leads : Leads (node_plan id own text) calls left
+  pub done : HasDone (beginning id own) calls
+  pub same : done.acts ≡ acts
+
+-- a served device did what its rules say, and that is these acts
+pub record IsServedRun (id : ℕ) (own : Address) (base : ℕ) (did : List Done) (acts : List Act) : Type 0 where
+  pub by_rules : AreDone (new_server id own base) did
+  pub done : HasServed (beginning id own) (new_server id own base) did
+  pub same : done.acts ≡ acts
+
+-- by what drives it
+abbrev pub IsRunBy : Source → ℕ → Address → List Act → Type 0
+IsRunBy (Script text calls) id own acts = IsScriptRun id own text calls acts
+IsRunBy (Lines base did) id own acts = IsServedRun id own base did acts
+
+-- the acts are those that it was driven to
+abbrev pub IsNodeRun : NodeRun → Type 0
+IsNodeRun n = IsRunBy n.source n.id n.own (n.prepared ++ n.served)
 
 -- where it stands when it is prepared
 abbrev pub standing_of : NodeRun → Standing
@@ -54,7 +74,7 @@ device_of n = (standing_of n).device
 
 -- no node
 abbrev pub nobody : NodeRun
-nobody = record { id = 0; own = no_address; text = []; calls = []; prepared = []; served = [] }
+nobody = record { id = 0; own = no_address; source = Script [] []; prepared = []; served = [] }
 
 -- the node with an id
 unfoldable pub node_at : List NodeRun → ℕ → NodeRun
@@ -201,7 +221,7 @@ IsOfNode nodes x = has (λ d. d.id) x.node (openings_of nodes) ≡ true
 
 -- nodes whose devices are prepared as these events of a world do, and an order of what they do then
 pub record AreComposed (nodes : List NodeRun) (es : List WorldEvent) (order : List Deed) : Type 0 where
-  -- the plan of each node leads through its calls
+  -- each node does what its script or the lines that drive it say
   pub runs : All IsNodeRun nodes
   -- the nodes make and link what the events of a world make and connect, and hear the same: so ids, addresses and names of
   -- contexts differ, and each end is linked to the one that is linked to it

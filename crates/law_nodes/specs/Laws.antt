@@ -11,7 +11,9 @@ use Rattle.law_simulation.specs.Law.{kept}
 use Rattle.law_dump_round_trip.specs.Fits.{FitsFields}
 use Rattle.protocol.specs.declared.images.ContextImage.{ContextImage}
 use Rattle.protocol.specs.Lawful.{IsLawful}
+use Rattle.serve_rules.specs.Server.{new_server}
 use Rattle.law_nodes.specs.Acts.{HasDone, beginning}
+use Rattle.law_nodes.specs.Served.{AreDone, Done, HasServed}
 use Rattle.law_nodes.specs.Bounded.{AreBounded, AreBoundedDeeds, AreRunning, IsRunning}
 use Rattle.law_nodes.specs.Composed.{AreComposed, Deed, NodeRun, ReadsBack, lines_of_deeds, standings_of}
 
@@ -19,6 +21,11 @@ use Rattle.law_nodes.specs.Composed.{AreComposed, Deed, NodeRun, ReadsBack, line
 -- sent is what the steps of the device send, and what is written is the answers of these steps
 abbrev pub CallsAreActs : Type 0
 CallsAreActs = (id : ℕ) (own : Address) (text : List ℕ) (calls : List Call) (left : Plan) → Leads (node_plan id own text) calls left → HasDone (beginning id own) calls
+
+-- whatever a served device does by its rules, turn after turn and line after line, is acts on a new device: arrivals, transmissions,
+-- expiries and ends of RNR waits in a turn, and for a line that was done an event, a stop or a restore
+abbrev pub ServingIsActs : Type 0
+ServingIsActs = (id : ℕ) (own : Address) (base : ℕ) (did : List Done) → AreDone (new_server id own base) did → HasServed (beginning id own) (new_server id own base) did
 
 -- the answers that nodes hear, in the order of what they do, are answers that the packetless machine gives, after those that were
 -- heard while their devices were prepared

@@ -1,4 +1,5 @@
 pub mod Acts
+pub mod Served
 pub mod Composed
 pub mod Changes
 pub mod Bounded

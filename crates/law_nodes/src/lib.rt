@@ -3,7 +3,7 @@
 //! The functions do nothing. Each promises the law that it names.
 #![tactic(auto)]
 
-ghost use Rattle.law_nodes.specs.Laws.{CallsAreActs, FittingDumpsReadBack, NodeIsBounded, NodesAreBounded, NodesAreFollowed};
+ghost use Rattle.law_nodes.specs.Laws.{CallsAreActs, FittingDumpsReadBack, NodeIsBounded, NodesAreBounded, NodesAreFollowed, ServingIsActs};
 
 use law_dump_round_trip::what_is_written_reads_back;
 use law_orders::prepared_orders_are_legal;
@@ -14,7 +14,13 @@ pub fn calls_are_acts()
     ensures { CallsAreActs }
 {}
 
-/// Where several nodes run, each on a device of its own, the answers that are heard at all of them are answers that the packetless
+/// What a served device does by its rules, turn after turn and line after line, is acts on a new device: the events of a turn, and for
+/// each line that was done an event, a stop or a restore. What they send waits to go out, in their order.
+pub fn serving_is_acts()
+    ensures { ServingIsActs }
+{}
+
+/// Where several nodes run, each on a device of its own and driven by a script or by lines, the answers that are heard at all of them are answers that the packetless
 /// machine gives, by the premises of `AreComposed`.
 pub fn nodes_are_followed()
     ensures { NodesAreFollowed }
