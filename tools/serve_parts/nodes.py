@@ -5,6 +5,7 @@ import queue
 import stat
 import subprocess
 import threading
+import time
 
 # A line that no version of the language has, and what is answered: the answers of all lines before it have come then.
 FENCE = "="
@@ -18,21 +19,23 @@ class Gone(Exception):
 class Node:
     """A node whose lines go into one file and whose answers come out of another."""
 
-    def __init__(self, name, into, out, process=None):
-        self.name, self.into, self.out, self.process = name, into, out, process
+    def __init__(self, name, into, out, process=None, log=None):
+        """`log` is a file that is written to, or None: each line that is asked and heard, with its moment, as docs/traces.md says."""
+        self.name, self.into, self.out, self.process, self.log = name, into, out, process, log
+        self.lock = threading.Lock()
         self.answers = queue.Queue()
         self.last = None
         self.reader = threading.Thread(target=self._read, daemon=True)
         self.reader.start()
 
     @classmethod
-    def start(cls, name, words, **given):
+    def start(cls, name, words, log=None, **given):
         """A node that a command starts; the command may be ssh."""
         try:
             process = subprocess.Popen(words, stdin=subprocess.PIPE, stdout=subprocess.PIPE, **given)
         except OSError as error:
             raise Gone(f"{name} cannot be started: {error.filename or words[0]}: {error.strerror}") from error
-        return cls(name, process.stdin, process.stdout, process)
+        return cls(name, process.stdin, process.stdout, process, log)
 
     @classmethod
     def attach(cls, name, into, out):
@@ -52,11 +55,20 @@ class Node:
     def _read(self):
         for line in self.out:
             self.last = line.decode(errors="replace").rstrip("\n")
+            self.note("<", self.last)
             self.answers.put(self.last)
         self.answers.put(None)
 
+    def note(self, sign, *lines):
+        """Writes lines into the log, where there is one."""
+        if self.log:
+            with self.lock:
+                moment = time.monotonic_ns()
+                self.log.write("".join(f"{sign} {moment} {line}\n" for line in lines))
+
     def send(self, *lines):
         """Writes lines."""
+        self.note(">", *lines)
         try:
             self.into.write("".join(line + "\n" for line in lines).encode())
             self.into.flush()

@@ -88,6 +88,7 @@ class End:
     send_depth: int
     receive_depth: int
     peer: tuple = None
+    mtu: int = 0  # no step looks at it
     retry: int = 0
     rnr: int = 0
     posted: list = field(default_factory=list)
@@ -205,13 +206,18 @@ class Machine:
         ends = [self.thing("ends", name) for name in (one, two)]
         refuse_if(one[0] == two[0] or any(end.peer for end in ends), "BadState")
         for end, peer in zip(ends, (two, one)):
-            end.peer, end.retry, end.rnr = peer, retry, rnr
+            end.peer, end.mtu, end.retry, end.rnr = peer, mtu, retry, rnr
         return ["ok"]
 
-    def drop_verb(self, given, name):
+    def may_drop(self, name):
+        """Refuses to drop a region where it has to be; else its context."""
         region = self.thing("regions", name)
         context = self.contexts[name[0]]
         refuse_if(any(self.is_used(end, region) for end in context.ends.values()), "InUse")
+        return context
+
+    def drop_verb(self, given, name):
+        context = self.may_drop(name)
         del context.regions[name[1]]
         return ["ok"]
 
@@ -238,12 +244,17 @@ class Machine:
         polled, queue.entries = queue.entries[:most], queue.entries[most:]
         return polled or ["none"]
 
-    def recv_verb(self, given, name, id_, lkey, address, length):
+    def may_receive(self, name, lkey, address, length):
+        """Refuses a receive where it has to be; else the end."""
         end, context = self.thing("ends", name), self.contexts[name[0]]
         refuse_if(length > MOST_BYTES, "TooLong")
         refuse_if(not context.granted(end.domain, lkey, address, length, "l", False), "BadKey")
         refuse_if(len(end.unused) >= end.receive_depth, "RqFull")
         self.reserve(context, end.receive_queue)
+        return end
+
+    def recv_verb(self, given, name, id_, lkey, address, length):
+        end = self.may_receive(name, lkey, address, length)
         receive = Receive(id_, lkey, address, length)
         if end.ended:
             self.receive_done(end, receive, "recv", 5, 0)
@@ -251,7 +262,8 @@ class Machine:
             end.unused.append(receive)
         return ["ok"]
 
-    def post(self, name, request):
+    def may_post(self, name, request):
+        """Refuses a request where it has to be; else the end and its context."""
         end, context = self.thing("ends", name), self.contexts[name[0]]
         refuse_if(not end.peer, "BadState")
         refuse_if(request.length > MOST_BYTES, "TooLong")
@@ -259,6 +271,10 @@ class Machine:
         refuse_if(not context.granted(end.domain, request.lkey, request.address, request.length, right, False), "BadKey")
         refuse_if(len(end.untold()) >= end.send_depth, "SqFull")
         self.reserve(context, end.send_queue)
+        return end, context
+
+    def post(self, name, request):
+        end, context = self.may_post(name, request)
         if end.ended:
             self.request_done(end, request, 5)
             return ["ok"]
@@ -305,7 +321,7 @@ class Machine:
             self.request_done(end, request, 5 if place else first)
         for receive in end.receives():
             self.receive_done(end, receive, "recv", 5, 0)
-        end.ended, end.unused, end.in_use = True, [], None
+        end.ended, end.told, end.unused, end.in_use = True, len(end.posted), [], None
 
     # ---- inner steps; each says whether it is enabled
 
