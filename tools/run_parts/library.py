@@ -32,7 +32,9 @@ def built():
 
 
 def load(folder=None):
-    """Makes `jichurpa` importable over the library in a folder: one that is named, that of JICHURPA_LIBRARY, or one built here."""
+    """Makes `jichurpa` importable over the library in a folder: one that is named, that of JICHURPA_LIBRARY, or one built here.
+
+    The folder."""
     if folder is None and os.environ.get(VARIABLE):
         path = Path(os.environ[VARIABLE])
     else:
@@ -40,4 +42,6 @@ def load(folder=None):
     if not path.is_file():
         raise Missing(f"there is no {path}")
     os.environ[VARIABLE] = str(path.resolve())
-    sys.path.insert(0, str(TOP / "bindings" / "python"))
+    if (module := str(TOP / "bindings" / "python")) not in sys.path:
+        sys.path.insert(0, module)
+    return path.parent

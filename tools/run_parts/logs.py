@@ -13,6 +13,7 @@ FORM = re.compile("([<>]) (0|[1-9][0-9]*) ?(.*)")
 AT_THE_END = ("kept ", "left ")
 UNMADE = ("refused Stopped", "refused TooMany", "refused NoPage", "refused Memory")
 NOT_HERE = ("refused NoSuch", "refused Stopped")
+MAKERS = ("context", "domain", "cq", "qp")
 LATER = float("inf")
 
 
@@ -110,11 +111,17 @@ class Listing:
         self.where, self.files, self.links, self.places = {}, {}, {}, {}
         self.names = {entry.answers[0].split()[1]: entry.words[1] for entry in entries
                       if entry.words[0] == "qp" and entry.answers[0].startswith("qp ") and len(entry.words) > 1}
+        self.makers = {(entry.words[0], entry.words[1]): entry for entry in entries if entry.words[0] in MAKERS and not entry.answers[0].startswith("refused")
+                       and len(entry.words) > 1}
+        self.taken = set()
         for entry in entries:
             self.take(entry)
 
     def take(self, entry):
-        """Puts a line down, where it is a verb that counts as made."""
+        """Puts a line down, where it is a verb that counts as made and is not there yet."""
+        if id(entry) in self.taken:
+            return
+        self.taken.add(id(entry))
         words, answer = entry.words, entry.answers[0]
         if answer.startswith("bad line") or answer in UNMADE:
             return
@@ -150,15 +157,25 @@ class Listing:
     def verb(self, entry):
         """A verb of an application. One that is asked where its context does not live is left out, if it was refused for that."""
         name = entry.words[1]
-        here = self.where.get(name.split(".")[0])
-        if here != entry.log and entry.answers[0] in NOT_HERE and here is not None:
+        context = name.split(".")[0]
+        is_known = context in self.where or context in self.files.values()
+        if is_known and self.where.get(context) != entry.log and entry.answers[0] in NOT_HERE:
             return
         pair = next((pair for pair in self.places if name in pair), None)
         is_early = entry.answers[0] == "refused BadState" and pair and name not in self.links
         self.put(entry, " ".join(entry.words), self.places[pair] if is_early else None)
 
+    def make(self, name):
+        """Puts down what makes a queue pair, where it is not there yet: it touches nothing else, so it may come earlier."""
+        qp = self.makers["qp", name]
+        _, _, domain, *queues = qp.words[:5]
+        for kind, it in ("context", name.split(".")[0]), ("domain", domain), *(("cq", queue) for queue in queues):
+            if (kind, it) in self.makers:
+                self.take(self.makers[kind, it])
+        self.take(qp)
+
     def link(self, entry):
-        """The first of two lines that connect two ends becomes the connection."""
+        """The first of two lines that connect two ends becomes the connection. What makes the other end comes before it."""
         if entry.answers[0] != "ok":
             return
         _, name, number, _, *terms = entry.words
@@ -170,6 +187,7 @@ class Listing:
             raise LogError(f"{entry.log} line {entry.line}: it does not go with how {partner} was linked")
         self.links[name] = partner, terms
         if not expected:
+            self.make(partner)
             self.places[frozenset((name, partner))] = len(self.lines)
             self.put(entry, " ".join(["connect", name, partner, *terms]))
 

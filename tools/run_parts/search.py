@@ -17,7 +17,7 @@ from trace_parts import grammar
 OK, LENGTH, FLUSH, INVALID, ACCESS, RETRY, NOT_READY = 0, 1, 5, 9, 10, 12, 13
 FAILED = re.compile("wc [0-9a-f]{6} [0-9]+ [a-z]+ [1-9]")
 # How many demands may be under way, each for another.
-DEPTH = 120
+DEPTH = 60
 
 
 class NoRun(Exception):
@@ -439,9 +439,10 @@ class Search:
     def refuse(self, name, why):
         """The current request of an end is refused; its peer fails."""
         before = self.progress(name)
-        self.before_end(self.end(name).peer)
-        if self.progress(name) == before:
-            self.failing("refuse", name, why)
+        with self.guard("refuse", name):
+            self.before_end(self.end(name).peer)
+            if self.progress(name) == before:
+                self.failing("refuse", name, why)
 
     def until_refused(self, name):
         """The requests of an end act until one is refused."""
@@ -463,16 +464,18 @@ class Search:
             self.until_refused(name)
             while self.end(name).told < self.end(name).acted:
                 self.tell(name)
-        self.before_end(name)
-        self.last_steps(name, status)
+        with self.guard("end", name):
+            self.before_end(name)
+            self.last_steps(name, status)
 
     def ended_by_peer(self, name, status):
         """A queue pair fails because it refuses a request of its partner; or for a reason that no answer shows."""
         if status == FLUSH or not self.end(name).untold() or not self.choices.choose(2):
             self.until_refused(self.end(name).peer)
             return
-        self.before_end(name)
-        self.last_steps(name, RETRY)
+        with self.guard("end", name):
+            self.before_end(name)
+            self.last_steps(name, RETRY)
 
     def last_steps(self, name, status):
         """The step by which an end fails, after those that only count."""
