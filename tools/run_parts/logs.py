@@ -99,7 +99,7 @@ def merged(logs):
 
 
 def overlaps(entries):
-    """How many lines were asked of a node before one of another node, that stands before them here, was answered."""
+    """How many verbs were asked of a node before the one before them here, of another node, was answered."""
     return sum(one.heard > two.asked and one.log != two.log for one, two in zip(entries, entries[1:]))
 
 
