@@ -92,15 +92,28 @@ class State:
     """A state of the machine, and the lines of the trace that led to it."""
 
     def __init__(self, sequences, source):
-        self.machine, self.source, self.lines = Known(sequences), source, []
+        self.machine, self.source = Known(sequences), source
+        # (states that are kept share what led to them: each part is a pair of what is before and lines)
+        self.trace, self.made = None, 0
 
     def saved(self):
-        return self.machine.copy(), len(self.lines)
+        return self.machine.copy(), self.trace, self.made
 
     def restore(self, saved):
-        machine, count = saved
+        machine, self.trace, self.made = saved
         self.machine = machine.copy()
-        del self.lines[count:]
+
+    def add(self, lines):
+        """Lines of the trace come."""
+        self.trace, self.made = (self.trace, lines), self.made + 1
+
+    def lines(self):
+        """The trace so far."""
+        parts, part = [], self.trace
+        while part:
+            part, lines = part
+            parts.append(lines)
+        return [line for lines in reversed(parts) for line in lines]
 
     def mark(self):
         """What the rest of a run can depend on."""
@@ -121,14 +134,14 @@ class State:
             self.machine.speak(line, word, fields, answers)
         except Illegal:
             return False
-        self.lines += self.source[line - 1 : line + len(answers)]
+        self.add(self.source[line - 1 : line + len(answers)])
         return True
 
     def step(self, step, name, *fields):
         """Makes an inner step. Whether it is enabled."""
         if not getattr(self.machine, step + "_step")(self.machine.end(name), *fields):
             return False
-        self.lines.append(" ".join(map(str, ("i", step, ".".join(name), *fields))))
+        self.add([" ".join(map(str, ("i", step, ".".join(name), *fields)))])
         return True
 
     def answer(self, word, fields):
@@ -375,6 +388,45 @@ class State:
                     yield from self.first("offer", it, self.offers(it, key), begin, end)
             if it.name[0] == context and not it.ended:
                 yield from self.first("land", it, self.lands(it, key), begin, end)
+
+    def writers(self, span):
+        """All that is due and writes these bytes: from, to, and the bytes, or None where they are not known yet."""
+        context, key, begin, end, _ = span
+        for it in self.connected():
+            if it.peer[0] == context and not self.machine.end(it.peer).ended:
+                for place, piece, low, high in self.acts(it, key):
+                    if low < end and begin < high:
+                        yield low, high, self.written(it, place, piece)
+            if it.name[0] == context and not it.ended:
+                yield from ((low, high, None) for _, _, low, high in self.lands(it, key) if low < end and begin < high)
+
+    @staticmethod
+    def written(it, place, piece):
+        """What a piece of a request writes at the peer, or None where that depends on the memory."""
+        request = it.posted[place]
+        return None if request.lands() else request.payload[piece * it.mtu : (piece + 1) * it.mtu]
+
+    def may_become(self, span, wanted):
+        """Each byte is the one that is wanted, or something is due that may write it."""
+        context, key, begin, end, _ = span
+        found = self.machine.contexts[context].region(key, False).cut(begin, end - begin) if key is not None else b""
+        lacking = {at for at, pair in enumerate(zip(found, wanted)) if pair[0] != pair[1]}
+        for low, high, data in self.writers(span):
+            if not lacking:
+                break
+            covered = range(max(low, begin) - begin, min(high, end) - begin)
+            lacking -= {at for at in covered if data is None or data[at + begin - low] == wanted[at]}
+        return not lacking
+
+    def spoils(self, step, span, wanted):
+        """How many of the bytes a step makes others than those that are wanted."""
+        name, kind, place, piece = step
+        end, begin = self.machine.end(name), span[2]
+        data = self.written(end, place, piece) if kind == "act" else None
+        if data is None:
+            return 0
+        low = next(low for at, part, low, _ in self.acts(end, span[1]) if (at, part) == (place, piece))
+        return sum(begin <= low + at < span[3] and byte != wanted[low + at - begin] for at, byte in enumerate(data))
 
     @staticmethod
     def first(kind, it, spans, begin, end):
