@@ -1,10 +1,13 @@
 """Random schedules of nodes: lines that are made while they are done, since what a node answers says what may come next."""
 import random
 
+from jichurpa.errors import JichurpaError
 from run_parts.nodes import Nodes
 from run_parts.record import Disagreement
 from trace_parts.machine import judged
 
+# By what a schedule is refused: the machine cannot follow, or the library says what it may not, such as that its dump is none.
+FAULTS = (Disagreement, JichurpaError)
 KINDS = ("write", "write", "imm", "send", "send", "read", "read", "cas", "add")
 PAGE = 4096
 
@@ -299,7 +302,7 @@ def played(lines, count):
         try:
             for line in lines:
                 nodes.do(line)
-        except Disagreement as why:
+        except FAULTS as why:
             return nodes.record.text(), str(why)
         text = nodes.record.text()
     verdict, status = judged(text)

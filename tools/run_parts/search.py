@@ -99,6 +99,8 @@ class Search(Demands):
             return False
         if self.may_have_ended(word, fields) or self.state.flushed(word, fields)[1]:
             return False
+        if word == "region" and any(self.asking(fields[0], answers)):
+            return False
         return self.state.refusal(word, fields) is None and not any(self.conflicts(None, self.state.touched(word, fields)))
 
     def make(self, at):
@@ -131,11 +133,11 @@ class Search(Demands):
     def before_others(self, word, fields, answers):
         """Room is made where there is none; then comes what may come before and touches the same bytes."""
         wanted = answers[0].removeprefix("refused ") if answers[0].startswith("refused") else None
-        for _ in range(600):
-            refusal = self.state.refusal(word, fields)
-            if refusal == wanted or refusal is None:
-                break
-            self.room(refusal, word, fields)
+        while (refusal := self.state.refusal(word, fields)) != wanted and (refusal or wanted == "InUse"):
+            if refusal:
+                self.room(refusal, word, fields)
+            else:
+                self.one_of([(self.act, name) for name in self.state.ends_towards(fields[0])])
         if refusal != wanted:
             raise Fail
         if wanted is None:
@@ -164,6 +166,21 @@ class Search(Demands):
         for name in self.state.ends_towards(fields[0]):
             while self.state.needs_region(name, fields[0]) and not self.choices.choose(2):
                 self.act_or_offer(name)
+
+    def before_region(self, word, fields, answers):
+        """Requests that name the region may be refused before it is made."""
+        self.before_others(word, fields, answers)
+        for name in list(self.asking(fields[0], answers)):
+            if self.choices.choose(2):
+                self.until_refused(name)
+
+    def asking(self, region, answers):
+        """The ends that have posted requests which name a region that is not made yet."""
+        key = int(answers[0].split()[2], 16) if answers[0].startswith("region ") else None
+        for name in self.state.ends_towards(region):
+            end = self.end(name)
+            if any(request.rkey == key for request in end.posted[end.acted:]):
+                yield name
 
     # ---- room for work
 
