@@ -10,22 +10,27 @@ from trace_parts.machine import judged
 FAULTS = (Disagreement, JichurpaError)
 KINDS = ("write", "write", "imm", "send", "send", "read", "read", "cas", "add")
 PAGE = 4096
+# Ends of a schedule, so that no context reaches its limit of queue pairs.
+MOST_ENDS = 60
 
 
 class Temper:
     """How a schedule is disposed: what its network does and how its ends are made. Drawn once for each."""
 
     def __init__(self, draw):
+        rough = draw.choice((False, False, True))
         self.loss = draw.choice((0, 0.02, 0.1, 0.2))
         self.repeat = draw.choice((0, 0.05, 0.2))
         self.disorder = draw.choice((0, 0.2, 0.8))
         self.moves = draw.choice((0, 1, 1, 4))
-        self.wrong = draw.choice((0, 0, 0, 0.01, 0.1))
-        self.patience = draw.choice((7, 7, 7, 7, 2, 0))
         self.receives = draw.choice((1, 2, 4))
         self.sizes = draw.choice(((1, 40), (0, 300), (200, 900), (0, 2500)))
         self.impatience = draw.choice((0.1, 0.5, 3))
-        self.short = draw.choice((0, 0, 0.02, 0.2))
+        # What makes ends fail: wrong places, few expiries and waits, short receives, regions that are dropped.
+        self.wrong = draw.choice((0, 0.01, 0.1)) if rough else 0
+        self.patience = draw.choice((7, 2, 0)) if rough else 7
+        self.short = draw.choice((0, 0.02, 0.2)) if rough else 0
+        self.drops = 0.2 * rough
 
 
 class Schedule:
@@ -144,11 +149,12 @@ class Schedule:
         return keys[remote], base + offset, length - offset
 
     def post(self):
-        """A request of some kind; in the place of a pair of which an end failed comes a new one."""
-        if not self.ends:
+        """A request of some kind; in the place of a pair of which an end failed may come a new one."""
+        found = self.some_end()
+        if found is None:
             return
-        end, partner = self.draw.choice(self.ends)
-        if self.has_failed(end) and self.chance(0.5) and len(self.ends) < 24:
+        end, partner = found
+        if self.has_failed(end) and len(self.ends) < MOST_ENDS:
             self.make_pair()
             self.link()
             self.link()
@@ -161,6 +167,15 @@ class Schedule:
         options = [f"imm {self.draw.getrandbits(32):08x}"] * (kind == "imm" or kind == "send" and self.chance(0.3))
         options += ["fence"] * self.chance(0.15) + ["quiet"] * self.chance(0.15)
         self.say(*self.request(kind, end, lkey, address, length, raddress, rkey), *options)
+
+    def some_end(self):
+        """An end and its partner; most times of a pair that has not failed. None where there is no end."""
+        found = self.draw.choice(self.ends) if self.ends else None
+        for _ in range(8):
+            if found is None or not self.has_failed(found[0]) or self.chance(0.1):
+                break
+            found = self.draw.choice(self.ends)
+        return found
 
     def has_failed(self, end):
         """The machine has the end, or its partner, in Error."""
@@ -180,9 +195,9 @@ class Schedule:
 
     def receive(self):
         """A receive, which is seldom too short; mostly where few are unused."""
-        if not self.ends:
+        end, _ = self.some_end() or (None, None)
+        if end is None:
             return
-        end, _ = self.draw.choice(self.ends)
         if len(self.nodes.record.machine.end(tuple(end.split("."))).unused) > 3 and self.chance(0.9):
             return
         lkey, address, room = self.place(end.split(".")[0], 0)
@@ -198,7 +213,7 @@ class Schedule:
         context = self.draw.choice(self.contexts)
         region = self.some_region(context)
         turn = self.draw.randrange(6)
-        if turn == 0 and region and self.chance(0.2):
+        if turn == 0 and region and self.chance(self.temper.drops):
             if self.say("drop", region[0]) == "ok":
                 self.regions[context].remove(region)
         elif turn == 1:
@@ -216,7 +231,7 @@ class Schedule:
 
     def go(self):
         if self.ends:
-            self.say("go", self.draw.choice(self.ends)[0])
+            self.say("go", self.some_end()[0])
 
     def deliver(self):
         """A datagram is delivered or lost; of those that wait, or a second time."""
@@ -230,7 +245,7 @@ class Schedule:
 
     def timer(self):
         if self.ends:
-            self.say("expire" if self.chance(0.6) else "rnr", self.draw.choice(self.ends)[0])
+            self.say("expire" if self.chance(0.6) else "rnr", self.some_end()[0])
 
     def stop(self):
         self.say("stop", self.draw.choice(self.contexts))

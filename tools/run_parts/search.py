@@ -2,10 +2,11 @@
 
 A search over the due steps of each connection. A step is made as late as possible: where an answer asks for it. Three things keep the
 search small. What a completion queue hands out later says in which order completions may come. Steps that touch no common bytes need
-no order. And a state that was left without success is not entered again. Where two things touch the same bytes, both orders are tried.
+no order. And a state is not entered twice. Where two things touch the same bytes, both orders are tried. Of what is open, that with the
+fewest departures from the first choice is taken up first.
 
 The steps that are tried are those of a device: a message acts in pieces of the MTU, and so do the offers of a READ. So a refusal says
-that no run with such steps has these answers.
+that no run with such steps has these answers, as far as the search goes.
 """
 import heapq
 
