@@ -135,6 +135,8 @@ class Demands:
 
     def act(self, name):
         """The next piece of the current request of an end acts at its peer, or the request is refused there."""
+        if name is None:
+            raise Fail
         while self.state.is_fenced(name):
             self.tell(name)
         end, request = self.end(name), self.state.current(name)
@@ -286,7 +288,7 @@ class Demands:
 
     def ended(self, name, status):
         """An end fails, and its first untold request gets that status, or is flushed."""
-        if self.end(name).ended:
+        if self.end(name).ended or not self.end(name).peer:
             raise Fail
         if status == FLUSH:
             status = self.state.first_error(name)

@@ -115,7 +115,10 @@ class Listing:
                        and len(entry.words) > 1}
         self.taken = set()
         for entry in entries:
-            self.take(entry)
+            try:
+                self.take(entry)
+            except (IndexError, ValueError):
+                raise LogError(f"{entry.log} line {entry.line}: no node answers such a line by `{entry.answers[0]}`") from None
 
     def take(self, entry):
         """Puts a line down, where it is a verb that counts as made and is not there yet."""

@@ -116,17 +116,19 @@ class Search(Demands):
         queue, wanted = fields[0], [] if answers == ["none"] else answers
         if answers[0].startswith("refused"):
             return
+        if not all(line.startswith("wc ") for line in wanted):
+            raise Fail
         while len(self.state.entries(queue)) < len(wanted):
             self.demand(queue)
 
     def before_load(self, word, fields, answers):
         """Steps that touch the bytes are made until they are those of the answer; first those that do not spoil them."""
         span = self.state.span(*fields, False)
-        while self.state.answer(word, fields) != answers:
-            if not answers[0].startswith("bytes"):
+        while (found := self.state.answer(word, fields)) != answers:
+            if not (found[0].startswith("bytes") and answers[0].startswith("bytes")):
                 raise Fail
             wanted = bytes.fromhex(answers[0].split()[1])
-            if not self.state.may_become(span, wanted):
+            if len(wanted) != fields[2] or not self.state.may_become(span, wanted):
                 raise Fail
             steps = sorted(self.due(None, [span]), key=lambda step: self.state.spoils(step, span, wanted))
             self.one_of(map(self.leading, steps))
@@ -203,7 +205,7 @@ def sequences_of(verbs):
     """What each completion queue hands out, in order."""
     sequences = {}
     for _, word, fields, answers in verbs:
-        if word == "poll" and answers[0].startswith("wc "):
+        if word == "poll" and all(line.startswith("wc ") for line in answers):
             sequences.setdefault(fields[0], []).extend(answers)
     return sequences
 
