@@ -26,9 +26,14 @@ class Record:
 
     # ---- verbs
 
+    @staticmethod
+    def plain(line):
+        """A line with one space between words, and hexadecimal digits in lower case."""
+        return " ".join(line.split()).lower()
+
     def verb(self, line, answer):
         """A verb and the lines of its answer. Verbs that are refused for a reason that the machine does not know do not count."""
-        answers = answer.split("\n")
+        line, answers = self.plain(line), answer.split("\n")
         if answers[0] in UNMADE:
             return
         self.lines.append(f"v {line}")
@@ -52,7 +57,7 @@ class Record:
 
         It changed nothing, and the machine knows no connection of one end."""
         at = self.connects[pair]
-        before = ["v " + line, "= " + answer]
+        before = ["v " + self.plain(line), "= " + answer]
         self.lines[at:at] = before
         self.connects = {key: place + len(before) * (place > at) for key, place in self.connects.items()}
         self.connects[pair] = at + len(before)
