@@ -52,11 +52,11 @@ Same s s' = (s'.device ≡ s.device) × (s'.inbox ≡ s.inbox)
 same_on : (s t u : Server) → Same s t → Same t u → Same s u
 same_on s t u a b = (b.0 ∙ a.0, b.1 ∙ a.1)
 
-by_none : (s s' : Server) → Same s s' → AreEvents s s'
+pub by_none : (s s' : Server) → Same s s' → AreEvents s s'
 unfolding replay arrivals
 by_none s s' a = record { events = []; of_turn = All-nil IsOfTurn; leads = a.0; arrive = sym a.1 }
 
-by_both : (s t u : Server) → AreEvents s t → AreEvents t u → AreEvents s u
+pub by_both : (s t u : Server) → AreEvents s t → AreEvents t u → AreEvents s u
 by_both s t u a b = record {
   events = a.events ++ b.events;
   of_turn = all-append a.events b.events a.of_turn b.of_turn;
@@ -82,7 +82,7 @@ by_arrival s d ds e = record { events = event.Arrive d.0 d.1 ∷ []; of_turn = A
 
 -- ---- what changes neither
 
-woken_same : (s : Server) (n : ℕ) → Same s (woken s n)
+pub woken_same : (s : Server) (n : ℕ) → Same s (woken s n)
 unfolding woken
 woken_same s n = by_test (list_any (λ x. nat_eq x n) s.ready)
   where
@@ -98,7 +98,7 @@ with_timer_same s n t = by_test (timers.is_over t)
     by_test true = (refl, refl)
     by_test false = (refl, refl)
 
-observed_same : (s : Server) (v : EndView) → Same s (observed s v)
+pub observed_same : (s : Server) (v : EndView) → Same s (observed s v)
 unfolding observed
 observed_same s v = with_timer_same s v.number _
 
@@ -106,7 +106,7 @@ resumed_same : (s : Server) (v : EndView) → Same s (resumed s v)
 unfolding resumed
 resumed_same s v = with_timer_same s v.number _
 
-spent_same : (s : Server) (v : EndView) (d : Due) → Same s (spent s v d)
+pub spent_same : (s : Server) (v : EndView) (d : Due) → Same s (spent s v d)
 unfolding spent
 spent_same s v d = with_timer_same s v.number _
 
@@ -132,6 +132,17 @@ sent_view_same s v = by_test (is_resuming v.state)
         (same_on s (observed s v) (resumed (observed s v) v) (observed_same s v) (resumed_same (observed s v) v))
         (woken_same (resumed (observed s v) v) v.number)
     by_test false = same_on s (observed s v) (woken (observed s v) v.number) (observed_same s v) (woken_same (observed s v) v.number)
+
+pub sent_view_by : (s : Server) (v : EndView) → AreEvents (observed s v) (sent_view s v)
+unfolding sent_view
+sent_view_by s v = by_test (is_resuming v.state)
+  where
+    by_test : (b : Bool) → AreEvents (observed s v) (woken (if b then resumed (observed s v) v else observed s v) v.number)
+    by_test true =
+        by_none (observed s v) (woken (resumed (observed s v) v) v.number)
+        (same_on (observed s v) (resumed (observed s v) v) (woken (resumed (observed s v) v) v.number)
+        (resumed_same (observed s v) v) (woken_same (resumed (observed s v) v) v.number))
+    by_test false = by_none (observed s v) (woken (observed s v) v.number) (woken_same (observed s v) v.number)
 
 sent_by_same : (s : Server) (v : Option EndView) → Same s (sent_by s v)
 sent_by_same s None = (refl, refl)
@@ -166,12 +177,12 @@ arrived_next_by s = by_test (is_crowded s)
     by_test true = by_none s s (refl, refl)
     by_test false = arrived_first_by s s.inbox refl
 
-arrived_many_by : (k : ℕ) (s : Server) → AreEvents s (arrived_many k s)
+pub arrived_many_by : (k : ℕ) (s : Server) → AreEvents s (arrived_many k s)
 unfolding arrived_many
 arrived_many_by zero s = by_none s s (refl, refl)
 arrived_many_by (suc k) s = by_both s (arrived_many k s) _ (arrived_many_by k s) (arrived_next_by (arrived_many k s))
 
-stepped_by : (s : Server) (e : Event) → IsOfTurn e → arrivals (e ∷ []) ≡ [] → AreEvents s (stepped s e)
+pub stepped_by : (s : Server) (e : Event) → IsOfTurn e → arrivals (e ∷ []) ≡ [] → AreEvents s (stepped s e)
 stepped_by s e of_turn none = then_same s (after s e) _ (by_event s e of_turn none) (queued_same (after s e) _)
 
 no_arrival-transmit : (v : EndView) → arrivals (event.Transmit v.name ∷ []) ≡ []
@@ -186,9 +197,12 @@ no_arrival-rnr : (v : EndView) → arrivals (event.RnrOver v.name ∷ []) ≡ []
 unfolding arrivals
 no_arrival-rnr v = refl
 
-transmitted_by : (s : Server) (v : EndView) → AreEvents s (transmitted s v)
+pub transmit_by : (s : Server) (v : EndView) → AreEvents s (stepped s (event.Transmit v.name))
+transmit_by s v = stepped_by s (event.Transmit v.name) tt (no_arrival-transmit v)
+
+pub transmitted_by : (s : Server) (v : EndView) → AreEvents s (transmitted s v)
 unfolding transmitted
-transmitted_by s v = then_same s (stepped s (event.Transmit v.name)) _ (stepped_by s (event.Transmit v.name) tt (no_arrival-transmit v)) (sent_if_same _ (stepped s (event.Transmit v.name)) v.number)
+transmitted_by s v = then_same s (stepped s (event.Transmit v.name)) _ (transmit_by s v) (sent_if_same _ (stepped s (event.Transmit v.name)) v.number)
 
 sent_once_by : (s : Server) (v : EndView) → AreEvents s (sent_once s v)
 unfolding sent_once
@@ -208,10 +222,14 @@ sent_first_by s (n ∷ ns) =
     let left : Server = record s { ready = ns } in
     same_then s left (sent_from left n (numbered_view left.device n)) (refl, refl) (sent_from_by left n (numbered_view left.device n))
 
-sent_many_by : (k : ℕ) (s : Server) → AreEvents s (sent_many k s)
-unfolding sent_many sent_next
+pub sent_next_by : (s : Server) → AreEvents s (sent_next s)
+unfolding sent_next
+sent_next_by s = sent_first_by s s.ready
+
+pub sent_many_by : (k : ℕ) (s : Server) → AreEvents s (sent_many k s)
+unfolding sent_many
 sent_many_by zero s = by_none s s (refl, refl)
-sent_many_by (suc k) s = by_both s (sent_many k s) _ (sent_many_by k s) (sent_first_by (sent_many k s) (sent_many k s).ready)
+sent_many_by (suc k) s = by_both s (sent_many k s) (sent_next (sent_many k s)) (sent_many_by k s) (sent_next_by (sent_many k s))
 
 expired_by_by : (s : Server) (v : EndView) (d : Due) → AreEvents s (expired_by s v d)
 expired_by_by s v due_is.Neither = by_none s s (refl, refl)
@@ -224,15 +242,15 @@ expired_due_by s v d =
     same_then s (spent s v d) _ (spent_same s v d)
     (then_same (spent s v d) (expired_by (spent s v d) v d) _ (expired_by_by (spent s v d) v d) (woken_same (expired_by (spent s v d) v d) v.number))
 
-expired_once_by : (s : Server) (v : EndView) → AreEvents s (expired_once s v)
+pub expired_once_by : (s : Server) (v : EndView) → AreEvents s (expired_once s v)
 unfolding expired_once
 expired_once_by s v = same_then s (observed s v) _ (observed_same s v) (expired_due_by (observed s v) v (due_of (observed s v) v))
 
-expired_from_by : (s : Server) (n : ℕ) (v : Option EndView) → AreEvents s (expired_from s n v)
+pub expired_from_by : (s : Server) (n : ℕ) (v : Option EndView) → AreEvents s (expired_from s n v)
 expired_from_by s n None = by_none s (without_timer s n) (refl, refl)
 expired_from_by s n (Some v) = expired_once_by s v
 
-all_expired_by : (s : Server) (ns : List ℕ) → AreEvents s (all_expired s ns)
+pub all_expired_by : (s : Server) (ns : List ℕ) → AreEvents s (all_expired s ns)
 unfolding all_expired
 all_expired_by s [] = by_none s s (refl, refl)
 all_expired_by s (n ∷ ns) =

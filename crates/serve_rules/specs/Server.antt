@@ -84,9 +84,13 @@ abbrev pub timer_or : Option Timer → EndView → Timer
 timer_or None v = timers.idle v
 timer_or (Some t) v = t
 
+-- the timers that are kept for a number
+abbrev pub of_number : List (ℕ × Timer) → ℕ → Option Timer
+of_number ts n = lookup (nat_eq n) ts
+
 -- the timers of a queue pair
 abbrev pub timer_of : Server → EndView → Timer
-timer_of s v = timer_or (lookup (nat_eq v.number) s.timers) v
+timer_of s v = timer_or (of_number s.timers v.number) v
 
 -- no timers are kept for that number
 abbrev pub without_timer : Server → ℕ → Server
