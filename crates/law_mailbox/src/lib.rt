@@ -404,13 +404,13 @@ pub fn sends_are_accepted()
     works_keep_few();
     beginning_is_held();
     sends_are_answered_after_work();
+    stopped_work_is_over();
     all_is_kept();
     steps_are_named();
     events_follow();
     settling_is_named();
     work_stops_in_time();
     starts();
-    stopped_work_is_over();
 }
 
 /// After any calls and work, what is counted of a connection is tied to what the packetless machine did: no message is copied before its
