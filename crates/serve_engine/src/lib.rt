@@ -16,8 +16,6 @@ mod showing;
 mod state;
 mod stepping;
 mod stopping;
-#[cfg(test)]
-mod tests;
 mod timers;
 mod waiting;
 
