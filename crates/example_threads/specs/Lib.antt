@@ -1,3 +1,4 @@
 pub mod Handed
+pub mod OwnRuns
 pub mod Planned
 pub mod Polls

@@ -7,6 +7,11 @@ ghost use Rattle.std.specs.Prelude.{◌≡◌, [], slice_get, Some};
 ghost use Rattle.completion_fanout.specs.Fanned.{IsFanned, dealt_to};
 ghost use Rattle.run_check.specs.Gathered.{IsGathered};
 ghost use Rattle.thread_plan.specs.Planned.{IsRunAlone};
+ghost use Rattle.fair_orders.specs.declared.fairness.Fairness.TheVariants.{Fair, Unfair};
+ghost use Rattle.fair_orders.specs.declared.fairness.UnfairCause.TheVariants.{PartnerMoves};
+ghost use Rattle.fair_orders.specs.Fairness.{fairness_of};
+ghost use Rattle.example_rules.specs.OwnDevices as own;
+ghost use Rattle.example_threads.specs.OwnRuns.{stopped_beside};
 ghost use Rattle.example_threads.specs.Handed.{drained, taken, taken_but_one, taken_changed, taken_twice};
 ghost use Rattle.example_threads.specs.Planned.{plan, run};
 ghost use Rattle.example_threads.specs.Polls as polls;
@@ -47,4 +52,11 @@ pub fn missing_or_changed_is_not_fanned()
 pub fn three_are_dealt()
     ensures first { Some (dealt_to 2 0 0 drained) ≡ slice_get taken 0 }
     ensures second { Some (dealt_to 2 1 0 drained) ≡ slice_get taken 1 }
+{}
+
+/// Two applications and a mover over devices of their own: the test finds their order fair. Where `mail` is then stopped beside
+/// `desk`, which is Resuming, it tells the place of that step.
+pub fn own_orders_are_tested()
+    ensures fair { fairness_of own.devices own.lines ≡ Fair }
+    ensures beside { fairness_of own.devices stopped_beside ≡ Unfair PartnerMoves 10 }
 {}

@@ -1,0 +1,3 @@
+pub mod Askable
+pub mod Begun
+pub mod Exact
