@@ -1,18 +1,19 @@
-//! A gate that holds a consumer.
+//! A gate that holds consumers.
 
 use completion_fanout::PopGate;
 use std::sync::atomic::{AtomicBool, AtomicU64, Ordering};
 use std::thread;
 use thread_workers::Gate;
 
-/// How long consumer 101 is held at most.
-const TURNS: u32 = 1 << 22;
+/// How long a consumer is held at most.
+const TURNS: u32 = 1 << 24;
 
-/// Holds the first pass of consumer 101 until 102 passes a second time, and counts the passes of each.
+/// Holds the first passes of consumers 101 and 103 until 102 passes a second time, which it does after its first completion: the
+/// others take none before. Counts the passes of each.
 #[derive(Drop)]
 pub(crate) struct Holding {
     passes: [AtomicU64; 3],
-    /// Whether it was left by the limit.
+    /// Whether one was let go by the limit.
     gave_up: AtomicBool,
 }
 
@@ -24,7 +25,7 @@ impl Holding {
         }
     }
 
-    /// How often each consumer passed; None where the held one was let go by the limit.
+    /// How often each consumer passed; None where a held one was let go by the limit.
     pub(crate) fn passed(&self) -> Option<[u64; 3]> {
         if self.gave_up.load(Ordering::SeqCst) {
             return None;
@@ -54,7 +55,7 @@ impl Holding {
             _ => return,
         };
         let before = passes.fetch_add(1, Ordering::SeqCst);
-        if consumer == 101 && before == 0 {
+        if consumer != 102 && before == 0 {
             self.wait_for_second();
         }
     }
