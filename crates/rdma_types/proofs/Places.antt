@@ -1,10 +1,10 @@
 -- Places in a list of requests, and the numbers before them.
 use Rattle.std.proofs.Common.{arith, ◌≡◌, ◌<◌, ◌≤◌, ◌+◌, ◌-◌, ℕ, zero, suc, List, [], ◌∷◌, ◌++◌, length, Bool, true, false, refl, sym, ap, ◌∙◌}
-use Rattle.std.specs.Prelude.{Option, Some, None, slice_get, nat_lt, if◌then◌else◌, map}
+use Rattle.std.specs.Prelude.{Some, None, slice_get, nat_lt, if◌then◌else◌}
 use Rattle.std.proofs.lemmas.Bool.Decides.{nat_tests}
 use Rattle.rdma_types.specs.declared.requests.Shape.{Shape}
 use Rattle.rdma_types.specs.Objects.{Posted}
-use Rattle.rdma_types.specs.Kinds.{is_atomic, is_read, kind_of, lands}
+use Rattle.rdma_types.specs.Kinds.{is_atomic, kind_of, lands}
 use Rattle.rdma_types.specs.Spans.{Piece, end_number, first_number, next_landing, piece_at, pieces, request_of, span, span_of}
 
 -- a request has a number
