@@ -5,6 +5,7 @@ pub mod Padded
 pub mod Pages
 pub mod Steps
 pub mod Owned
+pub mod Shares
 pub mod Listed
 pub mod Ledgers
 pub mod Writes

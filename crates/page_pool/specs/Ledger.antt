@@ -1,5 +1,5 @@
 -- Which lists hold which pages.
-use Rattle.std.specs.Prelude.{ℕ, ◌≡◌, ◌*◌, ◌≤◌, ⊤, List, [], ◌∷◌, All, length, map, sum, sum_by, Option, Some, None, slice_index, slice_index_or}
+use Rattle.std.specs.Prelude.{ℕ, ◌≡◌, ◌*◌, ◌≤◌, ⊤, List, [], ◌∷◌, All, length, map, sum, sum_by, take, Option, Some, None, slice_index, slice_index_or}
 use Rattle.std.specs.List.{flat_map}
 use Rattle.std.specs.Arc.{arc_value}
 use Rattle.std.specs.declared.vec.Vec.{Vec}
@@ -48,6 +48,12 @@ pages (Some list) = list.items
 -- the numbers of the pages of some pages that are the pool's own
 unfoldable pub own_numbers : List Page → List ℕ
 own_numbers list = flat_map own_number list
+
+-- whole pages that are all shared, and have the first of these bytes in a row
+pub record AreShared (bytes : List ℕ) (list : List Page) : Type 0 where
+  pub none_own : own_numbers list ≡ []
+  pub whole : All IsWholePage list
+  pub first : (all : List ℕ) → flat_map (page_bytes all) list ≡ take (4096 * length list) bytes
 
 -- the bytes of a list
 abbrev pub shown : List ℕ → Option (Vec Page Global) → Option (List ℕ)

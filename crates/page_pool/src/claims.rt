@@ -1,11 +1,12 @@
 //! Many pages taken, held and given back.
 
-ghost use Rattle.std.specs.Prelude.{◌≡◌, ℕ, ◌+◌, ◌-◌, ◌*◌, ◌<◌, ◌≤◌, ◌++◌, [], All, length, min, sum, replicate, slice_index, slice_set, vec_capacity, IfSome};
+ghost use Rattle.std.specs.Prelude.{◌≡◌, ℕ, ◌+◌, ◌-◌, ◌*◌, ◌<◌, ◌≤◌, ◌++◌, [], All, List, length, min, sum, replicate, slice_index, slice_set, vec_capacity, vec_len, IfSome};
 ghost use Rattle.std.specs.List.{flat_map};
 ghost use Rattle.std.specs.Arc.{arc_value};
+ghost use Rattle.byte_run.specs.Pages.{joined, ArePages};
 ghost use Rattle.rdma_types.specs.Memory.{cut, put};
 ghost use Rattle.page_pool.specs.Store.{IsSound, times, blank};
-ghost use Rattle.page_pool.specs.Ledger.{IsWholePage, own_number, own_numbers, page_at, page_bytes};
+ghost use Rattle.page_pool.specs.Ledger.{AreShared, IsWholePage, own_number, own_numbers, page_at, page_bytes};
 
 use crate::PAGE;
 use crate::frames::Frames;
@@ -134,9 +135,64 @@ pub fn take_pages(
         ≡ put (blank (4096 * count)) first bytes.now }
     ensures len { length pages.new.items ≡ count }
 {
-    for taken in 0..count {
-        let page = take_page(frames, zeros, bytes, first, u64::from(taken) * 4096);
+    if first == 0 {
+        share_first(pages, zeros, bytes, count);
+    }
+    for place in pages.len() as u32..count {
+        let page = take_page(frames, zeros, bytes, first, u64::from(place) * 4096);
         pages.push(page).unwrap();
+    }
+}
+
+/// The first of `count` pages that have the bytes of a run, and zeros behind them: as many as can be shared. `zeros` is a
+/// page of zeros.
+fn share_first(pages: &mut Vec<Page>, zeros: &Arc<[u8; 4096]>, bytes: &ByteRun, count: u32)
+    requires zeros { arc_value zeros.now ≡ blank 4096 }
+    requires empty { pages.old.items ≡ [] }
+    requires room { count ≤ vec_capacity pages.old }
+    requires inside { length bytes.now ≤ 4096 * count }
+    ensures shared { AreShared (put (blank (4096 * count)) 0 bytes.now) pages.new.items }
+    ensures few { length pages.new.items ≤ count }
+    ensures room { vec_capacity pages.new ≡ vec_capacity pages.old }
+{
+    share_pages(pages, bytes.whole_pages());
+    if bytes.len() <= pages.len() as u64 * 4096 {
+        share_zeros(pages, zeros, count as usize - pages.len());
+    }
+}
+
+/// Shares whole pages of a run, in their order: all, or those before the first that is shared too often.
+fn share_pages(pages: &mut Vec<Page>, whole: &[Arc<[u8; 4096]>])
+    requires even { ArePages whole.now }
+    requires empty { pages.old.items ≡ [] }
+    requires room { length whole.now ≤ vec_capacity pages.old }
+    ensures shared { AreShared (joined whole.now) pages.new.items }
+    ensures few { length pages.new.items ≤ length whole.now }
+    ensures room { vec_capacity pages.new ≡ vec_capacity pages.old }
+{
+    for page in whole {
+        match Arc::try_clone(page) {
+            Ok(page) => pages.push_reserved(Page::Shared(page)),
+            Err(_) => return,
+        }
+    }
+}
+
+/// Shares a page of zeros so many times, behind other pages, or fewer times where it is shared too often.
+fn share_zeros(pages: &mut Vec<Page>, zeros: &Arc<[u8; 4096]>, count: usize)
+    requires zeros { arc_value zeros.now ≡ blank 4096 }
+    requires room { vec_len pages.old + count ≤ vec_capacity pages.old }
+    ensures shared { (bytes : List ℕ) → AreShared bytes pages.old.items
+        → length bytes ≡ 4096 * length pages.old.items
+        → AreShared (bytes ++ blank (4096 * count)) pages.new.items }
+    ensures few { length pages.new.items ≤ length pages.old.items + count }
+    ensures room { vec_capacity pages.new ≡ vec_capacity pages.old }
+{
+    for _made in 0..count {
+        match Arc::try_clone(zeros) {
+            Ok(page) => pages.push_reserved(Page::Shared(page)),
+            Err(_) => return,
+        }
     }
 }
 

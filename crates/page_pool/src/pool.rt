@@ -414,7 +414,7 @@ fn run_of(alloc: Global, frames: &Frames, pages: &[Page]) -> Result<ByteRun, All
 {
     let mut shared = Vec::with_capacity(alloc, pages.len())?;
     for page in pages {
-        shared.push(shared_page(alloc, frames, page)?)?;
+        shared.push_reserved(shared_page(alloc, frames, page)?);
     }
     ByteRun::of_pages(alloc, shared)
 }
