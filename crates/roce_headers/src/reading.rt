@@ -130,6 +130,7 @@ fn may_stand(opcode: u8, syndrome: u8) -> bool
     }
 }
 
+#[inline(always)]
 fn has_bad_syndrome(headers: Headers, bytes: &[u8]) -> bool
     requires { 16 + headers_len headers ≤ length bytes.now }
     ensures { result
@@ -143,6 +144,7 @@ fn has_bad_syndrome(headers: Headers, bytes: &[u8]) -> bool
 
 // The payload, where the bytes keep to the row of their opcode.
 #[tactic(auto, unfolding(protocol::specs::Wire::layout_offence, protocol::specs::Bytes::bytes_at))]
+#[inline(always)]
 fn check(layout: Layout, bytes: &[u8]) -> Result<&[u8], Malformed>
     requires { 16 ≤ length bytes.now }
     ensures kept { OnOk result (layout_offence layout bytes.now ≡ None) }
@@ -174,6 +176,7 @@ fn check(layout: Layout, bytes: &[u8]) -> Result<&[u8], Malformed>
 }
 
 // The base header and the payload.
+#[inline(always)]
 fn base<'a>(bytes: &[u8], payload: &'a [u8]) -> Datagram<'a>
     requires { 16 ≤ length bytes.now }
     ensures { packet result
@@ -197,6 +200,7 @@ fn base<'a>(bytes: &[u8], payload: &'a [u8]) -> Datagram<'a>
 
 // Each header at its place.
 #[tactic(auto, unfolding(protocol::specs::Wire::fields_of))]
+#[inline(always)]
 fn fields<'a>(headers: Headers, bytes: &[u8], payload: &'a [u8]) -> Datagram<'a>
     requires long { 16 + headers_len headers ≤ length bytes.now }
     requires payload { payload.now ≡ bytes_at (12 + headers_len headers)
@@ -226,7 +230,24 @@ fn fields<'a>(headers: Headers, bytes: &[u8], payload: &'a [u8]) -> Datagram<'a>
     d
 }
 
+// What the bytes say by the row of their opcode.
+#[inline(always)]
+fn read_as(headers: Headers, payload: bool, bytes: &[u8]) -> Result<Datagram<'_>, Malformed>
+    requires { 16 ≤ length bytes.now }
+    ensures whole { OnOk result (layout_offence (record { headers = headers; payload = payload }) bytes.now ≡ None) }
+    ensures read { IfOk result (λ d. fields_of headers bytes.now ≡ packet d) }
+    ensures refused { IfErr result (λ m.
+        layout_offence (record { headers = headers; payload = payload }) bytes.now ≡ Some m) }
+{
+    match check(Layout { headers, payload }, bytes) {
+        Ok(payload) => Ok(fields(headers, bytes, payload)),
+        Err(refusal) => Err(refusal),
+    }
+}
+
+// One way for each kind of headers, so that none is looked for that a datagram of the kind does not have.
 #[tactic(auto, unfolding(protocol::specs::Wire::offence_of))]
+#[inline(always)]
 fn read(bytes: &[u8]) -> Result<Datagram<'_>, Malformed>
     ensures whole { OnOk result (offence_of bytes.now ≡ None) }
     ensures read { IfOk result (λ d. read_by (layout_of (byte_at 0 bytes.now)) bytes.now
@@ -236,11 +257,19 @@ fn read(bytes: &[u8]) -> Result<Datagram<'_>, Malformed>
     if bytes.len() < 16 {
         return Err(refusal(bytes.len(), MalformedWhy::Short));
     }
-    let Some(layout) = opcodes::layout(bytes[0]) else {
+    let Some(Layout { headers, payload }) = opcodes::layout(bytes[0]) else {
         return Err(refusal(0, MalformedWhy::Opcode));
     };
-    let payload = check(layout, bytes)?;
-    Ok(fields(layout.headers, bytes, payload))
+    match headers {
+        Headers::Bare => read_as(Headers::Bare, payload, bytes),
+        Headers::Imm => read_as(Headers::Imm, payload, bytes),
+        Headers::Reth => read_as(Headers::Reth, payload, bytes),
+        Headers::RethImm => read_as(Headers::RethImm, payload, bytes),
+        Headers::Aeth => read_as(Headers::Aeth, payload, bytes),
+        Headers::AethOld => read_as(Headers::AethOld, payload, bytes),
+        Headers::Atomic => read_as(Headers::Atomic, payload, bytes),
+        Headers::Resume => read_as(Headers::Resume, payload, bytes),
+    }
 }
 
 /// The datagram that the bytes spell, with its payload where it lies in them. It takes no memory.
