@@ -5,7 +5,7 @@ use Rattle.std.specs.Map.{keys_of}
 use Rattle.indexmap.specs.IndexMap.{insert_entry}
 
 module _ {K V : Type 0} (eq : K → K → Bool) (flips : (x y : K) → eq x y ≡ eq y x) where
-  apart : (x : K) (es : List (K × V)) (n : ℕ) (k : K) (v : V) → AllByRecursion (λ y. eq x y ≡ false) (keys_of es) → slice_get es n ≡ Some (k, v) → eq k x ≡ false
+  pub apart : (x : K) (es : List (K × V)) (n : ℕ) (k : K) (v : V) → AllByRecursion (λ y. eq x y ≡ false) (keys_of es) → slice_get es n ≡ Some (k, v) → eq k x ≡ false
   apart x [] n k v all at = cc
   apart x (e ∷ es) zero k v all at =
       let same : e ≡ (k, v) = cc in

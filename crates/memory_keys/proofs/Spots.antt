@@ -2,8 +2,8 @@
 use Rattle.std.proofs.Common.{◌≡◌, ℕ, ◌+◌, ◌-◌, ◌*◌, ◌/◌, ◌%◌, ◌<◌, ◌≤◌, ◌≢◌, List, [], ◌∷◌, length, refl, ap, sym, ◌∙◌, arith, subst, true, false, Bool}
 use Rattle.std.specs.Prelude.{All, Option, Some, None, IsSome, IsSomeAnd, unwrap_or, option_map, ◌==◌, ◌↔◌, Result, Ok, Err, IsErrOf}
 use Rattle.std.specs.Result.{IsErrAnd}
-use Rattle.std.specs.Option.{option_copied, option_copied_mut}
-use Rattle.std.specs.Borrow.{Bor, MutBor}
+use Rattle.std.specs.Option.{option_copied}
+use Rattle.std.specs.Borrow.{Bor}
 use Rattle.std.specs.Int.{div_ceil}
 use Rattle.std.proofs.lemmas.Bool.Decides.{nat_tests}
 use Rattle.std.proofs.lemmas.List.Elements.{All-head, All-tail}
@@ -43,13 +43,6 @@ spot-there None o P e h = absurd (none (subst (λ x. IsSomeAnd x P) (sym e) h))
     none : IsSomeAnd None P → ⊥
     none q = q
 spot-there (Some x) o P e h = refl
-
-pub spot-there-mut : (r : Option (MutBor RegisteredRegion)) (o : Option RegisteredRegion) (P : RegisteredRegion → Type 0) → option_copied_mut r ≡ o → IsSomeAnd o P → IsSome r
-spot-there-mut None o P e h = absurd (none (subst (λ x. IsSomeAnd x P) (sym e) h))
-  where
-    none : IsSomeAnd None P → ⊥
-    none q = q
-spot-there-mut (Some x) o P e h = refl
 
 -- a place in a region that is found
 pub spot-inside : (hs : List RegisteredRegion) (key at count : ℕ) (h : RegisteredRegion) → held_at key hs ≡ Some h → h.head.base ≤ at → at + count ≤ h.head.base + h.head.length → IsSpot hs (record { region = key; off = at - h.head.base; length = count })

@@ -1,10 +1,11 @@
 -- Regions whose lists are changed.
-use Rattle.std.proofs.Common.{◌≡◌, ℕ, ◌+◌, ◌≤◌, ◌≢◌, Bool, true, false, List, [], ◌∷◌, length, take, refl, ap, sym, ◌∙◌, arith, subst}
-use Rattle.std.specs.Prelude.{◌==◌, All, Option, Some, None, is_some, unwrap_or, nat_eq, map}
+use Rattle.std.proofs.Common.{◌≡◌, ℕ, zero, suc, ◌+◌, ◌≤◌, ◌≢◌, Bool, true, false, List, [], ◌∷◌, length, take, refl, ap, sym, ◌∙◌, arith, subst}
+use Rattle.std.specs.Prelude.{◌==◌, All, Option, Some, None, is_some, unwrap_or, nat_eq, map, slice_get}
 use Rattle.std.specs.List.{IsDistinct, AllByRecursion}
-use Rattle.std.specs.Map.{set_value, lookup}
+use Rattle.std.specs.Map.{values_of}
 use Rattle.std.proofs.lemmas.List.Elements.{All-head, All-tail, All-nil, All-cons}
 use Rattle.std.proofs.lemmas.Bool.Decides.{nat_tests}
+use Rattle.indexmap.specs.IndexMap.{set_value_at}
 use Rattle.rdma_types.specs.Lists.{first_that}
 use Rattle.rdma_types.specs.Memory.{cut, put}
 use Rattle.rdma_types.specs.Objects.{Region}
@@ -176,10 +177,7 @@ pub others-kept : (a b : Pool) (key : ℕ) (v : Option (List ℕ)) (h : Register
 others-kept a b key v h hs e p = record { pages = p.pages; others = λ list there apart. p.others list (found-other key list hs h apart e) }
 
 -- a region written back as it was
-pub set-same : (key : ℕ) (es : List (ℕ × RegisteredRegion)) (h w : RegisteredRegion) → lookup (nat_eq key) es ≡ Some h → w ≡ h → set_value (nat_eq key) es w ≡ es
-set-same key [] h w e s = refl
-set-same key (x ∷ xs) h w e s = by_test (nat_eq key x.0) refl (λ f. set-same key xs h w f s)
-  where
-    by_test : (c : Bool) → nat_eq key x.0 ≡ c → (lookup (nat_eq key) xs ≡ Some h → set_value (nat_eq key) xs w ≡ xs) → set_value (nat_eq key) (x ∷ xs) w ≡ x ∷ xs
-    by_test true t rest = let same : w ≡ x.1 = grind (arith, t, e, s) in rw t (ap (λ y. (x.0, y) ∷ xs) same)
-    by_test false t rest = let found : lookup (nat_eq key) xs ≡ Some h = grind (arith, t, e) in rw t (ap (λ ys. x ∷ ys) (rest found))
+pub set-same : (es : List (ℕ × RegisteredRegion)) (i : ℕ) (w : RegisteredRegion) → slice_get (values_of es) i ≡ Some w → set_value_at es i w ≡ es
+set-same [] i w e = refl
+set-same (x ∷ xs) zero w e = let same : x.1 ≡ w = cc in ap (λ y. (x.0, y) ∷ xs) (sym same)
+set-same (x ∷ xs) (suc i) w e = ap (λ ys. x ∷ ys) (set-same xs i w e)

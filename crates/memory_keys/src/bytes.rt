@@ -105,7 +105,8 @@ impl Regions {
         if bytes.is_empty() {
             return;
         }
-        let held = self.held.get_mut(&spot.region).unwrap();
+        let place = self.place_again(spot.region).unwrap();
+        let held = self.held.get_index_mut(place).unwrap();
         let at = u64::from(spot.off) + u64::from(from);
         pool.write(&mut held.list, at, bytes);
     }

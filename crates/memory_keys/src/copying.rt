@@ -28,6 +28,9 @@ impl Regions {
             let (key, region) = self.held.get_index(i).unwrap();
             held.insert(*key, region.in_copied_pool())?;
         }
-        Ok(Regions { held })
+        Ok(Regions {
+            held,
+            recent: self.recent,
+        })
     }
 }

@@ -163,7 +163,7 @@ impl Regions {
         ensures free { free_pages pool.new ≡ free_pages pool.old
             + sum_by (λ h. pages_for h.head.length) self }
     {
-        let Regions { mut held } = self;
+        let Regions { mut held, .. } = self;
         while let Some((_, last)) = held.pop() {
             pool.give(last.list);
         }

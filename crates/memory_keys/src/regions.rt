@@ -20,6 +20,8 @@ use std::marker::Model;
 #[derive(Drop)]
 pub struct Regions {
     pub(crate) held: IndexMap<u32, RegisteredRegion>,
+    /// The place of the region that was written last.
+    pub(crate) recent: usize,
 }
 
 impl Model for Regions {
@@ -43,6 +45,7 @@ impl Regions {
     {
         Regions {
             held: IndexMap::new(alloc),
+            recent: 0,
         }
     }
 
@@ -187,12 +190,16 @@ impl Regions {
         self.held.values().any(|h| has(h.head.keys, key))
     }
 
-    /// The region with a local key.
+    /// The region with a local key. It looks first where a region was written last.
+    #[inline(always)]
     pub(crate) fn find(&self, key: u32) -> Option<&RegisteredRegion>
         ensures found { option_copied result ≡ held_at key self.now }
         ensures keyed { AreKeyed self.now }
     {
-        self.held.get(&key)
+        match self.held.get_index(self.recent) {
+            Some((found, held)) if *found == key => Some(held),
+            _ => self.held.get(&key),
+        }
     }
 }
 
