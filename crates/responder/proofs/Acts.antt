@@ -64,7 +64,7 @@ send-row a d n r ready s = rw ready (rw s refl)
 
 -- ---- the row of a WRITE
 
-write-row : (a : Around) (d : Packet) (n : ℕ) (r : Region) → is_not_ready (end_of a) d ≡ false → is_send d.opcode ≡ false → is_write d.opcode ≡ true → granted_taking a d n (Some r) ≡ write_taking a d (place_of r d.reth a.receiver.progress)
+pub write-row : (a : Around) (d : Packet) (n : ℕ) (r : Region) → is_not_ready (end_of a) d ≡ false → is_send d.opcode ≡ false → is_write d.opcode ≡ true → granted_taking a d n (Some r) ≡ write_taking a d (place_of r d.reth a.receiver.progress)
 unfolding acting
 write-row a d n r ready s w = rw ready (rw s (rw w refl))
 

@@ -70,7 +70,7 @@ word-taken now new domain qp rs after recvs cq d r spot reply h old e is ready s
 -- ---- the expected packet
 
 -- a row, and what was taken by it
-by-row : (t x : Taking) (reply : Reply) (old new : Receiving) (rs : List Region) (recvs after : work.Queue Receive) (cq more : completions.Queue) → t ≡ x → IsTaken x reply old new rs recvs after cq more → IsTaken t reply old new rs recvs after cq more
+pub by-row : (t x : Taking) (reply : Reply) (old new : Receiving) (rs : List Region) (recvs after : work.Queue Receive) (cq more : completions.Queue) → t ≡ x → IsTaken x reply old new rs recvs after cq more → IsTaken t reply old new rs recvs after cq more
 by-row t x reply old new rs recvs after cq more e i = subst (λ (y : Taking). IsTaken y reply old new rs recvs after cq more) (sym e) i
 
 limited : (n : ℕ) → number_limit ≤ n → nat_le number_limit n ≡ true
@@ -87,7 +87,7 @@ invalid-row : (a : Around) (d : Packet) (n : ℕ) → n + span_of_packet d a.ter
 unfolding expected_taking
 invalid-row a d n h e = rw (unlimited (n + span_of_packet d a.terms.mtu d.reth) h) (rw e refl)
 
-valid-row : (a : Around) (d : Packet) (n : ℕ) (o : Option Region) → n + span_of_packet d a.terms.mtu d.reth < number_limit → is_invalid (link_of a) d ≡ false → target_in a.regions a.domain d ≡ o → expected_taking a d n ≡ granted_taking a d n o
+pub valid-row : (a : Around) (d : Packet) (n : ℕ) (o : Option Region) → n + span_of_packet d a.terms.mtu d.reth < number_limit → is_invalid (link_of a) d ≡ false → target_in a.regions a.domain d ≡ o → expected_taking a d n ≡ granted_taking a d n o
 unfolding expected_taking target
 valid-row a d n o h e t = rw (unlimited (n + span_of_packet d a.terms.mtu d.reth) h) (rw e (ap (granted_taking a d n) t))
 
@@ -136,7 +136,7 @@ before-row a d n e h =
     let t : nat_lt n a.receiver.expected ≡ true = grind (arith, nat_tests) in
     rw e (rw f (rw t refl))
 
-expected-row : (a : Around) (d : Packet) (n : ℕ) → unwrap_near a.terms.peer_start d.psn a.receiver.expected ≡ Some n → n ≡ a.receiver.expected → taking a d ≡ expected_taking a d n
+pub expected-row : (a : Around) (d : Packet) (n : ℕ) → unwrap_near a.terms.peer_start d.psn a.receiver.expected ≡ Some n → n ≡ a.receiver.expected → taking a d ≡ expected_taking a d n
 unfolding taking
 expected-row a d n e h =
     let f : nat_lt a.receiver.expected n ≡ false = grind (arith, nat_tests) in

@@ -5,10 +5,11 @@ use Rattle.std.proofs.lemmas.Bool.Decides.{nat_tests}
 use Rattle.protocol.specs.declared.wire.AtomicEth.{AtomicEth}
 use Rattle.protocol.specs.declared.wire.Layout.{Layout}
 use Rattle.protocol.specs.declared.wire.Headers.TheVariants as headers
+use Rattle.protocol.specs.declared.wire.Reth.{Reth}
 use Rattle.protocol.proofs.WriteSizes.{or-false}
 use Rattle.protocol.specs.Responder.{is_invalid, is_bad_read, is_bad_write, is_missized, is_out_of_place, is_part, is_read_request, is_send, is_unaligned, is_write, part_of}
 use Rattle.protocol.specs.State.{Link}
-use Rattle.protocol.specs.Wire.{Fits, Packet, has_atomic, has_reth, is_request, layout_of, loaded, unloaded}
+use Rattle.protocol.specs.Wire.{Fits, Packet, has_atomic, has_imm, has_reth, is_request, layout_of, loaded, unloaded}
 
 -- ---- tests
 
@@ -125,3 +126,27 @@ pub reads-no-word : (d : Packet) → Fits d → is_read_request d.opcode ≡ tru
 reads-no-word d f t =
     let n : d.opcode ≡ 12 = grind (arith, nat_tests, t) in
     no-atomic d (has-by-row d f 12 (unloaded headers.Reth) n read-row).0
+
+middle-row : layout_of 7 ≡ Some (loaded headers.Bare)
+unfolding layout_of
+middle-row = refl
+
+no-reth : (d : Packet) → is_some d.reth ≡ false → d.reth ≡ None
+no-reth d e = by_case d.reth refl
+  where
+    by_case : (o : Option Reth) → d.reth ≡ o → o ≡ None
+    by_case None e' = refl
+    by_case (Some h) e' = absurd (cc (e, ap is_some e'))
+
+no-imm : (d : Packet) → is_some d.imm ≡ false → d.imm ≡ None
+no-imm d e = by_case d.imm refl
+  where
+    by_case : (o : Option ℕ) → d.imm ≡ o → o ≡ None
+    by_case None e' = refl
+    by_case (Some n) e' = absurd (cc (e, ap is_some e'))
+
+-- a packet between the first and the last of a WRITE names no place, and has no immediate
+pub middle-is-bare : (d : Packet) → Fits d → d.opcode ≡ 7 → (d.atomic ≡ None) × ((d.reth ≡ None) × (d.imm ≡ None))
+middle-is-bare d f e =
+    let same : loaded headers.Bare ≡ f.layout = row-of 7 (loaded headers.Bare) f.layout middle-row (sym (ap layout_of e) ∙ f.known) in
+    (no-atomic d (f.atomic ∙ ap (λ l. has_atomic l.headers) (sym same)), (no-reth d (f.reth ∙ ap (λ l. has_reth l.headers) (sym same)), no-imm d (f.imm ∙ ap (λ l. has_imm l.headers) (sym same))))

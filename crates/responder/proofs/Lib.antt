@@ -11,3 +11,5 @@ pub mod Staying
 pub mod Changing
 pub mod Bounds
 pub mod Rows
+pub mod Middles
+pub mod Requests

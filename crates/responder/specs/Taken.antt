@@ -1,6 +1,7 @@
 -- What the calls of a responder give, in the words of the rows: the place that a packet is granted, what was taken, and
 -- what regions keep.
-use Rattle.std.specs.Prelude.{ℕ, ◌≡◌, ◌≢◌, Bool, true, false, List, [], Option, Some, None, option_map}
+use Rattle.std.specs.Prelude.{ℕ, ◌≡◌, ◌≢◌, ◌+◌, ◌<◌, Bool, true, false, List, [], length, Option, Some, None, option_map}
+use Rattle.rdma_types.specs.Limits.{number_limit}
 use Rattle.rdma_types.specs.Objects.{Region}
 use Rattle.rdma_types.specs.declared.names.Name.{Name}
 use Rattle.rdma_types.specs.declared.requests.Receive.{Receive}
@@ -12,6 +13,7 @@ use Rattle.end_queues.specs.Completions as completions
 use Rattle.end_queues.specs.Postings as work
 use Rattle.protocol.specs.declared.wire.AtomicEth.{AtomicEth}
 use Rattle.protocol.specs.declared.wire.Reth.{Reth}
+use Rattle.protocol.specs.Numbers.{wire_number}
 use Rattle.protocol.specs.Responder as words
 use Rattle.protocol.specs.State.{Progress, NoMessage, InSend, InWrite, Receiver, no_end}
 use Rattle.protocol.specs.Wire.{Packet}
@@ -113,3 +115,13 @@ pub record IsTaken (t : Taking) (answer : Reply) (old new : Receiving) (bytes : 
   pub regions : bytes ≡ t.regions
   pub unused : after ≡ record recvs { items = t.unused }
   pub done : more ≡ with_done cq t.done
+
+-- the packet of a WRITE in progress that is expected next and not its last: so many bytes are at its place, and some are
+-- left after it
+pub record IsMiddle (v : Receiving) (d : Packet) (spot : RegionRange) (done : ℕ) : Type 0 where
+  pub opcode : d.opcode ≡ 0x07
+  pub psn : d.psn ≡ wire_number v.terms.peer_start v.receiver.expected
+  pub progress : v.receiver.progress ≡ InWrite spot.region spot.off spot.length done
+  pub sized : length d.payload ≡ v.terms.mtu
+  pub left : done + length d.payload < spot.length
+  pub limit : v.receiver.expected + 1 < number_limit

@@ -1,21 +1,24 @@
 //! Requests in the order of the checks.
 
-ghost use Rattle.std.specs.Prelude.{◌≡◌, ℕ, List, ◌+◌, ◌<◌, ◌≤◌, ◌&&◌, IsTrue, Some, false};
-ghost use Rattle.rdma_types.specs.Limits.{number_limit};
+ghost use Rattle.std.specs.Prelude.{◌≡◌, ℕ, List, ◌+◌, ◌<◌, ◌≤◌, ◌&&◌, IfSome, IsTrue, Some, false};
+ghost use Rattle.end_queues.specs.Completions as completions;
+ghost use Rattle.end_queues.specs.Postings as work;
+ghost use Rattle.rdma_types.specs.Limits.{most_bytes, number_limit};
 ghost use Rattle.rdma_types.specs.Objects.{Region};
 ghost use Rattle.rdma_types.specs.declared.names.Name.{Name};
 ghost use Rattle.rdma_types.specs.declared.requests.Receive.{Receive};
 ghost use Rattle.page_pool.specs.Pool.{Pool, free_pages};
-ghost use Rattle.memory_keys.specs.Regions.{AreHeld, AreKeyed, KeepsOthers, regions_of};
+ghost use Rattle.memory_keys.specs.Regions.{AreHeld, AreKeyed, IsSpot, KeepsOthers, regions_of};
 ghost use Rattle.protocol.specs.Responder as words;
 ghost use Rattle.protocol.specs.Wire.{Fits, is_request};
 ghost use Rattle.roce_headers.specs.Packets.{packet};
 ghost use Rattle.responder.specs.Receiving.{IsHeld, waiting};
 ghost use Rattle.responder.specs.Sound.{IsSound};
-ghost use Rattle.responder.specs.Taken.{IsRead, IsTaken, IsTarget, KeepsRegions, place_next, target_in};
+ghost use Rattle.responder.specs.Taken.{IsMiddle, IsRead, IsTaken, IsTarget, KeepsRegions, place_next, target_in};
 ghost use Rattle.responder.specs.Taking.{ahead_taking, answers, around_with, end_of, expected_taking, granted_taking, link_with, repeated_read_taking, repeated_taking, taken_request, taking, with_done};
 
 use crate::kinds::{Part, is_read_request, is_send, is_write};
+use crate::places::write;
 use crate::{DropReason, Flow, RefusalReason, Reply, Responder, places};
 use end_queues::completion_queue::Cq;
 use end_queues::work_queues::RecvQueue;
@@ -23,8 +26,9 @@ use memory_keys::{RegionRange, Regions};
 use page_pool::PagePool;
 use rdma_types::limits::NUMBER_LIMIT;
 use rdma_types::{Name, Rights};
+use roce_headers::opcodes::WRITE_MIDDLE;
 use roce_headers::{Datagram, Reth};
-use transport::psn_math::{PsnOrder, place, unwrap_near};
+use transport::psn_math::{PsnOrder, place, unwrap_near, wire_of};
 use transport::segmenter::pieces_of;
 
 /// A SEND that begins a message, or the last packet of a WRITE with immediate.
@@ -90,7 +94,67 @@ impl Responder {
             ≡ waiting self.old.receiver recvs.old.items + cq.new.reserved }
     {
         regions.are_keyed();
-        self.take(pool, regions, domain, recvs, cq, qp, d)
+        match self.middle(d) {
+            Some((spot, done)) => self.take_middle(pool, regions, spot, done, d),
+            None => self.take(pool, regions, domain, recvs, cq, qp, d),
+        }
+    }
+
+    /// The place of the WRITE in progress, and how many of its bytes are there, where the packet is the one that is expected
+    /// next, has as many bytes as a packet may, and leaves some: most packets of a long WRITE are such. None for another.
+    #[inline(always)]
+    fn middle(&self, d: &Datagram<'_>) -> Option<(RegionRange, u32)>
+        ensures { IfSome result (λ place. IsMiddle self.now (packet d.now) place.0 place.1) }
+    {
+        let Flow::Write { spot, done } = self.parts.flow else {
+            return None;
+        };
+        let expected = self.parts.expected;
+        let left = spot.length.saturating_sub(done) as usize;
+        if d.opcode != WRITE_MIDDLE
+            || d.psn != wire_of(expected, self.terms.peer_start)
+            || d.payload.len() != self.terms.mtu as usize
+            || d.payload.len() >= left
+            || expected + 1 >= NUMBER_LIMIT
+        {
+            return None;
+        }
+        Some((spot, done))
+    }
+
+    /// The packet between the first and the last of the WRITE in progress that is expected next. None of the checks refuses
+    /// it.
+    #[inline(always)]
+    fn take_middle(
+        &mut self,
+        pool: &mut PagePool,
+        regions: &mut Regions,
+        spot: RegionRange,
+        done: u32,
+        d: &Datagram<'_>,
+    ) -> Reply
+        requires middle { IsMiddle self.old (packet d.now) spot done }
+        requires fits { Fits (packet d.now) }
+        requires held { AreHeld pool.old regions.old }
+        requires place { IsSpot regions.old spot }
+        requires few { spot.length ≤ most_bytes }
+        ensures taken { (domain : Name) (qp : ℕ) (recvs : work.Queue Receive)
+            (cq : completions.Queue) → IsTaken (taking (around_with self.old domain qp
+            (regions_of pool.old regions.old) recvs.items) (packet d.now)) result self.old
+            self.new (regions_of pool.new regions.new) recvs recvs cq cq }
+        ensures kept { KeepsRegions pool.old pool.new regions.old regions.new }
+        ensures held { IsHeld self.old.terms self.old.receiver }
+    {
+        write(pool, regions, spot, done, d.payload);
+        let done = done + d.payload.len() as u32;
+        self.parts.expected += 1;
+        self.parts.nak_sent = false;
+        self.parts.flow = Flow::Write { spot, done };
+        if d.ack_request {
+            Reply::Ack
+        } else {
+            Reply::Acted
+        }
     }
 
     /// A request by its number: ahead, before or expected.
