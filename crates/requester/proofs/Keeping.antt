@@ -14,19 +14,38 @@ use Rattle.protocol.specs.State.{Sender}
 use Rattle.requester.specs.declared.caches.DerivedNumbers.{DerivedNumbers}
 use Rattle.requester.specs.declared.marks.Mark.{Mark}
 use Rattle.requester.specs.Held.{IsHeld}
-use Rattle.requester.specs.Marks.{IsMark}
+use Rattle.requester.specs.Marks.{IsMark, IsPast}
 use Rattle.requester.specs.declared.answers.RequesterParts.{RequesterParts}
 use Rattle.requester.specs.Sending.{AreInOrder, sender_with}
 use Rattle.requester.proofs.Flight.{is_last, landed, packets_acked, packets_few, packets_none, packets-push, packets_sent, packets_without_front, reads_acked, reads_few, reads_none, reads-push, reads_sent, reads_without_front}
-use Rattle.rdma_types.proofs.Places.{end-push, first-push, first-zero, landing-push, landing_between, landing_lands, landing_pushed, piece-push, piece_behind, piece_below_span, piece_ends, piece_pushed, request-push, request_here, request_past, span_positive}
+use Rattle.rdma_types.proofs.Places.{at_end, end-push, first-push, first-suc, first-zero, found_within, landing-push, landing_between, landing_lands, landing_pushed, piece-push, piece_behind, piece_below_span, piece_ends, piece_pushed, request-push, request_here, request_of_piece, request_past, span_positive}
 
 -- the front is a mark
 pub IsMark-front : (ps : List Posted) (mtu : ℕ) → IsMark ps mtu (record { index = 0; offset = 0 })
 IsMark-front ps mtu = record { within = omega arith; offset = sym (first-zero ps mtu) }
 
+-- where nothing is counted
+pub IsPast-none : (ps : List Posted) (mtu : ℕ) (m : Mark) → IsPast ps mtu m 0
+IsPast-none ps mtu m = record { within = λ lt. absurd (omega (arith, lt)); number = λ lt. absurd (omega (arith, lt)) }
+
+-- where the request at the mark is counted
+pub IsPast-counted : (ps : List Posted) (mtu : ℕ) (m : Mark) (p : Posted) → IsMark ps mtu m → slice_get ps m.index ≡ Some p → IsPast ps mtu m (m.offset + span_of p mtu)
+IsPast-counted ps mtu m p h there = record { within = λ lt. found_within ps m.index p there; number = λ lt. omega (arith, h.offset, first-suc ps mtu m.index p there) }
+
+-- a number before the counted end is of the request at the mark
+pub past_here : (ps : List Posted) (mtu : ℕ) (m : Mark) (past n : ℕ) → IsMark ps mtu m → IsPast ps mtu m past → m.offset ≤ n → n < past → request_of ps mtu n ≡ m.index
+past_here ps mtu m past n h counted low high = by_option _ refl
+  where
+    above : m.offset < past
+    above = omega (arith, low, high)
+
+    by_option : (o : Option Posted) → slice_get ps m.index ≡ o → request_of ps mtu n ≡ m.index
+    by_option None e = absurd (omega (arith, at_end ps m.index e h.within, counted.within above))
+    by_option (Some p) e = request_here ps mtu m.index n p e (omega (arith, h.offset, low)) (omega (arith, high, counted.number above, first-suc ps mtu m.index p e))
+
 -- ---- a rewind
 
-pub held_rewound : (t : Terms) (s : Sender) (c : DerivedNumbers) → IsHeld t s c → IsHeld t (record s { next = s.una }) (record c { cursor = record { index = 0; offset = 0 }; packets = 0; reads = 0 })
+pub held_rewound : (t : Terms) (s : Sender) (c : DerivedNumbers) → IsHeld t s c → IsHeld t (record s { next = s.una }) (record c { cursor = record { index = 0; offset = 0 }; cursor_past = 0; packets = 0; reads = 0 })
 held_rewound t s c h = record {
   mtu = h.mtu;
   order = record {
@@ -41,6 +60,7 @@ held_rewound t s c h = record {
   end = h.end;
   cursor = IsMark-front s.untold t.mtu;
   cursor_before = omega arith;
+  past = IsPast-none s.untold t.mtu (record { index = 0; offset = 0 });
   barrier = h.barrier;
   barrier_mark = h.barrier_mark;
   barrier_index = h.barrier_index;
@@ -64,6 +84,7 @@ held_spent t s c h other = record {
   end = h.end;
   cursor = h.cursor;
   cursor_before = h.cursor_before;
+  past = h.past;
   barrier = h.barrier;
   barrier_mark = h.barrier_mark;
   barrier_index = h.barrier_index;
@@ -96,6 +117,7 @@ held_acked t s c h n low bar below = record {
   end = h.end;
   cursor = h.cursor;
   cursor_before = omega (arith, h.cursor_before);
+  past = h.past;
   barrier = h.barrier ∙ ap (λ k. s.first + k) (sym (landing_between s.untold t.mtu (s.una - s.first) (n - s.first) (omega (arith, low)) (omega (arith, bar, h.barrier))));
   barrier_mark = h.barrier_mark;
   barrier_index = h.barrier_index;
@@ -186,6 +208,7 @@ held_landed t s c h x found below n at next mark place = record {
   end = h.end;
   cursor = h.cursor;
   cursor_before = omega (arith, h.cursor_before);
+  past = h.past;
   barrier = ap (λ k. s.first + k) (next ∙ ap (λ k. next_landing s.untold t.mtu k) rest);
   barrier_mark = mark;
   barrier_index = let gone : s.first + n - s.first ≡ n = omega arith in rw gone place;
@@ -229,9 +252,9 @@ whole_or_rewound x una next le whole r = by_order (less_or_same una next le)
     by_order (inl lt) = let w : (not (x.k == 0)) ≡ false = rw r at (whole lt) in inl (grind (arith, nat_tests, w))
     by_order (inr e) = inr e
 
-pub held_sent : (t : Terms) (s : Sender) (c : DerivedNumbers) → IsHeld t s c → (x : Piece) (at : Mark) → piece_at s.untold t.mtu (s.next - s.first) ≡ Some x → IsMark s.untold t.mtu at → at.offset ≤ s.next - s.first
-    → IsHeld t (record s { next = past_piece t.mtu s.next x; top = max s.top (past_piece t.mtu s.next x) }) (record c { cursor = at; packets = c.packets + 1; reads = c.reads + (if lands (kind_of x.posted) then 1 else 0) })
-held_sent t s c h x at found mark before = record {
+pub held_sent : (t : Terms) (s : Sender) (c : DerivedNumbers) → IsHeld t s c → (x : Piece) (at : Mark) → piece_at s.untold t.mtu (s.next - s.first) ≡ Some x → IsMark s.untold t.mtu at → at.index ≡ request_of s.untold t.mtu (s.next - s.first) → at.offset ≤ s.next - s.first
+    → IsHeld t (record s { next = past_piece t.mtu s.next x; top = max s.top (past_piece t.mtu s.next x) }) (record c { cursor = at; cursor_past = at.offset + span_of x.posted t.mtu; packets = c.packets + 1; reads = c.reads + (if lands (kind_of x.posted) then 1 else 0) })
+held_sent t s c h x at found mark index before = record {
   mtu = h.mtu;
   order = record {
     una = h.order.una;
@@ -245,6 +268,7 @@ held_sent t s c h x at found mark before = record {
   end = h.end;
   cursor = mark;
   cursor_before = omega (arith, before, beyond);
+  past = IsPast-counted s.untold t.mtu at x.posted mark (rw index (request_of_piece s.untold t.mtu (s.next - s.first) x found));
   barrier = h.barrier;
   barrier_mark = h.barrier_mark;
   barrier_index = h.barrier_index;
@@ -295,6 +319,12 @@ record Barred (t : Terms) (s : Sender) (c : DerivedNumbers) (p : Posted) (stays 
 
 IsMark-push : (ps : List Posted) (mtu : ℕ) (m : Mark) (p : Posted) → IsMark ps mtu m → IsMark (ps ++ p ∷ []) mtu m
 IsMark-push ps mtu m p h = record { within = omega (arith, h.within, length-push ps p); offset = h.offset ∙ sym (first-push ps mtu m.index p h.within) }
+
+IsPast-push : (ps : List Posted) (mtu : ℕ) (m : Mark) (past : ℕ) (p : Posted) → IsPast ps mtu m past → IsPast (ps ++ p ∷ []) mtu m past
+IsPast-push ps mtu m past p h = record {
+  within = λ lt. omega (arith, h.within lt, length-push ps p);
+  number = λ lt. h.number lt ∙ sym (first-push ps mtu (suc m.index) p (omega (arith, h.within lt)));
+}
 
 request_pushed : (ps : List Posted) (mtu : ℕ) (p : Posted) → request_of (ps ++ p ∷ []) mtu (end_number ps mtu) ≡ length ps
 unfolding request_of end_number
@@ -399,6 +429,7 @@ module _ (t : Terms) (s : Sender) (c : DerivedNumbers) (h : IsHeld t s c) (p : P
         end = omega (arith, h.end, more);
         cursor = IsMark-push s.untold t.mtu c.cursor p h.cursor;
         cursor_before = h.cursor_before;
+        past = IsPast-push s.untold t.mtu c.cursor c.cursor_past p h.past;
         barrier = b.barrier;
         barrier_mark = b.mark;
         barrier_index = b.index;
@@ -417,6 +448,19 @@ mark_behind q us mtu (suc i) o h =
     let back : suc i - 1 ≡ i = omega arith in
     rw back (record { within = omega (arith, h.within); offset = omega (arith, h.offset) })
 
+past_behind : (q : Posted) (us : List Posted) (mtu i o past : ℕ) → IsMark (q ∷ us) mtu (record { index = i; offset = o }) → IsPast (q ∷ us) mtu (record { index = i; offset = o }) past → IsPast us mtu (record { index = i - 1; offset = o - span_of q mtu }) (past - span_of q mtu)
+unfolding first_number
+past_behind q us mtu zero o past m h = record { within = λ lt. absurd (gone lt); number = λ lt. absurd (gone lt) }
+  where
+    gone : o - span_of q mtu < past - span_of q mtu → ⊥
+    gone lt =
+        let none = first-zero us mtu in
+        let after = h.number (omega (arith, lt, m.offset)) in
+        omega (arith, lt, none, after)
+past_behind q us mtu (suc i) o past m h =
+    let back : suc i - 1 ≡ i = omega arith in
+    rw back (record { within = λ lt. omega (arith, h.within (omega (arith, lt))); number = λ lt. omega (arith, h.number (omega (arith, lt))) })
+
 landing_behind : (q : Posted) (us : List Posted) (mtu n : ℕ) → span_of q mtu ≤ n → next_landing (q ∷ us) mtu n ≡ span_of q mtu + next_landing us mtu (n - span_of q mtu)
 unfolding next_landing
 landing_behind q us mtu n h = grind (arith, nat_tests, h)
@@ -429,6 +473,7 @@ pub held_front : (t : Terms) (q : Posted) (us : List Posted) (n : RequesterParts
     → IsHeld t (sender_with us (record n { first = n.first + span_of q t.mtu }))
     (record c {
       cursor = record { index = c.cursor.index - 1; offset = c.cursor.offset - span_of q t.mtu };
+      cursor_past = c.cursor_past - span_of q t.mtu;
       barrier_at = record { index = c.barrier_at.index - 1; offset = c.barrier_at.offset - span_of q t.mtu };
     })
 unfolding end_number
@@ -446,6 +491,7 @@ held_front t q us n c h past = record {
   end = omega (arith, h.end);
   cursor = mark_behind q us t.mtu c.cursor.index c.cursor.offset h.cursor;
   cursor_before = omega (arith, h.cursor_before);
+  past = past_behind q us t.mtu c.cursor.index c.cursor.offset c.cursor_past h.cursor h.past;
   barrier = h.barrier ∙ (ap (λ k. n.first + k) (landing_behind q us t.mtu (n.una - n.first) (omega (arith, past)) ∙ ap (λ k. span_of q t.mtu + next_landing us t.mtu k) una_rest) ∙ omega arith);
   barrier_mark = mark_behind q us t.mtu c.barrier_at.index c.barrier_at.offset h.barrier_mark;
   barrier_index = omega (arith, h.barrier_index, place, request_behind q us t.mtu (c.barrier - n.first) (omega (arith, past, above)));
@@ -469,13 +515,14 @@ pub held_told : (t : Terms) (us : List Posted) (n : RequesterParts) (c : Derived
     → IsHeld t (sender_with (drop 1 us) (record n { first = n.first + span_of p t.mtu }))
     (record c {
       cursor = record { index = c.cursor.index - 1; offset = c.cursor.offset - span_of p t.mtu };
+      cursor_past = c.cursor_past - span_of p t.mtu;
       barrier_at = record { index = c.barrier_at.index - 1; offset = c.barrier_at.offset - span_of p t.mtu };
     })
 held_told t [] n c p e h past = absurd (cc)
 held_told t (q ∷ us) n c p e h past =
     let same : q ≡ p = cc in
     let past' : n.first + span_of q t.mtu ≤ n.una = rw same past in
-    subst (λ (r : Posted). IsHeld t (sender_with us (record n { first = n.first + span_of r t.mtu })) (record c { cursor = record { index = c.cursor.index - 1; offset = c.cursor.offset - span_of r t.mtu }; barrier_at = record { index = c.barrier_at.index - 1; offset = c.barrier_at.offset - span_of r t.mtu } })) same (held_front t q us n c h past')
+    subst (λ (r : Posted). IsHeld t (sender_with us (record n { first = n.first + span_of r t.mtu })) (record c { cursor = record { index = c.cursor.index - 1; offset = c.cursor.offset - span_of r t.mtu }; cursor_past = c.cursor_past - span_of r t.mtu; barrier_at = record { index = c.barrier_at.index - 1; offset = c.barrier_at.offset - span_of r t.mtu } })) same (held_front t q us n c h past')
 
 -- ---- an end fails
 
@@ -484,7 +531,7 @@ abbrev pub failed : ℕ → ℕ → RequesterParts
 failed first end = record { first = first; una = end; next = end; top = end; spent = 0; waits = 0; rnr_wait = false }
 
 pub held_failed : (t : Terms) (us : List Posted) (first end : ℕ) → 0 < t.mtu → end ≡ first + end_number us t.mtu → end < number_limit
-    → IsHeld t (sender_with us (failed first end)) (record { end = end; cursor = record { index = 0; offset = 0 }; barrier = end; barrier_at = record { index = length us; offset = end - first }; packets = 0; reads = 0 })
+    → IsHeld t (sender_with us (failed first end)) (record { end = end; cursor = record { index = 0; offset = 0 }; cursor_past = 0; barrier = end; barrier_at = record { index = length us; offset = end - first }; packets = 0; reads = 0 })
 held_failed t us first end mtu e limit =
     let rest : end - first ≡ end_number us t.mtu = omega (arith, e) in
     let after = numbers.landing_after us t.mtu (end - first) in
@@ -503,6 +550,7 @@ held_failed t us first end mtu e limit =
       end = e;
       cursor = IsMark-front us t.mtu;
       cursor_before = omega arith;
+      past = IsPast-none us t.mtu (record { index = 0; offset = 0 });
       barrier = omega (arith, e, rest, after, before);
       barrier_mark = record { within = omega arith; offset = rest ∙ sym (numbers.ends us t.mtu) };
       barrier_index = sym (request_past us t.mtu (end - first) (omega (arith, rest)));
@@ -564,6 +612,7 @@ held_waited t s c waits rnr h = record {
   end = h.end;
   cursor = h.cursor;
   cursor_before = h.cursor_before;
+  past = h.past;
   barrier = h.barrier;
   barrier_mark = h.barrier_mark;
   barrier_index = h.barrier_index;

@@ -24,9 +24,9 @@ use Rattle.requester.specs.Marks.{IsMark}
 use Rattle.requester.specs.Taking.{Taking, acknowledge_taking, acknowledging, answers, is_of_piece, landing_of, landing_taking, moved_or_useless, nak_taking, not_ready_taking, refusing, request_at, rnr_taking, taken_response, wait_taking}
 use Rattle.requester.specs.Sending.{sender_with}
 use Rattle.requester.specs.Telling.{failing_without_oldest}
-use Rattle.requester.proofs.Keeping.{failed}
+use Rattle.requester.proofs.Keeping.{failed, past_here}
 use Rattle.requester.specs.Transmitting.{after_row, next_row, piece_said}
-use Rattle.rdma_types.proofs.Places.{at_end, landing_lands, span_inside}
+use Rattle.rdma_types.proofs.Places.{at_end, first-suc, landing_here, landing_lands, piece_here, request_here, span_inside}
 
 -- ---- the barrier
 
@@ -65,6 +65,17 @@ here t s c h p there =
       landing = landing_lands s.untold t.mtu (s.una - s.first) _ (rw place at piece);
     }
 
+-- a number behind the barrier that is not past its request is the next barrier
+pub inside : (t : Terms) (s : Sender) (c : DerivedNumbers) → IsHeld t s c → (p : Posted) → slice_get s.untold c.barrier_at.index ≡ Some p → (c.barrier - s.first - c.barrier_at.offset + 1 == span_of p t.mtu) ≡ false
+    → (next_landing s.untold t.mtu (c.barrier - s.first + 1) ≡ c.barrier - s.first + 1) × (request_of s.untold t.mtu (c.barrier - s.first + 1) ≡ c.barrier_at.index)
+inside t s c h p there more =
+    let r = here t s c h p there in
+    let other : c.barrier - s.first - c.barrier_at.offset + 1 ≢ span_of p t.mtu = grind (arith, nat_tests, more) in
+    let low : first_number s.untold t.mtu c.barrier_at.index ≤ c.barrier - s.first + 1 = omega (arith, h.barrier_mark.offset, r.low) in
+    let high : c.barrier - s.first + 1 < first_number s.untold t.mtu c.barrier_at.index + span_of p t.mtu = omega (arith, h.barrier_mark.offset, r.low, r.high, other) in
+    let piece = piece_here s.untold t.mtu c.barrier_at.index (c.barrier - s.first + 1) p there low high in
+    (landing_here s.untold t.mtu (c.barrier - s.first + 1) _ piece r.landing, request_here s.untold t.mtu c.barrier_at.index (c.barrier - s.first + 1) p there low high)
+
 -- a barrier below `top` has one
 pub some_there : (t : Terms) (s : Sender) (c : DerivedNumbers) → IsHeld t s c → c.barrier < s.top → slice_get s.untold c.barrier_at.index ≡ None → ⊥
 some_there t s c h below none =
@@ -95,6 +106,14 @@ next_is t s at p mark index there =
       said = ap (λ o. unwrap_or o no_posted) there;
       k = omega (arith, mark.offset);
     }
+
+-- a counted end is that of the request of the next number
+pub counted_is : (t : Terms) (s : Sender) (c : DerivedNumbers) (at : Mark) (p : Posted) → IsHeld t s c → IsMark s.untold t.mtu at → at.index ≡ request_of s.untold t.mtu (s.next - s.first) → slice_get s.untold at.index ≡ Some p → s.next - s.first < c.cursor_past → c.cursor_past ≡ at.offset + span_of p t.mtu
+counted_is t s c at p h mark index there below =
+    let same : at.index ≡ c.cursor.index = index ∙ past_here s.untold t.mtu c.cursor c.cursor_past (s.next - s.first) h.cursor h.past h.cursor_before below in
+    let off : at.offset ≡ c.cursor.offset = mark.offset ∙ (ap (λ i. first_number s.untold t.mtu i) same ∙ sym h.cursor.offset) in
+    let next = first-suc s.untold t.mtu c.cursor.index p (rw same at there) in
+    omega (arith, h.past.number (omega (arith, h.cursor_before, below)), next, h.cursor.offset, off)
 
 pub next_there : (t : Terms) (s : Sender) (c : DerivedNumbers) (i : ℕ) → IsHeld t s c → s.next ≢ c.end → i ≡ request_of s.untold t.mtu (s.next - s.first) → i ≤ length s.untold → slice_get s.untold i ≡ None → ⊥
 next_there t s c i h other index within none =

@@ -5,7 +5,7 @@ use Rattle.rdma_types.specs.Spans.{end_number, next_landing, request_of}
 use Rattle.protocol.specs.Requester.{packets_in_flight, reads_in_flight}
 use Rattle.protocol.specs.State.{Sender}
 use Rattle.requester.specs.declared.caches.DerivedNumbers.{DerivedNumbers}
-use Rattle.requester.specs.Marks.{IsMark}
+use Rattle.requester.specs.Marks.{IsMark, IsPast}
 use Rattle.requester.specs.Sending.{AreInOrder}
 
 -- the end, a place at or before the request of `next`, the barrier and its request, and what is in flight
@@ -15,6 +15,7 @@ pub record IsHeld (terms : Terms) (s : Sender) (c : DerivedNumbers) : Type 0 whe
   pub end : c.end ≡ s.first + end_number s.untold terms.mtu
   pub cursor : IsMark s.untold terms.mtu c.cursor
   pub cursor_before : c.cursor.offset ≤ s.next - s.first
+  pub past : IsPast s.untold terms.mtu c.cursor c.cursor_past
   pub barrier : c.barrier ≡ s.first + next_landing s.untold terms.mtu (s.una - s.first)
   pub barrier_mark : IsMark s.untold terms.mtu c.barrier_at
   pub barrier_index : c.barrier_at.index ≡ request_of s.untold terms.mtu (c.barrier - s.first)

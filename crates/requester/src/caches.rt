@@ -2,16 +2,17 @@
 
 ghost use Rattle.std.specs.Prelude.{◌≡◌, ◌+◌, ◌-◌, ◌<◌, ◌≤◌, ◌^◌, ◌==◌, ◌&&◌, ◌||◌, max, min, nat_le, nat_lt, if◌then◌else◌};
 ghost use Rattle.rdma_types.specs.Kinds.{is_read, lands};
-ghost use Rattle.rdma_types.specs.Spans.{end_number};
+ghost use Rattle.rdma_types.specs.Spans.{end_number, request_of, span};
 ghost use Rattle.protocol.specs.Requester.{packets_in_flight, reads_in_flight};
 ghost use Rattle.requester.specs.Sending.{AreInOrder, bares, sender_with};
 ghost use Rattle.requester.specs.Held.{IsHeld};
+ghost use Rattle.requester.specs.Marks.{IsMark, IsPast};
 
 use crate::answers::RequesterParts;
 use crate::kinds;
-use crate::marks::{FRONT, Mark, seek_barrier};
+use crate::marks::{FRONT, Mark, seek, seek_barrier};
 use end_queues::work_queues::SendQueue;
-use rdma_types::{Kind, Terms};
+use rdma_types::{Kind, Shape, Terms};
 use transport::segmenter::span_of;
 
 /// Places in the queue and counts of what is in flight.
@@ -21,6 +22,9 @@ pub struct DerivedNumbers {
     pub end: u64,
     /// A request not past that of the next number.
     pub cursor: Mark,
+    /// One past the last number of the request at the cursor, counted from the front of the queue; not past the cursor
+    /// where it is not counted.
+    pub cursor_past: u64,
     /// The first number from the oldest unacknowledged one on whose Read response or atomic answer has not landed, or the
     /// end.
     pub barrier: u64,
@@ -114,6 +118,7 @@ impl DerivedNumbers {
         DerivedNumbers {
             end: counts.end,
             cursor: FRONT,
+            cursor_past: 0,
             barrier: numbers.first + barrier.number,
             barrier_at: barrier.at,
             packets: counts.packets,
@@ -172,15 +177,48 @@ impl DerivedNumbers {
         }
     }
 
-    /// A packet of the request at a mark is sent.
-    pub fn sent(self, at: Mark, lands: bool) -> DerivedNumbers
+    /// The mark of the request that has number `n`, counted from the front of the queue, or of the end where none has. It
+    /// is not past the cursor.
+    pub fn mark_of(&self, queue: &SendQueue, mtu: u32, n: u64) -> Mark
+        requires mtu { 0 < mtu }
+        requires limit { end_number (bares queue.now.items) mtu < 2 ^ 62 }
+        requires cursor { IsMark (bares queue.now.items) mtu self.now.cursor }
+        requires past { IsPast (bares queue.now.items) mtu self.now.cursor self.now.cursor_past }
+        requires before { self.now.cursor.offset ≤ n }
+        ensures mark { IsMark (bares queue.now.items) mtu result }
+        ensures index { result.index ≡ request_of (bares queue.now.items) mtu n }
+        ensures before { result.offset ≤ n }
+    {
+        if n < self.cursor_past {
+            self.cursor
+        } else {
+            seek(queue, mtu, self.cursor, n)
+        }
+    }
+
+    /// How many numbers the request at a mark takes, which has number `n`.
+    pub fn count_at(&self, at: Mark, n: u64, shape: &Shape, mtu: u32) -> u64
+        requires mtu { 0 < mtu }
+        requires past { n < self.now.cursor_past → self.now.cursor_past ≡ at.offset + span shape.now mtu }
+        ensures { result ≡ span shape.now mtu }
+    {
+        if n < self.cursor_past {
+            self.cursor_past - at.offset
+        } else {
+            span_of(shape, mtu)
+        }
+    }
+
+    /// A packet of the request at a mark is sent, whose numbers end before `past`, counted from the front of the queue.
+    pub fn sent(self, at: Mark, past: u64, lands: bool) -> DerivedNumbers
         requires packets { self.packets < 2 ^ 63 }
         requires reads { self.reads < 2 ^ 63 }
         ensures { result
-            ≡ record self { cursor = at; packets = self.packets + 1; reads = self.reads + (if lands then 1 else 0) } }
+            ≡ record self { cursor = at; cursor_past = past; packets = self.packets + 1; reads = self.reads + (if lands then 1 else 0) } }
     {
         DerivedNumbers {
             cursor: at,
+            cursor_past: past,
             packets: self.packets + 1,
             reads: self.reads + one_if(lands),
             ..self
@@ -190,10 +228,11 @@ impl DerivedNumbers {
     /// Nothing is in flight, and all is sent again.
     pub fn rewound(self) -> DerivedNumbers
         ensures { result
-            ≡ record self { cursor = record { index = 0; offset = 0 }; packets = 0; reads = 0 } }
+            ≡ record self { cursor = record { index = 0; offset = 0 }; cursor_past = 0; packets = 0; reads = 0 } }
     {
         DerivedNumbers {
             cursor: FRONT,
+            cursor_past: 0,
             packets: 0,
             reads: 0,
             ..self
@@ -261,11 +300,13 @@ impl DerivedNumbers {
         ensures { result
             ≡ record self {
               cursor = record { index = self.cursor.index - 1; offset = self.cursor.offset - span };
+              cursor_past = self.cursor_past - span;
               barrier_at = record { index = self.barrier_at.index - 1; offset = self.barrier_at.offset - span };
             } }
     {
         DerivedNumbers {
             cursor: self.cursor.without_first(span),
+            cursor_past: self.cursor_past.saturating_sub(span),
             barrier_at: self.barrier_at.without_first(span),
             ..self
         }

@@ -1,6 +1,6 @@
 //! Places in a queue of requests.
 
-ghost use Rattle.std.specs.Prelude.{◌≡◌, ◌-◌, ◌<◌, ◌≤◌, ◌^◌};
+ghost use Rattle.std.specs.Prelude.{◌≡◌, ◌+◌, ◌-◌, ◌<◌, ◌≤◌, ◌^◌, false};
 ghost use Rattle.rdma_types.specs.Spans.{end_number, next_landing, request_of};
 ghost use Rattle.requester.specs.Sending.{bares};
 ghost use Rattle.requester.specs.Marks.{IsMark};
@@ -99,6 +99,27 @@ pub fn seek_barrier(queue: &SendQueue, mtu: u32, from: Mark, n: u64) -> Landing
     Landing {
         number: at.offset,
         at,
+    }
+}
+
+/// The first number behind `n` that belongs to a Read or atomic, and otherwise the end, where `n` is a number of the Read
+/// or atomic at a mark, and its last one or not.
+pub fn barrier_behind(queue: &SendQueue, mtu: u32, at: Mark, n: u64, last: bool) -> Landing
+    requires mtu { 0 < mtu }
+    requires limit { end_number (bares queue.now.items) mtu < 2 ^ 62 }
+    requires mark { IsMark (bares queue.now.items) mtu at }
+    requires before { at.offset ≤ n }
+    requires within { n < end_number (bares queue.now.items) mtu }
+    requires number { last ≡ false → next_landing (bares queue.now.items) mtu (n + 1) ≡ n + 1 }
+    requires index { last ≡ false → request_of (bares queue.now.items) mtu (n + 1) ≡ at.index }
+    ensures number { result.number ≡ next_landing (bares queue.now.items) mtu (n + 1) }
+    ensures mark { IsMark (bares queue.now.items) mtu result.at }
+    ensures index { result.at.index ≡ request_of (bares queue.now.items) mtu result.number }
+{
+    if last {
+        seek_barrier(queue, mtu, at, n + 1)
+    } else {
+        Landing { number: n + 1, at }
     }
 }
 

@@ -10,7 +10,7 @@ ghost use Rattle.requester.specs.Sending.{KeepsQueue, sender_of};
 ghost use Rattle.requester.specs.Taking.{acknowledge_taking, acknowledging, landing_taking, moved_or_useless, nak_taking, not_ready_taking, refusing, syndrome_taking, taken_response, wait_taking};
 
 use crate::answers::ResponseEffect;
-use crate::marks::{Landing, seek_barrier};
+use crate::marks::barrier_behind;
 use crate::{Requester, kinds};
 use rdma_types::{Shape, WcStatus};
 use roce_headers::opcodes::{ATOMIC_ACKNOWLEDGE, is_read_response};
@@ -251,11 +251,7 @@ impl Requester {
         };
         let n = self.caches.barrier - self.numbers.first;
         let last = n - at.offset + 1 == span_of(&p.request.shape, self.terms.mtu);
-        let barrier = if last {
-            seek_barrier(&self.queue, self.terms.mtu, at, n + 1)
-        } else {
-            Landing { number: n + 1, at }
-        };
+        let barrier = barrier_behind(&self.queue, self.terms.mtu, at, n, last);
         let number = self.numbers.first + barrier.number;
         let una = self.caches.barrier + 1;
         self.caches = self.caches.landed(&self.numbers, last, number, barrier.at);

@@ -41,6 +41,7 @@ fn failed_caches(first: u64, end: u64, len: usize) -> DerivedNumbers
     ensures { result ≡ record {
       end = end;
       cursor = record { index = 0; offset = 0 };
+      cursor_past = 0;
       barrier = end;
       barrier_at = record { index = len; offset = end - first };
       packets = 0;
@@ -50,6 +51,7 @@ fn failed_caches(first: u64, end: u64, len: usize) -> DerivedNumbers
     DerivedNumbers {
         end,
         cursor: FRONT,
+        cursor_past: 0,
         barrier: end,
         barrier_at: Mark {
             index: len,

@@ -2,7 +2,7 @@
 
 ghost use Rattle.std.specs.Prelude.{◌≡◌, ◌+◌, ◌-◌, ◌<◌, ◌≤◌, ◌^◌, ◌==◌, ◌||◌, Some, if◌then◌else◌};
 ghost use Rattle.rdma_types.specs.Kinds.{is_read};
-ghost use Rattle.rdma_types.specs.Spans.{piece_at, span};
+ghost use Rattle.rdma_types.specs.Spans.{piece_at, request_of, span};
 ghost use Rattle.protocol.specs.Requester.{counted, going_to, past as past_piece, rewound, waited_out};
 ghost use Rattle.requester.specs.Marks.{IsMark};
 ghost use Rattle.requester.specs.Sending.{KeepsQueue, bares, sender_of};
@@ -10,24 +10,23 @@ ghost use Rattle.requester.specs.Taking.{request_at};
 ghost use Rattle.requester.specs.Transmitting.{IsHeadOf, after_row, next_row, piece_said, row_said};
 
 use crate::answers::{Expiry, Transmit};
-use crate::marks::{Mark, seek};
+use crate::marks::Mark;
 use crate::{Requester, kinds};
 use rdma_types::Shape;
-use transport::segmenter::{packet_of, span_of};
+use transport::segmenter::packet_of;
 
 /// Unacknowledged request packets of an end (this project's choice).
 const WINDOW: u64 = 64;
 
-/// Where the next number `n` goes past piece `k` of a request: for a Read past the whole Read.
-fn past(n: u64, shape: &Shape, k: u64, mtu: u32) -> u64
-    requires mtu { 0 < mtu }
+/// Where the next number `n` goes past piece `k` of a request that takes `count` numbers: for a Read past the whole Read.
+fn past(n: u64, shape: &Shape, k: u64, count: u64) -> u64
     requires begun { k ≤ n }
-    requires limit { n - k + span shape.now mtu < 2 ^ 62 }
-    requires inside { k < span shape.now mtu }
-    ensures { result ≡ (if is_read shape.now.kind then (n - k) + span shape.now mtu else n + 1) }
+    requires limit { n - k + count < 2 ^ 62 }
+    requires inside { k < count }
+    ensures { result ≡ (if is_read shape.now.kind then (n - k) + count else n + 1) }
 {
     if kinds::is_read(shape.kind) {
-        n - k + span_of(shape, mtu)
+        n - k + count
     } else {
         n + 1
     }
@@ -54,7 +53,7 @@ impl Requester {
             return Transmit::WindowFull;
         }
         let n = self.numbers.next - self.numbers.first;
-        let at = seek(&self.queue, self.terms.mtu, self.caches.cursor, n);
+        let at = self.caches.mark_of(&self.queue, self.terms.mtu, n);
         let Some(p) = self.queue.at(at.index) else {
             unreachable!()
         };
@@ -68,8 +67,9 @@ impl Requester {
             return Transmit::Fenced;
         }
         let number = self.numbers.next;
-        let head = packet_of(&shape, k, self.terms.mtu);
-        self.pass(at, &shape, k);
+        let count = self.caches.count_at(at, n, &shape, self.terms.mtu);
+        let head = packet_of(&shape, k, count, self.terms.mtu);
+        self.pass(at, &shape, k, count);
         Transmit::Sent {
             number,
             index: at.index,
@@ -77,9 +77,13 @@ impl Requester {
         }
     }
 
-    /// The next number goes past piece `k` of the request at a mark, for a Read past the whole Read.
-    fn pass(&mut self, at: Mark, shape: &Shape, k: u64)
+    /// The next number goes past piece `k` of the request at a mark, which takes `count` numbers, for a Read past the
+    /// whole Read.
+    fn pass(&mut self, at: Mark, shape: &Shape, k: u64, count: u64)
+        requires count { count ≡ span shape.now self.old.terms.mtu }
         requires mark { IsMark (bares self.old.items) self.old.terms.mtu at }
+        requires index { at.index
+            ≡ request_of (bares self.old.items) self.old.terms.mtu (self.old.numbers.next - self.old.numbers.first) }
         requires here { at.offset + k + self.old.numbers.first ≡ self.old.numbers.next }
         requires shape { shape.now ≡ (request_at (sender_of self.old) at.index).request.shape }
         requires piece { piece_at (bares self.old.items) self.old.terms.mtu (self.old.numbers.next - self.old.numbers.first)
@@ -89,8 +93,9 @@ impl Requester {
             (past_piece self.old.terms self.old.numbers.next (record { posted = request_at (sender_of self.old) at.index; k = k })) }
         ensures kept { KeepsQueue self.old self.new }
     {
-        let next = past(self.numbers.next, shape, k, self.terms.mtu);
-        self.caches = self.caches.sent(at, kinds::lands(shape.kind));
+        let next = past(self.numbers.next, shape, k, count);
+        let lands = kinds::lands(shape.kind);
+        self.caches = self.caches.sent(at, at.offset + count, lands);
         self.numbers = self.numbers.with_next(next);
     }
 

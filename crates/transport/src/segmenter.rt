@@ -57,9 +57,10 @@ pub fn piece_at(length: u32, k: u64, mtu: u32) -> (u32, u32)
     (offset, mtu.min(length - offset))
 }
 
-/// What the headers and the payload of packet `k` of a request say.
-pub fn packet_of(shape: &Shape, k: u64, mtu: u32) -> PacketHead
+/// What the headers and the payload of packet `k` of a request say, which takes `count` numbers.
+pub fn packet_of(shape: &Shape, k: u64, count: u64, mtu: u32) -> PacketHead
     requires mtu { 0 < mtu }
+    requires count { count ≡ span shape.now mtu }
     requires inside { k < span shape.now mtu }
     ensures opcode { result.opcode ≡ opcode_of shape.now.kind (k == 0)
         (is_last_piece shape.now mtu k) (is_some result.imm) }
@@ -76,7 +77,7 @@ pub fn packet_of(shape: &Shape, k: u64, mtu: u32) -> PacketHead
         → packet_with result p dest psn ≡ packet_of_piece p mtu k dest psn }
 {
     let (offset, length) = piece_at(shape.length, k, mtu);
-    let last = k + 1 == span_of(shape, mtu);
+    let last = k + 1 == count;
     let carries = kinds::takes_bytes(shape.kind);
     let imm = if carries && last { shape.imm } else { None };
     PacketHead {

@@ -5,7 +5,7 @@ use Rattle.rdma_types.proofs.Numbers.{landing_before_end}
 use Rattle.requester.specs.Sending.{bare, bares, sender_with}
 use Rattle.requester.proofs.Bares.{bare_at, bare_none}
 use Rattle.requester.proofs.Keeping.{barrier_above, barrier_within, held_landed, landed_few}
-use Rattle.requester.proofs.Tables.{advanced_moves, barrier_is, here, some_there}
+use Rattle.requester.proofs.Tables.{advanced_moves, barrier_is, here, inside, some_there}
 use Rattle.requester.proofs.Requester.land.Goals as goal
 
 pub unreachable-requires : goal.unreachable-requires
@@ -33,28 +33,28 @@ overflow_add-last c =
     let o = c.self.invariant.order in
     omega (arith, r.high, r.within, o.limit)
 
-pub overflow_add-n : goal.overflow_add-n
-overflow_add-n c =
-    let r = here c.self.inside.terms (sender_with (bares c.self.inside.queue.items) c.self.inside.numbers) c.self.inside.caches c.self.invariant (bare c.in-Some.p.now) (bare_at c.self.inside.queue.items c.self.inside.caches.barrier_at.index c.in-Some.p.now (sym c.in-Some.ensures)) in
-    let o = c.self.invariant.order in
-    omega (arith, r.high, r.within, o.limit)
-
-pub seek_barrier-barrier-requires-clause-before : goal.seek_barrier-barrier-requires-clause-before
-seek_barrier-barrier-requires-clause-before c =
+pub barrier_behind-barrier-requires-clause-before : goal.barrier_behind-barrier-requires-clause-before
+barrier_behind-barrier-requires-clause-before c =
     let r = here c.self.inside.terms (sender_with (bares c.self.inside.queue.items) c.self.inside.numbers) c.self.inside.caches c.self.invariant (bare c.in-Some.p.now) (bare_at c.self.inside.queue.items c.self.inside.caches.barrier_at.index c.in-Some.p.now (sym c.in-Some.ensures)) in
     omega (arith, r.low)
 
-pub seek_barrier-barrier-requires-clause-within : goal.seek_barrier-barrier-requires-clause-within
-seek_barrier-barrier-requires-clause-within c =
+pub barrier_behind-barrier-requires-clause-within : goal.barrier_behind-barrier-requires-clause-within
+barrier_behind-barrier-requires-clause-within c =
     let r = here c.self.inside.terms (sender_with (bares c.self.inside.queue.items) c.self.inside.numbers) c.self.inside.caches c.self.invariant (bare c.in-Some.p.now) (bare_at c.self.inside.queue.items c.self.inside.caches.barrier_at.index c.in-Some.p.now (sym c.in-Some.ensures)) in
     omega (arith, r.high, r.within)
+
+pub barrier_behind-barrier-requires-clause-number : goal.barrier_behind-barrier-requires-clause-number
+barrier_behind-barrier-requires-clause-number c = λ more. (inside c.self.inside.terms (sender_with (bares c.self.inside.queue.items) c.self.inside.numbers) c.self.inside.caches c.self.invariant (bare c.in-Some.p.now) (bare_at c.self.inside.queue.items c.self.inside.caches.barrier_at.index c.in-Some.p.now (sym c.in-Some.ensures)) (rw c.span_of.ensures.rule at more)).0
+
+pub barrier_behind-barrier-requires-clause-index : goal.barrier_behind-barrier-requires-clause-index
+barrier_behind-barrier-requires-clause-index c = λ more. (inside c.self.inside.terms (sender_with (bares c.self.inside.queue.items) c.self.inside.numbers) c.self.inside.caches c.self.invariant (bare c.in-Some.p.now) (bare_at c.self.inside.queue.items c.self.inside.caches.barrier_at.index c.in-Some.p.now (sym c.in-Some.ensures)) (rw c.span_of.ensures.rule at more)).1
 
 pub overflow_add-number : goal.overflow_add-number
 overflow_add-number c =
     let r = here c.self.inside.terms (sender_with (bares c.self.inside.queue.items) c.self.inside.numbers) c.self.inside.caches c.self.invariant (bare c.in-Some.p.now) (bare_at c.self.inside.queue.items c.self.inside.caches.barrier_at.index c.in-Some.p.now (sym c.in-Some.ensures)) in
     let o = c.self.invariant.order in
     let w = landing_before_end (bares c.self.inside.queue.items) c.self.inside.terms.mtu (c.self.inside.caches.barrier - c.self.inside.numbers.first + 1) (omega (arith, r.high, r.within)) in
-    omega (arith, w, c.seek_barrier-barrier.ensures.number, o.limit)
+    omega (arith, w, c.barrier_behind-barrier.ensures.number, o.limit)
 
 pub landed-self-inside-requires-clause-packets : goal.landed-self-inside-requires-clause-packets
 landed-self-inside-requires-clause-packets c = λ below.
@@ -73,7 +73,7 @@ invariant_of-self c =
     let r = here c.self.inside.terms (sender_with (bares c.self.inside.queue.items) c.self.inside.numbers) c.self.inside.caches c.self.invariant (bare c.in-Some.p.now) (bare_at c.self.inside.queue.items c.self.inside.caches.barrier_at.index c.in-Some.p.now (sym c.in-Some.ensures)) in
     let below : c.self.inside.caches.barrier < c.self.inside.numbers.top = rw (barrier_is c.self.inside.terms (sender_with (bares c.self.inside.queue.items) c.self.inside.numbers) c.self.inside.caches c.self.invariant) at (rw (← c.self.view_is) at c.requires) in
     rw (c.landed-self-inside.ensures, c.with_una-self-inside.ensures, c.span_of.ensures.rule)
-    (held_landed c.self.inside.terms (sender_with (bares c.self.inside.queue.items) c.self.inside.numbers) c.self.inside.caches c.self.invariant (record { posted = bare c.in-Some.p.now; k = c.self.inside.caches.barrier - c.self.inside.numbers.first - c.self.inside.caches.barrier_at.offset }) r.piece below c.seek_barrier-barrier.result.number c.seek_barrier-barrier.result.at c.seek_barrier-barrier.ensures.number c.seek_barrier-barrier.ensures.mark c.seek_barrier-barrier.ensures.index)
+    (held_landed c.self.inside.terms (sender_with (bares c.self.inside.queue.items) c.self.inside.numbers) c.self.inside.caches c.self.invariant (record { posted = bare c.in-Some.p.now; k = c.self.inside.caches.barrier - c.self.inside.numbers.first - c.self.inside.caches.barrier_at.offset }) r.piece below c.barrier_behind-barrier.result.number c.barrier_behind-barrier.result.at c.barrier_behind-barrier.ensures.number c.barrier_behind-barrier.ensures.mark c.barrier_behind-barrier.ensures.index)
 
 pub returns-clause-numbers : goal.returns-clause-numbers
 returns-clause-numbers c =

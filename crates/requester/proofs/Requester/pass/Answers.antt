@@ -15,7 +15,8 @@ past-next-requires-clause-inside c =
     let found = rw (← c.self.view_is) at c.requires.piece in
     let sizes = piece_below_span (bares c.self.inside.queue.items) c.self.inside.terms.mtu (c.self.inside.numbers.next - c.self.inside.numbers.first) (record { posted = request_at (sender_with (bares c.self.inside.queue.items) c.self.inside.numbers) c.args.at.index; k = c.args.k }) found in
     let same = rw (← c.self.view_is) at c.requires.shape in
-    rw same sizes.1
+    let count = rw (← c.self.view_is) at c.requires.count in
+    rw (count, same) sizes.1
 
 pub past-next-requires-clause-limit : goal.past-next-requires-clause-limit
 past-next-requires-clause-limit c =
@@ -24,7 +25,17 @@ past-next-requires-clause-limit c =
     let sizes = piece_below_span (bares c.self.inside.queue.items) c.self.inside.terms.mtu (c.self.inside.numbers.next - c.self.inside.numbers.first) (record { posted = request_at (sender_with (bares c.self.inside.queue.items) c.self.inside.numbers) c.args.at.index; k = c.args.k }) found in
     let same = rw (← c.self.view_is) at c.requires.shape in
     let o = c.self.invariant.order in
-    rw same (omega (arith, ends, sizes.0, o.limit, o.una, o.next))
+    let count = rw (← c.self.view_is) at c.requires.count in
+    rw (count, same) (omega (arith, ends, sizes.0, o.limit, o.una, o.next))
+
+pub overflow_add-at : goal.overflow_add-at
+overflow_add-at c =
+    let found = rw (← c.self.view_is) at c.requires.piece in
+    let at = rw (← c.self.view_is) at c.requires.here in
+    let ends = piece_ends (bares c.self.inside.queue.items) c.self.inside.terms.mtu (c.self.inside.numbers.next - c.self.inside.numbers.first) (record { posted = request_at (sender_with (bares c.self.inside.queue.items) c.self.inside.numbers) c.args.at.index; k = c.args.k }) found in
+    let same = rw (← c.self.view_is) at c.requires.shape in
+    let count = rw (← c.self.view_is) at c.requires.count in
+    rw (count, same) (omega (arith, at, ends, c.self.invariant.order.limit))
 
 pub sent-self-inside-requires-clause-packets : goal.sent-self-inside-requires-clause-packets
 sent-self-inside-requires-clause-packets c =
@@ -44,6 +55,7 @@ invariant_of-self c =
     let mark = rw (← c.self.view_is) at c.requires.mark in
     let at = rw (← c.self.view_is) at c.requires.here in
     let same = rw (← c.self.view_is) at c.requires.shape in
-    let o = c.self.invariant.order in
-    rw (c.sent-self-inside.ensures, c.with_next-self-inside.ensures, c.past-next.ensures, c.lands.ensures, same)
-    (held_sent c.self.inside.terms (sender_with (bares c.self.inside.queue.items) c.self.inside.numbers) c.self.inside.caches c.self.invariant (record { posted = request_at (sender_with (bares c.self.inside.queue.items) c.self.inside.numbers) c.args.at.index; k = c.args.k }) c.args.at found mark (omega (arith, at)))
+    let count = rw (← c.self.view_is) at c.requires.count in
+    let index = rw (← c.self.view_is) at c.requires.index in
+    rw (c.sent-self-inside.ensures, c.with_next-self-inside.ensures, c.past-next.ensures, c.lands-lands.ensures, count, same)
+    (held_sent c.self.inside.terms (sender_with (bares c.self.inside.queue.items) c.self.inside.numbers) c.self.inside.caches c.self.invariant (record { posted = request_at (sender_with (bares c.self.inside.queue.items) c.self.inside.numbers) c.args.at.index; k = c.args.k }) c.args.at found mark index (omega (arith, at)))

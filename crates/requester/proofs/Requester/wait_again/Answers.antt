@@ -8,7 +8,7 @@ use Rattle.requester.proofs.Tables.{wait_ends, wait_waits}
 use Rattle.requester.proofs.Requester.wait_again.Goals as goal
 
 pub invariant_of-self : goal.invariant_of-self
-invariant_of-self c = rw (c.rewound-self-inside.ensures, c.waited-self-inside.ensures) (held_waited c.self.inside.terms (record (sender_with (bares c.self.inside.queue.items) c.self.inside.numbers) { next = c.self.inside.numbers.una }) (record c.self.inside.caches { cursor = record { index = 0; offset = 0 }; packets = 0; reads = 0 }) c.saturating_add-waits.result c.self.inside.numbers.rnr_wait (held_rewound c.self.inside.terms (sender_with (bares c.self.inside.queue.items) c.self.inside.numbers) c.self.inside.caches c.self.invariant))
+invariant_of-self c = rw (c.rewound-self-inside.ensures, c.waited-self-inside.ensures) (held_waited c.self.inside.terms (record (sender_with (bares c.self.inside.queue.items) c.self.inside.numbers) { next = c.self.inside.numbers.una }) (record c.self.inside.caches { cursor = record { index = 0; offset = 0 }; cursor_past = 0; packets = 0; reads = 0 }) c.saturating_add-waits.result c.self.inside.numbers.rnr_wait (held_rewound c.self.inside.terms (sender_with (bares c.self.inside.queue.items) c.self.inside.numbers) c.self.inside.caches c.self.invariant))
 
 pub returns-then-is_past_last_wait-clause-answer : goal.returns-then-is_past_last_wait-clause-answer
 returns-then-is_past_last_wait-clause-answer c =
@@ -25,7 +25,7 @@ returns-then-is_past_last_wait-clause-numbers c =
     rw (c.waited-self-inside.ensures, least, ← c.self.view_is) (ap (λ (t : Taking). t.sender) (sym row))
 
 pub invariant_of-self-2 : goal.invariant_of-self-2
-invariant_of-self-2 c = rw (c.rewound-self-inside.ensures, c.waited-self-inside-2.ensures) (held_waited c.self.inside.terms (record (sender_with (bares c.self.inside.queue.items) c.self.inside.numbers) { next = c.self.inside.numbers.una }) (record c.self.inside.caches { cursor = record { index = 0; offset = 0 }; packets = 0; reads = 0 }) c.saturating_add-waits.result true (held_rewound c.self.inside.terms (sender_with (bares c.self.inside.queue.items) c.self.inside.numbers) c.self.inside.caches c.self.invariant))
+invariant_of-self-2 c = rw (c.rewound-self-inside.ensures, c.waited-self-inside-2.ensures) (held_waited c.self.inside.terms (record (sender_with (bares c.self.inside.queue.items) c.self.inside.numbers) { next = c.self.inside.numbers.una }) (record c.self.inside.caches { cursor = record { index = 0; offset = 0 }; cursor_past = 0; packets = 0; reads = 0 }) c.saturating_add-waits.result true (held_rewound c.self.inside.terms (sender_with (bares c.self.inside.queue.items) c.self.inside.numbers) c.self.inside.caches c.self.invariant))
 
 pub returns-clause-answer : goal.returns-clause-answer
 returns-clause-answer c =

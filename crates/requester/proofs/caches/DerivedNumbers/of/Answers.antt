@@ -3,7 +3,7 @@ use Rattle.std.proofs.Common.{◌≡◌, ◌+◌, ◌-◌, ◌≤◌, arith, sym
 use Rattle.rdma_types.specs.Spans.{request_of}
 use Rattle.rdma_types.proofs.Numbers.{landing_before_end}
 use Rattle.requester.specs.Sending.{bares}
-use Rattle.requester.proofs.Keeping.{IsMark-front}
+use Rattle.requester.proofs.Keeping.{IsMark-front, IsPast-none}
 use Rattle.requester.proofs.caches.DerivedNumbers.of.Goals as goal
 
 pub seek_barrier-barrier-requires-clause-mark : goal.seek_barrier-barrier-requires-clause-mark
@@ -25,6 +25,7 @@ returns c =
       end = c.count-counts.ensures.end;
       cursor = IsMark-front (bares c.args.queue.now.items) c.args.terms.now.mtu;
       cursor_before = omega arith;
+      past = IsPast-none (bares c.args.queue.now.items) c.args.terms.now.mtu (record { index = 0; offset = 0 });
       barrier = ap (λ n. c.args.numbers.now.first + n) b.ensures.number;
       barrier_mark = b.ensures.mark;
       barrier_index = b.ensures.index ∙ ap (λ n. request_of (bares c.args.queue.now.items) c.args.terms.now.mtu n) (sym gone);
