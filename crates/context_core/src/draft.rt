@@ -61,6 +61,7 @@ impl Draft {
     }
 
     /// Takes the memory of a list of datagrams, to be filled again. What is in the list goes.
+    #[inline(always)]
     pub fn give_list(&mut self, list: Vec<Sent>)
         ensures { self.new ≡ self.old }
     {

@@ -86,6 +86,7 @@ impl Flight {
     }
 
     /// What it is where its receiver is at number `now`.
+    #[inline(always)]
     pub fn look(&self, now: u64) -> DatagramState<'_>
         ensures { told result ≡ look_at (Some self.now) now }
     {

@@ -73,6 +73,7 @@ impl Fabric {
 
     /// Keeps a datagram from this address under the next number, and forgets the oldest one where 16,384 are kept; that
     /// one is the answer. The next number is below 2^63. It takes no memory.
+    #[inline(always)]
     pub fn send(&mut self, from: Address, s: Sent) -> Option<Flight>
         requires { length self.old + 1 < 2 ^ 63 }
         ensures forgotten { result ≡ rules.kept_flight self.old (length self.old - 16383) }
@@ -89,6 +90,7 @@ impl Fabric {
     }
 
     /// Datagram `k`, whether lost or not; None where it is not among the last 16,384.
+    #[inline(always)]
     pub fn kept(&self, k: u64) -> Option<&Flight>
         ensures { option_copied result ≡ rules.kept_flight self.now k }
     {
@@ -107,6 +109,7 @@ impl Fabric {
     }
 
     /// Datagram `k` is taken, where it is kept.
+    #[inline(always)]
     pub fn took(&mut self, k: u64)
         ensures taken { self.new ≡ rules.took self.old k }
         ensures count { length self.new ≡ length self.old }
@@ -132,6 +135,7 @@ impl Fabric {
     }
 
     /// Whether datagram `k` is kept and neither lost nor taken.
+    #[inline(always)]
     pub fn is_pending(&self, k: u64) -> bool
         ensures { result ≡ is_pending self.now k }
     {
@@ -142,6 +146,7 @@ impl Fabric {
     }
 
     /// The least number of a datagram that is kept and neither lost nor taken.
+    #[inline(always)]
     pub fn pending(&self) -> Option<u64>
         ensures { result ≡ rules.pending self.now }
     {
@@ -154,6 +159,7 @@ impl Fabric {
 }
 
 /// Where datagram `k` stands among the `count` kept ones, where `gone` were sent before them.
+#[inline(always)]
 fn place_of(k: u64, gone: u64, count: usize) -> Option<usize>
     requires { gone < 2 ^ 63 }
     ensures { MatchOption result ((k ≤ gone) ⊎ (gone + count < k)) (λ i. (i < count)
@@ -168,6 +174,7 @@ fn place_of(k: u64, gone: u64, count: usize) -> Option<usize>
 }
 
 /// Forgets the oldest datagram where the store is full, and gives it.
+#[inline(always)]
 fn forget_oldest(ring: &mut VecDeque<Flight>) -> Option<Flight>
     requires { length ring.old.items ≤ 16384 }
     ensures oldest { result ≡ oldest_of_full ring.old.items }
@@ -181,6 +188,7 @@ fn forget_oldest(ring: &mut VecDeque<Flight>) -> Option<Flight>
 }
 
 /// The first place from `from` on whose datagram is neither lost nor taken, or the end.
+#[inline(always)]
 fn unsettled_from(ring: &VecDeque<Flight>, from: usize) -> usize
     requires { from ≤ deque_len ring.now }
     ensures { result ≡ from + prefix_len is_settled (drop from ring.now.items) }

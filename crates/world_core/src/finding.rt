@@ -18,6 +18,7 @@ impl World {
     }
 
     /// The place of the device with an address.
+    #[inline(always)]
     pub(crate) fn place_with(&self, address: Address) -> Option<usize>
         ensures { result ≡ position (λ d. same_address d.address address) self.now.devices }
     {

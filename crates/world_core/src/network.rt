@@ -47,6 +47,7 @@ fn opcode(bytes: &[u8]) -> u8
 
 /// What the end that bytes are for keeps, which was found before: its expected number for a request and its `top` for a
 /// response; 0 where there is no such end.
+#[inline(always)]
 fn mark_of(found: Option<FoundEnd>, bytes: &[u8]) -> u64
     ensures { (o : Option state.Device) → IsFoundOn o bytes.now found
         → result ≡ rules.now_at o bytes.now }

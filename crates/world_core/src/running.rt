@@ -27,6 +27,7 @@ use rdma_types::{Address, Answer, Items, Name, ObjName, Refusal, Sent};
 use std::alloc::{AllocError, Global};
 
 /// Sends a datagram. The memory of the one that the network forgets for it is filled again.
+#[inline(always)]
 fn send_one(fabric: &mut Fabric, draft: &mut Draft, from: Address, datagram: Sent)
     requires { length fabric.old + 1 < 2 ^ 63 }
     ensures sent { fabric.new ≡ forgetting (sending fabric.old from (datagram ∷ [])) }
