@@ -89,7 +89,7 @@ never : Decides false ⊥
 never = ((λ h. absurd (cc)), (λ h. absurd h))
 
 pub askable : (e : Event) → Decides (is_askable e) (IsAskable e)
-askable (event.MakeContext name) = never
+askable (event.MakeContext name) = always
 askable (event.MakeDomain o) = always
 askable (event.MakeRegion o domain base count rights) =
     Decides-like _ (λ p. (p.0, p.1.0, p.1.1.0, p.1.1.1)) (λ r. (r.0, (r.1, (r.2, r.3))))

@@ -13,13 +13,13 @@ use Rattle.protocol.specs.declared.events.Event.TheVariants as event
 use Rattle.protocol.specs.declared.images.ContextImage.{ContextImage}
 use Rattle.protocol.specs.Fabric.{is_late}
 use Rattle.protocol.specs.State.{Device, Flight, World, device_at}
-use Rattle.protocol.specs.WorldStep.{now_at, same_address}
+use Rattle.protocol.specs.WorldStep.{is_done, now_at, same_address}
 use Rattle.law_simulation.specs.Kept.{verb_in}
 use Rattle.order_rules.specs.AnyOpening.{AnyFairOrderIsLegal, PreparedOrdersAreLegal}
 use Rattle.order_rules.specs.Bridge.{IsAskable, IsAskedLine, IsFairOrder, is_at_home}
 use Rattle.order_rules.specs.Lines.{Line, device_after, flown, opening_of}
 use Rattle.order_rules.specs.Order.{AreRestored, Each, HasDatagram, IsDatagram, IsLine, IsWorldOrder, with_stopped}
-use Rattle.order_rules.specs.Sides.{IsInTime, IsInTimeLine, IsOneSidedLine, is_stopped, stops_beside_a_mover, world_of}
+use Rattle.order_rules.specs.Sides.{IsFreshLine, IsInTime, IsInTimeLine, IsOneSidedLine, is_stopped, makes_a_second, stops_beside_a_mover, world_of}
 use Rattle.order_rules.proofs.Growing.{each_push}
 use Rattle.order_rules.proofs.Lists.{some_is}
 use Rattle.law_orders.proofs.Orders.{address_after, after_all, at_after}
@@ -92,40 +92,45 @@ pub record IsFairLine (os : List Device) (earlier : List Line) (l : Line) : Type
   pub lawful : is_lawfully_posted l.receipt.event ≡ true
   pub one_sided : IsOneSidedLine os earlier l
   pub in_time : IsInTimeLine os earlier l
+  pub fresh : IsFreshLine os earlier l
 
 -- the causes by their tests
-abbrev pub cause_by : Bool → Bool → Bool → Bool → Bool → Option UnfairCause
-cause_by a b c d e =
+abbrev pub cause_by : Bool → Bool → Bool → Bool → Bool → Bool → Option UnfairCause
+cause_by a b c d e f =
     if not a then Some cause.NotAskable
     else if not b then Some cause.Unlawful
     else if not c then Some cause.NotAtHome
     else if d then Some cause.PartnerMoves
     else if not e then Some cause.TooLate
+    else if f then Some cause.NameTaken
     else None
 
-pub no_cause : (a b c d e : Bool) → cause_by a b c d e ≡ None → (a ≡ true) × (b ≡ true) × (c ≡ true) × (d ≡ false) × (e ≡ true)
-no_cause false b c d e h = absurd (cc)
-no_cause true false c d e h = absurd (cc)
-no_cause true true false d e h = absurd (cc)
-no_cause true true true true e h = absurd (cc)
-no_cause true true true false false h = absurd (cc)
-no_cause true true true false true h = (refl, refl, refl, refl, refl)
+pub no_cause : (a b c d e f : Bool) → cause_by a b c d e f ≡ None → (a ≡ true) × (b ≡ true) × (c ≡ true) × (d ≡ false) × (e ≡ true) × (f ≡ false)
+no_cause false b c d e f h = absurd (cc)
+no_cause true false c d e f h = absurd (cc)
+no_cause true true false d e f h = absurd (cc)
+no_cause true true true true e f h = absurd (cc)
+no_cause true true true false false f h = absurd (cc)
+no_cause true true true false true true h = absurd (cc)
+no_cause true true true false true false h = (refl, refl, refl, refl, refl, refl)
 
 -- the test that tells the cause
-abbrev Tells : Bool → Bool → Bool → Bool → Bool → UnfairCause → Type 0
-Tells a b c d e cause.NotAskable = a ≡ false
-Tells a b c d e cause.Unlawful = b ≡ false
-Tells a b c d e cause.NotAtHome = c ≡ false
-Tells a b c d e cause.PartnerMoves = d ≡ true
-Tells a b c d e cause.TooLate = e ≡ false
+abbrev Tells : Bool → Bool → Bool → Bool → Bool → Bool → UnfairCause → Type 0
+Tells a b c d e f cause.NotAskable = a ≡ false
+Tells a b c d e f cause.Unlawful = b ≡ false
+Tells a b c d e f cause.NotAtHome = c ≡ false
+Tells a b c d e f cause.PartnerMoves = d ≡ true
+Tells a b c d e f cause.TooLate = e ≡ false
+Tells a b c d e f cause.NameTaken = f ≡ true
 
-some_cause : (a b c d e : Bool) (x : UnfairCause) → cause_by a b c d e ≡ Some x → Tells a b c d e x
-some_cause false b c d e x h = subst (λ y. Tells false b c d e y) (some_is h) refl
-some_cause true false c d e x h = subst (λ y. Tells true false c d e y) (some_is h) refl
-some_cause true true false d e x h = subst (λ y. Tells true true false d e y) (some_is h) refl
-some_cause true true true true e x h = subst (λ y. Tells true true true true e y) (some_is h) refl
-some_cause true true true false false x h = subst (λ y. Tells true true true false false y) (some_is h) refl
-some_cause true true true false true x h = absurd (cc)
+some_cause : (a b c d e f : Bool) (x : UnfairCause) → cause_by a b c d e f ≡ Some x → Tells a b c d e f x
+some_cause false b c d e f x h = subst (λ y. Tells false b c d e f y) (some_is h) refl
+some_cause true false c d e f x h = subst (λ y. Tells true false c d e f y) (some_is h) refl
+some_cause true true false d e f x h = subst (λ y. Tells true true false d e f y) (some_is h) refl
+some_cause true true true true e f x h = subst (λ y. Tells true true true true e f y) (some_is h) refl
+some_cause true true true false false f x h = subst (λ y. Tells true true true false false f y) (some_is h) refl
+some_cause true true true false true true x h = subst (λ y. Tells true true true false true true y) (some_is h) refl
+some_cause true true true false true false x h = absurd (cc)
 
 not_both : (b : Bool) → b ≡ true → b ≡ false → ⊥
 not_both b h k = cc
@@ -156,36 +161,39 @@ module _ (tested : AskableIsTested) (os : List Device) (ids : HaveOwnIds os) (ea
       at
 
   cause_is : cause_in w l.receipt
-      ≡ cause_by (is_askable l.receipt.event) (is_lawfully_posted l.receipt.event) (is_at_home (device_at w l.receipt.device) l.receipt.event (verb_in l.receipt.event)) (is_stopped l.receipt.outcome.answer && stops_beside_a_mover w l.receipt.device l.receipt.event) (is_in_time w.sent (device_at w l.receipt.device) l.receipt.event)
+      ≡ cause_by (is_askable l.receipt.event) (is_lawfully_posted l.receipt.event) (is_at_home (device_at w l.receipt.device) l.receipt.event (verb_in l.receipt.event)) (is_stopped l.receipt.outcome.answer && stops_beside_a_mover w l.receipt.device l.receipt.event) (is_in_time w.sent (device_at w l.receipt.device) l.receipt.event) (is_done l.receipt.outcome.answer && makes_a_second w l.receipt.event)
   cause_is = refl
 
   pub fair_line : cause_in w l.receipt ≡ None → IsFairLine os earlier l
   fair_line none =
-      let tests = no_cause (is_askable l.receipt.event) (is_lawfully_posted l.receipt.event) (is_at_home (device_at w l.receipt.device) l.receipt.event (verb_in l.receipt.event)) (is_stopped l.receipt.outcome.answer && stops_beside_a_mover w l.receipt.device l.receipt.event) (is_in_time w.sent (device_at w l.receipt.device) l.receipt.event) (sym cause_is ∙ none) in
+      let tests = no_cause (is_askable l.receipt.event) (is_lawfully_posted l.receipt.event) (is_at_home (device_at w l.receipt.device) l.receipt.event (verb_in l.receipt.event)) (is_stopped l.receipt.outcome.answer && stops_beside_a_mover w l.receipt.device l.receipt.event) (is_in_time w.sent (device_at w l.receipt.device) l.receipt.event) (is_done l.receipt.outcome.answer && makes_a_second w l.receipt.event) (sym cause_is ∙ none) in
       record {
         asked = record { askable = (tested l.receipt.event).0 tests.0; at_home = sym home_is ∙ tests.2 };
         lawful = tests.1;
         one_sided = tests.3;
         in_time = timely_is.0 tests.4;
+        fresh = tests.5;
       }
 
-  told : (x : UnfairCause) → Tells (is_askable l.receipt.event) (is_lawfully_posted l.receipt.event) (is_at_home (device_at w l.receipt.device) l.receipt.event (verb_in l.receipt.event)) (is_stopped l.receipt.outcome.answer && stops_beside_a_mover w l.receipt.device l.receipt.event) (is_in_time w.sent (device_at w l.receipt.device) l.receipt.event) x → IsUnfairLine os earlier l x
+  told : (x : UnfairCause) → Tells (is_askable l.receipt.event) (is_lawfully_posted l.receipt.event) (is_at_home (device_at w l.receipt.device) l.receipt.event (verb_in l.receipt.event)) (is_stopped l.receipt.outcome.answer && stops_beside_a_mover w l.receipt.device l.receipt.event) (is_in_time w.sent (device_at w l.receipt.device) l.receipt.event) (is_done l.receipt.outcome.answer && makes_a_second w l.receipt.event) x → IsUnfairLine os earlier l x
   told cause.NotAskable h = λ askable. not_both (is_askable l.receipt.event) ((tested l.receipt.event).1 askable) h
   told cause.Unlawful h = h
   told cause.NotAtHome h = sym home_is ∙ h
   told cause.PartnerMoves h = λ one. not_both (is_stopped l.receipt.outcome.answer && stops_beside_a_mover w l.receipt.device l.receipt.event) h one
   told cause.TooLate h = λ timely. not_both (is_in_time w.sent (device_at w l.receipt.device) l.receipt.event) (timely_is.1 timely) h
+  told cause.NameTaken h = λ fresh. not_both (is_done l.receipt.outcome.answer && makes_a_second w l.receipt.event) h fresh
 
   pub unfair_line : (x : UnfairCause) → cause_in w l.receipt ≡ Some x → IsUnfairLine os earlier l x
-  unfair_line x some = told x (some_cause (is_askable l.receipt.event) (is_lawfully_posted l.receipt.event) (is_at_home (device_at w l.receipt.device) l.receipt.event (verb_in l.receipt.event)) (is_stopped l.receipt.outcome.answer && stops_beside_a_mover w l.receipt.device l.receipt.event) (is_in_time w.sent (device_at w l.receipt.device) l.receipt.event) x (sym cause_is ∙ some))
+  unfair_line x some = told x (some_cause (is_askable l.receipt.event) (is_lawfully_posted l.receipt.event) (is_at_home (device_at w l.receipt.device) l.receipt.event (verb_in l.receipt.event)) (is_stopped l.receipt.outcome.answer && stops_beside_a_mover w l.receipt.device l.receipt.event) (is_in_time w.sent (device_at w l.receipt.device) l.receipt.event) (is_done l.receipt.outcome.answer && makes_a_second w l.receipt.event) x (sym cause_is ∙ some))
 
 -- a line that is unfair is not fair
-not_fair : (os : List Device) (earlier : List Line) (l : Line) (x : UnfairCause) → IsUnfairLine os earlier l x → IsAskedLine os earlier l → IsOneSidedLine os earlier l → IsInTimeLine os earlier l → is_lawfully_posted l.receipt.event ≡ true → ⊥
-not_fair os earlier l cause.NotAskable unfair asked one time lawful = unfair asked.askable
-not_fair os earlier l cause.Unlawful unfair asked one time lawful = not_both (is_lawfully_posted l.receipt.event) lawful unfair
-not_fair os earlier l cause.NotAtHome unfair asked one time lawful = not_both (is_at_home (device_after os earlier l.receipt.device) l.receipt.event (verb_in l.receipt.event)) asked.at_home unfair
-not_fair os earlier l cause.PartnerMoves unfair asked one time lawful = unfair one
-not_fair os earlier l cause.TooLate unfair asked one time lawful = unfair time
+not_fair : (os : List Device) (earlier : List Line) (l : Line) (x : UnfairCause) → IsUnfairLine os earlier l x → IsAskedLine os earlier l → IsOneSidedLine os earlier l → IsInTimeLine os earlier l → IsFreshLine os earlier l → is_lawfully_posted l.receipt.event ≡ true → ⊥
+not_fair os earlier l cause.NotAskable unfair asked one time fresh lawful = unfair asked.askable
+not_fair os earlier l cause.Unlawful unfair asked one time fresh lawful = not_both (is_lawfully_posted l.receipt.event) lawful unfair
+not_fair os earlier l cause.NotAtHome unfair asked one time fresh lawful = not_both (is_at_home (device_after os earlier l.receipt.device) l.receipt.event (verb_in l.receipt.event)) asked.at_home unfair
+not_fair os earlier l cause.PartnerMoves unfair asked one time fresh lawful = unfair one
+not_fair os earlier l cause.TooLate unfair asked one time fresh lawful = unfair time
+not_fair os earlier l cause.NameTaken unfair asked one time fresh lawful = unfair fresh
 
 -- ---- all lines
 
@@ -256,6 +264,7 @@ fair_run os ls order fair = record {
     one_sided = λ k l at. (fair k l at).one_sided;
     in_time = λ k l at. (fair k l at).in_time;
     asked = λ k l at. (fair k l at).asked;
+    fresh = λ k l at. (fair k l at).fresh;
   };
   lawful = λ k l at. (fair k l at).lawful;
 }
@@ -264,7 +273,7 @@ says_of : (os : List Device) (ls : List Line) → IsWorldOrder os ls → (f : Fa
 says_of os ls order Fair fair = fair_run os ls order fair
 says_of os ls order (Unfair x place) says = (
   record { line = says.0; there = says.1; unfair = says.2; first = fair_run os (take place ls) (front_order os ls place order) says.3 },
-  (λ run. not_fair os (take place ls) says.0 x says.2 (run.fair.asked place says.0 says.1) (run.fair.one_sided place says.0 says.1) (run.fair.in_time place says.0 says.1) (run.lawful place says.0 says.1)),
+  (λ run. not_fair os (take place ls) says.0 x says.2 (run.fair.asked place says.0 says.1) (run.fair.one_sided place says.0 says.1) (run.fair.in_time place says.0 says.1) (run.fair.fresh place says.0 says.1) (run.lawful place says.0 says.1)),
 )
 
 pub exact : AskableIsTested → (os : List Device) (ls : List Line) → HaveOwnIds os → IsWorldOrder os ls → Says os ls (fairness_of os ls)

@@ -44,9 +44,8 @@ is_depth n = nat_le 1 n && nat_le n most_depth
 abbrev pub is_region : ℕ → ℕ → ℕ → Bool
 is_region base count rights = nat_le 1 count && (nat_le count most_region_bytes && (nat_le base (2 ^ 63) && nat_lt rights 16))
 
--- threads may ask for the event: no context is made, no end alone is connected, and its fields are in their ranges
+-- threads may ask for the event: no end alone is connected, and its fields are in their ranges
 abbrev pub is_askable : Event → Bool
-is_askable (event.MakeContext name) = false
 is_askable (event.Connect o peer partner terms) = false
 is_askable (event.MakeRegion o domain base count rights) = is_region base count rights.0
 is_askable (event.MakeCq o capacity) = nat_le 1 capacity && nat_le capacity most_capacity

@@ -1,7 +1,7 @@
 -- Whether an order of steps is fair, as a test, and which step is not and why (this project's choice).
 use Rattle.std.specs.Prelude.{◌≡◌, ℕ, ◌&&◌, ◌++◌, ◌∷◌, not, true, false, List, [], length, Option, None, Some, slice_get, take, if◌then◌else◌}
 use Rattle.protocol.specs.State.{Device, World, device_at, empty_world}
-use Rattle.protocol.specs.WorldStep.{world_after}
+use Rattle.protocol.specs.WorldStep.{is_done, world_after}
 use Rattle.protocol.specs.declared.events.WorldEvent.{WorldEvent}
 use Rattle.packetless_machine.specs.Legal.{IsLegal, IsLegalFrom}
 use Rattle.packetless_machine.specs.Machine.{Machine}
@@ -13,7 +13,7 @@ use Rattle.order_rules.specs.Bridge.{IsAskable, IsFairOrder, is_at_home}
 use Rattle.order_rules.specs.Hears.{heard}
 use Rattle.order_rules.specs.Lines.{Line, device_after}
 use Rattle.order_rules.specs.Order.{IsWorldOrder}
-use Rattle.order_rules.specs.Sides.{IsInTimeLine, IsOneSidedLine, is_stopped, stops_beside_a_mover, world_of}
+use Rattle.order_rules.specs.Sides.{IsFreshLine, IsInTimeLine, IsOneSidedLine, is_stopped, makes_a_second, stops_beside_a_mover, world_of}
 use Rattle.fair_orders.specs.declared.fairness.Fairness.{Fairness}
 use Rattle.fair_orders.specs.declared.fairness.Fairness.TheVariants.{Fair, Unfair}
 use Rattle.fair_orders.specs.declared.fairness.UnfairCause.{UnfairCause}
@@ -31,6 +31,7 @@ cause_in w r =
     else if not (is_at_home (device_at w r.device) r.event (verb_in r.event)) then Some cause.NotAtHome
     else if is_stopped r.outcome.answer && stops_beside_a_mover w r.device r.event then Some cause.PartnerMoves
     else if not (is_in_time w.sent (device_at w r.device) r.event) then Some cause.TooLate
+    else if is_done r.outcome.answer && makes_a_second w r.event then Some cause.NameTaken
     else None
 
 -- the step with that place in the order is not fair, or those after it tell
@@ -60,6 +61,7 @@ IsUnfairLine openings earlier l cause.Unlawful = is_lawfully_posted l.receipt.ev
 IsUnfairLine openings earlier l cause.NotAtHome = is_at_home (device_after openings earlier l.receipt.device) l.receipt.event (verb_in l.receipt.event) ≡ false
 IsUnfairLine openings earlier l cause.PartnerMoves = IsOneSidedLine openings earlier l → ⊥
 IsUnfairLine openings earlier l cause.TooLate = IsInTimeLine openings earlier l → ⊥
+IsUnfairLine openings earlier l cause.NameTaken = IsFreshLine openings earlier l → ⊥
 
 -- what applications hear in the lines is legal, from each state of the packetless machine that the opening stands for, and after
 -- each preparation of the opening

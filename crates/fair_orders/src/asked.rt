@@ -81,12 +81,12 @@ fn is_depth(depth: u32) -> bool
     depth >= 1 && depth <= MOST_DEPTH
 }
 
-/// Whether threads may ask for an event: it makes no context and connects no end alone, and its fields are in their ranges.
+/// Whether threads may ask for an event: it connects no end alone, and its fields are in their ranges.
 pub fn is_askable(event: &Event) -> bool
     ensures { result ≡ asked.is_askable event.now }
 {
     match event {
-        Event::MakeContext { .. } | Event::Connect { .. } => false,
+        Event::Connect { .. } => false,
         Event::MakeRegion {
             base,
             length,

@@ -6,7 +6,7 @@ ghost use Rattle.fair_orders.specs.declared.fairness.Fairness.TheVariants.{Fair}
 /// Why a step makes an order unfair.
 #[derive(Clone, Copy, Debug, PartialEq, Eq)]
 pub enum UnfairCause {
-    /// Threads may not ask for the event: it makes a context or connects one end alone, or a field is out of its range.
+    /// Threads may not ask for the event: it connects one end alone, or a field is out of its range.
     NotAskable,
     /// No device takes the posted request: a field that its kind does not use is set, or an atomic has another length than 8.
     Unlawful,
@@ -16,6 +16,8 @@ pub enum UnfairCause {
     PartnerMoves,
     /// Every datagram that may have arrived is more than 2^22 packet numbers late.
     TooLate,
+    /// A context is made whose name another has, on a device or carried.
+    NameTaken,
 }
 
 /// Whether an order is fair.

@@ -8,8 +8,8 @@ use Rattle.protocol.specs.declared.images.ContextImage.{ContextImage}
 use Rattle.protocol.specs.DeviceStep.{device_step}
 use Rattle.protocol.specs.Replay.{replay}
 use Rattle.protocol.specs.State.{Device, no_device}
-use Rattle.law_simulation.specs.Kept.{kept_verb, verb_in}
-use Rattle.order_rules.specs.Hears.{heard}
+use Rattle.law_simulation.specs.Kept.{kept_verb}
+use Rattle.order_rules.specs.Hears.{heard, verb_heard}
 use Rattle.order_rules.specs.Lines.{Line, device_after, events_on, opening_of}
 use Rattle.order_rules.specs.Order.{with_stopped}
 use Rattle.order_rules.specs.Sides.{carried_after, without_restored}
@@ -132,12 +132,12 @@ after_none os begun = own_map os os begun.own
 
 -- ---- what is heard and carried
 
-pub heard-push : (ls : List Line) (l : Line) → heard (ls ++ l ∷ []) ≡ heard ls ++ kept_verb (verb_in l.receipt.event) l.receipt.outcome.answer
+pub heard-push : (ls : List Line) (l : Line) → heard (ls ++ l ∷ []) ≡ heard ls ++ kept_verb (verb_heard l.receipt.event) l.receipt.outcome.answer
 unfolding heard
-heard-push [] l = append-nil (kept_verb (verb_in l.receipt.event) l.receipt.outcome.answer)
+heard-push [] l = append-nil (kept_verb (verb_heard l.receipt.event) l.receipt.outcome.answer)
 heard-push (x ∷ ls) l =
-    ap (λ vs. kept_verb (verb_in x.receipt.event) x.receipt.outcome.answer ++ vs) (heard-push ls l)
-    ∙ sym (append_assoc (kept_verb (verb_in x.receipt.event) x.receipt.outcome.answer) (heard ls) (kept_verb (verb_in l.receipt.event) l.receipt.outcome.answer))
+    ap (λ vs. kept_verb (verb_heard x.receipt.event) x.receipt.outcome.answer ++ vs) (heard-push ls l)
+    ∙ sym (append_assoc (kept_verb (verb_heard x.receipt.event) x.receipt.outcome.answer) (heard ls) (kept_verb (verb_heard l.receipt.event) l.receipt.outcome.answer))
 
 pub carried-push : (images : List ContextImage) (ls : List Line) (l : Line) → carried_after images (ls ++ l ∷ []) ≡ with_stopped l.receipt.outcome.image (without_restored l.receipt.event l.receipt.outcome.answer (carried_after images ls))
 unfolding carried_after

@@ -22,22 +22,24 @@ use Rattle.protocol.specs.Fabric.{is_late, kept_flight, look, look_at, Here, IsA
 use Rattle.protocol.specs.Images as images
 use Rattle.protocol.specs.EndWords.{is_paused_link}
 use Rattle.protocol.specs.Refusals.{has_context, has_husk, has_moved_out, refusal_of, links_of}
-use Rattle.rdma_types.specs.Limits.{most_husks}
+use Rattle.rdma_types.specs.Limits.{most_contexts, most_husks}
 use Rattle.protocol.specs.State.{Context, Device, Flight, World, context_at, device_at, no_device}
 use Rattle.protocol.specs.WorldStep as step
-use Rattle.protocol.specs.WorldStep.{context_causes, context_of_event, device_with, has_device, home, is_live, live_context, now_at, numbered, partner_moves, ran, runs, with_device, with_image, with_taken, world_after, world_step}
+use Rattle.protocol.specs.WorldStep.{context_causes, context_of_event, device_with, has_device, home, is_live, live_context, is_done, now_at, numbered, partner_moves, ran, runs, with_device, with_image, with_taken, world_after, world_step}
 use Rattle.packetless_machine.specs.Machine.{Machine}
-use Rattle.law_simulation.specs.Kept.{verb_in, verb_of, kept_of, kept_verb}
+use Rattle.rdma_types.specs.declared.verbs.Verb.TheVariants as verbs
+use Rattle.law_simulation.specs.Kept.{is_unmade, is_unmade_by, verb_in, verb_of, kept_of, kept_verb}
 use Rattle.law_simulation.specs.Law.{IsEventInRange, IsInRange, kept}
 use Rattle.law_simulation.specs.Stands.{Stands}
 use Rattle.law_simulation.proofs.relation.Tables.{has_name-push, map-store_at, number-at}
 use Rattle.law_simulation.proofs.relation.Verbs.{causes_are, stepped_at}
 use Rattle.std.proofs.lemmas.List.{map-id}
-use Rattle.order_rules.specs.Bridge.{IsAskable, is_at_home, unless_refused, where_it_lives, world_events}
+use Rattle.order_rules.specs.Bridge.{IsAskable, is_at_home, unless_refused, unless_unmade, where_it_lives, world_events}
+use Rattle.order_rules.specs.Hears.{verb_heard}
 use Rattle.order_rules.specs.Order.{with_stopped}
-use Rattle.order_rules.specs.Sides.{is_stopped, stops_beside_a_mover, without_restored}
+use Rattle.order_rules.specs.Sides.{is_stopped, makes_a_second, stops_beside_a_mover, without_restored}
 use Rattle.law_orders.proofs.Devices.{IsNoStop, IsWithin, away, heard_still, refused_away, step_plain, unheard_husk}
-use Rattle.law_orders.proofs.Found.{device_found, home_is}
+use Rattle.law_orders.proofs.Found.{device_found, home_is, named_somewhere}
 use Rattle.law_orders.proofs.Images.{found_named, has_without_less, image_in}
 
 -- ---- what is said
@@ -61,7 +63,7 @@ pub record Leads (w v : World) (number : ℕ) (e : Event) (s : device.Step) : Ty
 -- world events play the step
 pub record Plays (w : World) (number : ℕ) (e : Event) (s : device.Step) (es : List WorldEvent) : Type 0 where
   pub ranges : All IsInRange es
-  pub heard : kept w es ≡ kept_verb (verb_in e) s.outcome.answer
+  pub heard : kept w es ≡ kept_verb (verb_heard e) s.outcome.answer
   pub leads : Leads w (world_after w es) number e s
 
 -- ---- no event
@@ -98,7 +100,7 @@ refused_leads w number k e r made stopped store carried = record {
 }
 
 -- is no event of the world, where nothing is heard of it
-pub refused_plays : (w : World) (number k : ℕ) (e : Event) (r : Refusal) → has_device w k ≡ true → AreStopped w → store_for w number e ≡ w.sent → without_restored e (answer.Refused r) w.carried ≡ w.carried → kept_verb (verb_in e) (answer.Refused r) ≡ [] →
+pub refused_plays : (w : World) (number k : ℕ) (e : Event) (r : Refusal) → has_device w k ≡ true → AreStopped w → store_for w number e ≡ w.sent → without_restored e (answer.Refused r) w.carried ≡ w.carried → kept_verb (verb_heard e) (answer.Refused r) ≡ [] →
     Plays w number e (device.answers (device_at w k) (answer.Refused r)) []
 unfolding world_after
 refused_plays w number k e r made stopped store carried unheard = record {
@@ -155,7 +157,7 @@ pub one_range : (x : WorldEvent) → IsInRange x → All IsInRange (x ∷ [])
 one_range x h = All-cons IsInRange x [] h (All-nil IsInRange)
 
 -- one world event plays the step
-one_plays : (w : World) (number : ℕ) (e : Event) (s : device.Step) (x : WorldEvent) (t : step.Step) → world_step w x ≡ t → IsInRange x → kept_of w x t.answer ≡ kept_verb (verb_in e) s.outcome.answer → Leads w t.world number e s → Plays w number e s (x ∷ [])
+one_plays : (w : World) (number : ℕ) (e : Event) (s : device.Step) (x : WorldEvent) (t : step.Step) → world_step w x ≡ t → IsInRange x → kept_of w x t.answer ≡ kept_verb (verb_heard e) s.outcome.answer → Leads w t.world number e s → Plays w number e s (x ∷ [])
 unfolding world_after
 one_plays w number e s x t is range heard leads = record {
   ranges = one_range x range;
@@ -197,6 +199,16 @@ pub record IsDelivered (w : World) (d : Device) (number : ℕ) (from : Address) 
 abbrev pub Delivers : World → Device → ℕ → Event → Type 0
 Delivers w d number (event.Arrive from bytes) = IsDelivered w d number from bytes
 Delivers w d number other = Unit {0}
+
+-- an event that makes no context
+abbrev pub IsNoMaking : Event → Type 0
+IsNoMaking (event.MakeContext name) = ⊥
+IsNoMaking other = Unit {0}
+
+heard_plain : (e : Event) → IsNoMaking e → verb_heard e ≡ verb_in e
+unfolding verb_heard
+heard_plain (event.MakeContext name) not_so = absurd not_so
+heard_plain other not_so = refl
 
 -- the image of a restore is carried
 abbrev pub Restores : World → Event → Type 0
@@ -252,25 +264,25 @@ module _ (w : World) (m : Machine) (s : Stands w m) (k : ℕ) (made : has_device
 
   -- ---- an event of a context
 
-  at_home : (number : ℕ) (e : Event) → IsEventInRange e → IsNoStop e → IsNoRestore e → IsNoArrival e → has_context d (context_of_event e) ≡ true → Plays w number e (device_step d e) (world_event.At e ∷ [])
-  at_home number e range no_stop no_restore no_arrival there =
+  at_home : (number : ℕ) (e : Event) → IsEventInRange e → IsNoStop e → IsNoRestore e → IsNoArrival e → IsNoMaking e → has_context d (context_of_event e) ≡ true → Plays w number e (device_step d e) (world_event.At e ∷ [])
+  at_home number e range no_stop no_restore no_arrival no_making there =
       let home = home_is w m k (context_of_event e) s.placed made there in
       let is : world_step w (world_event.At e) ≡ ran w (device_step d e) =
       stepped_at w e None (causes_are w (context_of_event e) ∙ ap (λ b. if b then None else if step.is_carried w (context_of_event e) then Some refusals.Stopped else Some refusals.NoSuch) home.live)
       ∙ ap (λ x. runs w x e) home.home in
       one_plays w number e (device_step d e) (world_event.At e) (ran w (device_step d e)) is range
-      (ap (λ v. kept_verb v (ran w (device_step d e)).answer) (verb_at w e) ∙ (ap (kept_verb (verb_in e)) (ran_answer w (device_step d e)) ∙ heard_still d e (length w.sent + 1)))
+      (ap (λ v. kept_verb v (ran w (device_step d e)).answer) (verb_at w e) ∙ (ap (kept_verb (verb_in e)) (ran_answer w (device_step d e)) ∙ (heard_still d e (length w.sent + 1) ∙ ap (λ v. kept_verb v (device_step d e).outcome.answer) (sym (heard_plain e no_making)))))
       (ran_leads w w number e (device_step d e) refl refl (sym (unarrived w number e no_arrival)) stopped (step_plain d e no_stop).image (unrestored e _ w.carried no_restore))
 
-  pub at_context : (number : ℕ) (e : Event) → IsWithin d e → IsEventInRange e → IsNoStop e → IsNoRestore e → IsNoArrival e →
+  pub at_context : (number : ℕ) (e : Event) → IsWithin d e → IsEventInRange e → IsNoStop e → IsNoRestore e → IsNoArrival e → IsNoMaking e →
       (has_context d (context_of_event e) ≡ false → kept_verb (verb_in e) (answer.Refused (away d (context_of_event e))) ≡ []) → Plays w number e (device_step d e) (where_it_lives d e)
-  at_context number e within range no_stop no_restore no_arrival unheard = by (has_context d (context_of_event e)) refl
+  at_context number e within range no_stop no_restore no_arrival no_making unheard = by (has_context d (context_of_event e)) refl
     where
       by : (b : Bool) → has_context d (context_of_event e) ≡ b → Plays w number e (device_step d e) (if b then world_event.At e ∷ [] else [])
-      by true there = at_home number e range no_stop no_restore no_arrival there
+      by true there = at_home number e range no_stop no_restore no_arrival no_making there
       by false none =
           subst (λ x. Plays w number e x []) (sym (refused_away d e within none))
-          (refused_plays w number k e (away d (context_of_event e)) made stopped (unarrived w number e no_arrival) (unrestored e _ w.carried no_restore) (unheard none))
+          (refused_plays w number k e (away d (context_of_event e)) made stopped (unarrived w number e no_arrival) (unrestored e _ w.carried no_restore) (ap (λ v. kept_verb v (answer.Refused (away d (context_of_event e)))) (heard_plain e no_making) ∙ unheard none))
 
   -- ---- an arrival
 
@@ -298,7 +310,7 @@ module _ (w : World) (m : Machine) (s : Stands w m) (k : ℕ) (made : has_device
         ∙ (ap (λ x. runs (with_taken w number) d (event.Arrive x a.flight.bytes)) a.sender ∙ ap (λ x. runs (with_taken w number) d (event.Arrive from x)) a.says))
 
     pub at_arrival : Plays w number (event.Arrive from bytes) (device_step d (event.Arrive from bytes)) (world_event.Deliver number ∷ [])
-    unfolding kept_verb verb_in verb_of
+    unfolding kept_verb verb_in verb_heard verb_of
     at_arrival =
         one_plays w number (event.Arrive from bytes) (device_step d (event.Arrive from bytes)) (world_event.Deliver number) (ran (with_taken w number) (device_step d (event.Arrive from bytes))) delivered tt refl
         (ran_leads w (with_taken w number) number (event.Arrive from bytes) (device_step d (event.Arrive from bytes)) refl refl refl (taken_stopped number) (step_plain d (event.Arrive from bytes) tt).image refl)
@@ -337,7 +349,7 @@ module _ (w : World) (m : Machine) (s : Stands w m) (k : ℕ) (made : has_device
 
   stop_by : (number : ℕ) (n : Name) (alone : Bool) (r : Option Refusal) → refusal_of d (event.Stop n alone) ≡ r → (is_stopped (device.by_refusal d (event.Stop n alone) r).outcome.answer && stops_beside_a_mover w k (event.Stop n alone)) ≡ false →
       Plays w number (event.Stop n alone) (device.by_refusal d (event.Stop n alone) r) (unless_refused (device.by_refusal d (event.Stop n alone) r).outcome.answer (world_event.Stop n ∷ []))
-  unfolding stops_beside_a_mover device.stops kept_verb verb_in verb_of
+  unfolding stops_beside_a_mover device.stops kept_verb verb_in verb_heard verb_of
   stop_by number n alone (Some r) h still = refused_plays w number k (event.Stop n alone) r made stopped refl refl refl
   stop_by number n alone None h still =
       one_plays w number (event.Stop n alone) (device.stops d (context_at d n)) (world_event.Stop n) (ran w (device.stops d (context_at d n))) (stop_is n alone h still) tt refl (stop_leads number n alone)
@@ -372,7 +384,7 @@ module _ (w : World) (m : Machine) (s : Stands w m) (k : ℕ) (made : has_device
 
   restore_by : (number : ℕ) (image : ContextImage) (r : Option Refusal) → refusal_of d (event.Restore image) ≡ r → image_in image.name w.carried ≡ Some image →
       Plays w number (event.Restore image) (device.by_refusal d (event.Restore image) r) (unless_refused (device.by_refusal d (event.Restore image) r).outcome.answer (world_event.Restore image.name d.id ∷ []))
-  unfolding device.restores kept_verb verb_in verb_of
+  unfolding device.restores kept_verb verb_in verb_heard verb_of
   restore_by number image (Some r) h carried = refused_plays w number k (event.Restore image) r made stopped refl refl refl
   restore_by number image None h carried =
       one_plays w number (event.Restore image) (device.restores d (images.context_of image)) (world_event.Restore image.name d.id)
@@ -392,32 +404,74 @@ module _ (w : World) (m : Machine) (s : Stands w m) (k : ℕ) (made : has_device
       ∙ ap (λ x. runs w x (event.Release n)) here
 
   pub at_release : (number : ℕ) (n : Name) → Plays w number (event.Release n) (device_step d (event.Release n)) (world_event.Release n d.id ∷ [])
-  unfolding kept_verb verb_in verb_of
+  unfolding kept_verb verb_in verb_heard verb_of
   at_release number n =
       one_plays w number (event.Release n) (device_step d (event.Release n)) (world_event.Release n d.id) (ran w (device_step d (event.Release n))) (release_is n) tt refl
       (ran_leads w w number (event.Release n) (device_step d (event.Release n)) refl refl refl stopped (step_plain d (event.Release n) tt).image refl)
 
+  -- ---- a new context
+
+  -- the refusal of a device that has the name, or no room
+  abbrev taken_or_full : Bool → Bool → Option Refusal
+  taken_or_full taken full = first_cause (cause refusals.NumberTaken taken ∷ cause refusals.TooMany full ∷ [])
+
+  making_is : (n : Name) → world_step w (world_event.MakeContext n d.id) ≡ step.by_refusal w (first_cause (cause refusals.NumberTaken (is_live w n || step.is_carried w n) ∷ [])) (ran w (device_step d (event.MakeContext n)))
+  unfolding world_step step.makes_context first_cause
+  making_is n =
+      ap (λ b. step.by_refusal w (first_cause (cause refusals.NoSuch (not b) ∷ cause refusals.NumberTaken (is_live w n || step.is_carried w n) ∷ [])) (runs w (device_at w d.id) (event.MakeContext n))) made_here
+      ∙ ap (λ x. step.by_refusal w (first_cause (cause refusals.NumberTaken (is_live w n || step.is_carried w n) ∷ [])) (runs w x (event.MakeContext n))) here
+
+  making_step : (n : Name) (taken full : Bool) → (has_context d n || has_husk d n) ≡ taken → nat_le most_contexts (length d.contexts) ≡ full → device_step d (event.MakeContext n) ≡ device.by_refusal d (event.MakeContext n) (taken_or_full taken full)
+  unfolding device_step refusal_of
+  making_step n taken full is_taken is_full = λ i. device.by_refusal d (event.MakeContext n) (taken_or_full (is_taken i) (is_full i))
+
+  making_heard : (n : Name) (a : Answer) → kept_of w (world_event.MakeContext n d.id) a ≡ kept_verb (verb_heard (event.MakeContext n)) a
+  unfolding verb_of verb_heard
+  making_heard n a = ap (λ b. kept_verb (Some (verbs.Context n b)) a) made_here
+
+  making_by : (number : ℕ) (n : Name) (taken full somewhere : Bool) → (has_context d n || has_husk d n) ≡ taken → nat_le most_contexts (length d.contexts) ≡ full → (is_live w n || step.is_carried w n) ≡ somewhere → (taken ≡ true → somewhere ≡ true) →
+      (is_done (device.by_refusal d (event.MakeContext n) (taken_or_full taken full)).outcome.answer && somewhere) ≡ false →
+      Plays w number (event.MakeContext n) (device.by_refusal d (event.MakeContext n) (taken_or_full taken full)) (unless_unmade (device.by_refusal d (event.MakeContext n) (taken_or_full taken full)).outcome.answer (world_event.MakeContext n d.id ∷ []))
+  unfolding first_cause is_unmade is_unmade_by device.makes_context kept_verb verb_heard numbered ran
+  making_by number n true full true is_taken is_full is_somewhere so fresh =
+      one_plays w number (event.MakeContext n) (device.answers d (answer.Refused refusals.NumberTaken)) (world_event.MakeContext n d.id) (step.answers w (answer.Refused refusals.NumberTaken))
+      (making_is n ∙ ap (λ b. step.by_refusal w (first_cause (cause refusals.NumberTaken b ∷ [])) (ran w (device_step d (event.MakeContext n)))) is_somewhere) tt
+      (making_heard n (answer.Refused refusals.NumberTaken)) (refused_leads w number k (event.MakeContext n) refusals.NumberTaken made stopped refl refl)
+  making_by number n true full false is_taken is_full is_somewhere so fresh = absurd (cc (so refl))
+  making_by number n false true somewhere is_taken is_full is_somewhere so fresh = refused_plays w number k (event.MakeContext n) refusals.TooMany made stopped refl refl refl
+  making_by number n false false true is_taken is_full is_somewhere so fresh = absurd (cc)
+  making_by number n false false false is_taken is_full is_somewhere so fresh =
+      one_plays w number (event.MakeContext n) (device.makes_context d n) (world_event.MakeContext n d.id) (ran w (device.makes_context d n))
+      (making_is n ∙ (ap (λ b. step.by_refusal w (first_cause (cause refusals.NumberTaken b ∷ [])) (ran w (device_step d (event.MakeContext n)))) is_somewhere ∙ ap (ran w) (making_step n false false is_taken is_full))) tt
+      (making_heard n answer.Done) (ran_leads w w number (event.MakeContext n) (device.makes_context d n) refl refl refl stopped refl refl)
+
+  pub at_making : (number : ℕ) (n : Name) → (is_done (device_step d (event.MakeContext n)).outcome.answer && makes_a_second w (event.MakeContext n)) ≡ false →
+      Plays w number (event.MakeContext n) (device_step d (event.MakeContext n)) (unless_unmade (device_step d (event.MakeContext n)).outcome.answer (world_event.MakeContext n d.id ∷ []))
+  unfolding device_step refusal_of makes_a_second
+  at_making number n fresh =
+      making_by number n (has_context d n || has_husk d n) (nat_le most_contexts (length d.contexts)) (is_live w n || step.is_carried w n) refl refl refl (named_somewhere w m k n s.placed made) fresh
+
   -- ---- the table
 
-  pub plays : (number : ℕ) (e : Event) → IsAskable e → is_at_home d e (verb_in e) ≡ true → (is_stopped (device_step d e).outcome.answer && stops_beside_a_mover w k e) ≡ false → Delivers w d number e → Restores w e →
+  pub plays : (number : ℕ) (e : Event) → IsAskable e → is_at_home d e (verb_in e) ≡ true → (is_stopped (device_step d e).outcome.answer && stops_beside_a_mover w k e) ≡ false → (is_done (device_step d e).outcome.answer && makes_a_second w e) ≡ false → Delivers w d number e → Restores w e →
       Plays w number e (device_step d e) (world_events d number e (device_step d e).outcome.answer)
   unfolding verb_in kept_verb
-  plays number (event.MakeContext name) askable home one_sided arrives carried = absurd askable
-  plays number (event.Connect o peer partner terms) askable home one_sided arrives carried = absurd askable
-  plays number (event.MakeDomain o) askable home one_sided arrives carried = at_context number (event.MakeDomain o) refl askable tt tt tt (λ none. unheard_husk d _ o.context none home)
-  plays number (event.MakeRegion o domain base count rights) askable home one_sided arrives carried = at_context number (event.MakeRegion o domain base count rights) refl askable tt tt tt (λ none. unheard_husk d _ o.context none home)
-  plays number (event.MakeCq o capacity) askable home one_sided arrives carried = at_context number (event.MakeCq o capacity) refl askable tt tt tt (λ none. unheard_husk d _ o.context none home)
-  plays number (event.MakeQp o domain send_cq recv_cq send_depth recv_depth) askable home one_sided arrives carried = at_context number (event.MakeQp o domain send_cq recv_cq send_depth recv_depth) refl askable tt tt tt (λ none. unheard_husk d _ o.context none home)
-  plays number (event.DropRegion o) askable home one_sided arrives carried = at_context number (event.DropRegion o) refl askable tt tt tt (λ none. unheard_husk d _ o.context none home)
-  plays number (event.Store o at bytes) askable home one_sided arrives carried = at_context number (event.Store o at bytes) refl askable tt tt tt (λ none. unheard_husk d _ o.context none home)
-  plays number (event.Load o at count) askable home one_sided arrives carried = at_context number (event.Load o at count) refl askable tt tt tt (λ none. unheard_husk d _ o.context none home)
-  plays number (event.PostSend o r) askable home one_sided arrives carried = at_context number (event.PostSend o r) refl askable tt tt tt (λ none. unheard_husk d _ o.context none home)
-  plays number (event.PostRecv o r) askable home one_sided arrives carried = at_context number (event.PostRecv o r) refl askable tt tt tt (λ none. unheard_husk d _ o.context none home)
-  plays number (event.Poll o most) askable home one_sided arrives carried = at_context number (event.Poll o most) refl askable tt tt tt (λ none. unheard_husk d _ o.context none home)
-  plays number (event.Transmit o) askable home one_sided arrives carried = at_context number (event.Transmit o) refl askable tt tt tt (λ none. refl)
-  plays number (event.Expire o) askable home one_sided arrives carried = at_context number (event.Expire o) refl askable tt tt tt (λ none. refl)
-  plays number (event.RnrOver o) askable home one_sided arrives carried = at_context number (event.RnrOver o) refl askable tt tt tt (λ none. refl)
-  plays number (event.Arrive from bytes) askable home one_sided arrives carried = at_arrival number from bytes arrives
-  plays number (event.Stop n alone) askable home one_sided arrives carried = at_stop number n alone one_sided
-  plays number (event.Restore image) askable home one_sided arrives carried = at_restore number image carried
-  plays number (event.Release n) askable home one_sided arrives carried = at_release number n
+  plays number (event.MakeContext name) askable home one_sided fresh arrives carried = at_making number name fresh
+  plays number (event.Connect o peer partner terms) askable home one_sided fresh arrives carried = absurd askable
+  plays number (event.MakeDomain o) askable home one_sided fresh arrives carried = at_context number (event.MakeDomain o) refl askable tt tt tt tt (λ none. unheard_husk d _ o.context none home)
+  plays number (event.MakeRegion o domain base count rights) askable home one_sided fresh arrives carried = at_context number (event.MakeRegion o domain base count rights) refl askable tt tt tt tt (λ none. unheard_husk d _ o.context none home)
+  plays number (event.MakeCq o capacity) askable home one_sided fresh arrives carried = at_context number (event.MakeCq o capacity) refl askable tt tt tt tt (λ none. unheard_husk d _ o.context none home)
+  plays number (event.MakeQp o domain send_cq recv_cq send_depth recv_depth) askable home one_sided fresh arrives carried = at_context number (event.MakeQp o domain send_cq recv_cq send_depth recv_depth) refl askable tt tt tt tt (λ none. unheard_husk d _ o.context none home)
+  plays number (event.DropRegion o) askable home one_sided fresh arrives carried = at_context number (event.DropRegion o) refl askable tt tt tt tt (λ none. unheard_husk d _ o.context none home)
+  plays number (event.Store o at bytes) askable home one_sided fresh arrives carried = at_context number (event.Store o at bytes) refl askable tt tt tt tt (λ none. unheard_husk d _ o.context none home)
+  plays number (event.Load o at count) askable home one_sided fresh arrives carried = at_context number (event.Load o at count) refl askable tt tt tt tt (λ none. unheard_husk d _ o.context none home)
+  plays number (event.PostSend o r) askable home one_sided fresh arrives carried = at_context number (event.PostSend o r) refl askable tt tt tt tt (λ none. unheard_husk d _ o.context none home)
+  plays number (event.PostRecv o r) askable home one_sided fresh arrives carried = at_context number (event.PostRecv o r) refl askable tt tt tt tt (λ none. unheard_husk d _ o.context none home)
+  plays number (event.Poll o most) askable home one_sided fresh arrives carried = at_context number (event.Poll o most) refl askable tt tt tt tt (λ none. unheard_husk d _ o.context none home)
+  plays number (event.Transmit o) askable home one_sided fresh arrives carried = at_context number (event.Transmit o) refl askable tt tt tt tt (λ none. refl)
+  plays number (event.Expire o) askable home one_sided fresh arrives carried = at_context number (event.Expire o) refl askable tt tt tt tt (λ none. refl)
+  plays number (event.RnrOver o) askable home one_sided fresh arrives carried = at_context number (event.RnrOver o) refl askable tt tt tt tt (λ none. refl)
+  plays number (event.Arrive from bytes) askable home one_sided fresh arrives carried = at_arrival number from bytes arrives
+  plays number (event.Stop n alone) askable home one_sided fresh arrives carried = at_stop number n alone one_sided
+  plays number (event.Restore image) askable home one_sided fresh arrives carried = at_restore number image carried
+  plays number (event.Release n) askable home one_sided fresh arrives carried = at_release number n

@@ -15,12 +15,12 @@ use Rattle.protocol.specs.State.{Device, Flight, World}
 use Rattle.protocol.specs.WorldStep.{now_at, world_after, world_step}
 use Rattle.packetless_machine.specs.Machine.{Machine}
 use Rattle.packetless_machine.specs.Legal.{after}
-use Rattle.law_simulation.specs.Kept.{kept_of, kept_verb, verb_in}
+use Rattle.law_simulation.specs.Kept.{kept_of, kept_verb}
 use Rattle.law_simulation.specs.Law.{AlwaysFollows, kept}
 use Rattle.law_simulation.specs.Runs.{RunsFollow}
 use Rattle.law_simulation.specs.Stands.{Stands}
 use Rattle.order_rules.specs.Bridge.{CopiesStand, IsSameFlight, IsWorldAfter, events_of, world_events}
-use Rattle.order_rules.specs.Hears.{heard}
+use Rattle.order_rules.specs.Hears.{heard, verb_heard}
 use Rattle.order_rules.specs.Lines.{Line, device_after, flown, flown_after, opening_of}
 use Rattle.order_rules.specs.Order.{AreRestored, Each, IsDatagram, Takes, with_stopped}
 use Rattle.order_rules.specs.Sides.{IsInTime, world_of}
@@ -254,12 +254,12 @@ module _ (always : (e : WorldEvent) → AlwaysFollows e) (runs : RunsFollow) (co
         ∙ (ap (λ o. sending (flown os ls) (opening_of os l.receipt.device).address o.sent) (sym f.is_line.outcome) ∙ sym (flown-push os ls l)))
         (alike_sending (flown os ls) (store_for network.world network.number l.receipt.event) (device_step d l.receipt.event).device.address (device_step d l.receipt.event).outcome.sent store)))
 
-    heard_here : kept r.world es ≡ kept_verb (verb_in l.receipt.event) l.receipt.outcome.answer
+    heard_here : kept r.world es ≡ kept_verb (verb_heard l.receipt.event) l.receipt.outcome.answer
     heard_here =
         let plays = played always runs copies os start begun ls l untaken rest r f takes network in
         ap (kept r.world) (sym es_are)
         ∙ (ap (λ w. kept w (world_events d network.number l.receipt.event (device_step d l.receipt.event).outcome.answer)) (sym is_network.0)
-        ∙ (plays.heard ∙ ap (λ o. kept_verb (verb_in l.receipt.event) o.answer) (sym f.is_line.outcome)))
+        ∙ (plays.heard ∙ ap (λ o. kept_verb (verb_heard l.receipt.event) o.answer) (sym f.is_line.outcome)))
 
     one_more : IsShort os number (ls ++ l ∷ []) more after_it.world → IsShort os number ls (l ∷ more) r.world
     unfolding events_of heard
@@ -268,7 +268,7 @@ module _ (always : (e : WorldEvent) → AlwaysFollows e) (runs : RunsFollow) (co
         record {
           reached = subst (λ w. IsWorldAfter os (ls ++ l ∷ more) w) (sym (after_both r.world es (events_of os number (ls ++ l ∷ []) more)))
               (subst (λ xs. IsWorldAfter os xs (world_after (world_after r.world es) (events_of os number (ls ++ l ∷ []) more))) (append_assoc ls (l ∷ []) more) later_there.reached);
-          heard = kept_both r.world es (events_of os number (ls ++ l ∷ []) more) ∙ (ap (λ vs. vs ++ kept (world_after r.world es) (events_of os number (ls ++ l ∷ []) more)) heard_here ∙ ap (λ vs. kept_verb (verb_in l.receipt.event) l.receipt.outcome.answer ++ vs) later_there.heard);
+          heard = kept_both r.world es (events_of os number (ls ++ l ∷ []) more) ∙ (ap (λ vs. vs ++ kept (world_after r.world es) (events_of os number (ls ++ l ∷ []) more)) heard_here ∙ ap (λ vs. kept_verb (verb_heard l.receipt.event) l.receipt.outcome.answer ++ vs) later_there.heard);
         }
 
   pub shorts : (ls more : List Line) (untaken left : List ContextImage) → Each (λ xs l. IsFairLine os (ls ++ xs) l) more → Each (λ xs l. IsRightAt os number (ls ++ xs) l) more → length (flown os (ls ++ more)) ≤ most_flights → AreRestored untaken more left →

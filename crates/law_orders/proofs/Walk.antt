@@ -20,7 +20,7 @@ use Rattle.protocol.specs.Fabric.{is_kept, is_late, kept_flight, sending}
 use Rattle.protocol.specs.Images as images
 use Rattle.protocol.specs.Refusals.{refusal_of}
 use Rattle.protocol.specs.State.{Context, Device, Flight, World, context_at, device_at, no_context, no_device}
-use Rattle.protocol.specs.WorldStep.{has_device, now_at, world_after}
+use Rattle.protocol.specs.WorldStep.{has_device, is_done, now_at, world_after}
 use Rattle.packetless_machine.specs.declared.steps.MachineStep.{MachineStep}
 use Rattle.packetless_machine.specs.Machine.{Machine}
 use Rattle.packetless_machine.specs.Legal.{IsRun, after, seen}
@@ -31,10 +31,10 @@ use Rattle.law_simulation.specs.Stands.{Stands}
 use Rattle.law_simulation.proofs.relation.Tables.{name-named_there, number-at}
 use Rattle.law_simulation.proofs.runs.Runs.{after_on, runs_on, seen_on}
 use Rattle.order_rules.specs.Bridge.{CopiesStand, IsAskedLine, IsFairOrder, is_at_home, world_events}
-use Rattle.order_rules.specs.Hears.{heard}
+use Rattle.order_rules.specs.Hears.{heard, verb_heard}
 use Rattle.order_rules.specs.Lines.{Line, device_after, flown, opening_of}
 use Rattle.order_rules.specs.Order.{AreRestored, Each, IsLine, Takes, with_stopped}
-use Rattle.order_rules.specs.Sides.{IsInTime, IsInTimeLine, IsOneSidedLine, carried_after, is_stopped, stops_beside_a_mover, without_restored, world_of}
+use Rattle.order_rules.specs.Sides.{IsFreshLine, IsInTime, IsInTimeLine, IsOneSidedLine, carried_after, is_stopped, makes_a_second, stops_beside_a_mover, without_restored, world_of}
 use Rattle.order_rules.proofs.Growing.{flown-push}
 use Rattle.law_orders.proofs.Devices.{IsNoStop, step_itself, step_plain}
 use Rattle.law_orders.proofs.Flights.{AreThere, get_last, there_before, there_sending, there_taken}
@@ -185,6 +185,7 @@ pub record IsFairLine (os : List Device) (ls : List Line) (l : Line) : Type 0 wh
   pub one_sided : IsOneSidedLine os ls l
   pub in_time : IsInTimeLine os ls l
   pub asked : IsAskedLine os ls l
+  pub fresh : IsFreshLine os ls l
 
 -- the lines of a fair order
 pub fair_lines : (os : List Device) (ls : List Line) → IsFairOrder os ls → Each (IsFairLine os) ls
@@ -193,6 +194,7 @@ fair_lines os ls fair k l at = record {
   one_sided = fair.one_sided k l at;
   in_time = fair.in_time k l at;
   asked = fair.asked k l at;
+  fresh = fair.fresh k l at;
 }
 
 -- the tests for a mover read devices and carried images alone
@@ -202,6 +204,14 @@ movers_same w v k e devices carried = ap (λ ds. of ds w.carried) devices ∙ ap
   where
     of : List Device → List ContextImage → Bool
     of ds cs = stops_beside_a_mover (record { devices = ds; sent = w.sent; carried = cs; stopped = w.stopped }) k e
+
+-- .. and so does the test for a second context of a name
+seconds_same : (w v : World) (e : Event) → w.devices ≡ v.devices → w.carried ≡ v.carried → makes_a_second w e ≡ makes_a_second v e
+unfolding makes_a_second
+seconds_same w v e devices carried = ap (λ ds. of ds w.carried) devices ∙ ap (of v.devices) carried
+  where
+    of : List Device → List ContextImage → Bool
+    of ds cs = makes_a_second (record { devices = ds; sent = w.sent; carried = cs; stopped = w.stopped }) e
 
 module _ (always : (e : WorldEvent) → AlwaysFollows e) (runs : RunsFollow) (copies : CopiesStand) (os : List Device) (start : Machine) (begun : AreBegun os) where
   module _ (ls : List Line) (l : Line) (untaken rest : List ContextImage) (r : Reached os start ls untaken) (f : IsFairLine os ls l) (takes : Takes untaken l.receipt.event rest)
@@ -242,6 +252,12 @@ module _ (always : (e : WorldEvent) → AlwaysFollows e) (runs : RunsFollow) (co
         ap (λ b. is_stopped out.outcome.answer && b) (movers_same u (world_of os ls) k e (network.devices ∙ r.devices) (network.carried ∙ r.carried))
         ∙ (ap (λ o. is_stopped o.answer && stops_beside_a_mover (world_of os ls) k e) (sym f.is_line.outcome) ∙ f.one_sided)
 
+    fresh_there : (is_done out.outcome.answer && makes_a_second u e) ≡ false
+    unfolding world_of
+    fresh_there =
+        ap (λ b. is_done out.outcome.answer && b) (seconds_same u (world_of os ls) e (network.devices ∙ r.devices) (network.carried ∙ r.carried))
+        ∙ (ap (λ o. is_done o.answer && makes_a_second (world_of os ls) e) (sym f.is_line.outcome) ∙ f.fresh)
+
     abbrev es : List WorldEvent
     es = world_events d network.number e out.outcome.answer
 
@@ -251,6 +267,7 @@ module _ (always : (e : WorldEvent) → AlwaysFollows e) (runs : RunsFollow) (co
         (plays u m network.stands k (made_in u network.devices) u_stopped network.number e f.asked.askable
         (ap (λ x. is_at_home x e (verb_in e)) (here_in u network.devices) ∙ f.asked.at_home)
         (ap (λ x. is_stopped (device_step x e).outcome.answer && stops_beside_a_mover u k e) (here_in u network.devices) ∙ one_sided_there)
+        (ap (λ x. is_done (device_step x e).outcome.answer && makes_a_second u e) (here_in u network.devices) ∙ fresh_there)
         (subst (λ x. Delivers u x network.number e) (sym (here_in u network.devices)) network.delivers)
         (restores_are w.carried untaken rest e r.untaken takes u network.carried))
 
@@ -267,7 +284,7 @@ module _ (always : (e : WorldEvent) → AlwaysFollows e) (runs : RunsFollow) (co
     heard_then =
         seen_on start r.steps steps
         ∙ (ap (λ x. x ++ seen m steps) r.heard_all
-        ∙ (ap (λ x. heard ls ++ x) (followed.heard ∙ (played.heard ∙ ap (λ o. kept_verb (verb_in e) o.answer) (sym f.is_line.outcome)))
+        ∙ (ap (λ x. heard ls ++ x) (followed.heard ∙ (played.heard ∙ ap (λ o. kept_verb (verb_heard e) o.answer) (sym f.is_line.outcome)))
         ∙ sym (heard-push ls l)))
 
     id_then : out.device.id ≡ k

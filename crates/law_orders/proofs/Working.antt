@@ -40,4 +40,5 @@ work_fair always runs copies separate prepared workers ls low high w =
       one_sided = λ k l at. (each k l at).one_sided;
       in_time = λ k l at. (each k l at).in_time;
       asked = λ k l at. (each k l at).asked;
+      fresh = λ k l at. (each k l at).fresh;
     }

@@ -38,10 +38,10 @@ use Rattle.law_simulation.specs.Law.{AlwaysFollows}
 use Rattle.law_simulation.specs.Runs.{RunsFollow}
 use Rattle.law_simulation.specs.Views.{end_of}
 use Rattle.order_rules.specs.Bridge.{CopiesStand, IsAskable, is_at_home, is_work}
-use Rattle.order_rules.specs.Hears.{heard}
+use Rattle.order_rules.specs.Hears.{heard, verb_heard}
 use Rattle.order_rules.specs.Lines.{Line, device_after, flown, opening_of}
 use Rattle.order_rules.specs.Order.{AreRestored, Each, HasArrived, IsLine, Takes, with_stopped}
-use Rattle.order_rules.specs.Sides.{IsInTime, carried_after, is_stopped, stops_beside_a_mover, without_restored, world_of}
+use Rattle.order_rules.specs.Sides.{IsInTime, carried_after, is_stopped, makes_a_second, stops_beside_a_mover, without_restored, world_of}
 use Rattle.order_rules.specs.Work.{accepts, is_addition, is_fetch_add, lines_with}
 use Rattle.law_orders.proofs.Bounds.{HasFew, expected_few, found_few, in_time, link_there}
 use Rattle.law_orders.proofs.Devices.{IsNoStop, step_plain}
@@ -98,8 +98,8 @@ verb_spans t v a = by (is_unmade a)
     by true = omega arith
     by false = omega arith
 
-pub line_spans : (t : ℕ) (k : ℕ) (e : Event) (a : Answer) → is_work k e ≡ true → spans t (kept_verb (verb_in e) a) ≤ (if is_addition e && is_done a then 1 else 0)
-unfolding verb_in kept_verb spans
+pub line_spans : (t : ℕ) (k : ℕ) (e : Event) (a : Answer) → is_work k e ≡ true → spans t (kept_verb (verb_heard e) a) ≤ (if is_addition e && is_done a then 1 else 0)
+unfolding verb_heard verb_in kept_verb spans
 line_spans t k (event.PostSend o r) a work =
     let add : is_fetch_add r.shape.kind ≡ true = and_last (k == 1) (bytes_eq o.context (codes "a")) (is_fetch_add r.shape.kind) work in
     omega (arith, verb_spans t (verbs.PostSend o r) a, answered_span a (span r.shape t) (atomic_span r.shape t add), ap {B = ℕ} (λ b. if b && is_done a then 1 else 0) add)
@@ -390,12 +390,18 @@ module _ (os : List Device) (start : Machine) (begun : AreBegun os) (unposted : 
     home_of_event (event.Release name) h = refl
     home_of_event other h = absurd (cc)
 
+    second_of_event : (x : Event) → is_work k x ≡ true → makes_a_second (world_of os ls) x ≡ false
+    unfolding makes_a_second
+    second_of_event (event.MakeContext name) h = absurd (cc)
+    second_of_event other h = refl
+
     pub fair : IsFairLine os ls l
     fair = record {
       is_line = line;
       one_sided = ap (λ b. is_stopped l.receipt.outcome.answer && b) (side_of_event e work.work) ∙ and_none (is_stopped l.receipt.outcome.answer);
       in_time = time_of e line.arrived;
       asked = record { askable = work.askable; at_home = home_of_event e work.work };
+      fresh = ap (λ b. is_done l.receipt.outcome.answer && b) (second_of_event e work.work) ∙ and_none (is_done l.receipt.outcome.answer);
     }
 
     -- ---- what is kept
@@ -495,7 +501,7 @@ module _ (os : List Device) (start : Machine) (begun : AreBegun os) (unposted : 
         omega (
           arith,
           ap (spans t) (heard-push ls l),
-          spans-both t (heard ls) (kept_verb (verb_in e) l.receipt.outcome.answer),
+          spans-both t (heard ls) (kept_verb (verb_heard e) l.receipt.outcome.answer),
           line_spans t k e l.receipt.outcome.answer work.work,
           count-push accepts ls l,
           kept.heard t,

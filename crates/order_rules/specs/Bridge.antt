@@ -11,13 +11,13 @@ use Rattle.rdma_types.specs.Limits.{latest, most_flights}
 use Rattle.protocol.specs.State.{Device, Flight, World}
 use Rattle.protocol.specs.Refusals.{has_context, has_husk}
 use Rattle.protocol.specs.WorldStep.{context_of_event, world_after}
-use Rattle.law_simulation.specs.Kept.{verb_in}
+use Rattle.law_simulation.specs.Kept.{is_unmade, verb_in}
 use Rattle.packetless_machine.specs.Machine.{Machine}
 use Rattle.law_simulation.specs.Stands.{Stands}
 use Rattle.law_simulation.specs.Law.{IsEventInRange, kept}
 use Rattle.order_rules.specs.Lines.{Line, device_after, flown}
 use Rattle.order_rules.specs.Order.{Each, IsWorldOrder}
-use Rattle.order_rules.specs.Sides.{IsOneSided, IsNeverAged, carried_after, world_of}
+use Rattle.order_rules.specs.Sides.{IsFresh, IsOneSided, IsNeverAged, carried_after, world_of}
 use Rattle.order_rules.specs.Openings.{openings, opening_world}
 use Rattle.order_rules.specs.Hears.{IsLegalOrder, heard}
 use Rattle.order_rules.specs.Work.{accepts, is_fetch_add, lines_with}
@@ -29,8 +29,9 @@ abbrev pub is_at_home : Device → Event → Option Verb → Bool
 is_at_home d e None = true
 is_at_home d e (Some v) = has_context d (context_of_event e) || has_husk d (context_of_event e)
 
--- an event that threads may ask for: its fields are in their ranges, no context is made, and no end alone is connected
+-- an event that threads may ask for: its fields are in their ranges, and no end alone is connected
 abbrev pub IsAskable : Event → Type 0
+IsAskable (event.MakeContext name) = Unit {0}
 IsAskable (event.Arrive from bytes) = Unit {0}
 IsAskable (event.Stop name alone) = Unit {0}
 IsAskable (event.Restore image) = Unit {0}
@@ -42,12 +43,13 @@ pub record IsAskedLine (openings : List Device) (earlier : List Line) (l : Line)
   pub askable : IsAskable l.receipt.event
   pub at_home : is_at_home (device_after openings earlier l.receipt.device) l.receipt.event (verb_in l.receipt.event) ≡ true
 
--- an order of the steps of these devices that the laws speak of: one-sided, in time, and asked so
+-- an order of the steps of these devices that the laws speak of: one-sided, in time, asked so, and with a name for each context
 pub record IsFairOrder (openings : List Device) (ls : List Line) : Type 0 where
   pub order : IsWorldOrder openings ls
   pub one_sided : IsOneSided openings ls
   pub in_time : IsNeverAged openings ls
   pub asked : Each (IsAskedLine openings) ls
+  pub fresh : IsFresh openings ls
 
 -- .. that begins with the opening devices of that many workers
 abbrev pub IsFair : ℕ → List Line → Type 0
@@ -87,6 +89,10 @@ abbrev pub unless_refused : Answer → List WorldEvent → List WorldEvent
 unless_refused (answer.Refused r) es = []
 unless_refused other es = es
 
+-- .. and none where the step does not count as made
+abbrev pub unless_unmade : Answer → List WorldEvent → List WorldEvent
+unless_unmade a es = if is_unmade a then [] else es
+
 -- a world hands the event on where the context lives on that device
 abbrev pub where_it_lives : Device → Event → List WorldEvent
 where_it_lives d e = if has_context d (context_of_event e) then world_event.At e ∷ [] else []
@@ -98,7 +104,7 @@ world_events d k (event.Arrive from bytes) a = world_event.Deliver k ∷ []
 world_events d k (event.Stop name alone) a = unless_refused a (world_event.Stop name ∷ [])
 world_events d k (event.Restore image) a = unless_refused a (world_event.Restore image.name d.id ∷ [])
 world_events d k (event.Release name) a = world_event.Release name d.id ∷ []
-world_events d k (event.MakeContext name) a = []
+world_events d k (event.MakeContext name) a = unless_unmade a (world_event.MakeContext name d.id ∷ [])
 world_events d k (event.Connect o peer partner terms) a = []
 world_events d k e a = where_it_lives d e
 

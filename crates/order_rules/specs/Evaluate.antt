@@ -24,8 +24,8 @@ unfoldable pub opened : ℕ → List Device
 unfolding computed reached in_kept.verb_in in_kept.verb_of in_kept.is_unmade_by in_kept.is_unmade in_kept.kept_verb
     in_openings.pairs in_openings.opening_world in_openings.opening_verbs in_openings.ends_of in_openings.device_apart in_opened.ends_from
     in_lines.events_on in_lines.held_by in_lines.device_after in_lines.flown_after
-    in_sides.carried_after in_sides.world_of in_sides.stops_beside_a_mover
-    in_hears.heard in_bridge.events_of
+    in_sides.carried_after in_sides.world_of in_sides.stops_beside_a_mover in_sides.makes_a_second
+    in_hears.verb_heard in_hears.heard in_bridge.events_of
     digits
 opened workers = in_openings.openings workers
 

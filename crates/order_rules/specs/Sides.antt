@@ -1,5 +1,6 @@
--- Orders in which one end of a connection moves at a time, and in which no datagram is too late (this project's choice).
-use Rattle.std.specs.Prelude.{◌≡◌, ℕ, ◌&&◌, Bool, true, false, List, [], ◌∷◌, map, Some}
+-- Orders in which one end of a connection moves at a time, no datagram is too late, and each context has a name of its own (this
+-- project's choice).
+use Rattle.std.specs.Prelude.{◌≡◌, ℕ, ◌&&◌, ◌||◌, Bool, true, false, List, [], ◌∷◌, map, Some}
 use Rattle.rdma_types.specs.declared.answers.Answer.{Answer}
 use Rattle.rdma_types.specs.declared.answers.Answer.TheVariants as answer
 use Rattle.rdma_types.specs.declared.requests.Address.{Address}
@@ -9,7 +10,7 @@ use Rattle.protocol.specs.declared.images.ContextImage.{ContextImage}
 use Rattle.rdma_types.specs.Lists.{without, some}
 use Rattle.protocol.specs.State.{Device, Flight, World, context_at, device_at}
 use Rattle.protocol.specs.Fabric.{is_late}
-use Rattle.protocol.specs.WorldStep.{partner_moves, now_at}
+use Rattle.protocol.specs.WorldStep.{is_carried, is_done, is_live, partner_moves, now_at}
 use Rattle.order_rules.specs.Lines.{Line, opening_of, device_after, flown}
 use Rattle.order_rules.specs.Order.{Each, IsDatagram, with_stopped}
 
@@ -68,3 +69,18 @@ IsInTimeLine openings earlier l = IsInTime (flown openings earlier) (opening_of 
 -- no datagram arrives more than 2^22 numbers late
 abbrev pub IsNeverAged : List Device → List Line → Type 0
 IsNeverAged openings ls = Each (IsInTimeLine openings) ls
+
+-- ---- no name is made twice
+
+-- the event makes a context whose name another has, on a device or carried
+unfoldable pub makes_a_second : World → Event → Bool
+makes_a_second w (event.MakeContext name) = is_live w name || is_carried w name
+makes_a_second w other = false
+
+-- the line makes no such context
+abbrev pub IsFreshLine : List Device → List Line → Line → Type 0
+IsFreshLine openings earlier l = is_done l.receipt.outcome.answer && makes_a_second (world_of openings earlier) l.receipt.event ≡ false
+
+-- no context is made whose name another has
+abbrev pub IsFresh : List Device → List Line → Type 0
+IsFresh openings ls = Each (IsFreshLine openings) ls
