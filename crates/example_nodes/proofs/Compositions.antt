@@ -12,7 +12,7 @@ use Rattle.node_rules.specs.Plan.{Asks, Leads, Looks, Plan, Puts, Removes, Sends
 use Rattle.node_rules.specs.Script.{node_plan}
 use Rattle.order_rules.specs.AnyOpening.{ArePreparing}
 use Rattle.order_rules.specs.Evaluate.{opened}
-use Rattle.order_rules.specs.Sides.{IsInTimeLine, IsOneSidedLine}
+use Rattle.order_rules.specs.Sides.{IsFreshLine, IsInTimeLine, IsOneSidedLine}
 use Rattle.law_nodes.specs.Acts as act
 use Rattle.law_nodes.specs.Bounded.{AreRunning, IsOfBytes, IsRunning}
 use Rattle.host_ports.specs.Depots.{Holding, nothing}
@@ -33,9 +33,9 @@ use Rattle.protocol.specs.Events.{IsLawfulEvent}
 use Rattle.rdma_types.specs.Limits.{AreTerms}
 use Rattle.rdma_types.specs.Shapes.{IsLawfulShape}
 use Rattle.protocol.specs.declared.images.Outcome.{Outcome}
-use Rattle.law_nodes.specs.Composed.{AreComposed, AreDumpsTaken, Deed, IsAtHome, IsNodeRun, IsOfNode, IsPreparedBy, IsWholeIn, MakesNone, ReadsBack, dump_if, moved_on, acts_on, lines_from, lines_of_deeds, node_at, openings_of, standings_of}
+use Rattle.law_nodes.specs.Composed.{AreComposed, AreDumpsTaken, Deed, IsAtHome, IsNodeRun, IsOfNode, IsPreparedBy, IsWholeIn, LinksNone, ReadsBack, dump_if, moved_on, acts_on, lines_from, lines_of_deeds, node_at, openings_of, standings_of}
 use Rattle.example_rules.proofs.WorldOrders.{EachAfter, each_of}
-use Rattle.example_nodes.specs.Composition.{Gives, Heard, Holds, Ticks, before_the_stop, calls_with, dump, events, left_with, moving, nodes, order, partner, partner_hears, partner_polls, partner_posts, partner_prepares, partner_script, partner_serves, request, source, source_hears, source_prepares, source_script, source_serves, stops_b, target, target_does, target_loads, target_restores, before_it, of_b, read, restored, three, went}
+use Rattle.example_nodes.specs.Composition.{Gives, Heard, Holds, Ticks, before_the_stop, calls_with, dump, events, left_with, moving, nodes, order, partner, partner_ends, partner_hears, partner_posts, partner_prepares, partner_script, partner_serves, request, source, source_hears, source_prepares, source_script, source_serves, stops_b, target, target_does, target_loads, target_restores, before_it, of_b, read, restored, three, went}
 use Rattle.example_nodes.specs.Things.{one, two}
 use Rattle.example_nodes.specs.Evaluate.{line_read, run_of, spelled}
 
@@ -88,9 +88,9 @@ terms_in_range own peer few less = record { mtu = refl; own_start = few; peer_st
 lawful_shape : IsLawfulShape request.shape
 lawful_shape = record { word = λ h. absurd (cc h); imm = λ h. absurd (cc h); remote = λ h. absurd (cc h); rkey = λ h. absurd (cc h); swap_add = λ h. refl; compare = λ h. refl }
 
-may_partner : MayDoAll (beginning 1 one) (partner_prepares ++ (partner_posts ++ (partner_serves ++ partner_polls ∷ [])))
+may_partner : MayDoAll (beginning 1 one) (partner_prepares ++ (partner_posts ++ (partner_serves ++ partner_ends)))
 may_partner =
-    (tt, (of_line tt tt refl, (of_line tt tt refl, (of_line (omega arith, omega arith, omega arith, omega arith) (omega arith, omega arith, omega arith, omega arith) refl, (of_line (omega arith, omega arith) (omega arith, omega arith) refl, (of_line (omega arith, omega arith, omega arith, omega arith) ((omega arith, omega arith), (omega arith, omega arith)) refl, (of_line tt (omega arith, terms_in_range 100 200 (omega arith) (omega arith)) tt, (of_line bytes_in_range tt tt, (of_line request_in_range lawful_shape tt, (of_line tt tt tt, (tt, (tt, (tt, (tt, (tt, (tt, (tt, (of_line tt tt tt, tt))))))))))))))))))
+    (tt, (of_line tt tt refl, (of_line tt tt refl, (of_line (omega arith, omega arith, omega arith, omega arith) (omega arith, omega arith, omega arith, omega arith) refl, (of_line (omega arith, omega arith) (omega arith, omega arith) refl, (of_line (omega arith, omega arith, omega arith, omega arith) ((omega arith, omega arith), (omega arith, omega arith)) refl, (of_line tt (omega arith, terms_in_range 100 200 (omega arith) (omega arith)) tt, (of_line bytes_in_range tt tt, (of_line request_in_range lawful_shape tt, (of_line tt tt tt, (tt, (tt, (tt, (tt, (tt, (tt, (tt, (of_line tt tt tt, (of_line tt tt refl, tt)))))))))))))))))))
 
 may_source : MayDoAll (beginning 2 two) (source_prepares ++ (source_serves ++ stops_b ∷ []))
 may_source =
@@ -101,7 +101,7 @@ unfolding run_of spelled calls_with
 partner_runs = record {
   left = left_with (node_plan 1 one partner_script) partner_hears;
   leads = leads_with (node_plan 1 one partner_script) partner_hears;
-  done = record { acts = partner_prepares ++ (partner_posts ++ (partner_serves ++ partner_polls ∷ [])); may = may_partner; unmade = []; made = refl; cut = inl refl };
+  done = record { acts = partner_prepares ++ (partner_posts ++ (partner_serves ++ partner_ends)); may = may_partner; unmade = []; made = refl; cut = inl refl };
   same = refl;
 }
 
@@ -235,7 +235,7 @@ all_of_nodes (x ∷ xs) each = All-cons (IsOfNode nodes) x xs each.0 (all_of_nod
 
 of_nodes : AreOfNodes order
 unfolding opened run_of spelled
-of_nodes = (refl, (refl, (refl, (refl, (refl, (refl, (refl, (refl, (refl, (refl, (refl, (refl, (refl, (refl, (refl, (refl, (refl, (refl, (refl, (refl, tt))))))))))))))))))))
+of_nodes = (refl, (refl, (refl, (refl, (refl, (refl, (refl, (refl, (refl, (refl, (refl, (refl, (refl, (refl, (refl, (refl, (refl, (refl, (refl, (refl, (refl, tt)))))))))))))))))))))
 
 whole : All (IsWholeIn order) nodes
 unfolding acts_on
@@ -282,7 +282,7 @@ dumps = (
                     [],
                     (refl, record { front = []; back = []; there = refl; left = refl }),
                     tt,
-                    ([], refl, tt, ([], refl, tt, ([], refl, tt, ([], refl, tt, ([], refl, tt, ([], refl, tt, ([], refl, tt, ([], refl, tt, ([], refl, tt, ([], refl, tt, tt)))))))))),
+                    ([], refl, tt, ([], refl, tt, ([], refl, tt, ([], refl, tt, ([], refl, tt, ([], refl, tt, ([], refl, tt, ([], refl, tt, ([], refl, tt, ([], refl, tt, ([], refl, tt, tt))))))))))),
                   ),
                 ),
               ),
@@ -297,26 +297,30 @@ dumps = (
 in_time : EachAfter (IsInTimeLine (openings_of nodes)) [] (lines_of_deeds nodes order)
 unfolding opened run_of spelled node_at lines_from
 in_time =
-    (tt, (tt, (tt, ((0, _, record { there = refl; sender = refl; receiver = refl; says = refl }, refl), (tt, (tt, (tt, (tt, ((1, _, record { there = refl; sender = refl; receiver = refl; says = refl }, refl), (tt, ((2, _, record { there = refl; sender = refl; receiver = refl; says = refl }, refl), (tt, (tt, (tt, tt))))))))))))))
+    (tt, (tt, (tt, ((0, _, record { there = refl; sender = refl; receiver = refl; says = refl }, refl), (tt, (tt, (tt, (tt, ((1, _, record { there = refl; sender = refl; receiver = refl; says = refl }, refl), (tt, ((2, _, record { there = refl; sender = refl; receiver = refl; says = refl }, refl), (tt, (tt, (tt, (tt, tt)))))))))))))))
 
 one_sided : EachAfter (IsOneSidedLine (openings_of nodes)) [] (lines_of_deeds nodes order)
 unfolding opened run_of spelled node_at lines_from
-one_sided = (refl, (refl, (refl, (refl, (refl, (refl, (refl, (refl, (refl, (refl, (refl, (refl, (refl, (refl, tt))))))))))))))
+one_sided = (refl, (refl, (refl, (refl, (refl, (refl, (refl, (refl, (refl, (refl, (refl, (refl, (refl, (refl, (refl, tt)))))))))))))))
 
 at_home : EachAfter (IsAtHome (openings_of nodes)) [] (lines_of_deeds nodes order)
 unfolding opened run_of spelled node_at lines_from
-at_home = (refl, (refl, (refl, (refl, (refl, (refl, (refl, (refl, (refl, (refl, (refl, (refl, (refl, (refl, tt))))))))))))))
+at_home = (refl, (refl, (refl, (refl, (refl, (refl, (refl, (refl, (refl, (refl, (refl, (refl, (refl, (refl, (refl, tt)))))))))))))))
 
-abbrev AreMade : List Deed → Type 0
-AreMade [] = Unit {0}
-AreMade (x ∷ xs) = MakesNone x.act × AreMade xs
+fresh : EachAfter (IsFreshLine (openings_of nodes)) [] (lines_of_deeds nodes order)
+unfolding opened run_of spelled node_at lines_from
+fresh = (refl, (refl, (refl, (refl, (refl, (refl, (refl, (refl, (refl, (refl, (refl, (refl, (refl, (refl, (refl, tt)))))))))))))))
 
-all_made : (xs : List Deed) → AreMade xs → All (λ x. MakesNone x.act) xs
-all_made [] each = All-nil (λ (x : Deed). MakesNone x.act)
-all_made (x ∷ xs) each = All-cons (λ (y : Deed). MakesNone y.act) x xs each.0 (all_made xs each.1)
+abbrev AreUnlinked : List Deed → Type 0
+AreUnlinked [] = Unit {0}
+AreUnlinked (x ∷ xs) = LinksNone x.act × AreUnlinked xs
 
-made : AreMade order
-made = (tt, (tt, (tt, (tt, (tt, (tt, (tt, (tt, (tt, (tt, (tt, (tt, (tt, (tt, (tt, (tt, (tt, (tt, (tt, (tt, tt))))))))))))))))))))
+all_unlinked : (xs : List Deed) → AreUnlinked xs → All (λ x. LinksNone x.act) xs
+all_unlinked [] each = All-nil (λ (x : Deed). LinksNone x.act)
+all_unlinked (x ∷ xs) each = All-cons (λ (y : Deed). LinksNone y.act) x xs each.0 (all_unlinked xs each.1)
+
+linked : AreUnlinked order
+linked = (tt, (tt, (tt, (tt, (tt, (tt, (tt, (tt, (tt, (tt, (tt, (tt, (tt, (tt, (tt, (tt, (tt, (tt, (tt, (tt, (tt, tt)))))))))))))))))))))
 
 answered : All (IsPreparedBy events) nodes
 unfolding opened run_of spelled
@@ -334,7 +338,8 @@ composed = record {
   in_time = each_of (IsInTimeLine (openings_of nodes)) (lines_of_deeds nodes order) in_time;
   one_sided = each_of (IsOneSidedLine (openings_of nodes)) (lines_of_deeds nodes order) one_sided;
   at_home = each_of (IsAtHome (openings_of nodes)) (lines_of_deeds nodes order) at_home;
-  made = all_made order made;
+  fresh = each_of (IsFreshLine (openings_of nodes)) (lines_of_deeds nodes order) fresh;
+  linked = all_unlinked order linked;
 }
 
 -- ---- what is asked of nodes, whatever they take
@@ -364,7 +369,7 @@ partner_is_running = record {
   run = partner_runs;
   some_id = omega arith;
   few_ids = omega arith;
-  of_bytes = all_of_bytes (partner_prepares ++ (partner_posts ++ (partner_serves ++ partner_polls ∷ []))) (tt, (tt, (tt, (tt, (tt, (tt, (tt, (tt, (tt, (tt, (tt, (tt, (tt, (tt, (tt, (tt, (tt, (tt, tt))))))))))))))))));
+  of_bytes = all_of_bytes (partner_prepares ++ (partner_posts ++ (partner_serves ++ partner_ends))) (tt, (tt, (tt, (tt, (tt, (tt, (tt, (tt, (tt, (tt, (tt, (tt, (tt, (tt, (tt, (tt, (tt, (tt, (tt, tt)))))))))))))))))));
 }
 
 source_is_running : IsRunning source

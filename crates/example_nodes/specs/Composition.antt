@@ -1,5 +1,5 @@
 -- A live move among three nodes: a partner with context a, a source from which context b moves, and a target to which it moves. Scripts
--- drive the first two, and lines the target.
+-- drive the first two, and lines the target. At the end the partner makes context c.
 use Rattle.std.specs.Prelude.{ℕ, true, false, List, [], ◌∷◌, ◌++◌, codes, Option, Some, None}
 use Rattle.host_ports.specs.Links.{Addressed}
 use Rattle.rdma_types.specs.declared.answers.Answer.{Answer}
@@ -111,7 +111,7 @@ resume = spelled (codes "1e00ffff0001000100000000000000010a00000312b700000000000
 
 -- ---- scripts
 
--- the partner writes to b, and serves while b moves
+-- the partner writes to b, serves while b moves, and makes a context then
 abbrev pub partner_script : List ℕ
 partner_script =
     codes "context a\n"
@@ -125,6 +125,7 @@ partner_script =
     ++ codes "go a.q\n"
     ++ codes "serve 2\n"
     ++ codes "poll a.c 4\n"
+    ++ codes "context c\n"
 
 -- b takes the write on the source, and is stopped
 abbrev pub source_script : List ℕ
@@ -231,8 +232,8 @@ partner_serves =
     ∷ act.Counts 2
     ∷ []
 
-abbrev pub partner_polls : Act
-partner_polls = act.Does (event.Poll (of_a (codes "c")) 4)
+abbrev pub partner_ends : List Act
+partner_ends = act.Does (event.Poll (of_a (codes "c")) 4) ∷ act.Does (event.MakeContext (codes "c")) ∷ []
 
 abbrev pub target_restores : List Act
 target_restores =
@@ -277,7 +278,7 @@ target_does =
     ∷ []
 
 abbrev pub partner : NodeRun
-partner = record { id = 1; own = one; source = Script partner_script (calls_with (node_plan 1 one partner_script) partner_hears); prepared = partner_prepares; served = partner_posts ++ (partner_serves ++ partner_polls ∷ []) }
+partner = record { id = 1; own = one; source = Script partner_script (calls_with (node_plan 1 one partner_script) partner_hears); prepared = partner_prepares; served = partner_posts ++ (partner_serves ++ partner_ends) }
 
 abbrev pub source : NodeRun
 source = record { id = 2; own = two; source = Script source_script (calls_with (node_plan 2 two source_script) source_hears); prepared = source_prepares; served = source_serves ++ stops_b ∷ [] }
@@ -320,7 +321,7 @@ before_the_stop = does 1 partner_posts (does 2 source_serves [])
 
 -- the RESUME reaches the partner, whose answer to it is lost
 abbrev pub after_the_stop : List Deed
-after_the_stop = does 3 target_restores (does 1 partner_serves (does 3 (target_loads ∷ []) (does 1 (partner_polls ∷ []) [])))
+after_the_stop = does 3 target_restores (does 1 partner_serves (does 3 (target_loads ∷ []) (does 1 partner_ends [])))
 
 abbrev pub order : List Deed
 order = before_the_stop ++ (record { node = 2; act = stops_b } ∷ after_the_stop)
@@ -334,4 +335,5 @@ heard_then =
     ∷ (verbs.PostSend (of_a (codes "q")) request, answer.Done)
     ∷ (verbs.Load (of_b (codes "n")) 8192 4, answer.Bytes (222 ∷ 173 ∷ 190 ∷ 239 ∷ []))
     ∷ (verbs.Poll (of_a (codes "c")) 4, answer.Polled (record { qp = 65537; id = 1; kind = wc_kind.Write; status = status.Success; length = 4; imm = None } ∷ []))
+    ∷ (verbs.Context (codes "c") true, answer.Done)
     ∷ []

@@ -9,7 +9,7 @@ use Rattle.order_rules.specs.AnyOpening.{ArePreparing}
 use Rattle.order_rules.specs.Bridge.{IsAskedLine, IsFairOrder}
 use Rattle.order_rules.specs.Evaluate.{opened}
 use Rattle.order_rules.specs.Order.{AreRestored, IsLine}
-use Rattle.order_rules.specs.Sides.{IsInTimeLine, IsOneSidedLine}
+use Rattle.order_rules.specs.Sides.{IsFreshLine, IsInTimeLine, IsOneSidedLine}
 use Rattle.example_rules.specs.OwnDevices.{acknowledged, address, devices, image, lines, one_by_one, opening, request, sent_bytes}
 use Rattle.example_rules.proofs.WorldOrders.{EachAfter, each_of}
 
@@ -65,6 +65,10 @@ asked : EachAfter (IsAskedLine devices) [] lines
 unfolding opened
 asked = (record { askable = request_in_range; at_home = refl }, (record { askable = tt; at_home = refl }, (record { askable = tt; at_home = refl }, (record { askable = tt; at_home = refl }, (record { askable = tt; at_home = refl }, (record { askable = tt; at_home = refl }, (record { askable = tt; at_home = refl }, (record { askable = tt; at_home = refl }, (record { askable = tt; at_home = refl }, (record { askable = tt; at_home = refl }, tt))))))))))
 
+fresh : EachAfter (IsFreshLine devices) [] lines
+unfolding opened
+fresh = (refl, (refl, (refl, (refl, (refl, (refl, (refl, (refl, (refl, (refl, tt))))))))))
+
 restored : AreRestored [] lines []
 restored = ([], refl, ([], refl, ([], refl, ([], refl, ([], refl, ([], refl, ([], refl, (image ∷ [], refl, ([], record { before = []; after = []; there = refl; rest = refl }, ([], refl, refl))))))))))
 
@@ -74,4 +78,5 @@ fair = record {
   one_sided = each_of (IsOneSidedLine devices) lines one_sided;
   in_time = each_of (IsInTimeLine devices) lines in_time;
   asked = each_of (IsAskedLine devices) lines asked;
+  fresh = each_of (IsFreshLine devices) lines fresh;
 }

@@ -1,6 +1,9 @@
 -- Small cases: an invented outcome, events at the wrong device, and moves.
-use Rattle.std.specs.Prelude.{ℕ, ◌==◌, List, [], ◌∷◌, ◌++◌, length, codes, false, if◌then◌else◌, Some}
+use Rattle.std.specs.Prelude.{ℕ, ◌==◌, List, [], ◌∷◌, ◌++◌, length, codes, false, true, if◌then◌else◌, Some}
+use Rattle.rdma_types.specs.declared.answers.Answer.{Answer}
 use Rattle.rdma_types.specs.declared.answers.Answer.TheVariants as answer
+use Rattle.rdma_types.specs.declared.verbs.Verb.{Verb}
+use Rattle.rdma_types.specs.declared.verbs.Verb.TheVariants as verbs
 use Rattle.rdma_types.specs.declared.answers.Refusal.TheVariants as refusal
 use Rattle.protocol.specs.declared.images.ContextImage.{ContextImage}
 use Rattle.protocol.specs.State.{context_at}
@@ -34,6 +37,21 @@ polls_elsewhere = event.Poll (obj (codes "b") (codes "c")) 256
 -- a context with a name that lives on another device
 abbrev pub makes_a : Event
 makes_a = event.MakeContext (codes "a")
+
+-- it is made on device 3, which knows of no other
+abbrev pub second_a : List Line
+second_a = line 0 3 0 makes_a (gives answer.Done []) 1 0 ∷ []
+
+-- a context of another name is made on device 3, and a domain in it
+abbrev pub late_context : List Line
+late_context =
+    line 0 3 0 (event.MakeContext (codes "e")) (gives answer.Done []) 1 0
+    ∷ line 0 3 1 (event.MakeDomain (obj (codes "e") (codes "p"))) (gives answer.Done []) 1 0
+    ∷ []
+
+-- what is heard of it
+abbrev pub late_heard : List (Verb × Answer)
+late_heard = (verbs.Context (codes "e") true, answer.Done) ∷ (verbs.MakeDomain (obj (codes "e") (codes "p")), answer.Done) ∷ []
 
 -- in the caller's own run, the datagram that arrives at the line with that place
 abbrev pub arrival : ℕ → ℕ

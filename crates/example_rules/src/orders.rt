@@ -16,7 +16,7 @@ ghost use Rattle.order_rules.specs.Openings.{openings};
 ghost use Rattle.order_rules.specs.Bridge.{IsFair, IsFairOrder, IsWork};
 ghost use Rattle.order_rules.specs.Order.{AreRestored, IsWorldOrder};
 ghost use Rattle.order_rules.specs.Evaluate.{answered, answers_after, devices_after, devices_played, heard_of, heard_playing, outcome_after, recomputed};
-ghost use Rattle.order_rules.specs.Sides.{IsOneSided};
+ghost use Rattle.order_rules.specs.Sides.{IsFresh, IsOneSided};
 ghost use Rattle.example_rules.specs.After as after;
 ghost use Rattle.example_rules.specs.Alone as alone;
 ghost use Rattle.example_rules.specs.OrdersCases as cases;
@@ -48,6 +48,18 @@ pub fn a_device_knows_itself_alone()
     ensures unknown { outcome_after 1 [] 3 cases.polls_elsewhere ≡ alone.gives (Refused NoSuch) [] }
     ensures in_a_world { answers_after 1 (MakeContext (codes "a") 3 ∷ At cases.polls_elsewhere ∷ [])
         ≡ Refused NumberTaken ∷ Polled [] ∷ [] }
+{}
+
+/// A context of a new name is made late, on any device: the order is fair, and the context is heard of.
+pub fn a_late_context_is_fair()
+    ensures fair { IsFairOrder (openings 1) cases.late_context }
+    ensures heard { heard_of cases.late_context ≡ cases.late_heard }
+{}
+
+/// A context whose name another has on another device: the device makes it, and the order is not fair.
+pub fn a_second_context_of_a_name_is_not_fair()
+    ensures made { answered 1 cases.second_a ≡ Done ∷ [] }
+    ensures fresh { IsFresh (openings 1) cases.second_a → ⊥ }
 {}
 
 /// The caller's own run is a run of world events: it leads to the same devices, and applications hear the same.

@@ -8,10 +8,10 @@ ghost use Rattle.completion_fanout.specs.Fanned.{IsFanned, dealt_to};
 ghost use Rattle.run_check.specs.Gathered.{IsGathered};
 ghost use Rattle.thread_plan.specs.Planned.{IsRunAlone};
 ghost use Rattle.fair_orders.specs.declared.fairness.Fairness.TheVariants.{Fair, Unfair};
-ghost use Rattle.fair_orders.specs.declared.fairness.UnfairCause.TheVariants.{PartnerMoves};
+ghost use Rattle.fair_orders.specs.declared.fairness.UnfairCause.TheVariants.{NameTaken, PartnerMoves};
 ghost use Rattle.fair_orders.specs.Fairness.{fairness_of};
 ghost use Rattle.example_rules.specs.OwnDevices as own;
-ghost use Rattle.example_threads.specs.OwnRuns.{stopped_beside};
+ghost use Rattle.example_threads.specs.OwnRuns.{named_twice, stopped_beside};
 ghost use Rattle.example_threads.specs.Handed.{drained, taken, taken_but_one, taken_changed, taken_twice};
 ghost use Rattle.example_threads.specs.Planned.{plan, run};
 ghost use Rattle.example_threads.specs.Polls as polls;
@@ -55,8 +55,9 @@ pub fn three_are_dealt()
 {}
 
 /// Two applications and a mover over devices of their own: the test finds their order fair. Where `mail` is then stopped beside
-/// `desk`, which is Resuming, it tells the place of that step.
+/// `desk`, which is Resuming, it tells the place of that step; and so it does where a second context `mail` is made.
 pub fn own_orders_are_tested()
     ensures fair { fairness_of own.devices own.lines ≡ Fair }
     ensures beside { fairness_of own.devices stopped_beside ≡ Unfair PartnerMoves 10 }
+    ensures twice { fairness_of own.devices named_twice ≡ Unfair NameTaken 1 }
 {}

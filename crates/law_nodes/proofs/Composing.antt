@@ -26,7 +26,7 @@ use Rattle.law_orders.proofs.Devices.{IsNoStop, step_plain}
 use Rattle.law_orders.proofs.Orders.{after_here, after_other}
 use Rattle.law_nodes.proofs.Doers.{GoesOn, IsKnown, along_after, goes_on, id_of, is_now, is_then, number_is}
 use Rattle.law_nodes.specs.Acts.{Act, Declines, Does, IsAsked, IsDump, IsOfEnd, MayDo, MayDoAll, Restores, Standing, Stops, Takes as TakesIn, Turns, after_act, beginning, outcome_of}
-use Rattle.law_nodes.specs.Composed.{Lines, Script, Source, IsRunBy, AreComposed, AreDumpsTaken, Deed, Dump, IsNodeRun, MakesNone, NodeRun, PutsReadable, ReadsBack, TakesDump, device_of, dump_if, dump_put, event_of_deed, line_at, lines_from, lines_of_deeds, moved_on, node_at, openings_of, standing_of, standings_of, with_line}
+use Rattle.law_nodes.specs.Composed.{Lines, Script, Source, IsRunBy, AreComposed, AreDumpsTaken, Deed, Dump, IsNodeRun, LinksNone, NodeRun, PutsReadable, ReadsBack, TakesDump, device_of, dump_if, dump_put, event_of_deed, line_at, lines_from, lines_of_deeds, moved_on, node_at, openings_of, standing_of, standings_of, with_line}
 
 -- ---- devices
 
@@ -146,8 +146,8 @@ turn_asks (event.Expire o) of = tt
 turn_asks (event.RnrOver o) of = tt
 turn_asks other of = absurd of
 
-line_asks : (e : Event) → IsAsked e → MakesNone (Does e) → IsAskable e
-line_asks (event.MakeContext name) of none = absurd none
+line_asks : (e : Event) → IsAsked e → LinksNone (Does e) → IsAskable e
+line_asks (event.MakeContext name) of none = tt
 line_asks (event.Connect o peer partner terms) of none = absurd none
 line_asks (event.Arrive from bytes) of none = tt
 line_asks (event.Stop name alone) of none = tt
@@ -155,7 +155,7 @@ line_asks (event.Restore image) of none = tt
 line_asks (event.Release name) of none = tt
 line_asks other of none = of
 
-may_ask : (s : Standing) (a : Act) → MayDo s a → MakesNone a → MayAsk (event_of_deed a)
+may_ask : (s : Standing) (a : Act) → MayDo s a → LinksNone a → MayAsk (event_of_deed a)
 may_ask s (Turns e) may none = turn_asks e may
 may_ask s (Does e) may none = line_asks e may.asked none
 may_ask s other may none = tt
@@ -212,7 +212,7 @@ record IsWalked (os : List Device) (ls : List Line) : Type 0 where
   untaken : List ContextImage
   restored : AreRestored [] ls untaken
 
-walks : (os : List Device) (at : ℕ → Standing) (earlier : List Line) (dumps : List Dump) (order : List Deed) → Walked os at earlier dumps → All (IsKnown os) order → All (λ (x : Deed). MakesNone x.act) order → GoesOn MayDo at order → AreDumpsTaken at dumps order → IsWalked os (lines_from os at earlier order)
+walks : (os : List Device) (at : ℕ → Standing) (earlier : List Line) (dumps : List Dump) (order : List Deed) → Walked os at earlier dumps → All (IsKnown os) order → All (λ (x : Deed). LinksNone x.act) order → GoesOn MayDo at order → AreDumpsTaken at dumps order → IsWalked os (lines_from os at earlier order)
 unfolding lines_from
 walks os at earlier dumps [] w known none may taken = record { each = w.each; untaken = w.images; restored = w.restored }
 walks os at earlier dumps (x ∷ xs) w known none may taken =
@@ -221,8 +221,8 @@ walks os at earlier dumps (x ∷ xs) w known none may taken =
     (go_on os at earlier dumps (taken.0 ++ dump_put (at x.node) x.act) x w (All-head (IsKnown os) x xs known) (event_of_deed x.act)
     (device_goes (at x.node) x.act m)
     (images_go (at x.node) x.act dumps taken.0 w.images m taken.1 taken.2 w.are)
-    (may_ask (at x.node) x.act m (All-head (λ (y : Deed). MakesNone y.act) x xs none)))
-    (All-tail (IsKnown os) x xs known) (All-tail (λ (y : Deed). MakesNone y.act) x xs none) (is_then MayDo at x xs may) taken.3
+    (may_ask (at x.node) x.act m (All-head (λ (y : Deed). LinksNone y.act) x xs none)))
+    (All-tail (IsKnown os) x xs known) (All-tail (λ (y : Deed). LinksNone y.act) x xs none) (is_then MayDo at x xs may) taken.3
 
 -- ---- the beginning
 
@@ -274,10 +274,11 @@ order_is_fair nodes es order c =
     let os : List Device = openings_of nodes in
     let ls : List Line = lines_of_deeds nodes order in
     let w : IsWalked os ls =
-    walks os (standings_of nodes) [] [] order (begun nodes) c.of_nodes c.made (goes_on MayDo IsNodeRun may_serve order nodes c.runs c.of_nodes c.whole) c.dumps in
+    walks os (standings_of nodes) [] [] order (begun nodes) c.of_nodes c.linked (goes_on MayDo IsNodeRun may_serve order nodes c.runs c.of_nodes c.whole) c.dumps in
     record {
       order = record { each = λ k l h. line_whole os (take k ls) l (w.each k l h) (c.in_time k l h); untaken = w.untaken; restored = w.restored };
       one_sided = c.one_sided;
       in_time = c.in_time;
       asked = λ k l h. record { askable = (w.each k l h).askable; at_home = c.at_home k l h };
+      fresh = c.fresh;
     }

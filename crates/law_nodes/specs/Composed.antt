@@ -22,7 +22,7 @@ use Rattle.law_simulation.specs.Kept.{kept_verb, verb_in}
 use Rattle.order_rules.specs.Bridge.{is_at_home}
 use Rattle.order_rules.specs.Lines.{Line, device_after, events_on, flown}
 use Rattle.order_rules.specs.Order.{Each}
-use Rattle.order_rules.specs.Sides.{IsNeverAged, IsOneSided}
+use Rattle.order_rules.specs.Sides.{IsFresh, IsNeverAged, IsOneSided}
 use Rattle.serve_rules.specs.Server.{new_server}
 use Rattle.law_nodes.specs.Served.{AreDone, Done, HasServed}
 use Rattle.law_nodes.specs.Acts.{Act, Declines, Does, HasDone, IsDump, Restores, Standing, Stops, after_act, after_acts, beginning, event_in, outcome_of}
@@ -205,11 +205,10 @@ IsPreparedBy es n = heard_by (beginning n.id n.own) n.prepared ≡ kept_on n.id 
 abbrev pub IsWholeIn : List Deed → NodeRun → Type 0
 IsWholeIn order n = acts_on n.id order ≡ n.served
 
--- no context is made by the act, and no end is linked
-abbrev pub MakesNone : Act → Type 0
-MakesNone (Does (event.MakeContext name)) = ⊥
-MakesNone (Does (event.Connect o peer partner terms)) = ⊥
-MakesNone other = Unit {0}
+-- no end is linked by the act
+abbrev pub LinksNone : Act → Type 0
+LinksNone (Does (event.Connect o peer partner terms)) = ⊥
+LinksNone other = Unit {0}
 
 -- a verb is asked where its context lives or left a husk
 abbrev pub IsAtHome : List Device → List Line → Line → Type 0
@@ -238,6 +237,9 @@ pub record AreComposed (nodes : List NodeRun) (es : List WorldEvent) (order : Li
   pub in_time : IsNeverAged (openings_of nodes) (lines_of_deeds nodes order)
   -- no end stops while its partner is carried or resuming
   pub one_sided : IsOneSided (openings_of nodes) (lines_of_deeds nodes order)
-  -- verbs are asked where their context lives or left a husk, and nothing is made or linked any more
+  -- verbs are asked where their context lives or left a husk
   pub at_home : Each (IsAtHome (openings_of nodes)) (lines_of_deeds nodes order)
-  pub made : All (λ x. MakesNone x.act) order
+  -- a context that is made then has a name that no context has on a node, and none that is carried
+  pub fresh : IsFresh (openings_of nodes) (lines_of_deeds nodes order)
+  -- no end is linked any more
+  pub linked : All (λ x. LinksNone x.act) order

@@ -10,3 +10,7 @@ returns-clause-fair c = refl
 pub returns-clause-beside : goal.returns-clause-beside
 unfolding opened fairness_after
 returns-clause-beside c = refl
+
+pub returns-clause-twice : goal.returns-clause-twice
+unfolding opened fairness_after
+returns-clause-twice c = refl

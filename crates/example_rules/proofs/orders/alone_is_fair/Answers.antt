@@ -3,7 +3,7 @@ use Rattle.std.specs.Prelude.{true}
 use Rattle.order_rules.specs.Bridge.{IsAskedLine, IsFair, is_work}
 use Rattle.order_rules.specs.Evaluate.{opened}
 use Rattle.order_rules.specs.Openings.{openings}
-use Rattle.order_rules.specs.Sides.{IsOneSidedLine, IsInTimeLine}
+use Rattle.order_rules.specs.Sides.{IsFreshLine, IsOneSidedLine, IsInTimeLine}
 use Rattle.order_rules.specs.Work.{accepts, lines_with}
 use Rattle.law_simulation.specs.Law.{IsRequestInRange}
 use Rattle.example_rules.specs.Alone.{lines, request}
@@ -54,6 +54,10 @@ asked = (
   ),
 )
 
+fresh : EachAfter (IsFreshLine (openings 2)) [] lines
+unfolding opened
+fresh = (refl, (refl, (refl, (refl, (refl, (refl, (refl, (refl, (refl, (refl, (refl, (refl, tt))))))))))))
+
 works : EachAfter (λ earlier l. is_work l.receipt.device l.receipt.event ≡ true) [] lines
 works = (refl, (refl, (refl, (refl, (refl, (refl, (refl, (refl, (refl, (refl, (refl, (refl, tt))))))))))))
 
@@ -63,6 +67,7 @@ fair = record {
   one_sided = each_of (IsOneSidedLine (openings 2)) lines one_sided;
   in_time = each_of (IsInTimeLine (openings 2)) lines in_time;
   asked = each_of (IsAskedLine (openings 2)) lines asked;
+  fresh = each_of (IsFreshLine (openings 2)) lines fresh;
 }
 
 few : lines_with accepts lines ≤ 4194304
