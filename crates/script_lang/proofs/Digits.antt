@@ -1,8 +1,9 @@
 -- Numbers that digits spell.
-use Rattle.std.proofs.Common.{◌≡◌, ℕ, ◌+◌, ◌-◌, ◌*◌, ◌<◌, ◌≤◌, ◌^◌, List, [], ◌∷◌, length, drop, get_or, nat_lt, Some, None, if◌then◌else◌, sym, ap, arith, add-one, drop-cons}
+use Rattle.std.proofs.Common.{◌≡◌, ℕ, zero, suc, ◌+◌, ◌-◌, ◌*◌, ◌<◌, ◌≤◌, ◌^◌, List, [], ◌∷◌, length, take, drop, get_or, nat_lt, Some, None, if◌then◌else◌, refl, sym, ap, arith, add-one, drop-cons}
 use Rattle.std.proofs.Math.Dec.{lit≤}
 use Rattle.std.proofs.Math.Nat.{pow-le-pow_right}
 use Rattle.std.proofs.lemmas.Bool.Decides.{nat_tests}
+use Rattle.std.proofs.lemmas.Grind.{pow_more}
 use Rattle.std.proofs.lemmas.List.{drop_all}
 use Rattle.script_lang.specs.Texts.{digits_after}
 
@@ -14,6 +15,19 @@ grows n (b ∷ bs) = let g = grows (n * 10 + (b - 48)) bs in omega (arith, g)
 -- one digit of those that are left
 pub digit_passed : (n : ℕ) (word : List ℕ) (i : ℕ) → i < length word → digits_after (n * 10 + (get_or word i 0 - 48)) (drop (i + 1) word) ≡ digits_after n (drop i word)
 digit_passed n word i h = rw add-one (sym (ap (digits_after n) (drop-cons word i 0 h)))
+
+digit_after : (n : ℕ) (text : List ℕ) (k : ℕ) → k < length text → digits_after n (take (suc k) text) ≡ digits_after n (take k text) * 10 + (get_or text k 0 - 48)
+digit_after n [] k h = absurd (omega arith)
+digit_after n (b ∷ text) zero h = refl
+digit_after n (b ∷ text) (suc k) h = digit_after (n * 10 + (b - 48)) text k (omega arith)
+
+-- one more digit
+pub digit_more : (n : ℕ) (text : List ℕ) (k : ℕ) → k < length text → digits_after n (take (k + 1) text) ≡ digits_after n (take k text) * 10 + (get_or text k 0 - 48)
+digit_more n text k h = rw add-one (digit_after n text k h)
+
+-- .. of a number of few digits
+pub digit_fits : (n i d : ℕ) → n < 10 ^ i → d ≤ 9 → n * 10 + d < 10 ^ (i + 1)
+digit_fits n i d h l = omega (arith, pow_more 10 i)
 
 -- a number that is over a limit after some digits is over it after all
 pub stays_over : (n limit all : ℕ) (word : List ℕ) (i : ℕ) → i < length word → limit ≤ n * 10 + (get_or word i 0 - 48) → digits_after n (drop i word) ≡ all → limit ≤ all

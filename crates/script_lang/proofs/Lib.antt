@@ -1,6 +1,7 @@
 mod Exits
 mod Digits
 mod Splitting
+mod Nexts
 mod Ranges
 mod Cutting
 mod Printable

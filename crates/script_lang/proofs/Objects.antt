@@ -7,6 +7,7 @@ use Rattle.std.proofs.Common.{inl, inr}
 use Rattle.std.specs.List.{list_all, position_or_len}
 use Rattle.rdma_types.specs.Spelled.{is_name, is_letter, is_name_byte}
 use Rattle.script_lang.specs.Texts.{cut_at, name_of, object_of}
+use Rattle.script_lang.proofs.Splitting.{is_solid}
 
 is_point : ℕ → Bool
 is_point b = b == 46
@@ -64,3 +65,27 @@ unfolding object_of name_of
 object_again context name c n =
     let cut : cut_at 46 (context ++ 46 ∷ name) ≡ record { front = context; behind = Some name } = cut_again context name (name_bytes context c) in
     rw cut (rw (c, n) refl)
+
+no_space : (b : ℕ) → is_name_byte b ≡ true → is_solid b ≡ true
+no_space b h = elim (eqb_tells b 32) [
+  | inl at ↦
+      let bad : is_name_byte 32 ≡ true = rw at.1 at h in
+      absurd (cc bad)
+  | inr other ↦ rw other.0 refl
+]
+
+solid : (text : List ℕ) → list_all is_name_byte text ≡ true → list_all is_solid text ≡ true
+solid [] h = refl
+solid (b ∷ bs) h =
+    let first : is_solid b ≡ true = no_space b (left _ _ h) in
+    rw first (solid bs (right _ _ h))
+
+solid_pair : (front back : List ℕ) → list_all is_solid front ≡ true → list_all is_solid back ≡ true → list_all is_solid (front ++ back) ≡ true
+solid_pair [] back f h = h
+solid_pair (b ∷ bs) back f h =
+    let first : is_solid b ≡ true = left _ _ f in
+    rw first (solid_pair bs back (right _ _ f) h)
+
+-- no space stands in it
+pub object_solid : (context name : List ℕ) → is_name context ≡ true → is_name name ≡ true → list_all is_solid (context ++ 46 ∷ name) ≡ true
+object_solid context name c n = solid_pair context (46 ∷ name) (solid context (name_bytes context c)) (solid name (name_bytes name n))

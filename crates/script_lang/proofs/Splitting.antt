@@ -1,8 +1,8 @@
 -- The words of a line, taken one at a time.
-use Rattle.std.proofs.Common.{not, ◌≤◌, ◌≡◌, ℕ, suc, ◌+◌, ◌-◌, ◌<◌, ◌==◌, Bool, true, false, List, [], ◌∷◌, length, take, drop, refl, ap, sym, ◌∙◌, arith, one-add, get_or, drop-cons, drop-drop, length-drop}
+use Rattle.std.proofs.Common.{not, ◌&&◌, ◌≤◌, ◌≡◌, ℕ, zero, suc, subst, ◌+◌, ◌-◌, ◌<◌, ◌==◌, Bool, true, false, List, [], ◌∷◌, length, take, drop, refl, ap, sym, ◌∙◌, arith, one-add, get_or, drop-cons, drop-drop, length-drop}
 use Rattle.std.proofs.lemmas.List.{length-take-le, get_or-drop}
 use Rattle.std.proofs.lemmas.List.Sums.{prefix_len-le-length}
-use Rattle.std.specs.List.{slice_split, position_or_len, before_first}
+use Rattle.std.specs.List.{list_all, slice_split, position_or_len, before_first}
 use Rattle.std.proofs.lemmas.Bool.Decides.{nat_tests}
 use Rattle.script_lang.specs.Words.{Word, is_space, placed, words_from}
 
@@ -101,3 +101,40 @@ word_at line start end some none place =
     ∙ ap (λ (n : ℕ). at_column (start + 1) (take n rest) ∷ words_from (start + 1 + n) (drop n rest)) size
     ∙ ap (λ (n : ℕ). at_column (start + 1) (take (end - start) rest) ∷ words_from n (drop (end - start) rest)) column
     ∙ ap (λ (bs : List ℕ). at_column (start + 1) (take (end - start) rest) ∷ words_from (end + 1) bs) (drop-drop (end - start) start line ∙ ap (λ (n : ℕ). drop n line) whole)
+
+-- a byte of a word
+abbrev pub is_solid : ℕ → Bool
+is_solid b = not (is_space b)
+
+left : (a b : Bool) → (a && b) ≡ true → a ≡ true
+left true b h = refl
+left false b h = cc h
+
+right : (a b : Bool) → (a && b) ≡ true → b ≡ true
+right true b h = h
+right false b h = cc h
+
+no_space : (a : Bool) → not a ≡ true → a ≡ false
+no_space true h = cc h
+no_space false h = refl
+
+-- bytes of a word stand before the first space
+space_behind : (bs : List ℕ) (n : ℕ) → n ≤ length bs → list_all is_solid (take n bs) ≡ true → (n < length bs → is_space (get_or bs n 0) ≡ true) → position_or_len is_space bs ≡ n
+space_behind [] zero within all stops = refl
+space_behind [] (suc n) within all stops = absurd (omega arith)
+space_behind (b ∷ bs) zero within all stops = let here : is_space b ≡ true = stops (omega arith) in rw here refl
+space_behind (b ∷ bs) (suc n) within all stops =
+    let here : is_space b ≡ false = no_space _ (left _ _ all) in
+    let rest : position_or_len is_space bs ≡ n = space_behind bs n (omega arith) (right _ _ all) (λ h. stops (omega arith)) in
+    rw here (rw one-add (ap suc rest))
+
+-- a word that is known from its bytes, and those behind it
+pub solid_word : (line : List ℕ) (start count : ℕ) → start < length line → is_space (get_or line start 0) ≡ false
+    → count ≤ length (drop start line) → list_all is_solid (take count (drop start line)) ≡ true
+    → (start + count < length line → get_or line (start + count) 0 ≡ 32)
+    → words_from (start + 1) (drop start line) ≡ at_column (start + 1) (take count (drop start line)) ∷ words_from (start + count + 1) (drop (start + count) line)
+solid_word line start count some front within solid stops =
+    let rest : List ℕ = drop start line in
+    let place : position_or_len is_space rest ≡ count = space_behind rest count within solid (λ h. ap is_space (get_or-drop start line count 0 ∙ stops (omega (arith, length-drop start line)))) in
+    let size : start + count - start ≡ count = omega arith in
+    subst (λ (m : ℕ). words_from (start + 1) rest ≡ at_column (start + 1) (take m rest) ∷ words_from (start + count + 1) (drop (start + count) line)) size (word_at line start (start + count) some front (omega (arith, place)))

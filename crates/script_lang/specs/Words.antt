@@ -1,6 +1,8 @@
 -- The words of a line with their columns, and readers of words: a value and the words after it, or the first offence.
-use Rattle.std.specs.Prelude.{ℕ, ◌+◌, ◌≡◌, ◌==◌, Bool, true, false, List, [], ◌∷◌, length, Option, Some, None, Result, Ok, Err, if◌then◌else◌, bytes_eq}
+use Rattle.std.specs.Prelude.{ℕ, ◌+◌, ◌-◌, ◌^◌, ◌≡◌, ◌==◌, drop, Bool, true, false, List, [], ◌∷◌, length, Option, Some, None, Result, Ok, Err, if◌then◌else◌, bytes_eq}
 use Rattle.std.specs.List.{slice_split}
+use Rattle.rdma_types.specs.declared.names.ObjName.{ObjName}
+use Rattle.script_lang.specs.Texts.{number_in, object_of}
 use Rattle.script_lang.specs.declared.lines.LineFault.{LineFault}
 use Rattle.script_lang.specs.declared.lines.LineFault.TheVariants.{Bad, OutOfMemory}
 use Rattle.script_lang.specs.declared.lines.LineWhy.{LineWhy}
@@ -28,6 +30,18 @@ placed column (piece ∷ more) =
 -- the words of bytes, where the first byte has that column
 unfoldable pub words_from : ℕ → List ℕ → List Word
 words_from column bs = placed column (slice_split is_space bs)
+
+-- the next word from a place of a line on is the number n, in decimal digits, and ends at that place
+pub record IsNumberNext (line : List ℕ) (at n end : ℕ) : Type 0 where
+  pub word : Word
+  pub next : words_from (at + 1) (drop at line) ≡ word ∷ words_from (end + 1) (drop end line)
+  pub number : number_in 0 (2 ^ 64 - 1) word.text ≡ Some n
+
+-- .. or names this object
+pub record IsObjectNext (line : List ℕ) (at : ℕ) (o : ObjName) (end : ℕ) : Type 0 where
+  pub word : Word
+  pub next : words_from (at + 1) (drop at line) ≡ word ∷ words_from (end + 1) (drop end line)
+  pub object : object_of word.text ≡ Some o
 
 -- words that are still to be read, and the column past the line's end
 pub record Input : Type 0 where

@@ -29,6 +29,9 @@ impl Words<'_> {
     pub fn object(&mut self) -> Result<ObjName, Offence>
         ensures { Gives result self.new (fields.an_object self.old) }
     {
+        if let Some(object) = self.short_object() {
+            return Ok(object);
+        }
         let word = self.word()?;
         texts::object(word.text).ok_or(word.bad(LineWhy::Name))
     }
@@ -51,6 +54,9 @@ impl Words<'_> {
         ensures value { Gives result self.new (fields.a_number low high self.old) }
         ensures within { IfOk result (λ n. (low ≤ n) × (n ≤ high)) }
     {
+        if let Some(n) = self.short_number(low, high) {
+            return Ok(n);
+        }
         let word = self.word()?;
         texts::number(word.text, low, high).ok_or(word.bad(LineWhy::Number))
     }
