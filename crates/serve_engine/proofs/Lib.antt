@@ -1,3 +1,4 @@
+pub mod LineSteps
 pub mod Turning
 pub mod Moves
 pub mod FromLink

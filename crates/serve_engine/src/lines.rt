@@ -78,7 +78,6 @@ impl Server {
 
     /// Steps an event, and answers it. Where memory runs out, all is as before. Errors: `AllocError` when out of memory
     /// behind the step.
-    #[tactic(auto, unfolding(serve_rules::specs::Lines::line_stepped, serve_rules::specs::Lines::line_reply))]
     fn step_line(&mut self, alloc: Global, event: &Event) -> Result<Reply, AllocError>
         requires { IsLawfulEvent event.now }
         ensures { IfOk result (λ r. rules.IsLineOf event.now self.old r self.new) }
