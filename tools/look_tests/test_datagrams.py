@@ -1,11 +1,11 @@
-"""Datagrams: those of docs/wire.md, field by field as that page tells them."""
+"""Datagrams of each kind, field by field as docs/wire.md tells them."""
 import unittest
 
 from look_parts.datagrams import Offence, read_datagram, write_datagram
 
 ZEROS = "00" * 256
 
-# The hexadecimal digits in the parts in which docs/wire.md shows them, then what it says of them: the kind, the queue
+# The hexadecimal digits, in parts as docs/wire.md shows such, then what it says of them: the kind, the queue
 # pair, whether an acknowledgement is asked for, the number, the extension headers and the payload.
 TOLD = [
     ("0a00ffff00020001 80000064 0000000000002000 02000003 00000004 deadbeef 00000000",
