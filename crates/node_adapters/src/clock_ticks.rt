@@ -39,20 +39,3 @@ impl<'a, R: Clock> Ticks for ClockTicks<'a, R> {
         self.last
     }
 }
-
-#[cfg(test)]
-mod tests {
-    use super::*;
-    use std::test::Fail;
-    use std::thread;
-    use std::time::Duration;
-
-    #[test]
-    fn ticks_are_milliseconds(rt: HostRuntime) -> Result<(), Fail> {
-        let mut ticks = ClockTicks::new(&rt);
-        assert_eq!(rt; ticks.now(), 0);
-        thread::sleep(&rt, Duration::from_millis(20));
-        assert!(rt; ticks.now() >= 20);
-        Ok(())
-    }
-}

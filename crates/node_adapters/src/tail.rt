@@ -42,24 +42,3 @@ impl Tail {
         text.rsplit(|b| *b == b'\n').next().unwrap_or(text)
     }
 }
-
-#[cfg(test)]
-mod tests {
-    use super::*;
-
-    #[test]
-    fn the_last_line_is_kept(rt: HostRuntime) {
-        let mut tail = Tail::new();
-        assert_eq!(rt; tail.last_line(), b"".as_slice());
-        tail.note(b"ok\nusage");
-        assert_eq!(rt; tail.last_line(), b"usage".as_slice());
-        tail.note(b"\n");
-        assert_eq!(rt; tail.last_line(), b"usage".as_slice());
-        tail.note(&[b'a'; 70]);
-        assert_eq!(rt; tail.last_line(), [b'a'; 64].as_slice());
-        for piece in [b"\n".as_slice(), b"bad", b" ", b"line", b"\n"] {
-            tail.note(piece);
-        }
-        assert_eq!(rt; tail.last_line(), b"bad line".as_slice());
-    }
-}
