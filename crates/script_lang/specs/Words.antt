@@ -125,6 +125,11 @@ abbrev pub Gives : {A : Type 0} → Result A Offence → Input → Read A → Ty
 Gives (Ok x) rest read = read ≡ Ok (x, rest)
 Gives (Err e) rest read = read ≡ Err e
 
+-- what a reader returned that fills a place
+abbrev pub filled : {E T : Type 0} → Result (Unit {0}) E → T → Result T E
+filled (Ok u) x = Ok x
+filled (Err e) x = Err e
+
 -- the same of a reader whose value others follow
 abbrev pub GivesThen : {A B : Type 0} → Result A Offence → Input → (A → Reads B) → Read B → Type 0
 GivesThen (Ok x) rest more read = read ≡ more x rest

@@ -22,7 +22,7 @@ pub use laws::{a_number_is_spelled_in_one_way, what_is_printed_reads_back};
 pub use lines::{Line, LineFault, LineWhy, NodeLine, Offence};
 pub use node::parse_node_line;
 pub use print::{answers_are_whole_lines, each_has_a_word_of_its_own, print_answer};
-pub use reading::{check_bytes, parse_line};
+pub use reading::{check_bytes, parse_line, read_line};
 pub use script::Lines;
 pub use verbs::read_verb;
 pub use words::{Word, Words};

@@ -150,6 +150,7 @@ fn posting(words: &mut Words<'_>) -> Result<PostHead, Offence>
 
 /// A request of this shape, with its options.
 #[tactic(auto, unfolding(crate::specs::Verbs::posted))]
+#[inline(always)]
 fn posted(words: &mut Words<'_>, at: &PostHead, shape: Shape) -> Result<Verb, Offence>
     requires { IsLawfulShape shape }
     ensures value { Gives result words.new (verbs.posted at.now.end at.now.id at.now.lkey
@@ -175,6 +176,7 @@ fn posted(words: &mut Words<'_>, at: &PostHead, shape: Shape) -> Result<Verb, Of
 
 /// `write` O id lkey address length raddress rkey, and perhaps `imm` i, `fence`, `quiet`
 #[tactic(auto, unfolding(crate::specs::Verbs::write_line))]
+#[inline(always)]
 fn write(words: &mut Words<'_>) -> Result<Verb, Offence>
     ensures value { Gives result words.new (verbs.write_line words.old) }
     ensures lawful { IfOk result IsLawfulVerb }
@@ -312,6 +314,7 @@ fn recv(words: &mut Words<'_>) -> Result<Verb, Offence>
 
 /// `poll` cq max
 #[tactic(auto, unfolding(crate::specs::Verbs::poll_line))]
+#[inline(always)]
 fn poll(words: &mut Words<'_>) -> Result<Verb, Offence>
     ensures value { Gives result words.new (verbs.poll_line words.old) }
     ensures lawful { IfOk result IsLawfulVerb }
@@ -323,6 +326,7 @@ fn poll(words: &mut Words<'_>) -> Result<Verb, Offence>
 }
 
 /// What the words behind the first say, of a verb that takes no memory.
+#[inline(always)]
 fn plain_verb(form: VerbForm, words: &mut Words<'_>) -> Result<Verb, Offence>
     requires { form ≢ form_is.Store }
     ensures value { Gives result words.new (verbs.verb_line form words.old) }
