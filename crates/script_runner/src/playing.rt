@@ -15,9 +15,16 @@ use crate::answering::act;
 use host_ports::{Sink, WriteFault, write_all_of};
 use law_headline::{lines_are_in_range, scripts_are_followed, scripts_are_played_line_by_line};
 use law_kept_datagrams::alike_worlds_are_answered_alike;
-use script_lang::{Line, LineFault, Lines, parse_line, print_answer};
+use script_lang::{Line, LineFault, Lines, print_answer, read_line};
 use std::alloc::Global;
 use world_core::{Settler, World};
+
+/// Room that is kept from line to line: for what a line says, and for the text of its answer.
+#[derive(Drop)]
+struct Room {
+    told: Line,
+    text: Vec<u8>,
+}
 
 /// Writes a text; after an error a prefix of it is written.
 fn write_text<K: Sink>(text: &[u8], output: &mut K) -> Result<(), WriteFault>
@@ -70,7 +77,7 @@ fn play_line<T: Settler, K: Sink>(
     settler: &T,
     number: u64,
     line: &[u8],
-    text: &mut Vec<u8>,
+    room: &mut Room,
     output: &mut K,
 ) -> Result<(), PlayFault>
     ensures played { (held : Option (List ℕ)) (script : List ℕ) (n : ℕ) (rest : List (List ℕ)) → n + 1 ≡ number
@@ -91,8 +98,11 @@ fn play_line<T: Settler, K: Sink>(
     alike_worlds_are_answered_alike();
     lines_are_in_range();
     scripts_are_played_line_by_line();
-    match parse_line(alloc, line) {
-        Ok(line) => answer(alloc, world, settler, line, text, output),
+    match read_line(alloc, line, &mut room.told) {
+        Ok(()) => {
+            let says = std::mem::replace(&mut room.told, Line::Blank);
+            answer(alloc, world, settler, says, &mut room.text, output)
+        }
         Err(LineFault::Bad { column, why }) => Err(PlayFault::BadLine {
             line: number,
             column,
@@ -134,12 +144,15 @@ pub fn play_world<T: Settler, K: Sink>(
     scripts_are_followed();
     scripts_are_played_line_by_line();
     let mut world = World::make(alloc)?;
-    let mut text = Vec::new(alloc);
+    let mut room = Room {
+        told: Line::Blank,
+        text: Vec::new(alloc),
+    };
     let mut lines = Lines::new(input);
     let mut number = 0u64;
     while let Some(line) = lines.next_line() {
         number += 1;
-        play_line(alloc, &mut world, settler, number, line, &mut text, output)?;
+        play_line(alloc, &mut world, settler, number, line, &mut room, output)?;
     }
     Ok(world)
 }
