@@ -10,3 +10,4 @@ pub mod Spares
 pub mod Tells
 pub mod Wants
 pub mod Leaves
+pub mod Places

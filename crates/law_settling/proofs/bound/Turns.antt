@@ -141,7 +141,7 @@ stepped_done w e live none =
     ap (λ r. step.by_refusal w r (runs w (home w (context_of_event e)) e)) (causes_live w (context_of_event e) live)
     ∙ ap (λ r. ran w (device.by_refusal (home w (context_of_event e)) e r)) none
 
-dead_cause : (live carried : Bool) → live ≡ false → first_cause (cause refusals.NoSuch (not live && not carried) ∷ cause refusals.Stopped (not live) ∷ []) ≡ None → ⊥
+pub dead_cause : (live carried : Bool) → live ≡ false → first_cause (cause refusals.NoSuch (not live && not carried) ∷ cause refusals.Stopped (not live) ∷ []) ≡ None → ⊥
 unfolding first_cause
 dead_cause true carried h t = absurd (cc)
 dead_cause false true h t = absurd (cc)

@@ -1,0 +1,11 @@
+pub mod Lists
+pub mod Outlines
+pub mod Changes
+pub mod Turning
+pub mod Reaching
+pub mod Staying
+pub mod Placed
+pub mod Marking
+pub mod Linked
+pub mod Visiting
+pub mod Rounding
