@@ -2,3 +2,5 @@ pub mod Streams
 pub mod Memory
 pub mod Depots
 pub mod Links
+pub mod Controls
+pub mod Stores

@@ -3,8 +3,8 @@
 ghost use Rattle.std.specs.Prelude.{None};
 
 use crate::folder::{FolderFault, claim_file, forget_file, give_file_back, path_of, put_file};
+use host_ports::{Store, StoreFault};
 use rdma_types::Name;
-use serve_ports::{Store, StoreFault};
 use std::alloc::Global;
 use std::io;
 use std::io::{ErrorKind, Write};

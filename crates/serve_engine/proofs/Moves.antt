@@ -7,12 +7,12 @@ use Rattle.serve_lines.specs.declared.replies.Reply.{Reply}
 use Rattle.serve_lines.specs.declared.replies.Reply.TheVariants as reply
 use Rattle.serve_rules.specs.Moving.{Kept, StopLeaves, stop_of, without}
 use Rattle.serve_rules.specs.Server.{Server, after, outcome_of}
-use Rattle.serve_ports.specs.Stores.{AddsClaim, Claim, DropsClaim}
+use Rattle.host_ports.specs.Stores.{AddsClaim, Claim, DropsClaim}
 use Rattle.serve_engine.specs.Preparing.{HasLeaving, PublishLeaves, reply_to}
 use Rattle.serve_engine.specs.declared.stopping.Leaving.{Leaving}
 use Rattle.host_ports.specs.Depots.{IsThere, Sets}
-use Rattle.serve_ports.specs.declared.store.StoreFault.{StoreFault}
-use Rattle.serve_ports.specs.declared.store.StoreFault.TheVariants as store_fault
+use Rattle.host_ports.specs.declared.store.StoreFault.{StoreFault}
+use Rattle.host_ports.specs.declared.store.StoreFault.TheVariants as store_fault
 use Rattle.std.specs.Prelude.{ℕ}
 
 -- the state after a context left

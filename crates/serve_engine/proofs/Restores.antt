@@ -8,12 +8,12 @@ use Rattle.host_ports.specs.Depots.{Has, Holding, Sets}
 use Rattle.rdma_types.specs.declared.names.Name.{Name}
 use Rattle.serve_lines.specs.declared.replies.Reply.{Reply}
 use Rattle.serve_lines.specs.declared.replies.Reply.TheVariants as reply
-use Rattle.serve_ports.specs.Stores.{AddsClaim, Claim, GivesLastBack}
+use Rattle.host_ports.specs.Stores.{AddsClaim, Claim, GivesLastBack}
 use Rattle.serve_rules.specs.Moving.{HasNameOrClaim, Kept, RestoreLeaves, with_context}
 use Rattle.serve_rules.specs.Server.{Server, after}
 use Rattle.serve_engine.proofs.Moves.{dropped_again, snoc_front, snoc_last}
-use Rattle.serve_ports.specs.declared.store.StoreFault.{StoreFault}
-use Rattle.serve_ports.specs.declared.store.StoreFault.TheVariants as store_fault
+use Rattle.host_ports.specs.declared.store.StoreFault.{StoreFault}
+use Rattle.host_ports.specs.declared.store.StoreFault.TheVariants as store_fault
 use Rattle.serve_engine.specs.Preparing.{ClaimLeaves, FinishLeaves, GaveBack, HasComing, IsRestoreOf, reply_to}
 use Rattle.serve_engine.specs.declared.restoring.Coming.{Coming}
 use Rattle.serve_engine.specs.declared.restoring.Restore.TheVariants as restore

@@ -13,9 +13,9 @@ use Rattle.serve_lines.specs.declared.replies.Reply.{Reply}
 use Rattle.serve_lines.specs.declared.replies.Reply.TheVariants as reply
 use Rattle.serve_rules.specs.Moving.{IsDumpOf, Kept, any_moves, leaving, refused_stop, stop_of}
 use Rattle.serve_rules.specs.Server.{Server, after, outcome_of}
-use Rattle.serve_ports.specs.declared.store.StoreFault.{StoreFault}
-use Rattle.serve_ports.specs.declared.store.StoreFault.TheVariants as store_fault
-use Rattle.serve_ports.specs.Stores.{DropsClaim, GivesLastBack}
+use Rattle.host_ports.specs.declared.store.StoreFault.{StoreFault}
+use Rattle.host_ports.specs.declared.store.StoreFault.TheVariants as store_fault
+use Rattle.host_ports.specs.Stores.{DropsClaim, GivesLastBack}
 use Rattle.serve_engine.specs.declared.restoring.Coming.{Coming}
 use Rattle.serve_engine.specs.declared.restoring.Restore.{Restore}
 use Rattle.serve_engine.specs.declared.restoring.Restore.TheVariants as restore

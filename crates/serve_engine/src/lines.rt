@@ -11,11 +11,11 @@ ghost use Rattle.serve_engine.specs.Doing.{IsReleaseOf, LineLeaves, NodeLineLeav
 
 use crate::state::Server;
 use device_core::Event;
+use host_ports::Store;
 use protocol::WorldEvent;
 use rdma_types::{Answer, Name, ObjName, Verb};
 use script_lang::{LineFault, NodeLine};
 use serve_lines::{Goal, Reply, ServeLine, parse_serve_line};
-use serve_ports::Store;
 use serve_state::Pending;
 use std::alloc::{AllocError, Global};
 use verb_events::event_of;

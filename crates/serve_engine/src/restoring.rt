@@ -12,10 +12,10 @@ use crate::state::Server;
 use crate::stopping::fault_reply;
 use device_core::{ContextImage, Device, Outcome};
 use dump_reader::{DumpFault, decode_dump};
+use host_ports::Store;
 use protocol::EndImage;
 use rdma_types::{Answer, Name};
 use serve_lines::Reply;
-use serve_ports::Store;
 use std::alloc::{AllocError, Global};
 use std::collections::VecDeque;
 

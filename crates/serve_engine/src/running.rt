@@ -7,10 +7,11 @@ use crate::ServeFault;
 use crate::ports::ServePorts;
 use crate::printing::{kept_text, reply_text};
 use crate::state::Server;
-use host_ports::{LONGEST_DATAGRAM, Link, Sink, Ticks, WriteFault, write_all_of};
+use host_ports::{
+    Control, Heard, LONGEST_DATAGRAM, Link, Sink, Store, Ticks, WriteFault, write_all_of,
+};
 use rdma_types::{Address, Name};
 use serve_lines::Reply;
-use serve_ports::{Control, Heard, Store};
 use serve_state::Pending;
 use std::alloc::{AllocError, Global};
 

@@ -12,10 +12,10 @@ ghost use Rattle.serve_engine.specs.Preparing.{IsStopOf, IsStopOfImage, PublishL
 use crate::state::Server;
 use device_core::{ContextImage, Device, Event, Outcome};
 use dump_writer::encode_dump;
+use host_ports::{Store, StoreFault};
 use protocol::EndImage;
 use rdma_types::{Answer, Name, Refusal};
 use serve_lines::Reply;
-use serve_ports::{Store, StoreFault};
 use std::alloc::{AllocError, Global};
 
 /// What is there after a context left, and its dump.

@@ -2,8 +2,8 @@
 
 ghost use Rattle.std.specs.Prelude.{◌≡◌, ℕ, List, Option, Some, None, IfOk, OnOk, OnErr, IsErrOf};
 ghost use Rattle.host_ports.specs.Depots.{Has, Holding, IsThere, Sets};
-ghost use Rattle.serve_ports.specs.Stores.{AddsClaim, Claim, DropsClaim, GivesLastBack};
-ghost use Rattle.serve_ports.specs.declared.store.StoreFault.TheVariants.{Failed, Missing, OutOfMemory, Taken};
+ghost use Rattle.host_ports.specs.Stores.{AddsClaim, Claim, DropsClaim, GivesLastBack};
+ghost use Rattle.host_ports.specs.declared.store.StoreFault.TheVariants.{Failed, Missing, OutOfMemory, Taken};
 
 use rdma_types::Name;
 use std::alloc::{AllocError, Global};

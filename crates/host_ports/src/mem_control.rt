@@ -1,7 +1,7 @@
 //! A control in memory.
 
 ghost use Rattle.std.specs.Prelude.{◌≡◌, Some, IfOk, OnErr};
-ghost use Rattle.serve_ports.specs.Controls.{GivesNext};
+ghost use Rattle.host_ports.specs.Controls.{GivesNext};
 
 use crate::{Control, Heard};
 use std::alloc::{AllocError, Global};
@@ -16,7 +16,7 @@ pub struct MemControl {
 
 impl Model for MemControl {
     ghost use Rattle.std.specs.Prelude.{List};
-    ghost use Rattle.serve_ports.specs.declared.control.Heard.{Heard};
+    ghost use Rattle.host_ports.specs.declared.control.Heard.{Heard};
 
     ghost Value = { List Heard };
 

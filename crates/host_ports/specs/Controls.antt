@@ -1,7 +1,7 @@
 -- What a control is to give, line after line.
 use Rattle.std.specs.Prelude.{◌≡◌, List, [], ◌∷◌, drop, Option, None, Some}
-use Rattle.serve_ports.specs.declared.control.Heard.{Heard}
-use Rattle.serve_ports.specs.declared.control.Heard.TheVariants.{Ended}
+use Rattle.host_ports.specs.declared.control.Heard.{Heard}
+use Rattle.host_ports.specs.declared.control.Heard.TheVariants.{Ended}
 
 -- the first of what is to come; behind the last is the end
 abbrev pub first_heard : List Heard → Heard

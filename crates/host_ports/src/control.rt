@@ -1,7 +1,7 @@
 //! A control, which drives a run by lines.
 
 ghost use Rattle.std.specs.Prelude.{◌≡◌, List, Option, IfOk, OnErr};
-ghost use Rattle.serve_ports.specs.Controls.{GivesNext};
+ghost use Rattle.host_ports.specs.Controls.{GivesNext};
 
 use rdma_types::Items;
 use std::alloc::{AllocError, Global};
@@ -19,7 +19,7 @@ pub enum Heard {
 
 /// Lines as they come.
 pub trait Control {
-    ghost use Rattle.serve_ports.specs.declared.control.Heard.{Heard};
+    ghost use Rattle.host_ports.specs.declared.control.Heard.{Heard};
 
     // What it is to give, call after call, where that is told; behind it the end.
     ghost to_come: { Self → Option (List Heard) };
