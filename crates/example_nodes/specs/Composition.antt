@@ -29,8 +29,8 @@ use Rattle.law_nodes.specs.Acts as act
 use Rattle.law_nodes.specs.Acts.{Act}
 use Rattle.law_nodes.specs.Composed.{Deed, Lines, NodeRun, Script}
 use Rattle.law_nodes.specs.Served.{Done, Line, Restore}
-use Rattle.serve_lines.specs.declared.replies.Reply.{Reply}
-use Rattle.serve_lines.specs.declared.replies.Reply.TheVariants as reply
+use Rattle.serve_rules.specs.declared.replies.Reply.{Reply}
+use Rattle.serve_rules.specs.declared.replies.Reply.TheVariants as reply
 use Rattle.serve_rules.specs.Lines.{line_stepped}
 use Rattle.serve_rules.specs.Moving.{with_context}
 use Rattle.serve_rules.specs.Server.{Server, new_server, outcome_of}

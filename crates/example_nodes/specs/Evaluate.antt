@@ -12,8 +12,8 @@ use Rattle.script_lang.specs.Scripts as in_scripts
 use Rattle.script_lang.specs.Texts as in_texts
 use Rattle.script_lang.specs.Verbs as in_verbs
 use Rattle.script_lang.specs.Words as in_words
-use Rattle.serve_lines.specs.declared.lines.ServeLine.{ServeLine}
-use Rattle.serve_lines.specs.Reading as in_serve_lines
+use Rattle.serve_rules.specs.declared.lines.ServeLine.{ServeLine}
+use Rattle.serve_rules.specs.Reading as in_reading
 use Rattle.node_rules.specs.Node as in_node
 use Rattle.node_rules.specs.Outside as in_outside
 use Rattle.node_rules.specs.Outside.{Outside, Ran}
@@ -39,8 +39,8 @@ run_of id own text o = in_outside.node_run id own text o
 
 -- what a line of a served device says
 unfoldable pub line_read : List ℕ → Result ServeLine Offence
-unfolding run_of in_serve_lines.serve_reading_of
-line_read text = in_serve_lines.serve_reading_of text
+unfolding run_of in_reading.serve_reading_of
+line_read text = in_reading.serve_reading_of text
 
 -- the bytes of hexadecimal digits, or none
 abbrev pub or_none : Option (List ℕ) → List ℕ

@@ -7,12 +7,12 @@ use Rattle.script_lang.specs.declared.lines.Offence.{Offence}
 use Rattle.script_lang.specs.Fields.{a_name, a_number, an_object}
 use Rattle.script_lang.specs.Lines.{bytes_offence, node_reading_of, said, unless, whole}
 use Rattle.script_lang.specs.Words.{Input, Read, Word, done, input_of, the_end, words_from}
-use Rattle.serve_lines.specs.declared.lines.Goal.{Goal}
-use Rattle.serve_lines.specs.declared.lines.ServeLine.{ServeLine}
-use Rattle.serve_lines.specs.declared.lines.ServeLine.TheVariants as line
-use Rattle.serve_lines.specs.declared.reading.OwnForm.{OwnForm}
-use Rattle.serve_lines.specs.declared.reading.OwnForm.TheVariants as form
-use Rattle.serve_lines.specs.Reading.{a_limit, a_wish, last, of_node, own_form, own_line, reading_by, reading_of_line, serve_reading_of, show_by, show_line, shown, shown_by, shown_name, until_by, until_line, until_of, wait_line}
+use Rattle.serve_rules.specs.declared.lines.Goal.{Goal}
+use Rattle.serve_rules.specs.declared.lines.ServeLine.{ServeLine}
+use Rattle.serve_rules.specs.declared.lines.ServeLine.TheVariants as line
+use Rattle.serve_rules.specs.declared.reading.OwnForm.{OwnForm}
+use Rattle.serve_rules.specs.declared.reading.OwnForm.TheVariants as form
+use Rattle.serve_rules.specs.Reading.{a_limit, a_wish, last, of_node, own_form, own_line, reading_by, reading_of_line, serve_reading_of, show_by, show_line, shown, shown_by, shown_name, until_by, until_line, until_of, wait_line}
 use Rattle.law_headline.proofs.Tells.{Tells, any, bind, gives}
 use Rattle.law_nodes.proofs.Ranges.{IsNodeLineIn, line_in}
 

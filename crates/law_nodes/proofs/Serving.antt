@@ -24,8 +24,8 @@ use Rattle.rdma_types.specs.declared.verbs.Verb.{Verb}
 use Rattle.rdma_types.specs.declared.verbs.Verb.TheVariants as verb
 use Rattle.script_lang.specs.declared.lines.NodeLine.{NodeLine}
 use Rattle.script_lang.specs.declared.lines.NodeLine.TheVariants as line_is
-use Rattle.serve_lines.specs.declared.replies.Reply.{Reply}
-use Rattle.serve_lines.specs.declared.replies.Reply.TheVariants as reply
+use Rattle.serve_rules.specs.declared.replies.Reply.{Reply}
+use Rattle.serve_rules.specs.declared.replies.Reply.TheVariants as reply
 use Rattle.node_rules.specs.Lines.{verb_event}
 use Rattle.law_arrivals.specs.Turns.{IsOfTurn}
 use Rattle.serve_rules.specs.Lines.{IsLineOf, end_of, forgotten, line_stepped, released, woken_end}

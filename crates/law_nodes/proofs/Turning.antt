@@ -17,11 +17,11 @@ use Rattle.protocol.specs.State.{Device}
 use Rattle.rdma_types.specs.declared.answers.Answer.{Answer}
 use Rattle.rdma_types.specs.declared.answers.EndView.{EndView}
 use Rattle.rdma_types.specs.declared.answers.Sent.{Sent}
-use Rattle.serve_state.specs.declared.timers.Due.{Due}
-use Rattle.serve_state.specs.declared.timers.Due.TheVariants as due_is
-use Rattle.serve_state.specs.declared.timers.Timer.{Timer}
-use Rattle.serve_state.specs.Timers as timers
-use Rattle.serve_state.specs.Timers.{is_resuming}
+use Rattle.serve_rules.specs.declared.timers.Due.{Due}
+use Rattle.serve_rules.specs.declared.timers.Due.TheVariants as due_is
+use Rattle.serve_rules.specs.declared.timers.Timer.{Timer}
+use Rattle.serve_rules.specs.Timers as timers
+use Rattle.serve_rules.specs.Timers.{is_resuming}
 use Rattle.serve_rules.specs.Laws.{AreEvents, arrivals}
 use Rattle.law_nodes.specs.Served.{sent_in}
 use Rattle.serve_rules.specs.Server.{Server, after, due_of, may_send, observed, outcome_of, queued, resumed, spent, stepped, with_timer, without_timer, woken}

@@ -9,10 +9,10 @@ use Rattle.rdma_types.specs.declared.answers.Sent.{Sent}
 use Rattle.rdma_types.specs.declared.names.Name.{Name}
 use Rattle.script_lang.specs.declared.lines.NodeLine.{NodeLine}
 use Rattle.script_lang.specs.declared.lines.NodeLine.TheVariants as line_is
-use Rattle.serve_lines.specs.declared.lines.ServeLine.TheVariants as served_line
-use Rattle.serve_lines.specs.declared.replies.Reply.{Reply}
-use Rattle.serve_lines.specs.declared.replies.Reply.TheVariants as reply
-use Rattle.serve_lines.specs.Reading.{serve_reading_of}
+use Rattle.serve_rules.specs.declared.lines.ServeLine.TheVariants as served_line
+use Rattle.serve_rules.specs.declared.replies.Reply.{Reply}
+use Rattle.serve_rules.specs.declared.replies.Reply.TheVariants as reply
+use Rattle.serve_rules.specs.Reading.{serve_reading_of}
 use Rattle.node_rules.specs.Lines.{verb_event}
 use Rattle.serve_rules.specs.Laws.{AreEvents}
 use Rattle.serve_rules.specs.Lines.{IsLineOf, released}

@@ -5,7 +5,7 @@ use Rattle.protocol.specs.declared.events.Event.{Event}
 use Rattle.protocol.specs.declared.images.Outcome.{Outcome}
 use Rattle.rdma_types.specs.declared.answers.Answer.{Answer}
 use Rattle.rdma_types.specs.declared.names.ObjName.{ObjName}
-use Rattle.serve_lines.specs.declared.replies.Reply.TheVariants as reply
+use Rattle.serve_rules.specs.declared.replies.Reply.TheVariants as reply
 use Rattle.serve_rules.specs.Lines.{IsLineOf, end_of, line_stepped, line_reply, woken_end}
 use Rattle.serve_rules.specs.Server.{Server, after, outcome_of, queued, stepped}
 

@@ -3,8 +3,8 @@ use Rattle.std.proofs.Common.{◌≡◌, ◌∙◌, ◌++◌, Option, None, Some
 use Rattle.protocol.specs.declared.images.ContextImage.{ContextImage}
 use Rattle.protocol.specs.State.{Device}
 use Rattle.rdma_types.specs.declared.names.Name.{Name}
-use Rattle.serve_lines.specs.declared.replies.Reply.{Reply}
-use Rattle.serve_lines.specs.declared.replies.Reply.TheVariants as reply
+use Rattle.serve_rules.specs.declared.replies.Reply.{Reply}
+use Rattle.serve_rules.specs.declared.replies.Reply.TheVariants as reply
 use Rattle.serve_rules.specs.Moving.{Kept, StopLeaves, stop_of, without}
 use Rattle.serve_rules.specs.Server.{Server, after, outcome_of}
 use Rattle.host_ports.specs.Stores.{AddsClaim, Claim, DropsClaim}

@@ -4,9 +4,9 @@ use Rattle.std.specs.Prelude.{IfOk}
 use Rattle.std.proofs.lemmas.Result.{IfOk-weaker}
 use Rattle.std.specs.declared.alloc.AllocError.{AllocError}
 use Rattle.script_lang.specs.declared.lines.Offence.{Offence}
-use Rattle.serve_lines.specs.declared.lines.ServeLine.{ServeLine}
-use Rattle.serve_lines.specs.declared.replies.Reply.{Reply}
-use Rattle.serve_lines.specs.declared.replies.Reply.TheVariants as reply
+use Rattle.serve_rules.specs.declared.lines.ServeLine.{ServeLine}
+use Rattle.serve_rules.specs.declared.replies.Reply.{Reply}
+use Rattle.serve_rules.specs.declared.replies.Reply.TheVariants as reply
 use Rattle.serve_rules.specs.Moving.{Kept}
 use Rattle.serve_rules.specs.Server.{Server}
 use Rattle.serve_engine.specs.Doing.{LineLeaves, ReadingLeaves}

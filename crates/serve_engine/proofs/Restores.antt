@@ -6,8 +6,8 @@ use Rattle.protocol.specs.declared.images.ContextImage.{ContextImage}
 use Rattle.protocol.specs.State.{Device}
 use Rattle.host_ports.specs.Depots.{Has, Holding, Sets}
 use Rattle.rdma_types.specs.declared.names.Name.{Name}
-use Rattle.serve_lines.specs.declared.replies.Reply.{Reply}
-use Rattle.serve_lines.specs.declared.replies.Reply.TheVariants as reply
+use Rattle.serve_rules.specs.declared.replies.Reply.{Reply}
+use Rattle.serve_rules.specs.declared.replies.Reply.TheVariants as reply
 use Rattle.host_ports.specs.Stores.{AddsClaim, Claim, GivesLastBack}
 use Rattle.serve_rules.specs.Moving.{HasNameOrClaim, Kept, RestoreLeaves, with_context}
 use Rattle.serve_rules.specs.Server.{Server, after}

@@ -3,10 +3,10 @@ use Rattle.std.proofs.Common.{◌≡◌, ◌∙◌, ℕ, suc, ◌+◌, ◌<◌, 
 use Rattle.device_core.specs.Numbered.{numbered_view}
 use Rattle.serve_rules.specs.Server.{Server}
 use Rattle.serve_rules.specs.Turns.{all_expired, arrived_many, arrived_next, due_before, due_in, expired_from, sent_many, sent_next}
-use Rattle.serve_state.specs.declared.timers.Due.{Due}
-use Rattle.serve_state.specs.declared.timers.Due.TheVariants as due_is
-use Rattle.serve_state.specs.declared.timers.Timer.{Timer}
-use Rattle.serve_state.specs.Timers as timers
+use Rattle.serve_rules.specs.declared.timers.Due.{Due}
+use Rattle.serve_rules.specs.declared.timers.Due.TheVariants as due_is
+use Rattle.serve_rules.specs.declared.timers.Timer.{Timer}
+use Rattle.serve_rules.specs.Timers as timers
 
 -- ---- so many times
 

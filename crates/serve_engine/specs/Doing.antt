@@ -7,10 +7,10 @@ use Rattle.rdma_types.specs.declared.names.Name.{Name}
 use Rattle.script_lang.specs.declared.lines.NodeLine.{NodeLine}
 use Rattle.script_lang.specs.declared.lines.NodeLine.TheVariants as node
 use Rattle.script_lang.specs.declared.lines.Offence.{Offence}
-use Rattle.serve_lines.specs.declared.lines.ServeLine.{ServeLine}
-use Rattle.serve_lines.specs.declared.lines.ServeLine.TheVariants as line
-use Rattle.serve_lines.specs.declared.replies.Reply.{Reply}
-use Rattle.serve_lines.specs.declared.replies.Reply.TheVariants as reply
+use Rattle.serve_rules.specs.declared.lines.ServeLine.{ServeLine}
+use Rattle.serve_rules.specs.declared.lines.ServeLine.TheVariants as line
+use Rattle.serve_rules.specs.declared.replies.Reply.{Reply}
+use Rattle.serve_rules.specs.declared.replies.Reply.TheVariants as reply
 use Rattle.serve_rules.specs.Lines.{IsLineOf, released, waiting, waiting_for}
 use Rattle.serve_rules.specs.Moving.{Kept, RestoreLeaves, StopLeaves}
 use Rattle.serve_rules.specs.Server.{Server, outcome_of}

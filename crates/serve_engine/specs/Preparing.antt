@@ -9,8 +9,8 @@ use Rattle.rdma_types.specs.declared.answers.Refusal.TheVariants as refusal
 use Rattle.rdma_types.specs.declared.names.Name.{Name}
 use Rattle.node_rules.specs.Lines.{version}
 use Rattle.host_ports.specs.Depots.{Has, IsThere, Sets}
-use Rattle.serve_lines.specs.declared.replies.Reply.{Reply}
-use Rattle.serve_lines.specs.declared.replies.Reply.TheVariants as reply
+use Rattle.serve_rules.specs.declared.replies.Reply.{Reply}
+use Rattle.serve_rules.specs.declared.replies.Reply.TheVariants as reply
 use Rattle.serve_rules.specs.Moving.{IsDumpOf, Kept, any_moves, leaving, refused_stop, stop_of}
 use Rattle.serve_rules.specs.Server.{Server, after, outcome_of}
 use Rattle.host_ports.specs.declared.store.StoreFault.{StoreFault}

@@ -6,7 +6,7 @@ ghost use Rattle.serve_rules.specs.Turns as rules;
 
 use crate::state::Server;
 use rdma_types::EndView;
-use serve_state::Due;
+use serve_rules::Due;
 use std::alloc::{AllocError, Global};
 
 impl Server {

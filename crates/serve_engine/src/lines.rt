@@ -4,8 +4,8 @@ ghost use Rattle.std.specs.Prelude.{◌≡◌, IfOk, IfSome, OnOk};
 ghost use Rattle.node_rules.specs.Lines as node;
 ghost use Rattle.protocol.specs.Events.{IsLawfulEvent};
 ghost use Rattle.script_lang.specs.Ranges.{IsLawfulNodeLine, IsLawfulVerb};
-ghost use Rattle.serve_lines.specs.Ranges.{IsLawfulServeLine};
-ghost use Rattle.serve_lines.specs.Reading.{serve_reading_of};
+ghost use Rattle.serve_rules.specs.Ranges.{IsLawfulServeLine};
+ghost use Rattle.serve_rules.specs.Reading.{serve_reading_of};
 ghost use Rattle.serve_rules.specs.Lines as rules;
 ghost use Rattle.serve_engine.specs.Doing.{IsReleaseOf, LineLeaves, NodeLineLeaves, ReadingLeaves, VerbLeaves};
 
@@ -15,8 +15,7 @@ use host_ports::Store;
 use protocol::WorldEvent;
 use rdma_types::{Answer, Name, ObjName, Verb};
 use script_lang::{LineFault, NodeLine};
-use serve_lines::{Goal, Reply, ServeLine, parse_serve_line};
-use serve_state::Pending;
+use serve_rules::{Goal, Pending, Reply, ServeLine, parse_serve_line};
 use std::alloc::{AllocError, Global};
 use verb_events::event_of;
 

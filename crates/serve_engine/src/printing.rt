@@ -2,7 +2,7 @@
 
 use rdma_types::{Answer, Name};
 use script_lang::{LineWhy, print_answer};
-use serve_lines::Reply;
+use serve_rules::Reply;
 use std::alloc::{AllocError, Global};
 
 /// The word of what is wrong with a line.

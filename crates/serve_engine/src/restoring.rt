@@ -15,7 +15,7 @@ use dump_reader::{DumpFault, decode_dump};
 use host_ports::Store;
 use protocol::EndImage;
 use rdma_types::{Answer, Name};
-use serve_lines::Reply;
+use serve_rules::Reply;
 use std::alloc::{AllocError, Global};
 use std::collections::VecDeque;
 

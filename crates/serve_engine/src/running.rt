@@ -11,8 +11,7 @@ use host_ports::{
     Control, Heard, LONGEST_DATAGRAM, Link, Sink, Store, Ticks, WriteFault, write_all_of,
 };
 use rdma_types::{Address, Name};
-use serve_lines::Reply;
-use serve_state::Pending;
+use serve_rules::{Pending, Reply};
 use std::alloc::{AllocError, Global};
 
 /// How a device is served.

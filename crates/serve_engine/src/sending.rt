@@ -4,7 +4,7 @@ ghost use Rattle.std.specs.Prelude.{◌≡◌, OnOk};
 ghost use Rattle.device_core.specs.Numbered.{numbered_view};
 ghost use Rattle.serve_rules.specs.Server as server;
 ghost use Rattle.serve_rules.specs.Turns as rules;
-ghost use Rattle.serve_state.specs.Timers.{is_resuming as resumes};
+ghost use Rattle.serve_rules.specs.Timers.{is_resuming as resumes};
 
 use crate::state::Server;
 use rdma_types::{EndState, EndView};

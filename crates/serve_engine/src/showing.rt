@@ -3,7 +3,7 @@
 use crate::state::Server;
 use device_core::LinkView;
 use rdma_types::{EndState, EndView, Items, Name, ObjName};
-use serve_lines::Reply;
+use serve_rules::Reply;
 use std::alloc::{AllocError, Global};
 
 /// Appends words and a number. Errors: `AllocError` when out of memory.

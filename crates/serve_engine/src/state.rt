@@ -6,7 +6,7 @@ ghost use Rattle.serve_rules.specs.Server as rules;
 use device_core::{Device, Sent};
 use indexmap::IndexMap;
 use rdma_types::{Address, EndView, Items, Name};
-use serve_state::{Pending, Tallies, Timer};
+use serve_rules::{Pending, Tallies, Timer};
 use std::alloc::{AllocError, Global};
 use std::collections::VecDeque;
 use std::marker::Model;

@@ -15,7 +15,7 @@ use dump_writer::encode_dump;
 use host_ports::{Store, StoreFault};
 use protocol::EndImage;
 use rdma_types::{Answer, Name, Refusal};
-use serve_lines::Reply;
+use serve_rules::Reply;
 use std::alloc::{AllocError, Global};
 
 /// What is there after a context left, and its dump.

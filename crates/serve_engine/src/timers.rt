@@ -7,7 +7,7 @@ ghost use Rattle.serve_rules.specs.Turns.{due_before, due_in};
 use crate::state::Server;
 use indexmap::IndexMap;
 use rdma_types::EndView;
-use serve_state::{Due, Timer};
+use serve_rules::{Due, Timer};
 use std::alloc::{AllocError, Global};
 
 /// Puts a number behind others, where its timer is due. Errors: `AllocError` when out of memory.

@@ -5,8 +5,7 @@ ghost use Rattle.serve_rules.specs.Lines as rules;
 
 use crate::state::Server;
 use rdma_types::ObjName;
-use serve_lines::{Goal, Reply};
-use serve_state::{Pending, until_reply, when_over};
+use serve_rules::{Goal, Pending, Reply, until_reply, when_over};
 
 impl Server {
     /// The answer to an `until`, and nothing as long as there is none.

@@ -19,11 +19,11 @@ use Rattle.rdma_types.specs.declared.answers.EndView.{EndView}
 use Rattle.rdma_types.specs.declared.answers.Sent.{Sent}
 use Rattle.rdma_types.specs.declared.names.ObjName.{ObjName}
 use Rattle.rdma_types.specs.declared.requests.Address.{Address}
-use Rattle.serve_state.specs.declared.timers.Due.{Due}
-use Rattle.serve_state.specs.declared.timers.Due.TheVariants as due_is
-use Rattle.serve_state.specs.declared.timers.Timer.{Timer}
-use Rattle.serve_state.specs.Timers as timers
-use Rattle.serve_state.specs.Timers.{code_of, due_from, has_come, is_in_flight, is_over, is_resuming, is_running, is_same, or_else}
+use Rattle.serve_rules.specs.declared.timers.Due.{Due}
+use Rattle.serve_rules.specs.declared.timers.Due.TheVariants as due_is
+use Rattle.serve_rules.specs.declared.timers.Timer.{Timer}
+use Rattle.serve_rules.specs.Timers as timers
+use Rattle.serve_rules.specs.Timers.{code_of, due_from, has_come, is_in_flight, is_over, is_resuming, is_running, is_same, or_else}
 use Rattle.serve_rules.specs.Laws.{ADueTimerExpires, ATimerIsSetOnce, ATimerRunsOn, AreEvents, HasMovedOn, MovesOn, StillRuns, Takes}
 use Rattle.serve_rules.specs.Server.{Server, after, due_of, may_send, observed, outcome_of, queued, of_number, resumed, spent, stepped, timer_or, with_timer, without_timer, woken}
 use Rattle.serve_rules.specs.Turns.{all_expired, arrived, arrived_first, arrived_many, arrived_next, counted, due_before, due_in, expired_at, expired_by, expired_due, expired_from, expired_once, is_crowded, is_heard, noted, sent_by, sent_first, sent_from, sent_if, sent_many, sent_next, sent_once, sent_view, transmitted, turned, woken_if}

@@ -7,8 +7,8 @@ use Rattle.device_core.specs.Numbered.{numbered_view}
 use Rattle.protocol.specs.declared.events.Event.{Event}
 use Rattle.protocol.specs.declared.events.Event.TheVariants as event
 use Rattle.protocol.specs.Replay.{replay}
-use Rattle.serve_state.specs.declared.timers.Timer.{Timer}
-use Rattle.serve_state.specs.Timers.{doubled, is_in_flight, is_same, later, observed}
+use Rattle.serve_rules.specs.declared.timers.Timer.{Timer}
+use Rattle.serve_rules.specs.Timers.{doubled, is_in_flight, is_same, later, observed}
 use Rattle.serve_rules.specs.Server.{Server, after, of_number}
 use Rattle.rdma_types.specs.declared.answers.EndView.{EndView}
 use Rattle.rdma_types.specs.declared.names.ObjName.{ObjName}

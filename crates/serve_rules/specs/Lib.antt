@@ -1,3 +1,8 @@
+pub mod Ranges
+pub mod Reading
+pub mod Timers
+pub mod Tallies
+pub mod Waiting
 pub mod Server
 pub mod Links
 pub mod Turns

@@ -8,13 +8,13 @@ use Rattle.rdma_types.specs.declared.answers.Answer.{Answer}
 use Rattle.rdma_types.specs.declared.answers.Answer.TheVariants as answer
 use Rattle.rdma_types.specs.declared.names.Name.{Name}
 use Rattle.rdma_types.specs.declared.names.ObjName.{ObjName}
-use Rattle.serve_lines.specs.declared.lines.Goal.{Goal}
-use Rattle.serve_lines.specs.declared.replies.Reply.{Reply}
-use Rattle.serve_lines.specs.declared.replies.Reply.TheVariants as reply
-use Rattle.serve_state.specs.declared.waiting.Pending.{Pending}
-use Rattle.serve_state.specs.declared.waiting.Pending.TheVariants as pending
-use Rattle.serve_state.specs.Timers.{later}
-use Rattle.serve_state.specs.Waiting.{until_of, when_over}
+use Rattle.serve_rules.specs.declared.lines.Goal.{Goal}
+use Rattle.serve_rules.specs.declared.replies.Reply.{Reply}
+use Rattle.serve_rules.specs.declared.replies.Reply.TheVariants as reply
+use Rattle.serve_rules.specs.declared.waiting.Pending.{Pending}
+use Rattle.serve_rules.specs.declared.waiting.Pending.TheVariants as pending
+use Rattle.serve_rules.specs.Timers.{later}
+use Rattle.serve_rules.specs.Waiting.{until_of, when_over}
 use Rattle.serve_rules.specs.Server.{Server, after, outcome_of, stepped, woken_view}
 
 -- the queue pair that an event of a line may give something to send

@@ -14,8 +14,8 @@ use Rattle.rdma_types.specs.declared.answers.Answer.{Answer}
 use Rattle.rdma_types.specs.declared.answers.Answer.TheVariants as answer
 use Rattle.rdma_types.specs.declared.answers.Refusal.TheVariants as refusal
 use Rattle.rdma_types.specs.declared.names.Name.{Name}
-use Rattle.serve_lines.specs.declared.replies.Reply.{Reply}
-use Rattle.serve_lines.specs.declared.replies.Reply.TheVariants as reply
+use Rattle.serve_rules.specs.declared.replies.Reply.{Reply}
+use Rattle.serve_rules.specs.declared.replies.Reply.TheVariants as reply
 use Rattle.host_ports.specs.Stores.{Claim}
 use Rattle.node_rules.specs.Lines.{version}
 use Rattle.serve_rules.specs.Server.{Server, after, outcome_of}

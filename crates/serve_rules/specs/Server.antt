@@ -12,13 +12,13 @@ use Rattle.rdma_types.specs.declared.answers.EndView.{EndView}
 use Rattle.rdma_types.specs.declared.answers.Sent.{Sent}
 use Rattle.rdma_types.specs.declared.names.Name.{Name}
 use Rattle.rdma_types.specs.declared.requests.Address.{Address}
-use Rattle.serve_state.specs.declared.tallies.Tallies.{Tallies}
-use Rattle.serve_state.specs.declared.timers.Due.{Due}
-use Rattle.serve_state.specs.declared.timers.Timer.{Timer}
-use Rattle.serve_state.specs.declared.waiting.Pending.{Pending}
-use Rattle.serve_state.specs.declared.waiting.Pending.TheVariants as pending
-use Rattle.serve_state.specs.Tallies.{none_counted, with_made}
-use Rattle.serve_state.specs.Timers as timers
+use Rattle.serve_rules.specs.declared.tallies.Tallies.{Tallies}
+use Rattle.serve_rules.specs.declared.timers.Due.{Due}
+use Rattle.serve_rules.specs.declared.timers.Timer.{Timer}
+use Rattle.serve_rules.specs.declared.waiting.Pending.{Pending}
+use Rattle.serve_rules.specs.declared.waiting.Pending.TheVariants as pending
+use Rattle.serve_rules.specs.Tallies.{none_counted, with_made}
+use Rattle.serve_rules.specs.Timers as timers
 
 -- the state of a run
 pub record Server : Type 0 where

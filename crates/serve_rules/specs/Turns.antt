@@ -11,12 +11,12 @@ use Rattle.rdma_types.specs.declared.answers.ArrivalEffect.TheVariants as took
 use Rattle.rdma_types.specs.declared.answers.EndView.{EndView}
 use Rattle.rdma_types.specs.declared.answers.Sent.{Sent}
 use Rattle.rdma_types.specs.declared.requests.Address.{Address}
-use Rattle.serve_state.specs.declared.timers.Due.{Due}
-use Rattle.serve_state.specs.declared.timers.Due.TheVariants as due_is
-use Rattle.serve_state.specs.declared.timers.Timer.{Timer}
-use Rattle.serve_state.specs.Tallies.{with_arrival}
-use Rattle.serve_state.specs.Timers.{is_resuming}
-use Rattle.serve_state.specs.Timers as timers
+use Rattle.serve_rules.specs.declared.timers.Due.{Due}
+use Rattle.serve_rules.specs.declared.timers.Due.TheVariants as due_is
+use Rattle.serve_rules.specs.declared.timers.Timer.{Timer}
+use Rattle.serve_rules.specs.Tallies.{with_arrival}
+use Rattle.serve_rules.specs.Timers.{is_resuming}
+use Rattle.serve_rules.specs.Timers as timers
 use Rattle.serve_rules.specs.Server.{Server, after, due_of, may_send, observed, outcome_of, queued, resumed, spent, stepped, without_timer, woken}
 
 -- ---- arrivals

@@ -1,21 +1,22 @@
-//! A served device: its state, its turns, what lines do, and what is told of contexts that leave and come.
+//! A served device: the lines that drive it, its state and timers, its turns, what lines do and answer, and what is told of
+//! contexts that leave and come (this project's choice).
 //!
-//! The functions do nothing. Each promises the law that it names.
+//! The definitions are the rules that `serve_engine` keeps. Functions read a line, keep the timers of a queue pair, count, and tell
+//! when a line that waits is over; those of laws do nothing, and promise the law that they name.
 #![tactic(auto)]
 
-ghost use Rattle.serve_rules.specs.Laws.{ADueTimerExpires, ATimerIsSetOnce, ATimerRunsOn, ATurnIsEvents};
+mod laws;
+mod lines;
+mod reading;
+mod replies;
+mod tallies;
+mod timers;
+mod waiting;
 
-/// What a turn does to the device is a list of arrivals, transmissions, expiries and ends of RNR waits. What arrives in them
-/// are the first of the datagrams that were taken, in their order, each once; the others are still to arrive.
-pub fn a_turn_is_a_list_of_events()
-    ensures { ATurnIsEvents }
-{}
-
-/// Whatever arrives, the retransmission timer of a queue pair runs until the queue pair has moved on (its partner acknowledged
-/// more, nothing of it is in flight, its state is another, or it is gone) or expires. It expires in the first turn at its
-/// moment or after it, unless an RNR wait of the queue pair ends there. Behind progress it is set for its base.
-pub fn a_timer_runs_until_progress_or_expiry()
-    ensures runs { ATimerRunsOn }
-    ensures expires { ADueTimerExpires }
-    ensures set { ATimerIsSetOnce }
-{}
+pub use laws::{a_timer_runs_until_progress_or_expiry, a_turn_is_a_list_of_events};
+pub use lines::{Goal, ServeLine};
+pub use reading::parse_serve_line;
+pub use replies::Reply;
+pub use tallies::Tallies;
+pub use timers::{Due, Timer};
+pub use waiting::{Pending, until_reply, when_over};

@@ -3,11 +3,11 @@ use Rattle.std.specs.Prelude.{ℕ, ◌==◌, Bool, true, false, Option, Some, No
 use Rattle.rdma_types.specs.declared.answers.EndState.{EndState}
 use Rattle.rdma_types.specs.declared.answers.EndState.TheVariants as state
 use Rattle.rdma_types.specs.declared.answers.EndView.{EndView}
-use Rattle.serve_lines.specs.declared.lines.Goal.{Goal}
-use Rattle.serve_lines.specs.declared.lines.Goal.TheVariants as goal_is
-use Rattle.serve_lines.specs.declared.replies.Reply.{Reply}
-use Rattle.serve_lines.specs.declared.replies.Reply.TheVariants as reply
-use Rattle.serve_state.specs.Timers.{is_running}
+use Rattle.serve_rules.specs.declared.lines.Goal.{Goal}
+use Rattle.serve_rules.specs.declared.lines.Goal.TheVariants as goal_is
+use Rattle.serve_rules.specs.declared.replies.Reply.{Reply}
+use Rattle.serve_rules.specs.declared.replies.Reply.TheVariants as reply
+use Rattle.serve_rules.specs.Timers.{is_running}
 
 -- it is in Error
 abbrev pub is_error : EndState → Bool

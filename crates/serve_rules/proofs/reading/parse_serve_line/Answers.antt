@@ -1,7 +1,7 @@
 use Rattle.std.proofs.Common.{◌≡◌, ◌+◌, ◌∷◌, List, length, sym, ap, ◌∙◌}
 use Rattle.script_lang.specs.Words.{Word, Input, words_from}
-use Rattle.serve_lines.specs.Reading.{serve_reading_of}
-use Rattle.serve_lines.proofs.reading.parse_serve_line.Goals as goal
+use Rattle.serve_rules.specs.Reading.{serve_reading_of}
+use Rattle.serve_rules.proofs.reading.parse_serve_line.Goals as goal
 
 pub returns-in-Some-clause-value : goal.returns-in-Some-clause-value
 unfolding serve_reading_of

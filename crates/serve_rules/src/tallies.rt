@@ -1,7 +1,7 @@
 //! What a run counts.
 
 ghost use Rattle.std.specs.Prelude.{◌≡◌, ◌<◌};
-ghost use Rattle.serve_state.specs.Tallies as rules;
+ghost use Rattle.serve_rules.specs.Tallies as rules;
 
 use rdma_types::{Answer, ArrivalEffect, DropReason};
 

@@ -1,11 +1,11 @@
 //! Lines that wait.
 
 ghost use Rattle.std.specs.Prelude.{◌≡◌};
-ghost use Rattle.serve_state.specs.Timers.{is_running as runs};
-ghost use Rattle.serve_state.specs.Waiting as rules;
+ghost use Rattle.serve_rules.specs.Timers.{is_running as runs};
+ghost use Rattle.serve_rules.specs.Waiting as rules;
 
+use crate::{Goal, Reply};
 use rdma_types::{EndState, EndView, ObjName};
-use serve_lines::{Goal, Reply};
 
 /// What the next line waits for: a moment, or an end that comes so far before a moment.
 #[derive(Clone, Copy)]

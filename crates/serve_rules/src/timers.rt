@@ -1,7 +1,7 @@
 //! The timers of one queue pair. They are set and cleared by what is told of one, and by nothing else.
 
 ghost use Rattle.std.specs.Prelude.{◌≡◌};
-ghost use Rattle.serve_state.specs.Timers as rules;
+ghost use Rattle.serve_rules.specs.Timers as rules;
 
 use rdma_types::{EndState, EndView};
 

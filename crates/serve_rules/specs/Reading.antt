@@ -8,12 +8,12 @@ use Rattle.script_lang.specs.declared.lines.Offence.{Offence}
 use Rattle.script_lang.specs.Fields.{a_name, a_number, an_object}
 use Rattle.script_lang.specs.Lines.{bytes_offence, node_reading_of, said, unless, whole}
 use Rattle.script_lang.specs.Words.{Input, Read, Reads, Word, ◌>>=◌, a_word, done, input_of, offence, words_from}
-use Rattle.serve_lines.specs.declared.lines.Goal.{Goal}
-use Rattle.serve_lines.specs.declared.lines.Goal.TheVariants as goal
-use Rattle.serve_lines.specs.declared.lines.ServeLine.{ServeLine}
-use Rattle.serve_lines.specs.declared.lines.ServeLine.TheVariants as line
-use Rattle.serve_lines.specs.declared.reading.OwnForm.{OwnForm}
-use Rattle.serve_lines.specs.declared.reading.OwnForm.TheVariants as form
+use Rattle.serve_rules.specs.declared.lines.Goal.{Goal}
+use Rattle.serve_rules.specs.declared.lines.Goal.TheVariants as goal
+use Rattle.serve_rules.specs.declared.lines.ServeLine.{ServeLine}
+use Rattle.serve_rules.specs.declared.lines.ServeLine.TheVariants as line
+use Rattle.serve_rules.specs.declared.reading.OwnForm.{OwnForm}
+use Rattle.serve_rules.specs.declared.reading.OwnForm.TheVariants as form
 
 -- the first words of lines that are not those of a node, and of the one line of a node that is none here
 abbrev pub own_form : List ℕ → Option OwnForm

@@ -3,9 +3,9 @@ use Rattle.std.specs.Prelude.{ℕ, ◌+◌, ◌*◌, ◌-◌, ◌^◌, ◌==◌,
 use Rattle.rdma_types.specs.declared.answers.EndState.{EndState}
 use Rattle.rdma_types.specs.declared.answers.EndState.TheVariants as state
 use Rattle.rdma_types.specs.declared.answers.EndView.{EndView}
-use Rattle.serve_state.specs.declared.timers.Timer.{Timer}
-use Rattle.serve_state.specs.declared.timers.Due.{Due}
-use Rattle.serve_state.specs.declared.timers.Due.TheVariants as due_is
+use Rattle.serve_rules.specs.declared.timers.Timer.{Timer}
+use Rattle.serve_rules.specs.declared.timers.Due.{Due}
+use Rattle.serve_rules.specs.declared.timers.Due.TheVariants as due_is
 
 -- a moment so much later, up to the last that a clock tells
 abbrev pub later : ℕ → ℕ → ℕ

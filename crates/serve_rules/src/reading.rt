@@ -3,8 +3,8 @@
 ghost use Rattle.std.specs.Prelude.{◌≡◌, ◌≤◌, IfOk, bytes_eq};
 ghost use Rattle.script_lang.specs.Lines.{Says, node_reading_of, said, whole};
 ghost use Rattle.script_lang.specs.Words.{Gives};
-ghost use Rattle.serve_lines.specs.Ranges.{IsLawfulServeLine};
-ghost use Rattle.serve_lines.specs.Reading as rules;
+ghost use Rattle.serve_rules.specs.Ranges.{IsLawfulServeLine};
+ghost use Rattle.serve_rules.specs.Reading as rules;
 
 use crate::{Goal, ServeLine};
 use rdma_types::ObjName;

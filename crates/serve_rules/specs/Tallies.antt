@@ -5,7 +5,7 @@ use Rattle.rdma_types.specs.declared.answers.Answer.TheVariants as answer
 use Rattle.rdma_types.specs.declared.answers.ArrivalEffect.TheVariants as took
 use Rattle.rdma_types.specs.declared.answers.DropReason.{DropReason}
 use Rattle.rdma_types.specs.declared.answers.DropReason.TheVariants as why
-use Rattle.serve_state.specs.declared.tallies.Tallies.{Tallies}
+use Rattle.serve_rules.specs.declared.tallies.Tallies.{Tallies}
 
 -- so many more, up to the last value that a u64 has
 abbrev pub more_by : ℕ → ℕ → ℕ

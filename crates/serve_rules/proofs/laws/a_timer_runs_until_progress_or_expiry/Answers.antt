@@ -1,5 +1,5 @@
 use Rattle.serve_rules.proofs.Expiring.{a_due_timer_expires, a_timer_is_set_once, a_timer_runs_on}
-use Rattle.serve_rules.proofs.a_timer_runs_until_progress_or_expiry.Goals as goal
+use Rattle.serve_rules.proofs.laws.a_timer_runs_until_progress_or_expiry.Goals as goal
 
 pub returns-clause-runs : goal.returns-clause-runs
 returns-clause-runs c = a_timer_runs_on

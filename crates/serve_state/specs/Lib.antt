@@ -1,3 +1,0 @@
-pub mod Timers
-pub mod Tallies
-pub mod Waiting
