@@ -34,7 +34,7 @@ const OWNER_ALONE: u32 = 0o600;
 /// Bytes of the longest dump of a context on a device. Its regions and payloads are the 8,192 pages of a device, 33,554,432
 /// bytes. All else is at most: 27 for the head, 1,090 for 64 domains, 10,242 for 256 regions, 24,118,850 for 64 completion
 /// queues with 16,384 entries each, and 1,368,962 for 64 queue pairs with 256 requests and 256 receives each.
-pub const LONGEST_DUMP: u64 = 59_053_603;
+pub(crate) const LONGEST_DUMP: u64 = 59_053_603;
 
 /// A folder of the file system, whose faults are counted: a file for each name.
 ///

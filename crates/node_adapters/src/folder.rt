@@ -1,6 +1,6 @@
 //! Files of a folder that hold dumps, and what of them outlives a process that dies.
 
-use node_adapters::LONGEST_DUMP;
+use crate::folder_depot::LONGEST_DUMP;
 use rdma_types::Name;
 use std::alloc::Global;
 use std::fs::{OpenFile, OpenOptions};
