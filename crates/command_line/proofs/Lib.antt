@@ -6,3 +6,5 @@ pub mod Taken
 pub mod Lawful
 pub mod IdLists
 pub mod Owns
+pub mod Alone
+pub mod Fields

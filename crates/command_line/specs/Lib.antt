@@ -1,3 +1,9 @@
 pub mod Commands
 pub mod Splitting
 pub mod Ids
+pub mod Forms
+pub mod Wrong
+pub mod Meanings
+pub mod Sentences
+pub mod Asked
+pub mod Told

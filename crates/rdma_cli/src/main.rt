@@ -10,7 +10,7 @@ ghost use Rattle.dump_writer.specs.Text.{text_of};
 ghost use Rattle.commands.specs.Stopping.{run_of};
 ghost use Rattle.rdma_cli.specs.Running.{Responds};
 
-use error_sentences::Ending;
+use command_line::error_sentences::Ending;
 use help::about;
 use host_ports::{Depot, Failed, Link, Sink, Source, Ticks, WriteFault, write_all_of};
 use node_adapters::{ClockTicks, FolderDepot, StdSink, StdSource, UdpLink};

@@ -3,11 +3,11 @@
 ghost use Rattle.std.specs.Prelude.{◌≤◌, IfSome};
 
 use crate::standard_error::{bytes_of, tell};
-use error_sentences::Ending;
+use command_line::error_sentences::Ending;
+use command_line::serve_words::{Asked, asked_of};
 use host_ports::write_all_of;
 use node_adapters::{Activity, ClockTicks, FolderStore, QuickLink, StdControl, StdSink};
 use serve_engine::{ServeFault, ServeOptions, ServePorts, run_serve};
-use serve_words::{Asked, asked_of};
 use std::io;
 use std::io::BufWriter;
 

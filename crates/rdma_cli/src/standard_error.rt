@@ -1,6 +1,6 @@
 //! What is written to standard error: the sentence on a run that was not done, and, on a terminal, what is under way.
 
-use error_sentences::{Ending, sentence};
+use command_line::error_sentences::{Ending, sentence};
 use host_ports::write_all_of;
 use node_adapters::StdSink;
 use std::alloc::AllocError;

@@ -1,0 +1,6 @@
+use Rattle.std.proofs.Common.{◌∙◌, ap}
+use Rattle.command_line.specs.Sentences.{wanted}
+use Rattle.command_line.proofs.error_sentences.usage.missing.Goals as goal
+
+pub returns : goal.returns
+returns c = rw (c.as_bytes-digits.ensures.value ∙ c.format.ensures.text, c.title.ensures, c.as_slice.ensures.value ∙ (c.in_ok-wanted.ensures ∙ ap wanted c.kind.ensures)) at c.joined.ensures

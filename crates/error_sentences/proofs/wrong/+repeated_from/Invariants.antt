@@ -1,5 +1,0 @@
-use Rattle.std.proofs.Common.{length}
-use Rattle.error_sentences.proofs.wrong.+repeated_from.Given as goal
-
-abbrev pub decreases-repeated_from : goal.decreases-repeated_from
-decreases-repeated_from l = length l.words.now

@@ -1,5 +1,0 @@
-use Rattle.std.proofs.Common.{length}
-use Rattle.error_sentences.proofs.wrong.+wrong_from.Given as goal
-
-abbrev pub decreases-wrong_from : goal.decreases-wrong_from
-decreases-wrong_from l = length l.words.now

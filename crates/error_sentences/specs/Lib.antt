@@ -1,4 +1,0 @@
-pub mod Forms
-pub mod Wrong
-pub mod Meanings
-pub mod Sentences

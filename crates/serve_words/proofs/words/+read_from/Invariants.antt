@@ -1,6 +1,0 @@
-use Rattle.std.proofs.Common.{length}
-use Rattle.serve_words.proofs.words.+read_from.Given as goal
-
--- each call has fewer words
-abbrev pub decreases-read_from : goal.decreases-read_from
-decreases-read_from l = length l.words.now
