@@ -4,9 +4,8 @@ ghost use Rattle.std.specs.Prelude.{◌≡◌, ◌≤◌, IfOk, IsTrue};
 ghost use Rattle.order_rules.specs.Openings.{openings};
 ghost use Rattle.shared_device.specs.Books.{AreApart, openings_of};
 
-use shared_device::Book;
+use shared_device::{Book, open_books};
 use std::alloc::{AllocError, Global};
-use thread_openings::open_books;
 
 /// Whether two books open with equal devices.
 fn same_opening(a: &Book, b: &Book) -> bool

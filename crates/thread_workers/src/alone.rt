@@ -10,10 +10,9 @@ use crate::events::{Side, arrives, polls, releases, restore_of, stops, transmits
 use protocol::Event;
 use rdma_types::{Address, Items};
 use run_check::Run;
-use shared_device::{Book, OrderBook, Receipt, Step};
+use shared_device::{Book, OrderBook, Receipt, Step, open_books};
 use std::alloc::{AllocError, Global};
 use std::sync::Arc;
-use thread_openings::open_books;
 use thread_plan::{PlanFault, ThreadPlan, addition, planned_run};
 
 /// Books, the order of their steps, and the receipts of each number.

@@ -3,9 +3,8 @@
 ghost use Rattle.std.specs.Prelude.{◌≤◌};
 
 use rdma_types::Address;
-use shared_device::{Book, OrderBook, Orders, Station};
+use shared_device::{Book, OrderBook, Orders, Station, open_books};
 use std::alloc::{AllocError, Global};
-use thread_openings::open_books;
 
 /// Devices behind locks, and the order of their steps.
 #[derive(Drop)]

@@ -7,10 +7,9 @@ ghost use Rattle.shared_device.specs.Books.{AreApart};
 use protocol::{Event, Outcome};
 use rdma_types::{Address, Answer, Items, Name, ObjName, Sent};
 use run_check::{Run, RunFault, gather};
-use shared_device::{Book, OrderBook, Receipt, Step};
+use shared_device::{Book, OrderBook, Receipt, Step, open_books};
 use std::alloc::{AllocError, Global};
 use std::sync::Arc;
-use thread_openings::open_books;
 use thread_plan::{PlanFault, ThreadPlan, planned_run};
 
 /// What is wrong with the first of two steps, or with what is told of both.

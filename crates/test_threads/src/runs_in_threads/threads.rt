@@ -2,11 +2,10 @@
 
 use crate::runs_in_threads::tests::{poll, run_of, told};
 use rdma_types::Items;
-use shared_device::{OrderBook, Orders, Receipt, Station};
+use shared_device::{OrderBook, Orders, Receipt, Station, open_books};
 use std::alloc::Global;
 use std::sync::Wait;
 use std::thread::{Threads, join};
-use thread_openings::open_books;
 
 /// The receipts of two polls.
 fn polls<R: Wait>(

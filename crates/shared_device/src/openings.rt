@@ -11,11 +11,11 @@ ghost use Rattle.order_rules.specs.Openings as opening;
 ghost use Rattle.order_rules.specs.Openings.{bare_device, base_events, device_apart, ends_of, joins_end, opening_terms, openings, openings_apart};
 ghost use Rattle.shared_device.specs.Books.{opened_with};
 
+use crate::Book;
 use device_core::Device;
 use order_rules::devices_open_apart;
 use protocol::Event;
 use rdma_types::{Address, Name, ObjName, Rights, Terms};
-use shared_device::Book;
 use std::alloc::{AllocError, Global};
 
 /// The terms of each connection.

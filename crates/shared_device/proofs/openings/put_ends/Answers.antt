@@ -1,7 +1,7 @@
 use Rattle.std.proofs.Common.{rules, arith, ◌≡◌, ◌+◌, refl}
 use Rattle.protocol.specs.Replay.{replay}
-use Rattle.thread_openings.proofs.Opening.{ended_more, ended_none, joins}
-use Rattle.thread_openings.proofs.openings.put_ends.Goals as goal
+use Rattle.shared_device.proofs.Opening.{ended_more, ended_none, joins}
+use Rattle.shared_device.proofs.openings.put_ends.Goals as goal
 
 pub loop-i-init : goal.loop-i-init
 loop-i-init c = ended_none _ _ _ _
