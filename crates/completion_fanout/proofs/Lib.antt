@@ -1,4 +1,7 @@
 pub mod Lists
 pub mod Steps
 pub mod Joins
-pub mod Dealing
+pub mod DealtInTurn
+pub mod Counting
+pub mod Dealt
+pub mod FannedRuns

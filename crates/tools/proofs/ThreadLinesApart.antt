@@ -3,7 +3,7 @@ use Rattle.std.proofs.Common.{◌≡◌, ℕ, Bool, true, false, List, [], ◌�
 use Rattle.std.specs.Prelude.{bytes_eq, codes, if◌then◌else◌}
 use Rattle.std.proofs.lemmas.Slice.Eq.{bytes_eq-Decides}
 use Rattle.thread_plan.specs.declared.plan.ThreadPlan.{ThreadPlan}
-use Rattle.device_fanout.specs.declared.plan.FanPlan.{FanPlan}
+use Rattle.completion_fanout.specs.declared.plan.FanPlan.{FanPlan}
 use Rattle.tools.specs.Fanout.{fanout_of}
 use Rattle.tools.specs.Threads.{threads_of}
 

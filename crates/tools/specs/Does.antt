@@ -4,7 +4,7 @@ use Rattle.program_rules.specs.Due.{IsDue, IsOutputSound}
 use Rattle.program_rules.specs.Ends.{Ends}
 use Rattle.program_rules.specs.Headline.{ImageText}
 use Rattle.program_rules.specs.Runs.{ReadsInput, Run, UsesDepot, UsesLink, command}
-use Rattle.device_fanout.specs.declared.plan.FanPlan.{FanPlan}
+use Rattle.completion_fanout.specs.declared.plan.FanPlan.{FanPlan}
 use Rattle.mailbox_rules.specs.declared.plans.MailPlan.{MailPlan}
 use Rattle.thread_plan.specs.declared.plan.ThreadPlan.{ThreadPlan}
 use Rattle.tools.specs.Endings.{done, no_memory}

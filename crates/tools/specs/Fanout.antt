@@ -3,9 +3,9 @@ use Rattle.std.specs.Prelude.{◌≡◌, ℕ, List, [], ◌∷◌, ◌++◌, Opt
 use Rattle.std.specs.Fmt.{decimal}
 use Rattle.script_lang.specs.Texts.{◌>>=◌, number_in}
 use Rattle.completion_fanout.specs.declared.entry.FanEntry.{FanEntry}
-use Rattle.device_fanout.specs.declared.plan.FanPlan.{FanPlan}
-use Rattle.device_fanout.specs.declared.running.FannedRun.{FannedRun}
-use Rattle.device_fanout.specs.HandedOut.{IsFannedRun}
+use Rattle.completion_fanout.specs.declared.plan.FanPlan.{FanPlan}
+use Rattle.completion_fanout.specs.declared.running.FannedRun.{FannedRun}
+use Rattle.completion_fanout.specs.HandedOut.{IsFannedRun}
 use Rattle.tools.specs.ThreadEndings.{EndsRun}
 use Rattle.tools.specs.Threads.{threads_of, whose}
 

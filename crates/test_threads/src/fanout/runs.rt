@@ -1,10 +1,10 @@
 //! Additions at a shared device, whose completions are handed out.
 
-ghost use Rattle.device_fanout.specs.HandedOut.{IsFanPlan};
+ghost use Rattle.completion_fanout.specs.HandedOut.{IsFanPlan};
 
 use crate::fanout::counts::{Counts, all, entries};
 use crate::fanout::holding::Holding;
-use device_fanout::{FanPlan, FanRun, fan_out, run_fan_out};
+use completion_fanout::{FanPlan, FanRun, fan_out, run_fan_out};
 use rdma_types::{Completion, WcStatus};
 use std::alloc::Global;
 use std::sync::Wait;

@@ -5,8 +5,7 @@ ghost use Rattle.tools.specs.Fanout.{entries_in, fanout_line};
 
 use crate::endings::put;
 use crate::thread_calls::line::whose_word;
-use completion_fanout::FanEntry;
-use device_fanout::{FanPlan, FannedRun};
+use completion_fanout::{FanEntry, FanPlan, FannedRun};
 use rdma_types::Items;
 use std::alloc::{AllocError, Global};
 

@@ -2,7 +2,7 @@
 
 ghost use Rattle.std.specs.Prelude.{IfOk};
 ghost use Rattle.tools.specs.Endings.{IsWritten};
-ghost use Rattle.device_fanout.specs.HandedOut.{IsFanPlan};
+ghost use Rattle.completion_fanout.specs.HandedOut.{IsFanPlan};
 ghost use Rattle.thread_plan.specs.Planned.{IsPlan};
 ghost use Rattle.tools.specs.ThreadEndings.{fault_status, fault_text, status_of, text_of as told_text};
 ghost use Rattle.tools.specs.Fanout.{EndsFanout, IsFanoutText};
@@ -11,7 +11,7 @@ ghost use Rattle.tools.specs.Threads.{EndsThreads, IsThreadsText};
 use crate::endings::end_with;
 use crate::thread_calls::fan_line::fan_line_of;
 use crate::thread_calls::line::line_of;
-use device_fanout::{FanPlan, run_fan_out};
+use completion_fanout::{FanPlan, run_fan_out};
 use host_ports::Sink;
 use rdma_types::Items;
 use std::alloc::Global;

@@ -2,13 +2,13 @@
 
 ghost use Rattle.std.specs.Prelude.{◌≡◌, bytes_eq, codes, map, IfSome};
 ghost use Rattle.std.specs.String.{string_bytes};
-ghost use Rattle.device_fanout.specs.HandedOut.{IsFanPlan};
+ghost use Rattle.completion_fanout.specs.HandedOut.{IsFanPlan};
 ghost use Rattle.thread_plan.specs.Planned.{IsPlan};
 ghost use Rattle.tools.specs.Fanout as fan;
 ghost use Rattle.tools.specs.Threads as spec;
 
 use command_line::small;
-use device_fanout::FanPlan;
+use completion_fanout::FanPlan;
 use thread_workers::ThreadPlan;
 
 /// 1 to 8 workers, 1 to 2,000 additions of each and at most 8 moves.

@@ -1,7 +1,7 @@
 use Rattle.std.proofs.Common.{rules, arith, ◌≡◌, ◌++◌, ◌∙◌}
 use Rattle.run_check.specs.Gathered.{polled}
-use Rattle.device_fanout.proofs.Counting.{told_more, told_none}
-use Rattle.device_fanout.proofs.told.told_by.Goals as goal
+use Rattle.completion_fanout.proofs.Counting.{told_more, told_none}
+use Rattle.completion_fanout.proofs.told.told_by.Goals as goal
 
 pub loop-receipt-init : goal.loop-receipt-init
 loop-receipt-init c = c.new-completions.ensures.items ∙ told_none

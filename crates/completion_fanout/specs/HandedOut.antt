@@ -7,8 +7,8 @@ use Rattle.thread_plan.specs.declared.plan.ThreadPlan.{ThreadPlan}
 use Rattle.thread_plan.specs.Planned.{IsPlanned}
 use Rattle.completion_fanout.specs.declared.entry.FanEntry.{FanEntry}
 use Rattle.completion_fanout.specs.Fanned.{IsDealt, IsFanned}
-use Rattle.device_fanout.specs.declared.plan.FanPlan.{FanPlan}
-use Rattle.device_fanout.specs.declared.running.FannedRun.{FannedRun}
+use Rattle.completion_fanout.specs.declared.plan.FanPlan.{FanPlan}
+use Rattle.completion_fanout.specs.declared.running.FannedRun.{FannedRun}
 
 -- 1 to 4 consumers, 1 to 10,000 additions, and a queue of 1 to 1,024 places
 pub record IsFanPlan (plan : FanPlan) : Type 0 where

@@ -8,10 +8,10 @@ use Rattle.thread_plan.specs.declared.plan.ThreadPlan.{ThreadPlan}
 use Rattle.thread_plan.specs.Planned.{IsPlan, IsPlanned}
 use Rattle.completion_fanout.specs.declared.entry.FanEntry.{FanEntry}
 use Rattle.completion_fanout.specs.Fanned.{IsDealt, IsFanned}
-use Rattle.device_fanout.specs.declared.plan.FanPlan.{FanPlan}
-use Rattle.device_fanout.specs.declared.running.FannedRun.{FannedRun}
-use Rattle.completion_fanout.proofs.Dealing.{dealt_is_fanned}
-use Rattle.device_fanout.specs.HandedOut.{IsFanPlan, IsFannedRun, IsHandedOut, drainer, one_worker}
+use Rattle.completion_fanout.specs.declared.plan.FanPlan.{FanPlan}
+use Rattle.completion_fanout.specs.declared.running.FannedRun.{FannedRun}
+use Rattle.completion_fanout.proofs.DealtInTurn.{dealt_is_fanned}
+use Rattle.completion_fanout.specs.HandedOut.{IsFanPlan, IsFannedRun, IsHandedOut, drainer, one_worker}
 
 pub handed_out : (plan : FanPlan) (receipts : List (List Receipt)) (held : List Receipt) (drained : List Completion) (taken : List (List FanEntry)) (left : List FanEntry)
     → slice_get receipts 2 ≡ Some held → length drained ≡ plan.adds → drained ≡ drained_by held → length taken ≡ plan.consumers → IsFanned drained taken left → left ≡ []

@@ -1,13 +1,13 @@
 //! Runs that are checked, or made by the caller.
 
 ghost use Rattle.std.specs.Prelude.{◌≡◌, IfOk};
-ghost use Rattle.device_fanout.specs.HandedOut.{IsFanPlan, IsFannedRun};
+ghost use Rattle.completion_fanout.specs.HandedOut.{IsFanPlan, IsFannedRun};
 
+use crate::FanEntry;
 use crate::dealing::deal;
 use crate::fanning::fan_out;
 use crate::plan::{DRAINER, FanPlan, one_worker};
 use crate::told::told_by;
-use completion_fanout::FanEntry;
 use rdma_types::{Completion, Items};
 use std::alloc::Global;
 use std::sync::Wait;
@@ -26,7 +26,7 @@ pub struct FannedRun {
 }
 
 /// A run by threads that is as planned.
-#[tactic(auto, using(crate::proofs::Handing::by_threads, crate::proofs::Handing::is_plan))]
+#[tactic(auto, using(crate::proofs::FannedRuns::by_threads, crate::proofs::FannedRuns::is_plan))]
 fn planned_by_threads<R: Threads + Wait + Sync, G: Gate + Sync>(
     rt: &R,
     alloc: Global,
@@ -56,7 +56,7 @@ fn planned_by_threads<R: Threads + Wait + Sync, G: Gate + Sync>(
 }
 
 /// The caller's own run, whose completions it deals out.
-#[tactic(auto, using(crate::proofs::Handing::by_caller, crate::proofs::Handing::is_plan))]
+#[tactic(auto, using(crate::proofs::FannedRuns::by_caller, crate::proofs::FannedRuns::is_plan))]
 fn by_caller(alloc: Global, plan: &FanPlan) -> Result<FannedRun, PlanFault>
     requires { IsFanPlan plan.now }
     ensures { IfOk result (IsFannedRun plan.now) }

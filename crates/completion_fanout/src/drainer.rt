@@ -2,9 +2,9 @@
 
 ghost use Rattle.std.specs.Prelude.{◌≡◌, ◌≤◌, ◌++◌, ◌∷◌, [], IfOk, MatchOption, None, OnErr, false, length};
 
+use crate::Source;
 use crate::plan::DRAINER;
 use crate::told::put_polled;
-use completion_fanout::Source;
 use rdma_types::{Completion, Items};
 use shared_device::Receipt;
 use std::alloc::{AllocError, Global};

@@ -3,8 +3,8 @@ use Rattle.std.proofs.lemmas.Grind.{common_steps}
 use Rattle.std.proofs.lemmas.Option.{slice_get-get_or}
 use Rattle.run_check.specs.Gathered.{drained_by}
 use Rattle.completion_fanout.specs.Fanned.{IsDealt}
-use Rattle.device_fanout.proofs.Handing.{by_caller}
-use Rattle.device_fanout.proofs.running.by_caller.Goals as goal
+use Rattle.completion_fanout.proofs.FannedRuns.{by_caller}
+use Rattle.completion_fanout.proofs.running.by_caller.Goals as goal
 
 -- src/running.rt:59:1
 pub returns : goal.returns

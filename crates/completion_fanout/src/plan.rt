@@ -1,7 +1,7 @@
 //! What is to be handed out.
 
 ghost use Rattle.std.specs.Prelude.{◌≡◌};
-ghost use Rattle.device_fanout.specs.HandedOut.{one_worker as planned_worker};
+ghost use Rattle.completion_fanout.specs.HandedOut.{one_worker as planned_worker};
 
 use thread_workers::ThreadPlan;
 

@@ -3,12 +3,12 @@
 ghost use Rattle.std.specs.Prelude.{◌≡◌, ◌<◌, ◌++◌, ◌∷◌, [], IfOk, OnOk};
 ghost use Rattle.completion_fanout.specs.Fanned.{IsDealt, dealt_to};
 
-use completion_fanout::FanEntry;
+use crate::FanEntry;
 use rdma_types::{Completion, Items};
 use std::alloc::{AllocError, Global};
 
 /// Puts an entry at the end, where its place is `i` modulo the number of consumers.
-#[tactic(auto, unfolding(completion_fanout::specs::Fanned::dealt_to))]
+#[tactic(auto, unfolding(crate::specs::Fanned::dealt_to))]
 fn put_dealt(
     entries: &mut Vec<FanEntry>,
     consumers: u32,

@@ -3,13 +3,13 @@
 ghost use Rattle.std.specs.Prelude.{◌≡◌, ◌≤◌, [], IfOk, IsTrue, Some, length, slice_get};
 ghost use Rattle.completion_fanout.specs.Fanned.{IsFanned};
 ghost use Rattle.run_check.specs.Gathered.{drained_by};
-ghost use Rattle.device_fanout.specs.HandedOut.{IsFanPlan, IsHandedOut};
+ghost use Rattle.completion_fanout.specs.HandedOut.{IsFanPlan, IsHandedOut};
 
 use crate::drainer::{Drained, Drainer};
 use crate::plan::FanPlan;
 use crate::pumping::{Pumped, join_pump, start_pump};
 use crate::told::are_told;
-use completion_fanout::{FanEntry, HandedOut, PopGate, hand_out};
+use crate::{FanEntry, HandedOut, PopGate, hand_out};
 use rdma_types::{Completion, Items};
 use shared_device::{Book, OrderBook, Receipt};
 use std::alloc::{AllocError, Global};
@@ -168,7 +168,7 @@ fn lists(
 ///
 /// `PlanFault::OutOfMemory`, and `PlanFault::NotAsPlanned` where the start of the worker or of the one who drains is refused,
 /// where there are more or fewer completions than additions, or where they are not those that the drainer's receipts tell of.
-#[tactic(auto, using(crate::proofs::Handing::handed_out))]
+#[tactic(auto, using(crate::proofs::FannedRuns::handed_out))]
 pub fn fan_out<R: Threads + Wait + Sync, G: Gate + Sync>(
     rt: &R,
     alloc: Global,
