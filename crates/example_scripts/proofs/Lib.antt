@@ -1,0 +1,2 @@
+pub mod EvaluateDatagrams
+pub mod EvaluateLines

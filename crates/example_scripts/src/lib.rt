@@ -1,10 +1,17 @@
-//! Worked examples of whole scripts, as equations: the text that is read, and the text that is written for it.
+//! Worked examples of whole scripts, of packets, datagrams, arrivals and lines, and of traces and records, evaluated by the prover.
 //!
+//! An example of a script is an equation of the text that is read and the text that is written for it.
 //! The functions do nothing. Each promises the equations that it names, which the prover evaluates on the definitions.
 #![tactic(auto)]
 
+pub mod arrivals;
+pub mod datagrams;
+pub mod lines;
+pub mod packets;
+pub mod records;
 mod sessions;
 mod small;
+pub mod traces;
 
 pub use sessions::{
     atomic_not_aligned, dump_of_an_empty_context, fence_and_a_move, fenced_write_after_a_read,

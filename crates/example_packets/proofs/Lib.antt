@@ -1,2 +1,0 @@
-pub mod EvaluateDatagrams
-pub mod EvaluateLines

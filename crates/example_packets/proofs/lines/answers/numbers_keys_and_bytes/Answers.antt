@@ -1,7 +1,0 @@
-use Rattle.std.specs.Prelude.{refl}
-use Rattle.example_packets.proofs.EvaluateLines.{all_printed}
-use Rattle.example_packets.proofs.lines.answers.numbers_keys_and_bytes.Goals as goal
-
-pub returns : goal.returns
-unfolding all_printed
-returns c = refl

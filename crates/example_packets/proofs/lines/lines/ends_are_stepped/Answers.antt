@@ -1,7 +1,0 @@
-use Rattle.std.specs.Prelude.{refl}
-use Rattle.example_packets.proofs.EvaluateLines.{all_read}
-use Rattle.example_packets.proofs.lines.lines.ends_are_stepped.Goals as goal
-
-pub returns : goal.returns
-unfolding all_read
-returns c = refl

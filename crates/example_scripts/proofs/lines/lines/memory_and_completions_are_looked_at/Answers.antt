@@ -1,0 +1,7 @@
+use Rattle.std.specs.Prelude.{refl}
+use Rattle.example_scripts.proofs.EvaluateLines.{all_read}
+use Rattle.example_scripts.proofs.lines.lines.memory_and_completions_are_looked_at.Goals as goal
+
+pub returns : goal.returns
+unfolding all_read
+returns c = refl

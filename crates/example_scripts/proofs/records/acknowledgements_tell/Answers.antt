@@ -1,0 +1,7 @@
+use Rattle.std.proofs.Common.{refl}
+use Rattle.trace_rules.specs.Evaluate.{recorded}
+use Rattle.example_scripts.proofs.records.acknowledgements_tell.Goals as goal
+
+pub returns : goal.returns
+unfolding recorded
+returns c = refl

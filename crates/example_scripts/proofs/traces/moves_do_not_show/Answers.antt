@@ -1,0 +1,7 @@
+use Rattle.std.proofs.Common.{refl}
+use Rattle.run_traces.specs.Evaluate.{audited}
+use Rattle.example_scripts.proofs.traces.moves_do_not_show.Goals as goal
+
+pub returns : goal.returns
+unfolding audited
+returns c = refl

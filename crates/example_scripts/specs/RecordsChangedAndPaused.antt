@@ -1,0 +1,34 @@
+-- A script with a Read whose bytes changed before it is asked for again, and an end that is Paused.
+use Rattle.std.specs.Prelude.{ℕ, List, ◌++◌, codes}
+use Rattle.example_scripts.specs.RecordsOpening.{contexts, pairs}
+
+abbrev pub script : List ℕ
+script =
+    contexts
+    ++ codes "region a.m a.p 4096 64 lwra\n"
+    ++ codes "region b.n b.p 8192 64 lwra\n"
+    ++ pairs
+    ++ codes "connect a.q b.q mtu 256 psn 100 200 retry 7 rnr 7 reads 4\n"
+    ++ codes "read a.q 1 01000002 4096 4 8192 02000003\n"
+    ++ codes "go a.q\n"
+    ++ codes "deliver 1\n"
+    ++ codes "store b.n 8192 01020304\n"
+    ++ codes "expire a.q\n"
+    ++ codes "go a.q\n"
+    ++ codes "deliver 3\n"
+    ++ codes "deliver 4\n"
+    ++ codes "load a.m 4096 4\n"
+    ++ codes "write b.q 2 02000002 8192 4 4096 01000003\n"
+    ++ codes "go b.q\n"
+    ++ codes "write a.q 3 01000002 4096 4 8192 02000003\n"
+    ++ codes "go a.q\n"
+    ++ codes "stop b\n"
+    ++ codes "deliver 6\n"
+    ++ codes "deliver 7\n"
+    ++ codes "deliver 5\n"
+    ++ codes "load a.m 4096 4\n"
+    ++ codes "restore b 3\n"
+    ++ codes "go b.q\n"
+    ++ codes "deliver 8\n"
+    ++ codes "deliver 5\n"
+    ++ codes "poll a.c 9\n"

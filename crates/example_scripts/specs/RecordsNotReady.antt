@@ -1,0 +1,27 @@
+-- A script with receivers that are not ready: a wait, and the last of them.
+use Rattle.std.specs.Prelude.{ℕ, List, ◌++◌, codes}
+use Rattle.example_scripts.specs.RecordsOpening.{contexts, pairs}
+
+abbrev pub script : List ℕ
+script =
+    contexts
+    ++ codes "region a.m a.p 4096 64 lwra\n"
+    ++ codes "region b.n b.p 8192 64 lwra\n"
+    ++ pairs
+    ++ codes "connect a.q b.q mtu 256 psn 100 200 retry 7 rnr 1 reads 4\n"
+    ++ codes "write a.q 1 01000002 4096 4 8192 02000003\n"
+    ++ codes "send a.q 2 01000002 4096 4\n"
+    ++ codes "go a.q\n"
+    ++ codes "go a.q\n"
+    ++ codes "deliver 1\n"
+    ++ codes "deliver 2\n"
+    ++ codes "deliver 4\n"
+    ++ codes "rnr a.q\n"
+    ++ codes "go a.q\n"
+    ++ codes "deliver 5\n"
+    ++ codes "deliver 6\n"
+    ++ codes "rnr a.q\n"
+    ++ codes "go a.q\n"
+    ++ codes "deliver 7\n"
+    ++ codes "deliver 8\n"
+    ++ codes "poll a.c 9\n"

@@ -1,7 +1,0 @@
-use Rattle.std.proofs.Common.{refl}
-use Rattle.trace_rules.specs.Evaluate.{recorded}
-use Rattle.example_traces.proofs.records.waits_are_recorded.Goals as goal
-
-pub returns : goal.returns
-unfolding recorded
-returns c = refl

@@ -1,7 +1,0 @@
-use Rattle.std.proofs.Common.{refl}
-use Rattle.run_traces.specs.Evaluate.{audited}
-use Rattle.example_traces.proofs.traces.moves_do_not_show.Goals as goal
-
-pub returns : goal.returns
-unfolding audited
-returns c = refl

@@ -1,5 +1,0 @@
-//! Worked examples of traces and of records.
-#![tactic(auto)]
-
-pub mod records;
-pub mod traces;
