@@ -15,3 +15,6 @@ pub mod Works
 pub mod OpeningWork
 pub mod Working
 pub mod Short
+pub mod Askable
+pub mod Begun
+pub mod Exact

@@ -1,12 +1,20 @@
 //! Fair orders of the steps of devices are legal for the packetless machine, whatever devices they begin with; and which orders
-//! are fair.
+//! are fair, as a test of each step that tells which step is not and why (this project's choice).
 //!
-//! The functions do nothing. Each promises the law that it names.
+//! The functions of laws do nothing. Each promises the law that it names; one is that the test is exact. Other functions decide those
+//! parts of the test that an event alone tells.
 #![tactic(auto)]
+
+mod asked;
+mod exactness;
+mod fairness;
 
 ghost use Rattle.order_rules.specs.AnyOpening.{AnyFairOrderIsLegal, AnyFairOrderLeadsOn, AnyShortOrderIsARun, PreparedOrdersAreLegal, PreparedWorldsAreOpenings};
 ghost use Rattle.order_rules.specs.Bridge.{FairOrdersAreLegal, ShortOrdersAreRuns, WorkIsFair};
 
+pub use asked::{is_askable, is_lawfully_posted};
+pub use exactness::{askable_is_tested, fair_runs_are_legal, fairness_is_exact};
+pub use fairness::{Fairness, UnfairCause};
 use law_simulation::runs::{events_follow, law_holds, runs_follow};
 use order_rules::{copies_stand, devices_open_apart};
 

@@ -1,6 +1,6 @@
 use Rattle.std.proofs.Common.{refl}
 use Rattle.order_rules.specs.Evaluate.{opened}
-use Rattle.fair_orders.specs.Fairness.{fairness_after}
+use Rattle.law_orders.specs.Fairness.{fairness_after}
 use Rattle.example_threads.proofs.own_orders_are_tested.Goals as goal
 
 pub returns-clause-fair : goal.returns-clause-fair

@@ -1,9 +1,9 @@
 //! What the tests of the definitions say. The functions do nothing; each promises the law that it names.
 
-ghost use Rattle.fair_orders.specs.Asked.{AskableIsTested};
-ghost use Rattle.fair_orders.specs.Fairness.{FairRunsAreLegal, FairnessIsExact};
+ghost use Rattle.law_orders.specs.Asked.{AskableIsTested};
+ghost use Rattle.law_orders.specs.Fairness.{FairRunsAreLegal, FairnessIsExact};
 
-use law_orders::{any_fair_order_is_legal, prepared_orders_are_legal};
+use crate::{any_fair_order_is_legal, prepared_orders_are_legal};
 
 /// An event passes the test exactly where threads may ask for it.
 pub fn askable_is_tested()

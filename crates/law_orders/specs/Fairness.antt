@@ -14,12 +14,12 @@ use Rattle.order_rules.specs.Hears.{heard}
 use Rattle.order_rules.specs.Lines.{Line, device_after}
 use Rattle.order_rules.specs.Order.{IsWorldOrder}
 use Rattle.order_rules.specs.Sides.{IsFreshLine, IsInTimeLine, IsOneSidedLine, is_stopped, makes_a_second, stops_beside_a_mover, world_of}
-use Rattle.fair_orders.specs.declared.fairness.Fairness.{Fairness}
-use Rattle.fair_orders.specs.declared.fairness.Fairness.TheVariants.{Fair, Unfair}
-use Rattle.fair_orders.specs.declared.fairness.UnfairCause.{UnfairCause}
-use Rattle.fair_orders.specs.declared.fairness.UnfairCause.TheVariants as cause
-use Rattle.fair_orders.specs.Asked.{is_askable, is_lawfully_posted}
-use Rattle.fair_orders.specs.InTime.{is_in_time}
+use Rattle.law_orders.specs.declared.fairness.Fairness.{Fairness}
+use Rattle.law_orders.specs.declared.fairness.Fairness.TheVariants.{Fair, Unfair}
+use Rattle.law_orders.specs.declared.fairness.UnfairCause.{UnfairCause}
+use Rattle.law_orders.specs.declared.fairness.UnfairCause.TheVariants as cause
+use Rattle.law_orders.specs.Asked.{is_askable, is_lawfully_posted}
+use Rattle.law_orders.specs.InTime.{is_in_time}
 
 -- ---- the test
 

@@ -23,14 +23,14 @@ use Rattle.order_rules.specs.Sides.{IsFreshLine, IsInTime, IsInTimeLine, IsOneSi
 use Rattle.order_rules.proofs.Growing.{each_push}
 use Rattle.order_rules.proofs.Lists.{some_is}
 use Rattle.law_orders.proofs.Orders.{address_after, after_all, at_after}
-use Rattle.fair_orders.specs.declared.fairness.Fairness.{Fairness}
-use Rattle.fair_orders.specs.declared.fairness.Fairness.TheVariants.{Fair, Unfair}
-use Rattle.fair_orders.specs.declared.fairness.UnfairCause.{UnfairCause}
-use Rattle.fair_orders.specs.declared.fairness.UnfairCause.TheVariants as cause
-use Rattle.fair_orders.specs.Asked.{AskableIsTested, is_askable, is_lawfully_posted}
-use Rattle.fair_orders.specs.Fairness.{AreLegal, FairRunsAreLegal, FairnessIsExact, HaveOwnIds, IsFairRun, IsFirstUnfair, IsUnfairLine, Says, cause_in, fairness_after, fairness_of, unless_unfair}
-use Rattle.fair_orders.specs.InTime.{is_in_time, is_timely}
-use Rattle.fair_orders.proofs.Begun.{begun}
+use Rattle.law_orders.specs.declared.fairness.Fairness.{Fairness}
+use Rattle.law_orders.specs.declared.fairness.Fairness.TheVariants.{Fair, Unfair}
+use Rattle.law_orders.specs.declared.fairness.UnfairCause.{UnfairCause}
+use Rattle.law_orders.specs.declared.fairness.UnfairCause.TheVariants as cause
+use Rattle.law_orders.specs.Asked.{AskableIsTested, is_askable, is_lawfully_posted}
+use Rattle.law_orders.specs.Fairness.{AreLegal, FairRunsAreLegal, FairnessIsExact, HaveOwnIds, IsFairRun, IsFirstUnfair, IsUnfairLine, Says, cause_in, fairness_after, fairness_of, unless_unfair}
+use Rattle.law_orders.specs.InTime.{is_in_time, is_timely}
+use Rattle.law_orders.proofs.Begun.{begun}
 
 -- ---- datagrams
 

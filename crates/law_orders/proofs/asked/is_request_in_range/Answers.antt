@@ -1,7 +1,7 @@
 use Rattle.std.proofs.Common.{arith, rules, ◌<◌, ◌^◌}
 use Rattle.std.specs.Prelude.{IfSome}
-use Rattle.fair_orders.proofs.Askable.{request_typed}
-use Rattle.fair_orders.proofs.asked.is_request_in_range.Goals as goal
+use Rattle.law_orders.proofs.Askable.{request_typed}
+use Rattle.law_orders.proofs.asked.is_request_in_range.Goals as goal
 
 pub returns : goal.returns
 returns c =

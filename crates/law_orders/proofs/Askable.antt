@@ -12,7 +12,7 @@ use Rattle.protocol.specs.declared.events.Event.{Event}
 use Rattle.protocol.specs.declared.events.Event.TheVariants as event
 use Rattle.law_simulation.specs.Law.{AreDepths, IsRequestInRange}
 use Rattle.order_rules.specs.Bridge.{IsAskable}
-use Rattle.fair_orders.specs.Asked.{are_bytes, has_fields_of_kind, is_askable, is_depth, is_immediate, is_request_in_range}
+use Rattle.law_orders.specs.Asked.{are_bytes, has_fields_of_kind, is_askable, is_depth, is_immediate, is_request_in_range}
 
 le_true : (a b : ℕ) → nat_le a b ≡ true → a ≤ b
 le_true a b h = grind (arith, nat_tests, leb_tells a b)

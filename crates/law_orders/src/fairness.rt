@@ -1,7 +1,7 @@
 //! What the test of an order answers.
 
 ghost use Rattle.std.specs.Prelude.{◌≡◌, ◌↔◌, IsTrue};
-ghost use Rattle.fair_orders.specs.declared.fairness.Fairness.TheVariants.{Fair};
+ghost use Rattle.law_orders.specs.declared.fairness.Fairness.TheVariants.{Fair};
 
 /// Why a step makes an order unfair.
 #[derive(Clone, Copy, Debug, PartialEq, Eq)]

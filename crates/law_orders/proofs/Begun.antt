@@ -7,7 +7,7 @@ use Rattle.protocol.specs.State.{Device, no_device}
 use Rattle.order_rules.specs.Lines.{opening_of}
 use Rattle.order_rules.proofs.Lists.{some_is}
 use Rattle.law_orders.proofs.Orders.{AreApart, AreBegun, AreOwn}
-use Rattle.fair_orders.specs.Fairness.{HaveOwnIds}
+use Rattle.law_orders.specs.Fairness.{HaveOwnIds}
 
 not_held : (k : ℕ) (ds : List Device) → ((j : ℕ) (x : Device) → slice_get ds j ≡ Some x → x.id ≢ k) → has (λ x. x.id) k ds ≡ false
 unfolding has

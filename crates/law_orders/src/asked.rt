@@ -3,7 +3,7 @@
 ghost use Rattle.std.specs.Prelude.{◌≡◌};
 ghost use Rattle.rdma_types.specs.Kinds as kinds;
 ghost use Rattle.rdma_types.specs.Shapes as shapes;
-ghost use Rattle.fair_orders.specs.Asked as asked;
+ghost use Rattle.law_orders.specs.Asked as asked;
 
 use protocol::Event;
 use rdma_types::{Kind, Request, Rights, Shape};

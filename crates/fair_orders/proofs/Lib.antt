@@ -1,3 +1,0 @@
-pub mod Askable
-pub mod Begun
-pub mod Exact
