@@ -1,33 +1,18 @@
-//! The memory of datagrams, which is given back and filled again.
+//! Worked examples of memory: what a region grants, what is refused, and the bytes of a word, evaluated by the prover;
+//! and tests of the calls that take memory.
+//!
+//! The functions do nothing. Each promises the equations that it names over the definitions that `memory_keys` keeps to.
+//! That crate, `page_pool` and `byte_run` are tested here, so that their proofs are not made twice.
 
-use crate::net::Net;
-use crate::opening::opened;
-use crate::plays::{post, read, write};
-use std::alloc::Global;
+mod examples;
+#[cfg(test)]
+mod pages;
+#[cfg(test)]
+mod runs;
+#[cfg(test)]
+mod tests;
 
-/// Posts a Read, a Write of few bytes, and one of a whole packet.
-fn ask(net: &mut Net) -> Option<()> {
-    let _ = post(net, 1, 4096, read(4))?;
-    let _ = post(net, 2, 4096, write(100, 8192))?;
-    let _ = post(net, 3, 4096, write(256, 8192))?;
-    Some(())
-}
-
-/// The room of their datagrams.
-fn rooms(net: &mut Net) -> Option<[usize; 3]> {
-    ask(net)?;
-    Some([net.room(1, b"a")?, net.room(1, b"a")?, net.room(1, b"a")?])
-}
-
-/// The same twice: the second time in memory that was given back.
-fn twice(alloc: Global) -> Option<[[usize; 3]; 2]> {
-    let mut net = opened(alloc)?;
-    Some([rooms(&mut net)?, rooms(&mut net)?])
-}
-
-/// A tiny buffer, a small one, and a large one for a packet at MTU 256.
-#[test]
-fn datagrams_lie_in_buffers_of_three_kinds(rt: HostRuntime) {
-    let told = twice(rt.alloc());
-    assert!(rt; told == Some([[64, 256, 348], [64, 256, 348]]));
-}
+pub use examples::{
+    a_busy_region_stays, a_dropped_region_is_gone, a_name_is_taken_once, a_region_needs_its_pages,
+    a_word_is_big_endian, places_are_granted,
+};

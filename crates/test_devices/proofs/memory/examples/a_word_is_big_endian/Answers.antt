@@ -1,6 +1,6 @@
 use Rattle.std.specs.Prelude.{refl}
 use Rattle.rdma_types.specs.Memory.{word_bytes, word_of}
-use Rattle.test_connection.proofs.memory.examples.a_word_is_big_endian.Goals as goal
+use Rattle.test_devices.proofs.memory.examples.a_word_is_big_endian.Goals as goal
 
 pub returns-clause-bytes : goal.returns-clause-bytes
 unfolding word_bytes word_of

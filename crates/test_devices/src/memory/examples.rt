@@ -7,7 +7,7 @@ ghost use Rattle.rdma_types.specs.Memory.{RemoteWrite, remote_key, word_bytes, w
 ghost use Rattle.rdma_types.specs.declared.answers.Refusal.TheVariants as refusal;
 ghost use Rattle.memory_keys.specs.Causes.{deregister_causes, register_causes};
 ghost use Rattle.memory_keys.specs.Regions.{granted_spot};
-ghost use Rattle.test_connection.specs.Held.{head, regions};
+ghost use Rattle.test_devices.specs.Held.{head, regions};
 
 /// The whole region, its last byte, a byte past it, and another domain.
 pub fn places_are_granted()

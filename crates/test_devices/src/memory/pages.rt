@@ -3,7 +3,7 @@
 ghost use Rattle.std.specs.Prelude.{◌≡◌, ◌+◌, ◌<◌, ◌≤◌, length, IfOk, IfSome, OnOk};
 ghost use Rattle.std.specs.Bool.{OnTrue};
 ghost use Rattle.page_pool.specs.Pool.{IsIn, bytes_in};
-ghost use Rattle.test_connection.specs.Lists.{Keeps};
+ghost use Rattle.test_devices.specs.Lists.{Keeps};
 
 use crate::memory::runs::{run_of, two_of};
 use page_pool::{ByteRun, PageList, PagePool, PoolFault};

@@ -2,7 +2,7 @@ use Rattle.std.specs.Prelude.{refl}
 use Rattle.rdma_types.specs.Causes.{first_cause}
 use Rattle.rdma_types.specs.Lists.{has_name, named, without, first_that, some}
 use Rattle.page_pool.specs.Pool.{pages_for}
-use Rattle.test_connection.proofs.memory.examples.a_region_needs_its_pages.Goals as goal
+use Rattle.test_devices.proofs.memory.examples.a_region_needs_its_pages.Goals as goal
 
 pub returns-clause-large : goal.returns-clause-large
 unfolding first_cause has_name named without first_that some pages_for

@@ -1,7 +1,7 @@
 use Rattle.std.specs.Prelude.{refl}
 use Rattle.rdma_types.specs.Memory.{allows, granted, grants, holds}
 use Rattle.rdma_types.specs.Lists.{first_that}
-use Rattle.test_connection.proofs.memory.examples.places_are_granted.Goals as goal
+use Rattle.test_devices.proofs.memory.examples.places_are_granted.Goals as goal
 
 pub returns-clause-whole : goal.returns-clause-whole
 unfolding allows granted grants holds first_that

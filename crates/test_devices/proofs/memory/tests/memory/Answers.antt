@@ -5,7 +5,7 @@ use Rattle.memory_keys.specs.declared.RegisteredRegion.{RegisteredRegion}
 use Rattle.memory_keys.specs.Regions.{blank_region, held_at, region_of, regions_of}
 use Rattle.page_pool.specs.Pool.{Pool}
 use Rattle.memory_keys.specs.declared.RegionHead.{RegionHead}
-use Rattle.test_connection.proofs.memory.tests.memory.Goals as goal
+use Rattle.test_devices.proofs.memory.tests.memory.Goals as goal
 
 -- what stands alone under another key
 alone : (h : RegionHead) → h.keys ≡ record { local = 2; remote = 3 } → first_that (λ r. r.keys.local == 4) (blank_region h ∷ []) ≡ None
