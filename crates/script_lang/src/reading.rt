@@ -103,7 +103,8 @@ fn connect(words: &mut Words<'_>, told: &mut Line) -> Result<(), Offence>
 /// A line of moving: a name and a device.
 #[tactic(auto, unfolding(crate::specs::Lines::line_of))]
 fn context(words: &mut Words<'_>, told: &mut Line) -> Result<(), Offence>
-    ensures value { Gives (filled result told.new) words.new (lines.line_of form_is.Context words.old) }
+    ensures value { Gives (filled result told.new) words.new
+        (lines.line_of form_is.Context words.old) }
     ensures lawful { OnOk result (IsLawfulLine told.new) }
 {
     let name = words.name()?;
@@ -115,7 +116,8 @@ fn context(words: &mut Words<'_>, told: &mut Line) -> Result<(), Offence>
 /// `restore` N id
 #[tactic(auto, unfolding(crate::specs::Lines::line_of))]
 fn restore(words: &mut Words<'_>, told: &mut Line) -> Result<(), Offence>
-    ensures value { Gives (filled result told.new) words.new (lines.line_of form_is.Restore words.old) }
+    ensures value { Gives (filled result told.new) words.new
+        (lines.line_of form_is.Restore words.old) }
     ensures lawful { OnOk result (IsLawfulLine told.new) }
 {
     let name = words.name()?;
@@ -127,7 +129,8 @@ fn restore(words: &mut Words<'_>, told: &mut Line) -> Result<(), Offence>
 /// `release` N id
 #[tactic(auto, unfolding(crate::specs::Lines::line_of))]
 fn release(words: &mut Words<'_>, told: &mut Line) -> Result<(), Offence>
-    ensures value { Gives (filled result told.new) words.new (lines.line_of form_is.Release words.old) }
+    ensures value { Gives (filled result told.new) words.new
+        (lines.line_of form_is.Release words.old) }
     ensures lawful { OnOk result (IsLawfulLine told.new) }
 {
     let name = words.name()?;
@@ -173,7 +176,8 @@ fn verb_line(
     words: &mut Words<'_>,
     told: &mut Line,
 ) -> Result<(), LineFault>
-    ensures value { GivesOr (filled result told.new) words.new (lines.line_of (form_is.Verb verb) words.old) }
+    ensures value { GivesOr (filled result told.new) words.new
+        (lines.line_of (form_is.Verb verb) words.old) }
     ensures lawful { OnOk result (IsLawfulLine told.new) }
     ensures memory { result ≡ Err fault.OutOfMemory → verb ≡ verb_is.Store }
 {
@@ -244,7 +248,8 @@ fn read_from(
 /// What a line with lawful bytes says.
 #[inline(always)]
 fn read_words(alloc: Global, line: &[u8], told: &mut Line) -> Result<(), LineFault>
-    ensures value { Says (filled result told.new) (reading_of_words line_is.Blank lines.form_of lines.line_of
+    ensures value { Says (filled result told.new)
+        (reading_of_words line_is.Blank lines.form_of lines.line_of
         (words_from 1 line.now) (length line.now + 1)) }
     ensures lawful { OnOk result (IsLawfulLine told.new) }
     ensures memory { result ≡ Err fault.OutOfMemory
