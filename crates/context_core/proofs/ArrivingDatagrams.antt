@@ -1,6 +1,6 @@
 -- A datagram that an end of a context takes.
-use Rattle.std.proofs.Common.{◌≡◌, ℕ, ◌≤◌, ◌^◌, Bool, true, false, List, [], length, refl, ap, sym, ◌∙◌, subst, arith}
-use Rattle.std.specs.Prelude.{◌==◌, ◌||◌, if◌then◌else◌, Option, Some, None, IfSome, IsSome, is_none, option_map, slice_get}
+use Rattle.std.proofs.Common.{◌≡◌, ℕ, Bool, true, false, List, [], refl, ap, sym, ◌∙◌, subst, arith}
+use Rattle.std.specs.Prelude.{◌==◌, ◌||◌, if◌then◌else◌, Option, Some, None, IfSome, is_none, option_map, slice_get}
 use Rattle.std.proofs.lemmas.Bool.{true≢false}
 use Rattle.std.proofs.lemmas.Bool.Decides.{nat_tests}
 use Rattle.std.proofs.lemmas.Option.{slice_get-map}
@@ -32,7 +32,7 @@ use Rattle.endpoint_core.specs.Ends.{Names, link_in}
 use Rattle.endpoint_core.specs.Sites.{IsHome, EndWithMemory, end_at, home}
 use Rattle.context_core.specs.declared.rooms.DatagramRoom.{DatagramRoom}
 use Rattle.context_core.specs.declared.state.EndSlot.{EndSlot}
-use Rattle.context_core.specs.Arriving.{AreReady, HasRoom, IsRoomFor, IsSentFor, may_answer}
+use Rattle.context_core.specs.Arriving.{HasRoom, IsRoomFor, IsSentFor, may_answer}
 use Rattle.context_core.specs.Context.{Holding, context_in, end_of, names_in, site_in}
 use Rattle.context_core.specs.Links.{link_at, link_by}
 use Rattle.context_core.specs.Rooms.{HasRoomFor}
@@ -53,38 +53,16 @@ some-linked pool n h i e l there some = ap is_none (link-shown pool n h i ∙ (a
 
 -- ---- what is sent
 
-pub are-ready : (old new : EndWithMemory) (l : EndLink) (d : Packet) (r : EndReply) (read : Option (List Sent)) → WasDue old new l d r
-    → ((due : DueRead) → due_in l (regions_of old.pool old.held) old.end.domain d ≡ Some due → read ≡ Some (responses old.pool (regions_of old.pool old.held) l due (pieces due.spot.length l.terms.mtu)))
-    → AreReady r read
-are-ready old new l d Nothing read was made = tt
-are-ready old new l d (Acknowledge number syndrome) read was made = tt
-are-ready old new l d (ReadBytes spot first count) read was made = subst IsSome (sym (made (record { spot = spot; first = first; msn = was.msn }) was.due)) refl
-are-ready old new l d (Old number value) read was made = tt
-are-ready old new l d (ResumeAck count address) read was made = tt
-
-pub sent-for : (old new : EndWithMemory) (l : EndLink) (d : Packet) (r : EndReply) (read : Option (List Sent)) (sent : List Sent) → WasDue old new l d r
-    → ((due : DueRead) → due_in l (regions_of old.pool old.held) old.end.domain d ≡ Some due → read ≡ Some (responses old.pool (regions_of old.pool old.held) l due (pieces due.spot.length l.terms.mtu)))
+pub sent-for : (old new : EndWithMemory) (l : EndLink) (d : Packet) (r : EndReply) (read sent : List Sent) → WasDue old new l d r
+    → ((due : DueRead) → due_in l (regions_of old.pool old.held) old.end.domain d ≡ Some due → read ≡ responses old.pool (regions_of old.pool old.held) l due (pieces due.spot.length l.terms.mtu))
     → IsSentFor r read (sent_of new r) sent → sent_of new r ≡ sent
 sent-for old new l d Nothing read sent was made is = sym is
 sent-for old new l d (Acknowledge number syndrome) read sent was made is = sym is
 sent-for old new l d (ReadBytes spot first count) read sent was made is =
     let due : DueRead = record { spot = spot; first = first; msn = was.msn } in
-    let both : Some (responses old.pool (regions_of old.pool old.held) l due (pieces spot.length l.terms.mtu)) ≡ Some sent = sym (made due was.due) ∙ is in
-    let same : responses old.pool (regions_of old.pool old.held) l due (pieces spot.length l.terms.mtu) ≡ sent = cc in
-    was.sent ∙ (ap (λ n. responses old.pool (regions_of old.pool old.held) l due n) was.all ∙ same)
+    was.sent ∙ (ap (λ n. responses old.pool (regions_of old.pool old.held) l due n) was.all ∙ (sym (made due was.due) ∙ is))
 sent-for old new l d (Old number value) read sent was made is = sym is
 sent-for old new l d (ResumeAck count address) read sent was made is = sym is
-
-one-sent : (new : EndWithMemory) (r : EndReply) (o : Option EndLink) → new.end.link ≡ o → ((l : EndLink) → length (sent_by (regions_of new.pool new.held) (link_in new.pool l) r) ≤ 1) → length (sent_of new r) ≤ 1
-one-sent new r None e h = subst (λ o. length (option_map_or (λ l. sent_by (regions_of new.pool new.held) (link_in new.pool l) r) o []) ≤ 1) (sym e) (omega arith)
-one-sent new r (Some l) e h = subst (λ o. length (option_map_or (λ l. sent_by (regions_of new.pool new.held) (link_in new.pool l) r) o []) ≤ 1) (sym e) (h l)
-
-pub few-sent : (new : EndWithMemory) (r : EndReply) (read : Option (List Sent)) (sent : List Sent) → IfSome read (λ list. length list ≤ 2 ^ 32) → IsSentFor r read (sent_of new r) sent → length sent ≤ 2 ^ 32
-few-sent new Nothing read sent few is = let n = ap length is in let one = one-sent new Nothing new.end.link refl (λ l. omega arith) in omega (arith, n, one)
-few-sent new (Acknowledge number syndrome) read sent few is = let n = ap length is in let one = one-sent new (Acknowledge number syndrome) new.end.link refl (λ l. omega arith) in omega (arith, n, one)
-few-sent new (ReadBytes spot first count) read sent few is = subst (λ o. IfSome o (λ list. length list ≤ 2 ^ 32)) is few
-few-sent new (Old number value) read sent few is = let n = ap length is in let one = one-sent new (Old number value) new.end.link refl (λ l. omega arith) in omega (arith, n, one)
-few-sent new (ResumeAck count address) read sent few is = let n = ap length is in let one = one-sent new (ResumeAck count address) new.end.link refl (λ l. omega arith) in omega (arith, n, one)
 
 -- ---- memory for a reply
 

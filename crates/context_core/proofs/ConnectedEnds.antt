@@ -1,26 +1,26 @@
 -- A connected end at a place.
-use Rattle.std.proofs.Common.{◌≡◌, ℕ, false, zero, suc, ◌<◌, List, [], ◌∷◌, length, refl, ap, sym, ◌∙◌, subst, arith}
-use Rattle.std.specs.Prelude.{Option, Some, None, IfNone, IfOk, IfSome, IsSome, Result, bytes_eq, is_none, not, option_map, position, slice_get, Ok, Err}
+use Rattle.std.proofs.Common.{◌≡◌, ℕ, Bool, true, false, zero, suc, ◌<◌, List, [], ◌∷◌, length, refl, ap, sym, ◌∙◌, subst, arith}
+use Rattle.std.specs.Prelude.{Option, Some, None, IfNone, IfOk, IfSome, IsSome, Result, bytes_eq, if◌then◌else◌, is_none, is_some, not, option_map, position, slice_get, Ok, Err}
 use Rattle.std.specs.List.{IsDistinct}
-use Rattle.std.specs.Map.{keys_of}
+use Rattle.std.specs.Map.{keys_of, lookup}
 use Rattle.std.specs.Result.{result_err, result_ok}
 use Rattle.std.proofs.lemmas.Option.{slice_get-map, slice_get_within}
 use Rattle.rdma_types.specs.declared.answers.Refusal.{Refusal}
 use Rattle.rdma_types.specs.declared.answers.Refusal.TheVariants.{NoSuch, BadState}
 use Rattle.rdma_types.specs.declared.names.Name.{Name}
-use Rattle.rdma_types.specs.Causes.{first_cause}
+use Rattle.rdma_types.specs.Causes.{cause, first_cause}
 use Rattle.page_pool.specs.Pool.{Pool}
 use Rattle.protocol.specs.Refusals.{connected_causes, has_end, is_init}
 use Rattle.protocol.specs.State.{End, end_at}
 use Rattle.endpoint_core.specs.declared.end.EndLink.{EndLink}
 use Rattle.endpoint_core.specs.Ends.{link_in}
 use Rattle.context_core.specs.declared.state.EndSlot.{EndSlot}
-use Rattle.context_core.specs.Context.{Holding, IsContext, context_in, end_of}
+use Rattle.context_core.specs.Context.{Holding, context_in, end_of}
 use Rattle.context_core.specs.Links.{IsConnectedAt}
 use Rattle.context_core.proofs.EndReaders.{end-shown}
 use Rattle.context_core.proofs.EndsByName.{end-found, init-is, some-shown}
 use Rattle.context_core.proofs.FirstCause.{first-passed, none-holds}
-use Rattle.context_core.proofs.NamedLookups.{name-found}
+use Rattle.context_core.proofs.NamedLookups.{has-lookup, name-found}
 use Rattle.context_core.proofs.SplitEntries.{position-here}
 
 -- the end of a name that a context holds at a place is connected
@@ -107,3 +107,15 @@ not-refused pool n h name i apart is =
     some : (o : Option EndLink) → IsSome o → is_none o ≡ false
     some None s = absurd (cc)
     some (Some l) s = refl
+
+-- why its transmission is refused, where it is
+pub refused-as : (pool : Pool) (n : Name) (h : Holding) (name : Name) (there : Bool) → there ≡ is_some (lookup (bytes_eq name) h.ends) → IsSome (first_cause (connected_causes (context_in pool n h) name)) → first_cause (connected_causes (context_in pool n h) name) ≡ Some (if there then BadState else NoSuch)
+unfolding context_in first_cause
+refused-as pool n h name there is some =
+    let named : there ≡ has_end (context_in pool n h) name = is ∙ has-lookup (λ x. x.name) (end_of pool h.queues) (λ e. refl) name h.ends in
+    subst (λ a. first_cause (connected_causes (context_in pool n h) name) ≡ Some (if a then BadState else NoSuch)) (sym named) (two (has_end (context_in pool n h) name) (is_init (end_at (context_in pool n h) name).link) some)
+  where
+    two : (a b : Bool) → IsSome (first_cause (cause NoSuch (not a) ∷ cause BadState b ∷ [])) → first_cause (cause NoSuch (not a) ∷ cause BadState b ∷ []) ≡ Some (if a then BadState else NoSuch)
+    two true true s = refl
+    two true false s = absurd (cc)
+    two false b s = refl

@@ -37,6 +37,7 @@ pub mod ReleasedPayloads
 pub mod ReleasedContext
 pub mod PacketSizes
 pub mod TransmittedPackets
+pub mod DraftParts
 pub mod ReadResponses
 pub mod ReplyPackets
 pub mod ConnectedEnds

@@ -1,7 +1,7 @@
 -- READ responses.
-use Rattle.std.proofs.Common.{◌≡◌, ℕ, zero, suc, ◌+◌, ◌-◌, ◌*◌, ◌<◌, ◌≤◌, ◌^◌, Bool, true, false, List, [], ◌∷◌, ◌++◌, length, drop, refl, ap, sym, ◌∙◌, arith, append_assoc}
-use Rattle.std.proofs.lemmas.List.{length-take}
-use Rattle.std.specs.Prelude.{min, ◌%◌, ◌==◌, Option, Some, None, IsSomeAnd, if◌then◌else◌}
+use Rattle.std.proofs.Common.{◌≡◌, ℕ, zero, suc, ◌+◌, ◌-◌, ◌*◌, ◌<◌, ◌≤◌, ◌^◌, Bool, true, false, List, [], ◌∷◌, length, drop, refl, ap, sym, ◌∙◌, arith}
+use Rattle.std.proofs.lemmas.List.{length-reverse, length-take}
+use Rattle.std.specs.Prelude.{min, ◌%◌, ◌==◌, Option, Some, None, IsSomeAnd, reverse, if◌then◌else◌}
 use Rattle.rdma_types.specs.declared.answers.Sent.{Sent}
 use Rattle.rdma_types.specs.Lists.{at}
 use Rattle.rdma_types.specs.Memory.{cut}
@@ -117,21 +117,21 @@ next-response pool regions l due count k all inside =
     ap (λ left. responses pool regions l due left) more
     ∙ ap (λ i. read_piece (telling (link_in pool l) due.msn) (at (λ r. r.keys.local) no_region due.spot.region regions) due.spot.off due.spot.length due.first i ∷ responses pool regions l due (count - (k + 1))) here
 
-pub grown : (sent new : List Sent) (x y : Sent) (rest all whole : List Sent) → new ≡ sent ++ x ∷ [] → x ≡ y → all ≡ y ∷ rest → sent ++ all ≡ whole → new ++ rest ≡ whole
-grown sent new x y rest all whole one same two done =
-    ap (λ l. l ++ rest) (one ∙ ap (λ z. sent ++ z ∷ []) same) ∙ (append_assoc sent (y ∷ []) rest ∙ (ap (λ l. sent ++ l) (sym two) ∙ done))
-
-pub none-after : (pool : Pool) (regions : List Region) (l : EndLink) (due : DueRead) (sent whole : List Sent) (count : ℕ) → sent ++ responses pool regions l due (count - count) ≡ whole → sent ≡ whole
+-- none are there before the last one
+pub none-yet : (pool : Pool) (regions : List Region) (l : EndLink) (due : DueRead) (list : List Sent) (count : ℕ) → list ≡ [] → reverse list ≡ responses pool regions l due (count - count)
 unfolding read_pieces
-none-after pool regions l due sent whole count e =
+none-yet pool regions l due list count e =
     let zero' : count - count ≡ 0 = omega arith in
-    sym (ap (λ n. sent ++ responses pool regions l due n) zero' ∙ nil sent) ∙ e
-  where
-    nil : (xs : List Sent) → xs ++ [] ≡ xs
-    nil [] = refl
-    nil (x ∷ xs) = ap (λ l. x ∷ l) (nil xs)
+    ap reverse e ∙ ap (responses pool regions l due) (sym zero')
 
 pub responses-count : (pool : Pool) (regions : List Region) (l : EndLink) (due : DueRead) (n : ℕ) → length (responses pool regions l due n) ≡ n
 unfolding read_pieces
 responses-count pool regions l due zero = refl
 responses-count pool regions l due (suc n) = ap suc (responses-count pool regions l due n)
+
+-- no more than there are pieces, whichever are there
+pub few-responses : (pool : Pool) (regions : List Region) (l : EndLink) (due : DueRead) (list : List Sent) (count k : ℕ) → reverse list ≡ responses pool regions l due (count - k) → count ≤ 2 ^ 32 → length list ≤ 2 ^ 32
+few-responses pool regions l due list count k e few =
+    let many = ap length e in
+    let all = responses-count pool regions l due (count - k) in
+    omega (arith, many, all, length-reverse list, few)

@@ -1,6 +1,6 @@
 -- Memory for one datagram.
-use Rattle.std.proofs.Common.{ℕ, ◌<◌, ◌≤◌, arith}
-use Rattle.std.specs.Prelude.{Option, Some, None, vec_capacity}
+use Rattle.std.proofs.Common.{ℕ, ◌≤◌, arith}
+use Rattle.std.specs.Prelude.{Option, Some, None}
 use Rattle.std.specs.declared.vec.Vec.{Vec}
 use Rattle.context_core.specs.declared.rooms.DatagramRoom.{DatagramRoom}
 use Rattle.context_core.specs.Rooms.{HasRoomFor, HoldsBytes}

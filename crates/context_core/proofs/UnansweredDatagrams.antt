@@ -1,9 +1,7 @@
 -- A datagram that is neither a request nor a RESUME is not answered.
-use Rattle.std.proofs.Common.{◌≡◌, ◌++◌, ◌∷◌, Bool, List, [], false, true, refl, sym, ◌∙◌, ℕ}
-use Rattle.std.specs.Prelude.{Option, Some, None, is_some, ◌==◌, ◌||◌}
-use Rattle.std.specs.Option.{option_to_list}
+use Rattle.std.proofs.Common.{◌≡◌, Bool, List, [], false, true, refl, length, ap, arith}
+use Rattle.std.specs.Prelude.{Option, Some, None, ◌==◌, ◌||◌}
 use Rattle.rdma_types.specs.declared.answers.Sent.{Sent}
-use Rattle.context_core.specs.Arriving.{may_answer}
 use Rattle.protocol.specs.State.{Link, End, Context}
 use Rattle.protocol.specs.Wire.{Packet, is_request}
 use Rattle.law_devices.proofs.Silent.{reply_silent}
@@ -19,13 +17,7 @@ pub neither : (a b : Bool) → (a || b) ≡ false → (a ≡ false) × (b ≡ fa
 neither true b h = absurd (cc)
 neither false b h = (refl, h)
 
--- nothing is sent, so nothing is in the draft
-pub none-first : (draft : Option Sent) (more : List Sent) → option_to_list draft ++ more ≡ [] → draft ≡ None
-none-first None more h = refl
-none-first (Some x) more h = absurd (cc)
-
--- memory that is there for each answer is there for the one in the draft
-pub for-answer : {P : Type 0} (answers : Bool) (draft : Option Sent) → (answers ≡ true → P) → (answers ≡ false → draft ≡ None) → is_some draft ≡ true → P
+-- memory that is there for each answer is there for one datagram
+pub for-answer : {P : Type 0} (answers : Bool) (draft : List Sent) → (answers ≡ true → P) → (answers ≡ false → draft ≡ []) → length draft ≡ 1 → P
 for-answer true draft made none there = made refl
-for-answer false None made none there = absurd (cc)
-for-answer false (Some x) made none there = let odd = none refl in absurd (cc)
+for-answer false draft made none there = absurd (omega (arith, ap length (none refl), there))

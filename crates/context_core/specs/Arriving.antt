@@ -1,5 +1,5 @@
 -- What a datagram may be answered with, as it is taken before.
-use Rattle.std.specs.Prelude.{ℕ, ◌≡◌, ◌+◌, ◌==◌, ◌||◌, Bool, List, Option, Some, None, IsSome, ⊤, if◌then◌else◌}
+use Rattle.std.specs.Prelude.{ℕ, ◌≡◌, ◌+◌, ◌==◌, ◌||◌, Bool, List, Option, Some, None, ⊤, if◌then◌else◌}
 use Rattle.std.specs.Bool.{OnTrue}
 use Rattle.rdma_types.specs.declared.answers.Sent.{Sent}
 use Rattle.protocol.specs.declared.wire.Aeth.{Aeth}
@@ -10,17 +10,9 @@ use Rattle.context_core.specs.Rooms.{HasRoomFor}
 use Rattle.endpoint_core.specs.declared.answers.EndReply.{EndReply}
 use Rattle.endpoint_core.specs.declared.answers.EndReply.TheVariants.{Nothing, Acknowledge, ReadBytes, Old, ResumeAck}
 
--- the READ responses are there, where the reply has bytes
-abbrev pub AreReady : EndReply → Option (List Sent) → Type 0
-AreReady (ReadBytes spot first count) read = IsSome read
-AreReady Nothing read = ⊤
-AreReady (Acknowledge number syndrome) read = ⊤
-AreReady (Old number value) read = ⊤
-AreReady (ResumeAck count address) read = ⊤
-
 -- what is sent for a reply: the READ responses that were there, or else these
-abbrev pub IsSentFor : EndReply → Option (List Sent) → List Sent → List Sent → Type 0
-IsSentFor (ReadBytes spot first count) read other sent = read ≡ Some sent
+abbrev pub IsSentFor : EndReply → List Sent → List Sent → List Sent → Type 0
+IsSentFor (ReadBytes spot first count) read other sent = read ≡ sent
 IsSentFor Nothing read other sent = sent ≡ other
 IsSentFor (Acknowledge number syndrome) read other sent = sent ≡ other
 IsSentFor (Old number value) read other sent = sent ≡ other

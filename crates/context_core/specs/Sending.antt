@@ -1,5 +1,5 @@
 -- What is sent for an end, and the memory that it takes.
-use Rattle.std.specs.Prelude.{◌≡◌, ◌<◌, ◌^◌, ◌%◌, List, [], ◌∷◌, Some, None, IfSome}
+use Rattle.std.specs.Prelude.{◌<◌, ◌^◌, ◌%◌, List, [], ◌∷◌, Some, None, IfSome}
 use Rattle.rdma_types.specs.declared.answers.Answer.{Answer}
 use Rattle.rdma_types.specs.declared.answers.Answer.TheVariants as answer
 use Rattle.rdma_types.specs.declared.answers.Sent.{Sent}
@@ -13,6 +13,8 @@ use Rattle.protocol.specs.Requester.{Transmission, Sends, SendsResume, IsIdle, W
 use Rattle.protocol.specs.Segments.{packet_of_piece}
 use Rattle.protocol.specs.State.{Link}
 use Rattle.protocol.specs.Wire.{Packet}
+use Rattle.context_core.specs.declared.sending.SendRow.{SendRow}
+use Rattle.context_core.specs.declared.sending.SendRow.TheVariants as send
 
 -- the packet under a destination of 24 bits, as it is written
 abbrev pub addressed : Packet → Packet
@@ -36,6 +38,15 @@ row_answer WindowIsFull = answer.WindowFull
 row_answer ReadsAreFull = answer.ReadsFull
 row_answer IsFenced = answer.Fenced
 row_answer (Sends x) = answer.Sent 0
+
+-- what a transmission is answered, by what the code tells of it
+abbrev pub send_answer : SendRow → Answer
+send_answer send.Sent = answer.Sent 0
+send_answer send.Idle = answer.Idle
+send_answer send.WindowFull = answer.WindowFull
+send_answer send.ReadsFull = answer.ReadsFull
+send_answer send.Fenced = answer.Fenced
+send_answer send.Waiting = answer.Waiting
 
 -- .. and what is sent
 abbrev pub row_sent : Link → Address → Transmission → List Sent

@@ -1,6 +1,6 @@
 //! Datagrams taken.
 
-ghost use Rattle.std.specs.Prelude.{ℕ, ◌≡◌, ◌+◌, ◌*◌, ◌<◌, ◌≤◌, ◌^◌, ◌++◌, ◌⊎◌, List, [], length, None, Some, IfNone, IfOk, IfSome, IsOk, OnErr, OnOk, false, true, is_none, is_some, map, slice_get, vec_capacity};
+ghost use Rattle.std.specs.Prelude.{ℕ, ◌≡◌, ◌+◌, ◌*◌, ◌<◌, ◌≤◌, ◌^◌, ◌++◌, ◌⊎◌, List, [], length, None, Some, IfNone, IfOk, IfSome, IsOk, OnErr, OnOk, false, true, is_none, is_some, map, reverse, slice_get, vec_capacity};
 ghost use Rattle.std.specs.Option.{option_map_or, option_to_list};
 ghost use Rattle.rdma_types.specs.Limits.{AreTerms};
 ghost use Rattle.rdma_types.specs.Lists.{at};
@@ -20,7 +20,7 @@ ghost use Rattle.endpoint_core.specs.declared.answers.DueRead.{DueRead};
 ghost use Rattle.endpoint_core.specs.Answers.{IsReply, sent_by};
 ghost use Rattle.endpoint_core.specs.Due.{due_in, responses, telling};
 ghost use Rattle.endpoint_core.specs.Ends.{link_in};
-ghost use Rattle.context_core.specs.Arriving.{AreReady, HasNoBytes, HasRoom, IsRoomFor, IsSentFor, aeth_at, may_answer, opcode_at};
+ghost use Rattle.context_core.specs.Arriving.{HasNoBytes, HasRoom, IsRoomFor, IsSentFor, aeth_at, may_answer, opcode_at};
 ghost use Rattle.context_core.specs.Context.{IsContext, Moves, context_in};
 ghost use Rattle.context_core.specs.Links.{link_at};
 ghost use Rattle.context_core.specs.Rooms.{HasRoomFor};
@@ -28,7 +28,7 @@ ghost use Rattle.context_core.specs.Sending.{addressed};
 
 use crate::datagrams::{answer, moving, written};
 use crate::rooms::DatagramRoom;
-use crate::sending::{MOST_HEADERS, joined};
+use crate::sending::MOST_HEADERS;
 use crate::{Buffers, ContextState, Draft};
 use endpoint_core::{DueRead, EndLink, EndMemory, EndReply, Endpoint};
 use memory_keys::{RegionRange, Regions};
@@ -48,13 +48,6 @@ use transport::segmenter::{piece_at, pieces_of};
 pub struct ArrivalOutcome {
     pub took: ArrivalEffect,
     pub sent: Items<Sent>,
-}
-
-/// What a datagram did, and the READ responses that are sent for it. A reply without bytes is in a draft.
-#[derive(Drop)]
-pub struct TakenDatagram {
-    pub took: ArrivalEffect,
-    pub more: Items<Sent>,
 }
 
 /// The opcode of READ response `k` of so many, which is a First, Middle, Last or Only.
@@ -202,36 +195,38 @@ fn piece_sent(
     response(link, due, k, count, payload, memory)
 }
 
-/// The READ responses that are due.
+/// The READ responses that are due, the last one first, in this list.
 fn responses(
     alloc: Global,
     buffers: &mut Buffers,
+    list: &mut Vec<Sent>,
     pool: &PagePool,
     regions: &Regions,
     link: &EndLink,
     due: &DueRead,
-) -> Result<Items<Sent>, AllocError>
+) -> Result<(), AllocError>
+    requires empty { list.old.items ≡ [] }
     requires held { AreHeld pool.now regions.now }
     requires terms { AreTerms link.now.terms }
     requires spot { IsSpot regions.now due.now.spot }
     requires number { due.now.first < 2 ^ 62 }
     requires msn { due.now.msn < 2 ^ 24 }
-    ensures all { IfOk result (λ list. list ≡ responses pool.now
+    ensures all { OnOk result (reverse list.new.items ≡ responses pool.now
         (regions_of pool.now regions.now) link.now due.now
         (pieces due.now.spot.length link.now.terms.mtu)) }
-    ensures bounded { IfOk result (λ list. length list ≤ 2 ^ 32) }
+    ensures bounded { length list.new.items ≤ 2 ^ 32 }
 {
     let (spot, mtu) = (due.spot, link.terms.mtu);
     let count = count_of(spot.length, mtu);
-    let mut sent = Items::new(buffers.take_list(alloc, count as usize)?);
-    for k in 0..count {
+    list.try_reserve(count as usize)?;
+    for k in (0..count).rev() {
         let (_, length) = piece_at(spot.length, k, mtu);
         let memory = buffers.take(alloc, length as usize + MOST_HEADERS)?;
         let page = &mut buffers.payload[..];
         let response = piece_sent(pool, regions, link, due, k, count, page, memory);
-        sent.push(response)?;
+        list.push(response)?;
     }
-    Ok(sent)
+    Ok(())
 }
 
 /// Prepares the memory for a reply to a datagram of that opcode, where it may have one.
@@ -245,32 +240,33 @@ fn prepare_for(alloc: Global, buffers: &mut Buffers, opcode: u8) -> Result<(), A
     Ok(())
 }
 
-/// The READ responses that are due for a datagram, if any, and memory for each other reply, which is kept in the buffers. A
-/// response has no reply, and no memory is taken for it.
+/// The READ responses that are due for a datagram, if any, the last one first, and memory for each other reply, which is
+/// kept in the buffers. A response has no reply, and no memory is taken for it.
+#[inline(always)]
 fn replies_for(
     alloc: Global,
     buffers: &mut Buffers,
+    read: &mut Vec<Sent>,
     pool: &PagePool,
     regions: &Regions,
     domain: Name,
     link: &EndLink,
     d: &Datagram<'_>,
-) -> Result<Option<Items<Sent>>, AllocError>
+) -> Result<(), AllocError>
+    requires empty { read.old.items ≡ [] }
     requires held { AreHeld pool.now regions.now }
     requires terms { AreTerms link.now.terms }
     requires fits { Fits (packet d.now) }
     ensures room { OnOk result (IsRoomFor d.now.opcode buffers.new.room) }
     ensures unanswered { may_answer d.now.opcode ≡ false → IsOk result }
-    ensures bounded { IfOk result (λ r. IfSome r (λ list. length list ≤ 2 ^ 32)) }
+    ensures bounded { length read.new.items ≤ 2 ^ 32 }
     ensures read { (due : DueRead) → due_in link.now (regions_of pool.now regions.now) domain (packet d.now) ≡ Some due
-        → IfOk result (λ r. r ≡ Some (responses pool.now (regions_of pool.now regions.now) link.now due (pieces due.spot.length link.now.terms.mtu))) }
+        → OnOk result (reverse read.new.items ≡ responses pool.now (regions_of pool.now regions.now) link.now due (pieces due.spot.length link.now.terms.mtu)) }
 {
-    let read = match link.due(regions, domain, d) {
-        Some(due) => Some(responses(alloc, buffers, pool, regions, link, &due)?),
-        None => None,
-    };
-    prepare_for(alloc, buffers, d.opcode)?;
-    Ok(read)
+    if let Some(due) = link.due(regions, domain, d) {
+        responses(alloc, buffers, read, pool, regions, link, &due)?;
+    }
+    prepare_for(alloc, buffers, d.opcode)
 }
 
 /// A datagram without a payload, in this memory. It takes no other.
@@ -326,33 +322,34 @@ fn put_reply(room: &mut DatagramRoom, sent: &mut Option<Sent>, link: &EndLink, r
     }
 }
 
-/// What is sent for a reply of an end: the READ responses that are there, or a reply without bytes, in this memory. It
-/// takes no other.
+/// What is sent for a reply of an end: the READ responses that are there, which go where the reply is none, or a reply
+/// without bytes, in this memory. It takes no other.
 #[inline(always)]
 fn put_answer(
-    alloc: Global,
     room: &mut DatagramRoom,
     sent: &mut Option<Sent>,
-    read: Option<Items<Sent>>,
+    read: &mut Vec<Sent>,
     endpoint: &Endpoint,
     reply: EndReply,
-) -> Items<Sent>
+)
     requires room { IfSome endpoint.now.link (λ _. HasRoom reply room.old) }
-    requires ready { AreReady reply read }
     requires reply { (held : List RegisteredRegion)
         × IfSome endpoint.now.link (λ l. IsReply held l reply) }
     requires none { sent.old ≡ None }
     ensures all { (pool : Pool) (regions : List Region)
-        → IsSentFor reply read (option_map_or (λ l. sent_by regions (link_in pool l) reply) endpoint.now.link []) (option_to_list sent.new ++ result) }
-    ensures alone { (sent.new ≡ None) ⊎ (result ≡ []) }
+        → IsSentFor reply (reverse read.old.items) (option_map_or (λ l. sent_by regions (link_in pool l) reply) endpoint.now.link []) (option_to_list sent.new ++ reverse read.new.items) }
+    ensures alone { (sent.new ≡ None) ⊎ (read.new.items ≡ []) }
+    ensures few { length read.new.items ≤ length read.old.items }
 {
     if let EndReply::ReadBytes { .. } = reply {
-        return read.unwrap();
+        return;
+    }
+    if read.len() > 0 {
+        read.clear();
     }
     if let Some(link) = &endpoint.link {
         put_reply(room, sent, link, reply);
     }
-    Items::new(Vec::new(alloc))
 }
 
 /// An empty list with room for a datagram, where one of that opcode may be answered. Else it has none, and no memory is
@@ -369,10 +366,10 @@ fn list_for(alloc: Global, draft: &mut Draft, opcode: u8) -> Result<Vec<Sent>, A
 }
 
 impl ContextState {
-    /// Takes a datagram at the connected end of that place. A reply without bytes is in the draft then, and what was there
-    /// before is gone. `None` comes exactly where no connected end stands there, and nothing has changed then, and no
-    /// memory is taken. None is taken for a datagram that is neither a request nor a RESUME. Errors: `AllocError` when out
-    /// of memory; nothing has changed. The draft holds nothing in both cases.
+    /// Takes a datagram at the connected end of that place. What answers it is in the draft then, and what was there before
+    /// is gone. `None` comes exactly where no connected end stands there, and nothing has changed then, and no memory is
+    /// taken. None is taken for a datagram that is neither a request nor a RESUME. Errors: `AllocError` when out of memory;
+    /// nothing has changed. What the draft holds is then not told.
     pub fn take_into(
         &mut self,
         alloc: Global,
@@ -380,19 +377,17 @@ impl ContextState {
         pool: &mut PagePool,
         place: usize,
         d: &Datagram<'_>,
-    ) -> Result<Option<TakenDatagram>, AllocError>
+    ) -> Result<Option<ArrivalEffect>, AllocError>
         requires is { IsContext pool.old self.old }
         requires fits { Fits (packet d.now) }
         ensures none { (n : Name) → IfOk result (λ r. is_none r
             ≡ is_none (link_at (context_in pool.old n self.old) place)) }
         ensures took { (n : Name) (e : End) (l : Link) → slice_get (context_in pool.old n self.old).ends place ≡ Some e → e.link ≡ Some l
-            → IfOk result (λ r. IfSome r (λ t. takes (context_in pool.old n self.old) e l (packet d.now) ≡ record { context = context_in pool.new n self.new; took = t.took; sent = option_to_list draft.new ++ t.more })) }
+            → IfOk result (λ r. IfSome r (λ took. takes (context_in pool.old n self.old) e l (packet d.now) ≡ record { context = context_in pool.new n self.new; took = took; sent = draft.new })) }
         ensures nothing { IfOk result (λ r. IfNone r (self.new ≡ self.old)) }
         ensures nothing_pool { IfOk result (λ r. IfNone r (pool.new ≡ pool.old)) }
-        ensures nothing_draft { IfOk result (λ r. IfNone r (draft.new ≡ None)) }
-        ensures bounded { IfOk result (λ r. IfSome r (λ t. length (option_to_list draft.new ++ t.more)
-            ≤ 2 ^ 32)) }
-        ensures alone { IfOk result (λ r. IfSome r (λ t. (draft.new ≡ None) ⊎ (t.more ≡ []))) }
+        ensures nothing_draft { IfOk result (λ r. IfNone r (draft.new ≡ [])) }
+        ensures bounded { length draft.new ≤ 2 ^ 32 }
         ensures is { IsContext pool.new self.new }
         ensures moves { Moves pool.old pool.new self.old self.new }
         ensures numbers { (n : Name) → map (λ e. e.number) (context_in pool.new n self.new).ends
@@ -400,12 +395,11 @@ impl ContextState {
         ensures never_out_of_memory { (n : Name)
             → link_at (context_in pool.old n self.old) place ≡ None → IsOk result }
         ensures unanswered { may_answer d.now.opcode ≡ false → IsOk result }
-        ensures unanswered_draft { may_answer d.now.opcode ≡ false → draft.new ≡ None }
+        ensures unanswered_draft { may_answer d.now.opcode ≡ false → draft.new ≡ [] }
         ensures err { OnErr result (self.new ≡ self.old) }
         ensures err_pool { OnErr result (pool.new ≡ pool.old) }
-        ensures err_draft { OnErr result (draft.new ≡ None) }
     {
-        draft.sent = None;
+        draft.clear();
         let Some((_, slot)) = self.ends.get_index(place) else {
             return Ok(None);
         };
@@ -413,8 +407,8 @@ impl ContextState {
             return Ok(None);
         };
         let domain = slot.endpoint.domain;
-        let buffers = &mut draft.buffers;
-        let read = replies_for(alloc, buffers, pool, &self.regions, domain, link, d)?;
+        let (buffers, read) = (&mut draft.buffers, &mut draft.responses);
+        replies_for(alloc, buffers, read, pool, &self.regions, domain, link, d)?;
         let slot = self.ends.get_index_mut(place).unwrap();
         let memory = EndMemory {
             pool,
@@ -424,10 +418,14 @@ impl ContextState {
             recv: slot.recv,
         };
         let done = slot.endpoint.take(memory, d);
-        let (room, sent) = (&mut buffers.room, &mut draft.sent);
-        let more = put_answer(alloc, room, sent, read, &slot.endpoint, done.reply);
-        let took = done.took;
-        Ok(Some(TakenDatagram { took, more }))
+        put_answer(
+            &mut buffers.room,
+            &mut draft.sent,
+            read,
+            &slot.endpoint,
+            done.reply,
+        );
+        Ok(Some(done.took))
     }
 
     /// Whether a connected end stands at a place.
@@ -472,11 +470,10 @@ impl ContextState {
             return Ok(None);
         }
         let list = list_for(alloc, draft, d.opcode)?;
-        let Some(taken) = self.take_into(alloc, draft, pool, place, d)? else {
+        let Some(took) = self.take_into(alloc, draft, pool, place, d)? else {
             return Ok(None);
         };
-        let TakenDatagram { took, more } = taken;
-        let sent = joined(draft, list, more);
+        let sent = draft.take_all(list);
         Ok(Some(ArrivalOutcome { took, sent }))
     }
 }

@@ -41,7 +41,7 @@ mod sending;
 mod state;
 mod timers;
 
-pub use arriving::{ArrivalOutcome, TakenDatagram};
+pub use arriving::ArrivalOutcome;
 pub use buffers::Buffers;
 pub use draft::Draft;
 pub use laws::a_context_looks_at_its_own_lists;
@@ -50,7 +50,7 @@ pub use making::NewEnd;
 use memory_keys::MemFault;
 use rdma_types::Refusal;
 pub use regions::NewRegion;
-pub use sending::Answered;
+pub use sending::{Answered, SendRow};
 pub use state::{ContextState, EndSlot};
 use std::alloc::AllocError;
 use thiserror::Error;

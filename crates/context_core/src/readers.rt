@@ -1,6 +1,6 @@
 //! Readers, which take no memory.
 
-ghost use Rattle.std.specs.Prelude.{◌≡◌, IfNone, IfSome, IsSome, bytes_eq, length, position, slice_get};
+ghost use Rattle.std.specs.Prelude.{◌≡◌, Some, IfNone, IfSome, IsSome, bytes_eq, length, position, slice_get};
 ghost use Rattle.std.specs.Option.{option_map};
 ghost use Rattle.rdma_types.specs.Causes.{first_cause};
 ghost use Rattle.rdma_types.specs.declared.names.Name.{Name};
@@ -10,7 +10,7 @@ ghost use Rattle.context_core.specs.Context.{context_in};
 ghost use Rattle.context_core.specs.Links.{IsConnectedAt};
 
 use crate::{ContextState, ends};
-use rdma_types::{Keys, Name};
+use rdma_types::{Keys, Name, Refusal};
 
 impl ContextState {
     /// How many queue pairs there are.
@@ -35,6 +35,18 @@ impl ContextState {
             → IfNone result (IsSome (first_cause (connected_causes (context_in pool n self.now) name))) }
     {
         ends::connected(&self.ends, name).ok()
+    }
+
+    /// Why the transmission of a queue pair is refused, where it is: there is none of the name, or it is in Init.
+    pub fn transmit_refusal(&self, name: Name) -> Refusal
+        ensures { (pool : Pool) (n : Name) → IsSome (first_cause (connected_causes (context_in pool n self.now) name))
+            → first_cause (connected_causes (context_in pool n self.now) name) ≡ Some result }
+    {
+        if self.ends.contains_key(&name) {
+            Refusal::BadState
+        } else {
+            Refusal::NoSuch
+        }
     }
 
     /// The keys of the region at a place; None where there are fewer.

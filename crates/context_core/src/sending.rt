@@ -21,7 +21,7 @@ ghost use Rattle.context_core.specs.Context.{IsContext, context_in, lists_of};
 ghost use Rattle.context_core.specs.Faults.{refusal_of};
 ghost use Rattle.context_core.specs.Links.{IsConnectedAt};
 ghost use Rattle.context_core.specs.Rooms.{HasRoomFor};
-ghost use Rattle.context_core.specs.Sending.{IsInRange, row_answer, row_sent};
+ghost use Rattle.context_core.specs.Sending.{IsInRange, row_answer, row_sent, send_answer};
 ghost use Rattle.context_core.specs.Transmitting.{IsSending, IsRoute};
 
 use crate::datagrams::{moving, request};
@@ -47,6 +47,39 @@ pub const MOST_HEADERS: usize = 92;
 pub struct Answered {
     pub answer: Answer,
     pub sent: Items<Sent>,
+}
+
+/// What a transmission did: a datagram was sent, or why none was.
+#[derive(Clone, Copy, Debug, PartialEq, Eq)]
+pub enum SendRow {
+    Sent,
+    /// Every posted packet is sent.
+    Idle,
+    /// Too many request packets are unacknowledged.
+    WindowFull,
+    /// Too many Reads and atomics are unacknowledged.
+    ReadsFull,
+    /// The next request waits for earlier Reads and atomics.
+    Fenced,
+    /// The end is Paused, in Error, or waits for the RNR timer.
+    Waiting,
+}
+
+impl SendRow {
+    /// The answer that tells it. The number of the datagram is 0, as from a device.
+    #[inline(always)]
+    pub fn answer(self) -> Answer
+        ensures { result ≡ send_answer self }
+    {
+        match self {
+            SendRow::Sent => Answer::Sent { first: 0 },
+            SendRow::Idle => Answer::Idle,
+            SendRow::WindowFull => Answer::WindowFull,
+            SendRow::ReadsFull => Answer::ReadsFull,
+            SendRow::Fenced => Answer::Fenced,
+            SendRow::Waiting => Answer::Waiting,
+        }
+    }
 }
 
 /// Where the requests of a connected end go.
@@ -83,19 +116,20 @@ fn are_in_range(_shape: Shape)
     ensures { IsInRange _shape }
 {}
 
-/// What a transmission is answered.
-fn answer_of(send: EndSend) -> Answer
-    ensures { (pool : Pool) (l : EndLink) → result ≡ row_answer (row_in pool (Some l) send) }
+/// What a transmission did.
+fn row_of(send: &EndSend) -> SendRow
+    ensures { (pool : Pool) (l : EndLink)
+        → send_answer result ≡ row_answer (row_in pool (Some l) send.now) }
 {
     match send {
-        EndSend::Resume { .. } => Answer::Sent { first: 0 },
+        EndSend::Resume { .. } => SendRow::Sent,
         EndSend::Transmit(transmit) => match transmit {
-            Transmit::Sent { .. } => Answer::Sent { first: 0 },
-            Transmit::Idle => Answer::Idle,
-            Transmit::WindowFull => Answer::WindowFull,
-            Transmit::ReadsFull => Answer::ReadsFull,
-            Transmit::Fenced => Answer::Fenced,
-            Transmit::Waiting => Answer::Waiting,
+            Transmit::Sent { .. } => SendRow::Sent,
+            Transmit::Idle => SendRow::Idle,
+            Transmit::WindowFull => SendRow::WindowFull,
+            Transmit::ReadsFull => SendRow::ReadsFull,
+            Transmit::Fenced => SendRow::Fenced,
+            Transmit::Waiting => SendRow::Waiting,
         },
     }
 }
@@ -268,31 +302,6 @@ fn put_sent(
     }
 }
 
-/// The datagram of a step in this list, which is kept where there is none. It takes no memory.
-fn listed(draft: &mut Draft, mut list: Vec<Sent>) -> Items<Sent>
-    requires empty { list.items ≡ [] }
-    requires room { 0 < vec_capacity list }
-    ensures { result ≡ option_to_list draft.old }
-{
-    if let Some(sent) = draft.take() {
-        list.push(sent).unwrap();
-    }
-    Items::new(list)
-}
-
-/// The datagram of a step in this list, or those that there are besides. It takes no memory.
-pub fn joined(draft: &mut Draft, list: Vec<Sent>, more: Items<Sent>) -> Items<Sent>
-    requires empty { list.items ≡ [] }
-    requires room { is_some draft.old ≡ true → 0 < vec_capacity list }
-    requires alone { (draft.old ≡ None) ⊎ (more ≡ []) }
-    ensures { result ≡ option_to_list draft.old ++ more }
-{
-    if draft.is_filled() {
-        return listed(draft, list);
-    }
-    more
-}
-
 impl ContextState {
     /// Sends the next packet of the connected end at a place, where one may be sent. It is in the draft then, and what
     /// was there before is gone. A RESUME tells the address of the device, `own`. Errors: `AllocError` when out of memory;
@@ -304,13 +313,14 @@ impl ContextState {
         pool: &PagePool,
         place: usize,
         own: Address,
-    ) -> Result<Answer, AllocError>
+    ) -> Result<SendRow, AllocError>
         requires is { IsContext pool.now self.old }
         requires at { (n : Name) × (name : Name)
             × IsConnectedAt (context_in pool.now n self.old) name place }
         ensures sent { (n name : Name) (d : Device) → IsConnectedAt (context_in pool.now n self.old) name place → d.address ≡ own → with_context d (context_in pool.now n self.old) ≡ d
-            → IfOk result (λ a. transmits d (context_in pool.now n self.old) (end_at (context_in pool.now n self.old) name)
-            ≡ gives (with_context d (context_in pool.now n self.new)) a (option_to_list draft.new)) }
+            → IfOk result (λ row. transmits d (context_in pool.now n self.old) (end_at (context_in pool.now n self.old) name)
+            ≡ gives (with_context d (context_in pool.now n self.new)) (send_answer row) draft.new) }
+        ensures bounded { length draft.new ≤ 1 }
         ensures is { IsContext pool.now self.new }
         ensures lists { lists_of self.new ≡ lists_of self.old }
         ensures pages { (n : Name) → pages_of_context (context_in pool.now n self.new)
@@ -318,20 +328,20 @@ impl ContextState {
         ensures numbers { (n : Name) → map (λ e. e.number) (context_in pool.now n self.new).ends
             ≡ map (λ e. e.number) (context_in pool.now n self.old).ends }
         ensures err { OnErr result (self.new ≡ self.old) }
-        ensures err_draft { OnErr result (draft.new ≡ None) }
+        ensures err_draft { OnErr result (draft.new ≡ []) }
     {
-        draft.sent = None;
+        draft.clear();
         let way = way_at(&self.ends, place);
         let buffers = &mut draft.buffers;
         buffers.make_room(alloc, way.mtu as usize + MOST_HEADERS)?;
         let slot = self.ends.get_index_mut(place).unwrap();
         let send = slot.endpoint.transmit();
-        let answer = answer_of(send);
+        let row = row_of(&send);
         let page = &mut buffers.payload[..];
         let room = &mut buffers.room;
         let sent = &mut draft.sent;
         put_sent(pool, &slot.endpoint, &way, own, page, room, sent, send);
-        Ok(answer)
+        Ok(row)
     }
 
     /// Sends the next packet of an end, where one may be sent. A RESUME tells the address of the device, `own`. Errors:
@@ -361,8 +371,9 @@ impl ContextState {
     {
         let place = ends::connected(&self.ends, name)?;
         let list = draft.buffers.take_list(alloc, 1)?;
-        let answer = self.transmit_at(alloc, draft, pool, place, own)?;
-        let sent = listed(draft, list);
+        let row = self.transmit_at(alloc, draft, pool, place, own)?;
+        let sent = draft.take_all(list);
+        let answer = row.answer();
         Ok(Answered { answer, sent })
     }
 }

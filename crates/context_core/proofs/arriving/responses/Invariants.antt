@@ -1,8 +1,8 @@
-use Rattle.std.proofs.Common.{◌≡◌, ◌-◌, ◌++◌}
+use Rattle.std.proofs.Common.{◌≡◌, ◌-◌}
+use Rattle.std.specs.Prelude.{reverse}
 use Rattle.memory_keys.specs.Regions.{regions_of}
 use Rattle.endpoint_core.specs.Due.{responses}
 use Rattle.context_core.proofs.arriving.responses.Given as goal
 
 abbrev pub invariant-loop-k : goal.invariant-loop-k
-invariant-loop-k l =
-    l.sent ++ responses l.pool (regions_of l.pool l.regions) l.link l.due (l.count - l.k) ≡ responses l.pool (regions_of l.pool l.regions) l.link l.due l.count
+invariant-loop-k l = reverse l.list.items ≡ responses l.pool (regions_of l.pool l.regions) l.link l.due (l.count - l.k)

@@ -1,6 +1,5 @@
 use Rattle.std.proofs.Common.{◌≡◌, ap, sym, subst, ◌∙◌}
 use Rattle.std.specs.Prelude.{Some}
-use Rattle.std.specs.Option.{option_to_list}
 use Rattle.requester.specs.declared.answers.Transmit.TheVariants.{Sent as IsSent}
 use Rattle.endpoint_core.specs.declared.answers.EndSend.TheVariants as send
 use Rattle.endpoint_core.specs.Answers.{row_in}

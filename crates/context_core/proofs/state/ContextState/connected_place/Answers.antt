@@ -1,4 +1,4 @@
-use Rattle.std.proofs.Common.{ap, sym, subst, ◌∙◌}
+use Rattle.std.proofs.Common.{ap, sym, subst}
 use Rattle.std.specs.Prelude.{IfSome, map}
 use Rattle.std.specs.Result.{result_ok}
 use Rattle.context_core.specs.Context.{Holding, context_in, end_of}

@@ -20,10 +20,10 @@ returns-in_err-list-clause-refused c = λ n.
     let p = err_from_is_err_and c.from_residual-in_err-list.result c.from_residual-in_err-list.ensures.1 in
     rw (p.1, p.2) (ap result_err (sym c.in_ok-place.was) ∙ c.connected.ensures.refused c.args.pool.now c.self.inside.queues.entries (context_in c.args.pool.now n c.args.self.now) (ap {A = Holding} (λ h. map (end_of c.args.pool.now h.queues) h.ends) (sym c.self.view_is)))
 
-pub returns-in_err-answer-clause-refused : goal.returns-in_err-answer-clause-refused
+pub returns-in_err-row-clause-refused : goal.returns-in_err-row-clause-refused
 unfolding context_in
-returns-in_err-answer-clause-refused c = λ n.
-    let p = err_from_is_err_and c.from_residual-in_err-answer.result c.from_residual-in_err-answer.ensures.1 in
+returns-in_err-row-clause-refused c = λ n.
+    let p = err_from_is_err_and c.from_residual-in_err-row.result c.from_residual-in_err-row.ensures.1 in
     rw (p.1, p.2) (ap result_err (sym c.in_ok-place.was) ∙ c.connected.ensures.refused c.args.pool.now c.self.inside.queues.entries (context_in c.args.pool.now n c.args.self.now) (ap {A = Holding} (λ h. map (end_of c.args.pool.now h.queues) h.ends) (sym c.self.view_is)))
 
 pub returns-clause-refused : goal.returns-clause-refused
@@ -43,4 +43,6 @@ returns-clause-sent c = λ n d at same.
     let place = c.in_ok-place.place in
     let here = c.in_ok-place.ensures in
     let there = subst (λ (h : Holding). IsConnectedAt (context_in c.args.pool.now n h) name place) c.self.view_is (connected-at c.args.pool.now n _ name place here.place here.there here.linked) in
-    c.in_ok-answer.ensures.sent n name d there at same ∙ ap (gives (with_context d (context_in c.args.pool.now n c.transmit_at.new.self)) c.in_ok-answer.answer) (sym c.listed-sent.ensures)
+    let new = with_context d (context_in c.args.pool.now n c.transmit_at.new.self) in
+    c.in_ok-row.ensures.sent n name d there at same
+    ∙ (ap (λ a. gives new a c.transmit_at.new.draft) (sym c.answer-answer.ensures) ∙ ap (gives new c.answer-answer.result) (sym c.take_all-sent.ensures.taken))

@@ -7,8 +7,9 @@ use Rattle.endpoint_core.specs.Ends.{link_in}
 use Rattle.endpoint_core.specs.Queues.{nothing}
 use Rattle.context_core.specs.Context.{Holding, IsContext, context_in}
 use Rattle.context_core.specs.Links.{IsConnectedAt}
-use Rattle.context_core.specs.Sending.{row_sent}
+use Rattle.context_core.specs.Sending.{row_sent, send_answer}
 use Rattle.context_core.proofs.ConnectedEnds.{IsHeldAt, held-at, held-linked, held-position, held-within}
+use Rattle.context_core.proofs.DraftParts.{no-parts, one-part}
 use Rattle.context_core.proofs.EndSteps.{after}
 use Rattle.context_core.proofs.EndStepCalls.{end-sound, entry, entry-there, is-linked, lists-still, numbers-still, pages-still, still}
 use Rattle.context_core.proofs.Transmissions.{sending-is, sends-is, some-of, way-small, way-there}
@@ -80,5 +81,5 @@ returns-clause-sent c =
     rw (← c.self.view_is) (λ n name d there at same.
     let named = held-at c.args.pool.now n _ name c.args.place there in
     sends-is c.args.pool.now (record { domains = c.self.inside.domains.keys; regions = c.self.inside.regions; queues = c.self.inside.queues.entries; ends = c.self.inside.ends.entries }) c.args.place c.unwrap-slot.result.now c.transmit-send.new.self c.transmit-send.result l.0 is value l.1 n d name c.args.own at same (held-position _ name c.args.place is.is.end_names named) st c.transmit-send.ensures.row c.transmit-send.ensures.step
-    ∙ (ap (λ a. gives (with_context d (context_in c.args.pool.now n (after (record { domains = c.self.inside.domains.keys; regions = c.self.inside.regions; queues = c.self.inside.queues.entries; ends = c.self.inside.ends.entries }) c.args.place (entry c.self.inside.ends.entries c.args.place c.unwrap-slot.result.now) c.self.inside.regions c.self.inside.queues.entries c.transmit-send.new.self))) a (row_sent (link_in c.args.pool.now l.0) c.args.own (row_in c.args.pool.now (Some l.0) c.transmit-send.result))) (sym (c.answer_of-answer.ensures c.args.pool.now l.0))
-    ∙ ap (λ list. gives (with_context d (context_in c.args.pool.now n (after (record { domains = c.self.inside.domains.keys; regions = c.self.inside.regions; queues = c.self.inside.queues.entries; ends = c.self.inside.ends.entries }) c.args.place (entry c.self.inside.ends.entries c.args.place c.unwrap-slot.result.now) c.self.inside.regions c.self.inside.queues.entries c.transmit-send.new.self))) c.answer_of-answer.result list) (sym (c.put_sent.ensures l.0 sending))))
+    ∙ (ap (λ a. gives (with_context d (context_in c.args.pool.now n (after (record { domains = c.self.inside.domains.keys; regions = c.self.inside.regions; queues = c.self.inside.queues.entries; ends = c.self.inside.ends.entries }) c.args.place (entry c.self.inside.ends.entries c.args.place c.unwrap-slot.result.now) c.self.inside.regions c.self.inside.queues.entries c.transmit-send.new.self))) a (row_sent (link_in c.args.pool.now l.0) c.args.own (row_in c.args.pool.now (Some l.0) c.transmit-send.result))) (sym (c.row_of-row.ensures c.args.pool.now l.0))
+    ∙ ap (λ list. gives (with_context d (context_in c.args.pool.now n (after (record { domains = c.self.inside.domains.keys; regions = c.self.inside.regions; queues = c.self.inside.queues.entries; ends = c.self.inside.ends.entries }) c.args.place (entry c.self.inside.ends.entries c.args.place c.unwrap-slot.result.now) c.self.inside.regions c.self.inside.queues.entries c.transmit-send.new.self))) (send_answer c.row_of-row.result) list) (sym (c.put_sent.ensures l.0 sending) ∙ sym (one-part c.put_sent.new.sent _ (no-parts c.draft.inside.sent c.draft.inside.responses.items (c.draft.view_is ∙ c.clear.ensures)).1))))
