@@ -1,12 +1,12 @@
 -- A datagram reaches a connected end.
-use Rattle.std.proofs.Common.{arith, ◌≡◌, ◌∙◌, ◌++◌, ℕ, List, [], ◌∷◌, map, true, false, refl, sym, ap, subst, inl, inr, ◌≢◌}
+use Rattle.std.proofs.Common.{arith, ◌≡◌, ◌∙◌, ℕ, List, [], ◌∷◌, map, true, false, refl, sym, ap, subst, inl, inr, ◌≢◌}
 use Rattle.std.proofs.lemmas.Bool.{true≢false}
 use Rattle.std.specs.Prelude.{AllPairs, ◌⊎◌, bytes_eq, Option, Some, None, is_none, slice_get, Result, Ok, Err, OnErr, IfOk, IfSome, IfNone}
 use Rattle.std.specs.declared.alloc.AllocError.{AllocError}
 use Rattle.std.specs.Map.{lookup, set_value}
-use Rattle.std.specs.Option.{option_to_list}
 use Rattle.std.proofs.lemmas.Map.Steps.{set_value_same}
 use Rattle.rdma_types.specs.Causes.{first_cause}
+use Rattle.rdma_types.specs.declared.answers.ArrivalEffect.{ArrivalEffect}
 use Rattle.rdma_types.specs.declared.answers.DropReason.TheVariants as why
 use Rattle.rdma_types.specs.declared.answers.Sent.{Sent}
 use Rattle.rdma_types.specs.declared.names.Name.{Name}
@@ -19,12 +19,11 @@ use Rattle.protocol.specs.Refusals.{causes_of, has_context, has_husk}
 use Rattle.protocol.specs.State.{Context, Device, End, HuskEntry as Entry, Link, context_at}
 use Rattle.protocol.specs.Wire.{Packet, is_control, packet_of}
 use Rattle.context_core.specs.declared.arriving.ArrivalOutcome.{ArrivalOutcome}
-use Rattle.context_core.specs.declared.arriving.TakenDatagram.{TakenDatagram}
 use Rattle.context_core.specs.Context.{Holding, context_in}
 use Rattle.context_core.specs.Links.{link_at, link_by}
 use Rattle.device_core.specs.declared.husks.HuskEntry.{HuskEntry}
 use Rattle.device_core.specs.declared.index.EndLocation.{EndLocation}
-use Rattle.device_core.specs.Done.{IsDone, silent, taken_with, taking, told_arrival, told_memory, told_taken}
+use Rattle.device_core.specs.Done.{IsDone, silent, taking, told_arrival, told_memory, told_taken}
 use Rattle.device_core.specs.Held.{IsHeld}
 use Rattle.device_core.specs.Index.{IsEndAt, IsEntryAt, IsIndex, husk_at}
 use Rattle.device_core.specs.Parts.{device_of}
@@ -33,6 +32,12 @@ use Rattle.device_core.proofs.FoundEnds.{found-live, found-none, left-none, left
 use Rattle.device_core.proofs.Helds.{context-is, view-is}
 use Rattle.device_core.specs.Acting.{Turn}
 use Rattle.device_core.proofs.Stepping.{Stepped, kept}
+
+-- what a datagram did, with the answer that is in a draft
+abbrev pub taken_with : List Sent → Result (Option ArrivalEffect) AllocError → Result (Option ArrivalOutcome) AllocError
+taken_with draft (Ok None) = Ok None
+taken_with draft (Ok (Some t)) = Ok (Some (record { took = t; sent = draft }))
+taken_with draft (Err e) = Err e
 
 -- what bytes do is what their packet does
 pub arrives-packet : (d : Device) (from : Address) (bytes : List ℕ) (p : Packet) → packet_of bytes ≡ Some p → (x : Step) → at_found d from p (found_in p.dest d.contexts) ≡ x → device_step d (event.Arrive from bytes) ≡ x
@@ -155,12 +160,12 @@ module _ (id : ℕ) (address : Address) (qp key : ℕ) (pool : Pool) (es : List 
   arrived told r tells none took nothing nothing_pool err err_pool =
       kept id address qp key pool es husks index held n s found pool' s' turn es' set qp key (omega arith) (event.Arrive from bytes) (told_memory (told_arrival told)) (taken-step told r tells none took nothing nothing_pool err err_pool)
 
-  -- .. where its reply is in a draft
-  pub arrived-into : (told : Result ArrivalOutcome AllocError) (draft : Option Sent) (r : Result (Option TakenDatagram) AllocError) → told ≡ told_taken (taken_with draft r)
+  -- .. where its answer is in a draft
+  pub arrived-into : (draft : List Sent) (r : Result (Option ArrivalEffect) AllocError)
       → IfOk r (λ o. is_none o ≡ is_none (link_at (context_in pool n s) place))
-      → ((e : End) (l : Link) → slice_get (context_in pool n s).ends place ≡ Some e → e.link ≡ Some l → IfOk r (λ o. IfSome o (λ t. takes (context_in pool n s) e l p ≡ record { context = context_in pool' n s'; took = t.took; sent = option_to_list draft ++ t.more })))
+      → ((e : End) (l : Link) → slice_get (context_in pool n s).ends place ≡ Some e → e.link ≡ Some l → IfOk r (λ o. IfSome o (λ took. takes (context_in pool n s) e l p ≡ record { context = context_in pool' n s'; took = took; sent = draft })))
       → IfOk r (λ o. IfNone o (s' ≡ s)) → IfOk r (λ o. IfNone o (pool' ≡ pool)) → OnErr r (s' ≡ s) → OnErr r (pool' ≡ pool)
-      → Stepped (device_of id address qp key pool es husks) (event.Arrive from bytes) pool' es' index (device_of id address qp key pool' es' husks) (told_memory (told_arrival told))
-  arrived-into told draft (Ok None) tells none took nothing nothing_pool err err_pool = arrived told (Ok None) tells none (λ e l at some. tt) nothing nothing_pool err err_pool
-  arrived-into told draft (Ok (Some t)) tells none took nothing nothing_pool err err_pool = arrived told (Ok (Some (record { took = t.took; sent = option_to_list draft ++ t.more }))) tells none took nothing nothing_pool err err_pool
-  arrived-into told draft (Err e) tells none took nothing nothing_pool err err_pool = arrived told (Err e) tells none (λ k l at some. tt) nothing nothing_pool err err_pool
+      → Stepped (device_of id address qp key pool es husks) (event.Arrive from bytes) pool' es' index (device_of id address qp key pool' es' husks) (told_memory (told_arrival (told_taken (taken_with draft r))))
+  arrived-into draft (Ok None) none took nothing nothing_pool err err_pool = arrived _ (Ok None) refl none (λ e l at some. tt) nothing nothing_pool err err_pool
+  arrived-into draft (Ok (Some t)) none took nothing nothing_pool err err_pool = arrived _ (Ok (Some (record { took = t; sent = draft }))) refl none took nothing nothing_pool err err_pool
+  arrived-into draft (Err e) none took nothing nothing_pool err err_pool = arrived _ (Err e) refl none (λ k l at some. tt) nothing nothing_pool err err_pool

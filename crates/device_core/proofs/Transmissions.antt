@@ -3,8 +3,8 @@ use Rattle.std.proofs.Common.{arith, ◌≡◌, ◌∙◌, ℕ, List, Bool, true
 use Rattle.std.specs.Prelude.{bytes_eq, IsSome, Option, Some, None, Result, Ok, Err, OnErr, IfOk}
 use Rattle.std.specs.declared.alloc.AllocError.{AllocError}
 use Rattle.std.specs.Map.{lookup, set_value}
-use Rattle.rdma_types.specs.Causes.{first_cause}
-use Rattle.rdma_types.specs.declared.answers.Answer.{Answer}
+use Rattle.rdma_types.specs.Causes.{Cause, first_cause}
+use Rattle.rdma_types.specs.declared.answers.Refusal.{Refusal}
 use Rattle.rdma_types.specs.declared.answers.Sent.{Sent}
 use Rattle.rdma_types.specs.declared.names.Name.{Name}
 use Rattle.rdma_types.specs.declared.names.ObjName.{ObjName}
@@ -14,13 +14,15 @@ use Rattle.protocol.specs.declared.events.Event.TheVariants as event
 use Rattle.protocol.specs.DeviceStep.{device_step, gives, transmits, with_context}
 use Rattle.protocol.specs.Refusals as rule
 use Rattle.protocol.specs.Refusals.{connected_causes, has_context, has_husk, within}
-use Rattle.protocol.specs.State.{Device, context_at, end_at}
+use Rattle.protocol.specs.State.{Context, Device, context_at, end_at}
 use Rattle.context_core.specs.Context.{Holding, IsContext, context_in}
 use Rattle.context_core.specs.Faults.{refusal_of}
 use Rattle.context_core.specs.Links.{IsConnectedAt}
 use Rattle.context_core.specs.declared.ContextFault.{ContextFault}
 use Rattle.context_core.specs.declared.ContextFault.TheVariants.{OutOfMemory}
 use Rattle.context_core.specs.declared.sending.Answered.{Answered}
+use Rattle.context_core.specs.declared.sending.SendRow.{SendRow}
+use Rattle.context_core.specs.Sending.{send_answer}
 use Rattle.device_core.specs.declared.husks.HuskEntry.{HuskEntry}
 use Rattle.device_core.specs.declared.index.EndLocation.{EndLocation}
 use Rattle.device_core.specs.Acting.{Turn}
@@ -48,16 +50,16 @@ transmitted id address qp key pool es husks index held o s found s' turn es' set
 
 -- ---- by the place of an end
 
--- an answer and what was sent, of a call that is not refused
-abbrev pub answered_as : List Sent → Result Answer AllocError → Result Answered ContextFault
-answered_as sent (Ok a) = Ok (record { answer = a; sent = sent })
+-- the answer and what was sent, of a call that is not refused
+abbrev pub answered_as : List Sent → Result SendRow AllocError → Result Answered ContextFault
+answered_as sent (Ok row) = Ok (record { answer = send_answer row; sent = sent })
 answered_as sent (Err e) = Err OutOfMemory
 
 pub transmitted-at : (id : ℕ) (address : Address) (qp key : ℕ) (pool : Pool) (es : List (Name × Holding)) (husks : List (Name × List HuskEntry)) (index : ℕ → Option EndLocation) (held : IsHeld pool es index (device_of id address qp key pool es husks))
     → (o : ObjName) (place : ℕ) (s : Holding) (found : lookup (bytes_eq o.context) es ≡ Some s) → IsConnectedAt (context_in pool o.context s) o.name place
     → (s' : Holding) (turn : Turn pool pool o.context s s') (es' : List (Name × Holding)) (set : es' ≡ set_value (bytes_eq o.context) es s')
-    → (r : Result Answer AllocError) (sent : List Sent)
-    → ((d : Device) → d.address ≡ address → with_context d (context_in pool o.context s) ≡ d → IfOk r (λ a. transmits d (context_in pool o.context s) (end_at (context_in pool o.context s) o.name) ≡ gives (with_context d (context_in pool o.context s')) a sent))
+    → (r : Result SendRow AllocError) (sent : List Sent)
+    → ((d : Device) → d.address ≡ address → with_context d (context_in pool o.context s) ≡ d → IfOk r (λ a. transmits d (context_in pool o.context s) (end_at (context_in pool o.context s) o.name) ≡ gives (with_context d (context_in pool o.context s')) (send_answer a) sent))
     → OnErr r (s' ≡ s)
     → Stepped (device_of id address qp key pool es husks) (event.Transmit o) pool es' index (device_of id address qp key pool es' husks) (told_by sending (answered_as sent r))
 transmitted-at id address qp key pool es husks index held o place s found there s' turn es' set r sent sends err =
@@ -69,30 +71,30 @@ transmitted-at id address qp key pool es husks index held o place s found there 
     free : None ≡ first_cause (connected_causes (context_in pool o.context s) o.name)
     free = sym (not-refused pool o.context s o.name place is.is.end_names (held-at pool o.context s o.name place there))
 
-    refused : (x : Result Answer AllocError) → refusal_of (answered_as sent x) ≡ first_cause (connected_causes (context_in pool o.context s) o.name)
+    refused : (x : Result SendRow AllocError) → refusal_of (answered_as sent x) ≡ first_cause (connected_causes (context_in pool o.context s) o.name)
     refused (Ok a) = free
     refused (Err e) = free
 
-    by_ok : (d : Device) (x : Result Answer AllocError) → IfOk x (λ a. transmits d (context_in pool o.context s) (end_at (context_in pool o.context s) o.name) ≡ gives (with_context d (context_in pool o.context s')) a sent)
+    by_ok : (d : Device) (x : Result SendRow AllocError) → IfOk x (λ a. transmits d (context_in pool o.context s) (end_at (context_in pool o.context s) o.name) ≡ gives (with_context d (context_in pool o.context s')) (send_answer a) sent)
         → IfOk (answered_as sent x) (λ a. transmits d (context_in pool o.context s) (end_at (context_in pool o.context s) o.name) ≡ gives (with_context d (context_in pool o.context s')) a.answer a.sent)
     by_ok d (Ok a) h = h
     by_ok d (Err e) h = tt
 
-    by_err : (x : Result Answer AllocError) → OnErr x (s' ≡ s) → OnErr (answered_as sent x) (s' ≡ s)
+    by_err : (x : Result SendRow AllocError) → OnErr x (s' ≡ s) → OnErr (answered_as sent x) (s' ≡ s)
     by_err (Ok a) h = tt
     by_err (Err e) h = h
 
 -- what is told of it
-pub record ToldAt (d new : Device) (o : ObjName) (sent : List Sent) (r : Result Answer AllocError) : Type 0 where
-  pub ok : IfOk r (λ a. device_step d (event.Transmit o) ≡ record { device = new; outcome = giving a sent })
+pub record ToldAt (d new : Device) (o : ObjName) (sent : List Sent) (r : Result SendRow AllocError) : Type 0 where
+  pub ok : IfOk r (λ a. device_step d (event.Transmit o) ≡ record { device = new; outcome = giving (send_answer a) sent })
   pub id : new.id ≡ d.id
   pub address : new.address ≡ d.address
   pub err : OnErr r (new ≡ d)
 
-pub told-at : {d d' new : Device} {pool : Pool} {es : List (Name × Holding)} {index : ℕ → Option EndLocation} {o : ObjName} {sent : List Sent} {r : Result Answer AllocError} → d ≡ d' → Stepped d (event.Transmit o) pool es index new (told_by sending (answered_as sent r)) → ToldAt d' new o sent r
+pub told-at : {d d' new : Device} {pool : Pool} {es : List (Name × Holding)} {index : ℕ → Option EndLocation} {o : ObjName} {sent : List Sent} {r : Result SendRow AllocError} → d ≡ d' → Stepped d (event.Transmit o) pool es index new (told_by sending (answered_as sent r)) → ToldAt d' new o sent r
 told-at {d} {d'} {new} {pool} {es} {index} {o} {sent} {r} same step = by r (told-transmitted d' new o (answered_as sent r) (told_transmission (answered_as sent r)) refl (done-at same step))
   where
-    by : (x : Result Answer AllocError) → ToldAnswered d' new (event.Transmit o) (told_transmission (answered_as sent x)) → ToldAt d' new o sent x
+    by : (x : Result SendRow AllocError) → ToldAnswered d' new (event.Transmit o) (told_transmission (answered_as sent x)) → ToldAt d' new o sent x
     by (Ok a) t = record { ok = t.ok; id = t.id; address = t.address; err = tt }
     by (Err e) t = record { ok = tt; id = t.id; address = t.address; err = t.err }
 
@@ -107,8 +109,29 @@ refused-gone d o gone = by (has_husk d o.context) refl
     by true h = subst IsSome (sym (within-husk d o.context (λ c. connected_causes c o.name) gone h)) refl
     by false h = subst IsSome (sym (within-nothing d o.context (λ c. connected_causes c o.name) gone h)) refl
 
+-- why, where its context does not live here
+pub refusal-gone : (d : Device) (o : ObjName) (r : Refusal) → ((causes : Context → List Cause) → first_cause (within d o.context causes) ≡ Some r) → rule.refusal_of d (event.Transmit o) ≡ Some r
+unfolding rule.refusal_of
+refusal-gone d o r missing = missing (λ c. connected_causes c o.name)
+
+-- .. and where it does
+pub refusal-here : (d : Device) (o : ObjName) (pool : Pool) (s : Holding) (r : Refusal) → has_context d o.context ≡ true → context_at d o.context ≡ context_in pool o.context s → IsSome (rule.refusal_of d (event.Transmit o))
+    → (IsSome (first_cause (connected_causes (context_in pool o.context s) o.name)) → first_cause (connected_causes (context_in pool o.context s) o.name) ≡ Some r) → rule.refusal_of d (event.Transmit o) ≡ Some r
+unfolding rule.refusal_of
+refusal-here d o pool s r lives at some told =
+    let same : first_cause (within d o.context (λ c. connected_causes c o.name)) ≡ first_cause (connected_causes (context_in pool o.context s) o.name) = within-there d o.context (λ c. connected_causes c o.name) lives ∙ ap (λ c. first_cause (connected_causes c o.name)) at in
+    same ∙ told (subst IsSome same some)
+
 -- .. since it is not there, or not connected
 pub refused-here : (d : Device) (o : ObjName) (pool : Pool) (s : Holding) → has_context d o.context ≡ true → context_at d o.context ≡ context_in pool o.context s → IsSome (first_cause (connected_causes (context_in pool o.context s) o.name)) → IsSome (rule.refusal_of d (event.Transmit o))
 unfolding rule.refusal_of
 refused-here d o pool s lives at refused =
     subst IsSome (sym (within-there d o.context (λ c. connected_causes c o.name) lives ∙ ap (λ c. first_cause (connected_causes c o.name)) at)) refused
+
+-- ---- an end that has a place
+
+-- is not refused
+pub free-here : (d : Device) (o : ObjName) (pool : Pool) (s : Holding) → has_context d o.context ≡ true → context_at d o.context ≡ context_in pool o.context s → first_cause (connected_causes (context_in pool o.context s) o.name) ≡ None → rule.refusal_of d (event.Transmit o) ≡ None
+unfolding rule.refusal_of
+free-here d o pool s lives at free =
+    within-there d o.context (λ c. connected_causes c o.name) lives ∙ (ap (λ c. first_cause (connected_causes c o.name)) at ∙ free)

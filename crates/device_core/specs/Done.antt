@@ -1,17 +1,15 @@
 -- What an event leaves: the next device with what is given, or the device as it was.
-use Rattle.std.specs.Prelude.{◌≡◌, ◌≤◌, ◌^◌, ◌++◌, ℕ, List, [], Option, None, Some, Result, Ok, Err, IfOk, IfSome, alloc_error, length}
+use Rattle.std.specs.Prelude.{◌≡◌, ◌≤◌, ◌^◌, ℕ, List, [], Option, None, Some, Result, Ok, Err, IfOk, IfSome, alloc_error, length}
 use Rattle.std.specs.declared.alloc.AllocError.{AllocError}
-use Rattle.std.specs.Option.{option_to_list}
 use Rattle.rdma_types.specs.declared.answers.Answer.{Answer}
 use Rattle.rdma_types.specs.declared.answers.Answer.TheVariants as answer
 use Rattle.rdma_types.specs.declared.answers.Refusal.{Refusal}
 use Rattle.rdma_types.specs.declared.answers.Sent.{Sent}
 use Rattle.rdma_types.specs.declared.answers.DropReason.{DropReason}
 use Rattle.rdma_types.specs.declared.answers.DropReason.TheVariants as why
+use Rattle.rdma_types.specs.declared.answers.ArrivalEffect.{ArrivalEffect}
 use Rattle.rdma_types.specs.declared.answers.ArrivalEffect.TheVariants as took
 use Rattle.context_core.specs.declared.arriving.ArrivalOutcome.{ArrivalOutcome}
-use Rattle.context_core.specs.declared.arriving.TakenDatagram.{TakenDatagram}
-use Rattle.device_core.specs.declared.arriving.Arrived.{Arrived}
 use Rattle.rdma_types.specs.declared.requests.Keys.{Keys}
 use Rattle.rdma_types.specs.declared.names.Name.{Name}
 use Rattle.rdma_types.specs.Causes.{first_cause}
@@ -79,30 +77,24 @@ told_taken (Ok None) = Ok (silent_arrival why.Unknown)
 told_taken (Ok (Some t)) = Ok t
 told_taken (Err e) = Err e
 
--- .. with the datagram that is in a draft
-abbrev pub taken_with : Option Sent → Result (Option TakenDatagram) AllocError → Result (Option ArrivalOutcome) AllocError
-taken_with draft (Ok None) = Ok None
-taken_with draft (Ok (Some t)) = Ok (Some (record { took = t.took; sent = option_to_list draft ++ t.more }))
-taken_with draft (Err e) = Err e
-
--- .. where something is told of each datagram
-abbrev pub arrival_with : Option Sent → Result TakenDatagram AllocError → Result ArrivalOutcome AllocError
-arrival_with draft (Ok t) = Ok (record { took = t.took; sent = option_to_list draft ++ t.more })
-arrival_with draft (Err e) = Err e
-
 -- .. as an outcome
 abbrev pub told_arrival : Result ArrivalOutcome AllocError → Result Outcome AllocError
 told_arrival (Ok t) = Ok (taking t)
 told_arrival (Err e) = Err e
 
+-- what a datagram did, and what answers it
+abbrev pub arrived : ArrivalEffect → List Sent → Outcome
+arrived took sent = giving (answer.Took took 0 (length sent)) sent
+
+-- .. what it did, where an end may have taken none
+abbrev pub told_effect : Result (Option ArrivalEffect) AllocError → Result ArrivalEffect AllocError
+told_effect (Ok None) = Ok (took.Silent why.Unknown)
+told_effect (Ok (Some t)) = Ok t
+told_effect (Err e) = Err e
+
 -- an answer and what is sent, as an outcome
 abbrev pub sending : Answered → Outcome
 sending a = giving a.answer a.sent
-
--- an answer, with the datagram that is in a draft
-abbrev pub answered_with : Option Sent → Result Arrived AllocError → Result Answered AllocError
-answered_with draft (Ok a) = Ok (record { answer = a.answer; sent = option_to_list draft ++ a.more })
-answered_with draft (Err e) = Err e
 
 -- what is told of a transmission: a refusal is an answer
 abbrev pub told_transmission : Result Answered ContextFault → Result Answered AllocError

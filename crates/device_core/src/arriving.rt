@@ -1,15 +1,13 @@
 //! What arriving bytes do.
 
-ghost use Rattle.std.specs.Prelude.{ℕ, ◌≡◌, ◌⊎◌, ◌<◌, ◌≤◌, ◌^◌, ◌++◌, ◌∷◌, [], true, Some, None, IfOk, IfSome, IfNone, IsOk, OnErr, Option, List, length, slice_get};
-ghost use Rattle.std.specs.Option.{option_to_list};
-ghost use Rattle.rdma_types.specs.declared.answers.Sent as answers;
+ghost use Rattle.std.specs.Prelude.{ℕ, ◌≡◌, ◌⊎◌, ◌<◌, ◌≤◌, ◌^◌, ◌∷◌, [], true, Some, None, IfOk, IfSome, IfNone, IsOk, OnErr, OnOk, List, length, slice_get};
 ghost use Rattle.protocol.specs.Bytes.{number_at};
-ghost use Rattle.protocol.specs.DeviceStep.{at_husk, found_in, husk_entries};
+ghost use Rattle.protocol.specs.DeviceStep.{at_husk, device_step, found_in, husk_entries};
 ghost use Rattle.protocol.specs.Moves.{nak_stopped};
 ghost use Rattle.protocol.specs.State.{HuskEntry as Entry};
 ghost use Rattle.protocol.specs.Wire.{Fits, is_control as is_control_packet, is_nak_stopped, packet_of, wire_of};
 ghost use Rattle.roce_headers.specs.Packets.{packet};
-ghost use Rattle.device_core.specs.Done.{IsDone, arrival_with, silent_arrival, taken_with, taking, told_arrival, told_memory, told_taken as taken_told};
+ghost use Rattle.device_core.specs.Done.{IsDone, arrived, silent_arrival, taking, told_arrival, told_effect as effect_told, told_memory, told_taken as taken_told};
 ghost use Rattle.device_core.specs.Finding.{IsFound};
 ghost use Rattle.device_core.specs.Index.{IsEndAt, IsEntryAt, husk_at};
 ghost use Rattle.device_core.specs.Parts.{entry_of};
@@ -19,22 +17,15 @@ use crate::Device;
 use crate::finding::FoundEnd;
 use crate::husks::HuskEntry;
 use crate::index::EndLocation;
-use context_core::{ArrivalOutcome, Draft, TakenDatagram};
+use context_core::{ArrivalOutcome, Draft};
 use protocol::{Aeth, Event, Syndrome};
-use rdma_types::{Address, Answer, ArrivalEffect, DropReason, Items, Sent};
+use rdma_types::{Address, ArrivalEffect, DropReason, Items, Sent};
 use roce_headers::opcodes::ACKNOWLEDGE;
 use roce_headers::{Datagram, decode, encode, encoded_len};
 use std::alloc::{AllocError, Global};
 
 /// The NAK code of NAK_STOPPED (this project's choice).
 const STOPPED: u8 = 5;
-
-/// An answer, and the datagrams that are sent besides the one in a draft.
-#[derive(Drop)]
-pub struct Arrived {
-    pub answer: Answer,
-    pub more: Items<Sent>,
-}
 
 /// A datagram without effect.
 fn silent(alloc: Global, why: DropReason) -> ArrivalOutcome
@@ -63,30 +54,16 @@ fn told_taken(
     }
 }
 
-/// What a datagram did, where what is sent is in no draft.
-fn told_apart(arrived: Result<ArrivalOutcome, AllocError>) -> Result<TakenDatagram, AllocError>
-    ensures told { (draft : Option answers.Sent) → draft ≡ None
-        → arrival_with draft result ≡ arrived }
-    ensures never_out_of_memory { IsOk arrived → IsOk result }
-{
-    match arrived {
-        Ok(ArrivalOutcome { took, sent }) => Ok(TakenDatagram { took, more: sent }),
-        Err(fault) => Err(fault),
-    }
-}
-
-/// What is told where an end may have taken a datagram, and its reply is in a draft.
-fn told_into(
-    alloc: Global,
-    taken: Result<Option<TakenDatagram>, AllocError>,
-) -> Result<TakenDatagram, AllocError>
-    ensures told { (draft : Option answers.Sent) → IfOk taken (λ r. IfNone r (draft ≡ None))
-        → arrival_with draft result ≡ taken_told (taken_with draft taken) }
-    ensures never_out_of_memory { IsOk taken → IsOk result }
+/// What a datagram did where an end may have taken it.
+#[inline(always)]
+fn told_effect(
+    taken: Result<Option<ArrivalEffect>, AllocError>,
+) -> Result<ArrivalEffect, AllocError>
+    ensures { result ≡ effect_told taken }
 {
     match taken {
-        Ok(Some(taken)) => Ok(taken),
-        Ok(None) => told_apart(Ok(silent(alloc, DropReason::Unknown))),
+        Ok(Some(took)) => Ok(took),
+        Ok(None) => Ok(ArrivalEffect::Silent(DropReason::Unknown)),
         Err(fault) => Err(fault),
     }
 }
@@ -266,7 +243,7 @@ impl Device {
         told_taken(alloc, taken)
     }
 
-    /// .. and what answers them goes into a draft, where it is one datagram of an end.
+    /// .. and what answers them is in the draft.
     #[inline(always)]
     pub(crate) fn take_bytes_into(
         &mut self,
@@ -275,23 +252,44 @@ impl Device {
         from: Address,
         bytes: &[u8],
         found: Option<FoundEnd>,
-    ) -> Result<TakenDatagram, AllocError>
+    ) -> Result<ArrivalEffect, AllocError>
         requires { IsFound self.old (number_at 5 3 bytes.now) found }
-        ensures done { IsDone self.old (Event.Arrive from bytes.now) self.new
-            (told_memory (told_arrival (arrival_with draft.new result))) }
-        ensures bounded { IfOk result (λ t. length (option_to_list draft.new ++ t.more) ≤ 2 ^ 32) }
+        ensures done { IfOk result (λ took. device_step self.old (Event.Arrive from bytes.now)
+            ≡ record { device = self.new; outcome = arrived took draft.new }) }
+        ensures bounded { OnOk result (length draft.new ≤ 2 ^ 32) }
         ensures never_out_of_memory { DoNothing self.old (packet_of bytes.now) → IsOk result }
-        ensures err_draft { OnErr result (draft.new ≡ None) }
+        ensures err { OnErr result (self.new ≡ self.old) }
     {
-        let _ = draft.take();
         let Ok(d) = decode(bytes) else {
-            return told_apart(Ok(silent(alloc, DropReason::Malformed)));
+            draft.clear();
+            return Ok(ArrivalEffect::Silent(DropReason::Malformed));
         };
         let Some(end) = found else {
-            return told_apart(self.answer_absent(alloc, from, &d));
+            return self.tell_absent(alloc, draft, from, &d);
         };
         let state = &mut self.contexts[end.context];
         let taken = state.take_into(alloc, draft, &mut self.pool, end.place, &d);
-        told_into(alloc, taken)
+        told_effect(taken)
+    }
+
+    /// The answer to a datagram whose number no connected queue pair has is in the draft.
+    fn tell_absent(
+        &self,
+        alloc: Global,
+        draft: &mut Draft,
+        from: Address,
+        d: &Datagram<'_>,
+    ) -> Result<ArrivalEffect, AllocError>
+        requires absent { found_in d.now.dest self.now.contexts ≡ [] }
+        requires psn { d.now.psn < 2 ^ 24 }
+        ensures done { (bytes : List ℕ) → packet_of bytes ≡ Some (packet d.now)
+            → IfOk result (λ took. device_step self.now (Event.Arrive from bytes)
+            ≡ record { device = self.now; outcome = arrived took draft.new }) }
+        ensures bounded { OnOk result (length draft.new ≤ 2 ^ 32) }
+        ensures never_out_of_memory { DoNothing self.now (Some (packet d.now)) → IsOk result }
+    {
+        let outcome = self.answer_absent(alloc, from, d)?;
+        draft.put_all(outcome.sent);
+        Ok(outcome.took)
     }
 }

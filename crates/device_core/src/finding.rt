@@ -1,13 +1,13 @@
 //! The connected queue pair that a datagram is for.
 
-ghost use Rattle.std.specs.Prelude.{◌≡◌, IfNone, IfSome, IsSome};
+ghost use Rattle.std.specs.Prelude.{◌≡◌, None, Some, IfNone, IfSome, IsSome};
 ghost use Rattle.protocol.specs.declared.events.Event.{Event};
 ghost use Rattle.protocol.specs.Bytes.{byte_at, number_at};
 ghost use Rattle.protocol.specs.Refusals.{refusal_of};
 ghost use Rattle.device_core.specs.Finding.{IsAt, IsFound};
 
 use crate::Device;
-use rdma_types::ObjName;
+use rdma_types::{ObjName, Refusal};
 
 /// A connected queue pair that was found by its number: where it is on its device, and what it keeps. It is there as long
 /// as the device does nothing.
@@ -62,10 +62,23 @@ impl Device {
             top,
         })
     }
-    /// Where the connected queue pair of a name is; None where a transmission is refused.
+
+    /// Why the transmission of an end is refused.
+    pub fn transmit_refusal(&self, end: &ObjName) -> Refusal
+        requires { IsSome (refusal_of self.now (Event.Transmit end.now)) }
+        ensures { refusal_of self.now (Event.Transmit end.now) ≡ Some result }
+    {
+        let Some(state) = self.contexts.get(&end.context) else {
+            return self.missing(end.context);
+        };
+        state.transmit_refusal(end.name)
+    }
+
+    /// Where the connected queue pair of a name is; None exactly where a transmission is refused.
     #[inline(always)]
     pub fn place_of(&self, end: &ObjName) -> Option<EndPlace>
         ensures there { IfSome result (λ at. IsAt self.now end.now at) }
+        ensures free { IfSome result (λ _. refusal_of self.now (Event.Transmit end.now) ≡ None) }
         ensures none { IfNone result (IsSome (refusal_of self.now (Event.Transmit end.now))) }
     {
         let (context, _, held) = self.contexts.get_full(&end.context)?;

@@ -20,8 +20,7 @@ mod readers;
 mod running;
 mod telling;
 
-pub use arriving::Arrived;
-pub use context_core::{Answered, Draft, LinkView, LiveEnd};
+pub use context_core::{Answered, Draft, LinkView, LiveEnd, SendRow};
 pub use device::Device;
 pub use finding::{EndPlace, FoundEnd, destination};
 pub use protocol::{ContextImage, Event, Outcome};

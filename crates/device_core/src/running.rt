@@ -1,7 +1,7 @@
 //! One step of a device.
 
-ghost use Rattle.std.specs.Prelude.{◌≡◌, ◌≤◌, ◌^◌, ◌++◌, length, IfOk, IfSome, IsOk, None, OnErr};
-ghost use Rattle.std.specs.Option.{option_to_list};
+ghost use Rattle.std.specs.Prelude.{◌≡◌, ◌≤◌, ◌^◌, [], length, IfOk, IfSome, IsOk, None, OnErr, OnOk};
+ghost use Rattle.context_core.specs.Sending.{send_answer};
 ghost use Rattle.rdma_types.specs.declared.names.ObjName as names;
 ghost use Rattle.protocol.specs.declared.events.Event.{Event};
 ghost use Rattle.protocol.specs.Bytes.{number_at};
@@ -12,21 +12,18 @@ ghost use Rattle.protocol.specs.Events.{IsLawfulEvent};
 ghost use Rattle.protocol.specs.Lawful.{IsLawful};
 ghost use Rattle.protocol.specs.Refusals.{refusal_of};
 ghost use Rattle.protocol.specs.Wire.{packet_of};
-ghost use Rattle.device_core.specs.Done.{AreFew, AreLawful, IsDone, IsNotOutOfMemory, told_step as step_told};
+ghost use Rattle.device_core.specs.Done.{AreFew, AreLawful, IsDone, IsNotOutOfMemory, arrived, giving, told_step as step_told};
 ghost use Rattle.device_core.specs.Finding.{IsAt, IsFound};
 ghost use Rattle.device_core.specs.Readings.{DoNothing, TakesNoMemoryAt};
 
 use crate::Device;
-use crate::arriving::Arrived;
 use crate::device::answered;
 use crate::finding::{EndPlace, FoundEnd, destination};
-use crate::telling::{
-    refused, told_arrival, told_memory, told_sent, told_taken_into, told_transmission,
-};
-use context_core::{Answered, ContextFault, Draft, NewEnd};
+use crate::telling::{refused, told_arrival, told_memory, told_sent, told_transmission};
+use context_core::{Answered, ContextFault, Draft, NewEnd, SendRow};
 use law_arrivals::turns_change_what_arrivals_may;
 use protocol::{ContextImage, Event, Outcome};
-use rdma_types::{Address, Answer, Items, ObjName, Sent};
+use rdma_types::{Address, Answer, ArrivalEffect, Items, ObjName, Sent};
 use std::alloc::{AllocError, Global};
 
 /// What is told of a step: a refusal is an answer.
@@ -205,9 +202,8 @@ impl Device {
         told_arrival(arrived)
     }
 
-    /// What `arrive_at` does, and what answers the bytes is in the draft: a reply without bytes. What was there before is
-    /// gone. READ responses and the answer of a husk are handed up in a list. Errors: `AllocError` when out of memory; the
-    /// device is then as before, and nothing is in the draft.
+    /// What `arrive_at` does, and what answers the bytes is in the draft; what was there before is gone. The answer is what
+    /// the bytes did. Errors: `AllocError` when out of memory; the device is then as before.
     #[inline(always)]
     pub fn arrive_into(
         &mut self,
@@ -216,25 +212,19 @@ impl Device {
         from: Address,
         bytes: &[u8],
         found: Option<FoundEnd>,
-    ) -> Result<Arrived, AllocError>
+    ) -> Result<ArrivalEffect, AllocError>
         requires { IsFound self.old (number_at 5 3 bytes.now) found }
-        ensures ok { IfOk result (λ a. device_step self.old (Event.Arrive from bytes.now)
-            ≡ record {
-              device = self.new;
-              outcome = record
-                  { answer = a.answer; sent = option_to_list draft.new ++ a.more; image = None };
-            }) }
-        ensures bounded { IfOk result (λ a. length (option_to_list draft.new ++ a.more) ≤ 2 ^ 32) }
+        ensures ok { IfOk result (λ took. device_step self.old (Event.Arrive from bytes.now)
+            ≡ record { device = self.new; outcome = arrived took draft.new }) }
+        ensures bounded { OnOk result (length draft.new ≤ 2 ^ 32) }
         ensures id { self.new.id ≡ self.old.id }
         ensures address { self.new.address ≡ self.old.address }
         ensures never_out_of_memory { DoNothing self.old (packet_of bytes.now) → IsOk result }
         ensures touched { ChangesOnly (is_touched self.old bytes.now) self.old self.new }
         ensures err { OnErr result (self.new ≡ self.old) }
-        ensures err_draft { OnErr result (draft.new ≡ None) }
     {
         self.bounds_turns();
-        let taken = self.take_bytes_into(alloc, draft, from, bytes, found);
-        told_taken_into(draft, taken)
+        self.take_bytes_into(alloc, draft, from, bytes, found)
     }
 
     /// The step on `Event::Transmit`: the next packet of an end, where it may send one. A refusal is an answer, and the
@@ -271,19 +261,16 @@ impl Device {
         alloc: Global,
         draft: &mut Draft,
         at: EndPlace,
-    ) -> Result<Answer, AllocError>
+    ) -> Result<SendRow, AllocError>
         requires { (o : names.ObjName) × IsAt self.old o at }
         ensures ok { (o : names.ObjName) → IsAt self.old o at
-            → IfOk result (λ a. device_step self.old (Event.Transmit o)
-            ≡ record {
-              device = self.new;
-              outcome = record
-                  { answer = a; sent = option_to_list draft.new; image = None };
-            }) }
+            → IfOk result (λ row. device_step self.old (Event.Transmit o)
+            ≡ record { device = self.new; outcome = giving (send_answer row) draft.new }) }
+        ensures bounded { length draft.new ≤ 1 }
         ensures id { self.new.id ≡ self.old.id }
         ensures address { self.new.address ≡ self.old.address }
         ensures err { OnErr result (self.new ≡ self.old) }
-        ensures err_draft { OnErr result (draft.new ≡ None) }
+        ensures err_draft { OnErr result (draft.new ≡ []) }
     {
         let own = self.address;
         let state = &mut self.contexts[at.context];

@@ -1,12 +1,10 @@
 //! What is told of a call of a context.
 
 ghost use Rattle.std.specs.Prelude.{◌≡◌, ◌+◌, ◌<◌, ◌≤◌, ◌^◌, ◌++◌, [], Some, None, IfOk, IsOk, is_ok, length, if◌then◌else◌};
-ghost use Rattle.std.specs.Option.{option_to_list};
-ghost use Rattle.device_core.specs.Done.{AreFew, IsNotOutOfMemory, answered_with, arrival_with, plain, region_answer, number_answer, told_arrival as arrival_told, told_by, told_memory as memory_told, told_plainly, told_sent as sent_told, told_transmission as transmission_told};
+ghost use Rattle.device_core.specs.Done.{AreFew, IsNotOutOfMemory, plain, region_answer, number_answer, told_arrival as arrival_told, told_by, told_memory as memory_told, told_plainly, told_sent as sent_told, told_transmission as transmission_told};
 
-use crate::arriving::Arrived;
 use crate::device::answered;
-use context_core::{Answered, ArrivalOutcome, ContextFault, Draft, TakenDatagram};
+use context_core::{Answered, ArrivalOutcome, ContextFault};
 use protocol::Outcome;
 use rdma_types::{Answer, Completion, Items, Keys, Refusal};
 use std::alloc::{AllocError, Global};
@@ -160,30 +158,6 @@ pub(crate) fn told_arrival(
                 count,
             };
             Ok(Answered { answer, sent })
-        }
-        Err(fault) => Err(fault),
-    }
-}
-
-/// What a datagram did, as an answer, where its reply is in a draft.
-#[inline(always)]
-pub(crate) fn told_taken_into(
-    draft: &Draft,
-    taken: Result<TakenDatagram, AllocError>,
-) -> Result<Arrived, AllocError>
-    requires bounded { IfOk taken (λ t. length (option_to_list draft.now ++ t.more) ≤ 2 ^ 32) }
-    ensures { sent_told (answered_with draft.now result)
-        ≡ arrival_told (arrival_with draft.now taken) }
-{
-    match taken {
-        Ok(TakenDatagram { took, more }) => {
-            let count = more.len() as u64 + u64::from(draft.is_filled());
-            let answer = Answer::Took {
-                took,
-                first: 0,
-                count,
-            };
-            Ok(Arrived { answer, more })
         }
         Err(fault) => Err(fault),
     }

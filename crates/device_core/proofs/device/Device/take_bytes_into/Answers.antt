@@ -1,41 +1,34 @@
 -- The end that was found takes the datagram; where none was, a husk may answer it.
-use Rattle.std.proofs.Common.{◌≡◌, None, ◌∙◌, arith, length, refl, sym, ap, subst, Some}
+use Rattle.std.proofs.Common.{◌∙◌, refl, sym, ap, subst, Some}
 use Rattle.std.specs.Prelude.{nat_eq}
 use Rattle.std.specs.Map.{lookup}
 use Rattle.indexmap.specs.IndexMap.{set_value_at}
+use Rattle.rdma_types.specs.declared.answers.ArrivalEffect.TheVariants as took
+use Rattle.rdma_types.specs.declared.answers.DropReason.TheVariants as why
 use Rattle.protocol.specs.declared.events.Event.TheVariants as event
 use Rattle.protocol.specs.State.{Device}
 use Rattle.roce_headers.specs.Packets.{packet}
-use Rattle.context_core.specs.declared.arriving.ArrivalOutcome.{ArrivalOutcome}
 use Rattle.device_core.specs.Acting.{Turn}
-use Rattle.device_core.specs.Done.{IsDone, arrival_with, taking, told_arrival, told_memory}
+use Rattle.device_core.specs.Done.{arrived, told_arrival, told_memory, told_taken}
 use Rattle.device_core.specs.Parts.{device_of}
 use Rattle.device_core.specs.Readings.{DoNothing}
-use Rattle.device_core.proofs.Arrivals.{arrived-into, arrives-nothing, found-unlinked}
+use Rattle.device_core.proofs.Arrivals.{arrived-into, arrives-nothing, found-unlinked, taken_with}
 use Rattle.device_core.proofs.EndPlaces.{is-here, none-found, one-found, within}
 use Rattle.device_core.proofs.Helds.{is-context}
 use Rattle.device_core.proofs.Stepping.{Stepped, done-at}
-use Rattle.device_core.proofs.Told.{err-passes, few-into, few-with}
+use Rattle.device_core.proofs.Told.{ToldInto, ok-told, on-ok, told-into}
 use Rattle.device_core.proofs.device.Device.take_bytes_into.Goals as goal
 
 pub returns-in_default-clause-done : goal.returns-in_default-clause-done
 returns-in_default-clause-done c =
-    subst (λ x. IsDone c.args.self.now (event.Arrive c.args.from c.args.bytes.now) c.args.self.now (told_memory (told_arrival x))) (sym (c.told_apart.ensures.told c.take.new.self c.take.ensures.empty))
-    (arrives-nothing c.args.self.now c.args.from c.args.bytes.now c.in_default.ensures.nothing ∙ ap (λ t. record { device = c.args.self.now; outcome = taking t }) (sym c.silent.ensures))
-
-pub returns-in_default-clause-bounded : goal.returns-in_default-clause-bounded
-returns-in_default-clause-bounded c = few-with c.take.new.self c.told_apart.result (c.told_apart.ensures.told c.take.new.self c.take.ensures.empty) (let none = ap (λ (t : ArrivalOutcome). length t.sent) c.silent.ensures in omega (arith, none))
+    arrives-nothing c.args.self.now c.args.from c.args.bytes.now c.in_default.ensures.nothing
+    ∙ ap (λ xs. record { device = c.args.self.now; outcome = arrived (took.Silent why.Malformed) xs }) (sym c.clear.ensures)
 
 pub returns-in_default-found-clause-done : goal.returns-in_default-found-clause-done
-returns-in_default-found-clause-done c =
-    subst (λ x. IsDone c.args.self.now (event.Arrive c.args.from c.args.bytes.now) c.args.self.now (told_memory (told_arrival x))) (sym (c.told_apart-in_default-found.ensures.told c.take.new.self c.take.ensures.empty))
-    (c.answer_absent.ensures.done c.args.bytes.now c.in-Ok.ensures.exact)
+returns-in_default-found-clause-done c = c.tell_absent.ensures.done c.args.bytes.now c.in-Ok.ensures.exact
 
-pub returns-in_default-found-clause-bounded : goal.returns-in_default-found-clause-bounded
-returns-in_default-found-clause-bounded c = few-with c.take.new.self c.told_apart-in_default-found.result (c.told_apart-in_default-found.ensures.told c.take.new.self c.take.ensures.empty) c.answer_absent.ensures.bounded
-
-pub answer_absent-requires-clause-absent : goal.answer_absent-requires-clause-absent
-answer_absent-requires-clause-absent c = none-found c.in-Ok.ensures.spelled.dest c.requires c.in_default-found.is
+pub tell_absent-requires-clause-absent : goal.tell_absent-requires-clause-absent
+tell_absent-requires-clause-absent c = none-found c.in-Ok.ensures.spelled.dest c.requires c.in_default-found.is
 
 pub index_mut-state-requires : goal.index_mut-state-requires
 index_mut-state-requires c = within c.self.invariant refl (one-found c.self.view_is c.in-Ok.ensures.spelled.dest c.requires c.in-Some.is)
@@ -47,8 +40,8 @@ take_into-taken-requires-clause-is c =
     is-context x.id x.address x.qp_count x.key_count x.pool x.contexts.entries x.husks.entries _ c.self.invariant here.name c.index_mut-state.result.now here.found
 
 -- the end takes the datagram
-taken_here : (c : goal.After-told_into) → let x = c.self.inside in let es' = set_value_at x.contexts.entries c.in-Some.end.context c.take_into-taken.new.self in
-    Stepped (device_of x.id x.address x.qp_count x.key_count x.pool x.contexts.entries x.husks.entries) (event.Arrive c.args.from c.args.bytes.now) c.take_into-taken.new.pool es' (λ k. lookup (nat_eq k) x.index.entries) (device_of x.id x.address x.qp_count x.key_count c.take_into-taken.new.pool es' x.husks.entries) (told_memory (told_arrival (arrival_with c.take_into-taken.new.draft c.told_into.result)))
+taken_here : (c : goal.After-told_effect) → let x = c.self.inside in let es' = set_value_at x.contexts.entries c.in-Some.end.context c.take_into-taken.new.self in
+    Stepped (device_of x.id x.address x.qp_count x.key_count x.pool x.contexts.entries x.husks.entries) (event.Arrive c.args.from c.args.bytes.now) c.take_into-taken.new.pool es' (λ k. lookup (nat_eq k) x.index.entries) (device_of x.id x.address x.qp_count x.key_count c.take_into-taken.new.pool es' x.husks.entries) (told_memory (told_arrival (told_taken (taken_with c.take_into-taken.new.draft c.take_into-taken.result))))
 taken_here c =
     let x = c.self.inside in
     let s = c.index_mut-state.result.now in
@@ -58,26 +51,28 @@ taken_here c =
     let here = is-here c.self.invariant refl (one-found c.self.view_is c.in-Ok.ensures.spelled.dest c.requires c.in-Some.is) c.index_mut-state.ensures.value in
     let turn : Turn x.pool pool' here.name s s' = record { moves = e.moves; is = e.is; numbers = e.numbers here.name } in
     arrived-into x.id x.address x.qp_count x.key_count x.pool x.contexts.entries x.husks.entries _ c.self.invariant here.name s here.found pool' s' turn _ (here.stored s')
-    c.args.from c.args.bytes.now (packet c.in-Ok.d) c.in-Ok.ensures.exact c.in-Some.end.place here.end (arrival_with c.take_into-taken.new.draft c.told_into.result) c.take_into-taken.new.draft c.take_into-taken.result (c.told_into.ensures.told c.take_into-taken.new.draft e.nothing_draft)
+    c.args.from c.args.bytes.now (packet c.in-Ok.d) c.in-Ok.ensures.exact c.in-Some.end.place here.end c.take_into-taken.new.draft c.take_into-taken.result
     (e.none here.name) (λ q l at some. e.took here.name q l at some) e.nothing e.nothing_pool e.err e.err_pool
 
 pub invariant_of-self : goal.invariant_of-self
 invariant_of-self c = (taken_here c).held tt tt
 
+told_here : (c : goal.After-told_effect) → let x = c.self.inside in let es' = set_value_at x.contexts.entries c.in-Some.end.context c.take_into-taken.new.self in
+    ToldInto c.args.self.now (device_of x.id x.address x.qp_count x.key_count c.take_into-taken.new.pool es' x.husks.entries) (event.Arrive c.args.from c.args.bytes.now) c.take_into-taken.new.draft c.told_effect.result
+told_here c = told-into _ _ _ c.take_into-taken.new.draft c.take_into-taken.result c.told_effect.result c.told_effect.ensures c.take_into-taken.ensures.nothing_draft (done-at c.self.view_is (taken_here c))
+
 pub returns-clause-done : goal.returns-clause-done
-returns-clause-done c = done-at c.self.view_is (taken_here c)
+returns-clause-done c = (told_here c).ok
+
+pub returns-clause-err : goal.returns-clause-err
+returns-clause-err c = (told_here c).err
+
+pub returns-clause-bounded : goal.returns-clause-bounded
+returns-clause-bounded c = on-ok c.told_effect.result _ c.take_into-taken.ensures.bounded
 
 pub returns-clause-never_out_of_memory : goal.returns-clause-never_out_of_memory
 returns-clause-never_out_of_memory c nothing =
     let x = c.self.inside in
     let here = is-here c.self.invariant refl (one-found c.self.view_is c.in-Ok.ensures.spelled.dest c.requires c.in-Some.is) c.index_mut-state.ensures.value in
     let nobody : DoNothing (device_of x.id x.address x.qp_count x.key_count x.pool x.contexts.entries x.husks.entries) (Some (packet c.in-Ok.d)) = subst (λ (k : Device). DoNothing k (Some (packet c.in-Ok.d))) (sym c.self.view_is) (subst (DoNothing c.args.self.now) c.in-Ok.ensures.exact nothing) in
-    c.told_into.ensures.never_out_of_memory (c.take_into-taken.ensures.never_out_of_memory here.name (found-unlinked x.id x.address x.qp_count x.key_count x.pool x.contexts.entries x.husks.entries _ c.self.invariant here.name c.index_mut-state.result.now here.found c.in-Some.end.place c.in-Ok.d.dest here.end nobody.0))
-
-pub returns-clause-bounded : goal.returns-clause-bounded
-returns-clause-bounded c =
-    let draft = c.take_into-taken.new.draft in
-    few-with draft c.told_into.result (c.told_into.ensures.told draft c.take_into-taken.ensures.nothing_draft) (few-into draft c.take_into-taken.result c.take_into-taken.ensures.bounded)
-
-pub returns-clause-err_draft : goal.returns-clause-err_draft
-returns-clause-err_draft c = err-passes (c.take_into-taken.new.draft ≡ None) c.take_into-taken.result c.told_into.result c.told_into.ensures.never_out_of_memory c.take_into-taken.ensures.err_draft
+    ok-told c.take_into-taken.result c.told_effect.result c.told_effect.ensures (c.take_into-taken.ensures.never_out_of_memory here.name (found-unlinked x.id x.address x.qp_count x.key_count x.pool x.contexts.entries x.husks.entries _ c.self.invariant here.name c.index_mut-state.result.now here.found c.in-Some.end.place c.in-Ok.d.dest here.end nobody.0))
