@@ -64,12 +64,11 @@ delivered-at v w new place d x x' f seen ids here same only devices carried stop
     (subst (λ z. ChangesWorldOnly (is_touched_on z f) v new) is_it (delivers-at v new place x x' f ids here same only devices carried stopped))
 
 -- what the datagram may touch, where it comes to that device
-pub delivered-by : (r : Result Answer AllocError) (w new : World) (n place : ℕ) (end : Option FoundEnd) → ComesTo w n place end
-    → IfOk r (λ a. (f : Flight) → (d : Device) → kept_flight w.sent n ≡ Some f → slice_get w.devices place ≡ Some d → ChangesWorldOnly (is_touched_on d f) w new) → IfOk r (λ a. ChangesWorldOnly (is_delivered w n) w new)
-delivered-by (Err x) w new n place end c ok = tt
-delivered-by (Ok a) w new n place end c ok =
+pub delivered-by : (w new : World) (n place : ℕ) (end : Option FoundEnd) → ComesTo w n place end
+    → ((f : Flight) → (d : Device) → kept_flight w.sent n ≡ Some f → slice_get w.devices place ≡ Some d → ChangesWorldOnly (is_touched_on d f) w new) → ChangesWorldOnly (is_delivered w n) w new
+delivered-by w new n place end c only =
     subst (λ (l : Look). ChangesWorldOnly (is_touched_by w l) w new) (sym c.here)
-    (subst (λ (o : Option Device). ChangesWorldOnly (is_touched_with o c.flight) w new) (sym c.found) (ok c.flight c.device c.kept c.at))
+    (subst (λ (o : Option Device). ChangesWorldOnly (is_touched_with o c.flight) w new) (sym c.found) (only c.flight c.device c.kept c.at))
 
 -- an event that is no delivery
 abbrev pub IsNoDelivery : WorldEvent → Type 0

@@ -1,10 +1,10 @@
--- A draft's datagram is sent, and then others.
-use Rattle.std.proofs.Common.{◌≡◌, ◌<◌, ◌+◌, ◌++◌, ◌∙◌, ℕ, [], List, ap, arith, length, length-append, map, refl, sym}
-use Rattle.std.specs.Prelude.{Option, Some, None}
+-- The datagrams of a draft are sent one by one.
+use Rattle.std.proofs.Common.{◌≡◌, ◌++◌, ◌∷◌, ◌∙◌, [], List, ap, refl, sym}
+use Rattle.std.specs.Prelude.{IfNone, Option, Some, None}
 use Rattle.std.specs.Option.{option_to_list}
-use Rattle.std.proofs.lemmas.List.{append-nil, length-map}
-use Rattle.protocol.specs.Fabric.{flight_of, forgetting, sending}
-use Rattle.protocol.proofs.Histories.{forgetting-forgetting, length-forgetting, sending-one_by_one}
+use Rattle.std.proofs.lemmas.List.{append-nil}
+use Rattle.protocol.specs.Fabric.{forgetting, sending}
+use Rattle.protocol.proofs.Histories.{sending-one_by_one}
 use Rattle.protocol.specs.State.{Flight}
 use Rattle.rdma_types.specs.declared.answers.Sent.{Sent}
 use Rattle.rdma_types.specs.declared.requests.Address.{Address}
@@ -13,24 +13,16 @@ pub none_sent : (s : List Flight) (from : Address) → sending s from [] ≡ s
 unfolding sending
 none_sent s from = append-nil s
 
--- a draft that holds none
-pub none_drafted : (s : List Flight) (from : Address) (o : Option Sent) → ((d : Sent) → o ≡ Some d → ⊥) → forgetting s ≡ s → s ≡ forgetting (sending s from (option_to_list o))
-none_drafted s from None none kept = sym (ap forgetting (none_sent s from) ∙ kept)
-none_drafted s from (Some d) none kept = absurd (none d refl)
+-- the first of them is sent, and the rest is still to be sent
+pub sent_first : (s s' : List Flight) (from : Address) (draft rest : List Sent) (d : Sent) → d ∷ rest ≡ draft → s' ≡ forgetting (sending s from (d ∷ [])) → forgetting (sending s' from rest) ≡ forgetting (sending s from draft)
+sent_first s s' from draft rest d first one =
+    ap (λ x. forgetting (sending x from rest)) one ∙ (sending-one_by_one s from (d ∷ []) rest ∙ ap (λ xs. forgetting (sending s from xs)) first)
 
--- what the network keeps is kept
-pub stays_kept : (s s' : List Flight) (from : Address) (xs : List Sent) → s' ≡ forgetting (sending s from xs) → forgetting s' ≡ s'
-stays_kept s s' from xs is = ap forgetting is ∙ (forgetting-forgetting (sending s from xs) ∙ sym is)
+-- where none is left, all are sent
+pub sent_all : (s : List Flight) (from : Address) (draft : List Sent) → forgetting s ≡ s → draft ≡ [] → s ≡ forgetting (sending s from draft)
+sent_all s from draft kept none = sym (ap (λ xs. forgetting (sending s from xs)) none ∙ (ap forgetting (none_sent s from) ∙ kept))
 
--- how many were sent then
-pub sent_count : (s s' : List Flight) (from : Address) (xs : List Sent) → s' ≡ forgetting (sending s from xs) → length s' ≡ length s + length xs
-unfolding sending
-sent_count s s' from xs is = ap length is ∙ (length-forgetting (s ++ map (flight_of from) xs) ∙ (length-append s (map (flight_of from) xs) ∙ ap (λ n. length s + n) (length-map xs (flight_of from))))
-
--- there is room for the others
-pub room_for_more : (s s' : List Flight) (from : Address) (xs more : List Sent) (most : ℕ) → s' ≡ forgetting (sending s from xs) → length s + length (xs ++ more) < most → length s' + length more < most
-room_for_more s s' from xs more most is less = omega (arith, sent_count s s' from xs is, length-append xs more, less)
-
--- the others are sent behind it
-pub sent_behind : (s s' s'' : List Flight) (from : Address) (xs more : List Sent) → s' ≡ forgetting (sending s from xs) → s'' ≡ forgetting (sending s' from more) → s'' ≡ forgetting (sending s from (xs ++ more))
-sent_behind s s' s'' from xs more first then = then ∙ (ap (λ x. forgetting (sending x from more)) first ∙ sending-one_by_one s from xs more)
+-- none is left where none was taken out
+pub none_left : (o : Option Sent) (new old : List Sent) → option_to_list o ++ new ≡ old → IfNone o (old ≡ []) → ((d : Sent) → o ≡ Some d → ⊥) → (old ≡ []) × (new ≡ [])
+none_left None new old taken none not = (none, taken ∙ none)
+none_left (Some d) new old taken none not = absurd (not d refl)

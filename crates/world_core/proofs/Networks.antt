@@ -1,19 +1,19 @@
 -- Datagrams that are delivered, lost and shown.
 use Rattle.std.proofs.Common.{◌≡◌, ℕ, ◌+◌, ◌<◌, ◌≤◌, List, length, Bool, true, false, Option, Some, None, refl, sym, ap, ◌∙◌, subst, arith, slice_get, is_some, if◌then◌else◌, ◌⊎◌, inl, inr}
-use Rattle.std.specs.Prelude.{◌-◌, IfOk, Result, Ok, Err}
-use Rattle.std.specs.declared.alloc.AllocError.{AllocError}
+use Rattle.std.specs.Prelude.{◌-◌, ◌==◌}
 use Rattle.std.specs.List.{position}
 use Rattle.std.proofs.lemmas.Option.{slice_get-get_or}
 use Rattle.rdma_types.specs.declared.answers.Answer.{Answer}
 use Rattle.rdma_types.specs.declared.answers.Answer.TheVariants as answer
 use Rattle.rdma_types.specs.declared.answers.DropReason.TheVariants as why
+use Rattle.rdma_types.specs.declared.answers.ArrivalEffect.{ArrivalEffect}
 use Rattle.rdma_types.specs.declared.answers.ArrivalEffect.TheVariants as took
 use Rattle.rdma_types.specs.Lists.{at}
 use Rattle.protocol.specs.Bytes.{number_at}
 use Rattle.protocol.specs.Fabric.{Here, IsAged, IsGone, IsLost, Look, blank, changed_at, forgetting, is_kept, is_late, kept_flight, look, look_at, losing, marked_lost, sending}
 use Rattle.protocol.specs.Fabric as fabric
 use Rattle.protocol.specs.State.{Device, Flight, World}
-use Rattle.protocol.specs.WorldStep.{answers, delivers, delivers_by, device_with, loses, now_at, now_of, reaches, same_address, wires, wires_by, with_taken}
+use Rattle.protocol.specs.WorldStep.{answers, delivers, delivers_by, device_with, loses, now_at, now_of, numbered, reaches, same_address, wires, wires_by, with_taken}
 use Rattle.protocol.proofs.Histories.{kept_means, losing-forgetting, took-forgetting}
 use Rattle.world_core.specs.Kept.{Makes}
 use Rattle.device_core.specs.declared.finding.FoundEnd.{FoundEnd}
@@ -110,16 +110,17 @@ taken_nowhere w new k s kept c left same =
     (subst (λ o. Makes (reaches (with_taken w k) c.flight o) (answer.Took (took.Silent why.Unknown) 0 0) new) (sym c.none)
     (record { answered = refl; left = left ∙ ap (λ x. record w { sent = x }) (same ∙ took_kept w.sent k kept) }))
 
-taken_there : (w new : World) (k place : ℕ) (end : Option FoundEnd) (a : Answer) → (c : ComesTo w k place end) → Makes (reaches (with_taken w k) c.flight (Some c.device)) a new → Makes (delivers w k) a new
+pub taken_there : (w new : World) (k place : ℕ) (end : Option FoundEnd) (a : Answer) → (c : ComesTo w k place end) → Makes (reaches (with_taken w k) c.flight (Some c.device)) a new → Makes (delivers w k) a new
 unfolding delivers
 taken_there w new k place end a c made =
     subst (λ x. Makes (delivers_by w k x) a new) (sym c.here)
     (subst (λ o. Makes (reaches (with_taken w k) c.flight o) a new) (sym c.found) made)
 
-pub taken_by : (r : Result Answer AllocError) (w new : World) (k place : ℕ) (end : Option FoundEnd) → ComesTo w k place end →
-    IfOk r (λ a. (f : Flight) → (d : Device) → kept_flight w.sent k ≡ Some f → slice_get w.devices place ≡ Some d → Makes (reaches (with_taken w k) f (Some d)) a new) → IfOk r (λ a. Makes (delivers w k) a new)
-taken_by (Err x) w new k place end c ok = tt
-taken_by (Ok a) w new k place end c ok = taken_there w new k place end a c (ok c.flight c.device c.kept c.at)
+-- the answer to it has the number of the first datagram that answers it
+pub numbered_arrival : (t : ArrivalEffect) (next many first count : ℕ) → count ≡ many → first ≡ (if count == 0 then 0 else next) → answer.Took t first count ≡ numbered next (answer.Took t 0 many)
+unfolding numbered
+numbered_arrival t next many first count same is =
+    ap (λ n. answer.Took t n count) is ∙ ap (λ m. answer.Took t (if m == 0 then 0 else next) m) same
 
 -- ---- a datagram is lost
 

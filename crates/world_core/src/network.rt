@@ -1,8 +1,9 @@
 //! Datagrams of a world: delivered, lost and shown.
 
-ghost use Rattle.std.specs.Prelude.{◌≡◌, ℕ, ◌≤◌, ◌<◌, ◌^◌, ◌++◌, length, slice_get, is_some, true, IfOk, IsOk, OnErr, Option, Some};
+ghost use Rattle.std.specs.Prelude.{◌≡◌, ℕ, ◌≤◌, ◌<◌, ◌^◌, length, slice_get, is_some, true, IfOk, IsOk, OnErr, OnOk, Option, Some};
 ghost use Rattle.std.specs.List.{position};
-ghost use Rattle.std.specs.Option.{option_to_list};
+ghost use Rattle.rdma_types.specs.declared.answers.Answer.TheVariants as answer;
+ghost use Rattle.device_core.specs.Done.{arrived};
 ghost use Rattle.device_core.specs.Finding.{IsFound};
 ghost use Rattle.device_core.specs.Readings.{DoNothing};
 ghost use Rattle.law_arrivals.specs.Touched.{ChangesOnly, is_touched};
@@ -19,8 +20,8 @@ ghost use Rattle.world_core.specs.Kept.{IsReady, Makes, TakesNoMemory};
 ghost use Rattle.world_core.specs.Sites.{IsDelivery, IsFoundOn};
 
 use crate::World;
-use crate::running::send_reply;
-use device_core::{Arrived, Device, Draft, FoundEnd, destination};
+use crate::running::{first_number, send_draft};
+use device_core::{Device, Draft, FoundEnd, destination};
 use fabric::{DatagramState, Fabric, Flight};
 use rdma_types::{Answer, ArrivalEffect, DropReason, Items};
 use roce_headers::opcodes::is_request;
@@ -59,7 +60,16 @@ fn mark_of(found: Option<FoundEnd>, bytes: &[u8]) -> u64
     }
 }
 
+/// What a datagram did where it came, the number of the first datagram that answers it, and how many do.
+#[derive(Clone, Copy)]
+pub(crate) struct Reached {
+    pub(crate) took: ArrivalEffect,
+    pub(crate) first: u64,
+    pub(crate) count: u64,
+}
+
 /// A kept datagram reaches a device, where the end that it is for was found before. The device hands out no image for it.
+#[inline(always)]
 fn reach(
     fabric: &Fabric,
     device: &mut Device,
@@ -67,18 +77,14 @@ fn reach(
     alloc: Global,
     k: u64,
     found: Option<FoundEnd>,
-) -> Result<Arrived, AllocError>
+) -> Result<ArrivalEffect, AllocError>
     requires kept { is_some (kept_flight fabric.now k) ≡ true }
     requires found { (f : state.Flight) → kept_flight fabric.now k ≡ Some f
         → IsFound device.old (number_at 5 3 f.bytes) found }
-    ensures ok { IfOk result (λ a. (f : state.Flight) → kept_flight fabric.now k ≡ Some f
+    ensures ok { IfOk result (λ took. (f : state.Flight) → kept_flight fabric.now k ≡ Some f
         → device_step device.old (event.Arrive f.from f.bytes)
-        ≡ record {
-          device = device.new;
-          outcome = record
-              { answer = a.answer; sent = option_to_list draft.new ++ a.more; image = None };
-        }) }
-    ensures bounded { IfOk result (λ a. length (option_to_list draft.new ++ a.more) ≤ 2 ^ 32) }
+        ≡ record { device = device.new; outcome = arrived took draft.new }) }
+    ensures bounded { OnOk result (length draft.new ≤ 2 ^ 32) }
     ensures touched { (f : state.Flight) → kept_flight fabric.now k ≡ Some f
         → ChangesOnly (is_touched device.old f.bytes) device.old device.new }
     ensures never_out_of_memory { ((f : state.Flight) → kept_flight fabric.now k ≡ Some f
@@ -157,29 +163,34 @@ impl World {
                     count: 0,
                 })
             }
-            Delivery::Comes(place, found) => self.arrive(alloc, place, k, found),
+            Delivery::Comes(place, found) => {
+                let Reached { took, first, count } = self.arrive(alloc, place, k, found)?;
+                Ok(Answer::Took { took, first, count })
+            }
         }
     }
 
     /// Datagram k reaches the device at a place, where the end that it is for was found before, and what that does is done
     /// to the world.
+    #[inline(always)]
     fn arrive(
         &mut self,
         alloc: Global,
         place: usize,
         k: u64,
         found: Option<FoundEnd>,
-    ) -> Result<Answer, AllocError>
+    ) -> Result<Reached, AllocError>
         requires place { place < length self.old.devices }
         requires kept { is_some (kept_flight self.old.sent k) ≡ true }
         requires found { (f : state.Flight) → (d : state.Device)
             → kept_flight self.old.sent k ≡ Some f → slice_get self.old.devices place ≡ Some d
             → IsFound d (number_at 5 3 f.bytes) found }
         requires ready { IsReady self.old }
-        ensures ok { IfOk result (λ answer. (f : state.Flight) → (d : state.Device)
+        ensures ok { IfOk result (λ r. (f : state.Flight) → (d : state.Device)
             → kept_flight self.old.sent k ≡ Some f → slice_get self.old.devices place ≡ Some d
-            → Makes (rules.reaches (rules.with_taken self.old k) f (Some d)) answer self.new) }
-        ensures touched { IfOk result (λ answer. (f : state.Flight) → (d : state.Device)
+            → Makes (rules.reaches (rules.with_taken self.old k) f (Some d))
+            (answer.Took r.took r.first r.count) self.new) }
+        ensures touched { IfOk result (λ _. (f : state.Flight) → (d : state.Device)
             → kept_flight self.old.sent k ≡ Some f → slice_get self.old.devices place ≡ Some d
             → ChangesWorldOnly (is_touched_on d f) self.old self.new) }
         ensures never_out_of_memory { ((f : state.Flight) → (d : state.Device)
@@ -187,15 +198,14 @@ impl World {
             → DoNothing d (packet_of f.bytes)) → IsOk result }
         ensures err { OnErr result (self.new ≡ self.old) }
     {
-        let (fabric, device) = (&self.fabric, &mut self.devices[place]);
-        match reach(fabric, device, &mut self.draft, alloc, k, found) {
-            Ok(Arrived { answer, more }) => {
-                let address = self.devices[place].address();
-                self.fabric.took(k);
-                Ok(send_reply(&mut self.fabric, &mut self.draft, address, answer, more))
-            }
-            Err(fault) => Err(fault),
-        }
+        let device = &mut self.devices[place];
+        let took = reach(&self.fabric, device, &mut self.draft, alloc, k, found)?;
+        let address = device.address();
+        self.fabric.took(k);
+        let count = self.draft.len();
+        let first = first_number(count, self.fabric.next());
+        send_draft(&mut self.fabric, &mut self.draft, address);
+        Ok(Reached { took, first, count })
     }
 
     /// Datagram k is lost.

@@ -1,13 +1,14 @@
 //! What a device's step does to a world.
 
-ghost use Rattle.std.specs.Prelude.{◌≡◌, ℕ, ◌+◌, ◌≤◌, ◌<◌, ◌^◌, ◌++◌, ◌∷◌, [], length, reverse, slice_get, true, IfOk, IsOk, OnErr, OnOk, Option, Some, None};
+ghost use Rattle.std.specs.Prelude.{◌≡◌, ℕ, ◌+◌, ◌==◌, ◌≤◌, ◌<◌, ◌^◌, ◌++◌, ◌∷◌, [], length, reverse, slice_get, true, if◌then◌else◌, IfOk, IsOk, OnErr, OnOk, Option, Some, None};
 ghost use Rattle.protocol.specs.Events.{IsLawfulEvent};
 ghost use Rattle.protocol.specs.Fabric.{forgetting, sending};
 ghost use Rattle.protocol.specs.State.{Device};
 ghost use Rattle.protocol.specs.declared.events.Event.TheVariants as event;
 ghost use Rattle.protocol.specs.Refusals.{refusal_of};
 ghost use Rattle.protocol.specs.WorldStep.{numbered, runs};
-ghost use Rattle.std.specs.Option.{option_to_list};
+ghost use Rattle.context_core.specs.Sending.{send_answer};
+ghost use Rattle.rdma_types.specs.declared.names.ObjName as names;
 ghost use Rattle.device_core.specs.Finding.{IsAt};
 ghost use Rattle.device_core.specs.Readings.{TakesNoMemory};
 ghost use Rattle.indexmap.specs.IndexMap.{spare};
@@ -19,7 +20,7 @@ ghost use Rattle.world_core.specs.Places.{images_of, names_of};
 use crate::World;
 use crate::index::{moved_context, note_home};
 use crate::stops::Stops;
-use device_core::{Answered, ContextImage, Device, Draft, EndPlace};
+use device_core::{ContextImage, Device, Draft, EndPlace, SendRow};
 use fabric::{Fabric, Flight};
 use indexmap::IndexMap;
 use protocol::{Event, Outcome};
@@ -56,16 +57,24 @@ fn send_all(fabric: &mut Fabric, draft: &mut Draft, from: Address, sent: Items<S
     draft.give_list(list);
 }
 
-/// Sends the datagram in a draft, if there is one.
-fn send_draft(fabric: &mut Fabric, draft: &mut Draft, from: Address)
+/// Sends the datagrams in a draft, in their order. The memory of those that the network forgets for them is filled again.
+#[inline(always)]
+pub(crate) fn send_draft(fabric: &mut Fabric, draft: &mut Draft, from: Address)
     requires kept { forgetting fabric.old ≡ fabric.old }
-    requires bounded { length fabric.old + length (option_to_list draft.old) < 2 ^ 63 }
-    ensures sent { fabric.new
-        ≡ forgetting (sending fabric.old from (option_to_list draft.old)) }
+    requires bounded { length fabric.old + length draft.old < 2 ^ 63 }
+    ensures sent { fabric.new ≡ forgetting (sending fabric.old from draft.old) }
+    ensures empty { draft.new ≡ [] }
 {
-    if let Some(datagram) = draft.take() {
+    while let Some(datagram) = draft.pop() {
         send_one(fabric, draft, from, datagram);
     }
+}
+
+/// The number of the first of so many datagrams, where the next one has the number `next`; 0 where there are none.
+pub(crate) fn first_number(count: u64, next: u64) -> u64
+    ensures { result ≡ (if count == 0 then 0 else next) }
+{
+    if count == 0 { 0 } else { next }
 }
 
 /// The answer of a device with the number of the first datagram that it sent.
@@ -75,7 +84,7 @@ fn number(answer: Answer, next: u64) -> Answer
     match answer {
         Answer::Took { took, first, count } => Answer::Took {
             took,
-            first: if count == 0 { 0 } else { next },
+            first: first_number(count, next),
             count,
         },
         Answer::Sent { first: _ } => Answer::Sent { first: next },
@@ -97,45 +106,6 @@ pub(crate) fn send_outcome(
 {
     let next = fabric.next();
     send_all(fabric, draft, from, sent);
-    number(answer, next)
-}
-
-/// Sends the datagram in a draft, if there is one, and gives the answer of the step with its number.
-#[inline(always)]
-pub(crate) fn send_drafted(
-    fabric: &mut Fabric,
-    draft: &mut Draft,
-    from: Address,
-    answer: Answer,
-) -> Answer
-    requires { length fabric.old + length (option_to_list draft.old) < 2 ^ 63 }
-    ensures sent { fabric.new
-        ≡ forgetting (sending fabric.old from (option_to_list draft.old)) }
-    ensures answer { result ≡ numbered (length fabric.old + 1) answer }
-{
-    let next = fabric.next();
-    send_draft(fabric, draft, from);
-    number(answer, next)
-}
-
-/// Sends the datagram in a draft, if there is one, and those behind it, and gives the answer of the step with the number
-/// of the first.
-#[inline(always)]
-pub(crate) fn send_reply(
-    fabric: &mut Fabric,
-    draft: &mut Draft,
-    from: Address,
-    answer: Answer,
-    more: Items<Sent>,
-) -> Answer
-    requires { length fabric.old + length (option_to_list draft.old ++ more) < 2 ^ 63 }
-    ensures sent { fabric.new
-        ≡ forgetting (sending fabric.old from (option_to_list draft.old ++ more)) }
-    ensures answer { result ≡ numbered (length fabric.old + 1) answer }
-{
-    let next = fabric.next();
-    send_draft(fabric, draft, from);
-    send_all(fabric, draft, from, more);
     number(answer, next)
 }
 
@@ -263,58 +233,34 @@ impl World {
         }
     }
 
-    /// The end of a name on the device at a place transmits once, or is refused, and its datagrams are sent.
-    fn transmit_named(
-        &mut self,
-        alloc: Global,
-        place: usize,
-        end: &ObjName,
-    ) -> Result<Answer, AllocError>
-        requires place { place < length self.old.devices }
-        requires ready { IsReady self.old }
-        ensures ok { IfOk result (λ answer. (d : Device) → slice_get self.old.devices place ≡ Some d
-            → Makes (runs self.old d (event.Transmit end.now)) answer self.new) }
-        ensures refused_first { OnErr result ((d : Device) → slice_get self.old.devices place
-            ≡ Some d → refusal_of d (event.Transmit end.now) ≡ None) }
-        ensures err { OnErr result (self.new ≡ self.old) }
-    {
-        match self.devices[place].transmit(alloc, end) {
-            Ok(Answered { answer, sent }) => {
-                let address = self.devices[place].address();
-                Ok(send_outcome(&mut self.fabric, &mut self.draft, address, answer, sent))
-            }
-            Err(fault) => Err(fault),
-        }
-    }
-
     /// The connected end of a name on the device at a place, which was looked up before, transmits once, and its datagram is
     /// sent.
-    fn transmit_end(
+    #[inline(always)]
+    pub(crate) fn transmit_end(
         &mut self,
         alloc: Global,
         place: usize,
-        end: &ObjName,
         at: EndPlace,
-    ) -> Result<Answer, AllocError>
+    ) -> Result<SendRow, AllocError>
         requires place { place < length self.old.devices }
         requires at { (d : Device) → slice_get self.old.devices place ≡ Some d
-            → IsAt d end.now at }
+            → (o : names.ObjName) × IsAt d o at }
         requires ready { IsReady self.old }
-        ensures ok { IfOk result (λ answer. (d : Device) → slice_get self.old.devices place ≡ Some d
-            → Makes (runs self.old d (event.Transmit end.now)) answer self.new) }
+        ensures ok { IfOk result (λ row. (d : Device) (o : names.ObjName)
+            → slice_get self.old.devices place ≡ Some d → IsAt d o at
+            → Makes (runs self.old d (event.Transmit o))
+            (numbered (length self.old.sent + 1) (send_answer row)) self.new) }
         ensures err { OnErr result (self.new ≡ self.old) }
     {
-        match self.devices[place].transmit_at(alloc, &mut self.draft, at) {
-            Ok(answer) => {
-                let address = self.devices[place].address();
-                Ok(send_drafted(&mut self.fabric, &mut self.draft, address, answer))
-            }
-            Err(fault) => Err(fault),
-        }
+        let device = &mut self.devices[place];
+        let row = device.transmit_at(alloc, &mut self.draft, at)?;
+        let address = device.address();
+        send_draft(&mut self.fabric, &mut self.draft, address);
+        Ok(row)
     }
 
-    /// An end of a context of the device at a place transmits once, and its datagram is sent. Where memory lacks, the step by
-    /// name says which refusal is due, if one is.
+    /// An end of a context of the device at a place transmits once, and its datagram is sent.
+    #[inline(always)]
     pub(crate) fn transmit_from(
         &mut self,
         alloc: Global,
@@ -329,11 +275,12 @@ impl World {
             ≡ Some d → refusal_of d (event.Transmit end.now) ≡ None) }
         ensures err { OnErr result (self.new ≡ self.old) }
     {
-        if let Some(at) = self.devices[place].place_of(end) {
-            if let Ok(answer) = self.transmit_end(alloc, place, end, at) {
-                return Ok(answer);
-            }
-        }
-        self.transmit_named(alloc, place, end)
+        let device = &self.devices[place];
+        let Some(at) = device.place_of(end) else {
+            return Ok(Answer::Refused(device.transmit_refusal(end)));
+        };
+        let next = self.fabric.next();
+        let row = self.transmit_end(alloc, place, at)?;
+        Ok(number(row.answer(), next))
     }
 }

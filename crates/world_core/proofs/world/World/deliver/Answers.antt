@@ -5,7 +5,7 @@ use Rattle.protocol.specs.Fabric.{IsGone, IsLost, took}
 use Rattle.protocol.specs.State.{World}
 use Rattle.world_core.proofs.Delivering.{delivered-by, delivers-nothing}
 use Rattle.world_core.proofs.Lacking.{comes_nothing}
-use Rattle.world_core.proofs.Networks.{comes_found, taken_aged, taken_by, taken_nowhere, untaken}
+use Rattle.world_core.proofs.Networks.{comes_found, taken_aged, taken_nowhere, taken_there, untaken}
 use Rattle.world_core.proofs.world.World.deliver.Goals as goal
 
 pub returns-in-Gone-clause-ok : goal.returns-in-Gone-clause-ok
@@ -27,7 +27,9 @@ returns-in-Nowhere-clause-ok c =
     (c.took-in-Nowhere.ensures.taken ∙ ap (λ (w : World). took w.sent c.args.k) c.self.view_is)
 
 pub returns-in-Comes-clause-ok : goal.returns-in-Comes-clause-ok
-returns-in-Comes-clause-ok c = taken_by c.arrive.result c.args.self.now c.arrive.new.self c.args.k c.in-Comes.place c.in-Comes.found c.in-Comes.ensures c.arrive.ensures.ok
+returns-in-Comes-clause-ok c =
+    let to = c.in-Comes.ensures in
+    taken_there c.args.self.now c.arrive.new.self c.args.k c.in-Comes.place c.in-Comes.found _ to (c.in_ok-arrive.ensures.ok to.flight to.device to.kept to.at)
 
 pub returns-in-Gone-clause-touched : goal.returns-in-Gone-clause-touched
 returns-in-Gone-clause-touched c = delivers-nothing _ _ _ refl refl refl
@@ -42,7 +44,7 @@ pub returns-in-Nowhere-clause-touched : goal.returns-in-Nowhere-clause-touched
 returns-in-Nowhere-clause-touched c = delivers-nothing _ _ _ (ap (λ (w : World). w.devices) c.self.view_is) (ap (λ (w : World). w.carried) c.self.view_is) (ap (λ (w : World). w.stopped) c.self.view_is)
 
 pub returns-in-Comes-clause-touched : goal.returns-in-Comes-clause-touched
-returns-in-Comes-clause-touched c = delivered-by c.arrive.result c.args.self.now c.arrive.new.self c.args.k c.in-Comes.place c.in-Comes.found c.in-Comes.ensures c.arrive.ensures.touched
+returns-in-Comes-clause-touched c = delivered-by c.args.self.now c.arrive.new.self c.args.k c.in-Comes.place c.in-Comes.found c.in-Comes.ensures c.in_ok-arrive.ensures.touched
 
 pub arrive-requires-clause-found : goal.arrive-requires-clause-found
 arrive-requires-clause-found c = comes_found c.in-Comes.ensures
