@@ -11,3 +11,4 @@ pub mod Tells
 pub mod Wants
 pub mod Leaves
 pub mod Places
+pub mod OwnNames

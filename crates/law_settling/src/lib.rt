@@ -9,6 +9,7 @@ pub mod bound;
 pub mod completes;
 pub mod draining;
 pub mod lacks_receive;
+pub mod own_names;
 pub mod places;
 pub mod sending_stops;
 pub mod steps;
