@@ -1,5 +1,5 @@
 -- The answer with its number.
-use Rattle.std.proofs.Common.{◌≡◌, ℕ, refl, arith}
+use Rattle.std.proofs.Common.{◌≡◌, ◌∙◌, ℕ, ap, sym, refl, arith}
 use Rattle.std.proofs.lemmas.Grind.{common_steps}
 use Rattle.protocol.specs.WorldStep.{numbered}
 use Rattle.rdma_types.specs.declared.answers.Answer.{Answer}
@@ -7,9 +7,9 @@ use Rattle.rdma_types.specs.declared.answers.Answer.TheVariants as answer
 use Rattle.rdma_types.specs.declared.answers.ArrivalEffect.{ArrivalEffect}
 use Rattle.world_core.proofs.running.number.Goals as goal
 
-pub returns-after-count-eq0 : goal.returns-after-count-eq0
+pub returns-in-Took : goal.returns-in-Took
 unfolding numbered
-returns-after-count-eq0 c = grind (arith, common_steps)
+returns-in-Took c = ap (λ n. answer.Took c.in-Took.took n c.in-Took.count) c.first_number.ensures ∙ sym (ap (numbered c.args.next) c.in-Took.is)
 
 pub returns-in-Sent : goal.returns-in-Sent
 unfolding numbered

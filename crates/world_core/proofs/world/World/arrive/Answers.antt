@@ -16,8 +16,8 @@ use Rattle.world_core.proofs.Stepping.{answered_all, parts_after, parts_same}
 use Rattle.world_core.proofs.Places.{some_there}
 use Rattle.world_core.proofs.world.World.arrive.Goals as goal
 
-pub invariant_of-self : goal.invariant_of-self
-invariant_of-self c =
+pub invariant_of-self-2 : goal.invariant_of-self-2
+invariant_of-self-2 c =
     let ds = c.self.inside.devices.items in
     let x = c.index_mut-device.result.now in
     let o : Outcome = arrived c.in_ok-took.took c.reach.new.draft in

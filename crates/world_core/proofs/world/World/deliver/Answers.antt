@@ -26,10 +26,10 @@ returns-in-Nowhere-clause-ok c =
     (ap (λ (w : World). record w { sent = c.took-in-Nowhere.new.self }) c.self.view_is)
     (c.took-in-Nowhere.ensures.taken ∙ ap (λ (w : World). took w.sent c.args.k) c.self.view_is)
 
-pub returns-in-Comes-clause-ok : goal.returns-in-Comes-clause-ok
-returns-in-Comes-clause-ok c =
+pub returns-in_ok-took-in-Comes-clause-ok : goal.returns-in_ok-took-in-Comes-clause-ok
+returns-in_ok-took-in-Comes-clause-ok c =
     let to = c.in-Comes.ensures in
-    taken_there c.args.self.now c.arrive.new.self c.args.k c.in-Comes.place c.in-Comes.found _ to (c.in_ok-arrive.ensures.ok to.flight to.device to.kept to.at)
+    taken_there c.args.self.now c.arrive.new.self c.args.k c.in-Comes.place c.in-Comes.found _ to (c.in_ok-took-in-Comes.ensures.ok to.flight to.device to.kept to.at)
 
 pub returns-in-Gone-clause-touched : goal.returns-in-Gone-clause-touched
 returns-in-Gone-clause-touched c = delivers-nothing _ _ _ refl refl refl
@@ -43,11 +43,13 @@ returns-in-Aged-clause-touched c = delivers-nothing _ _ _ (ap (λ (w : World). w
 pub returns-in-Nowhere-clause-touched : goal.returns-in-Nowhere-clause-touched
 returns-in-Nowhere-clause-touched c = delivers-nothing _ _ _ (ap (λ (w : World). w.devices) c.self.view_is) (ap (λ (w : World). w.carried) c.self.view_is) (ap (λ (w : World). w.stopped) c.self.view_is)
 
-pub returns-in-Comes-clause-touched : goal.returns-in-Comes-clause-touched
-returns-in-Comes-clause-touched c = delivered-by c.args.self.now c.arrive.new.self c.args.k c.in-Comes.place c.in-Comes.found c.in-Comes.ensures c.in_ok-arrive.ensures.touched
+pub returns-in_ok-took-in-Comes-clause-touched : goal.returns-in_ok-took-in-Comes-clause-touched
+returns-in_ok-took-in-Comes-clause-touched c = delivered-by c.args.self.now c.arrive.new.self c.args.k c.in-Comes.place c.in-Comes.found c.in-Comes.ensures c.in_ok-took-in-Comes.ensures.touched
 
 pub arrive-requires-clause-found : goal.arrive-requires-clause-found
 arrive-requires-clause-found c = comes_found c.in-Comes.ensures
 
-pub returns-in-Comes-clause-never_out_of_memory : goal.returns-in-Comes-clause-never_out_of_memory
-returns-in-Comes-clause-never_out_of_memory c = λ none. c.arrive.ensures.never_out_of_memory (comes_nothing c.args.self.now c.args.k c.in-Comes.place c.in-Comes.found c.in-Comes.ensures none)
+pub returns-in_err-took-in-Comes-clause-never_out_of_memory : goal.returns-in_err-took-in-Comes-clause-never_out_of_memory
+returns-in_err-took-in-Comes-clause-never_out_of_memory c = λ none.
+    let there = c.in_err-took-in-Comes.ensures.never_out_of_memory (comes_nothing c.args.self.now c.args.k c.in-Comes.place c.in-Comes.found c.in-Comes.ensures none) in
+    absurd (cc)

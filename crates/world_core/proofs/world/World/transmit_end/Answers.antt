@@ -13,8 +13,8 @@ use Rattle.world_core.proofs.Stepping.{answered_all, parts_after, parts_same}
 use Rattle.world_core.proofs.Worlds.{read_device}
 use Rattle.world_core.proofs.world.World.transmit_end.Goals as goal
 
-pub invariant_of-self : goal.invariant_of-self
-invariant_of-self c =
+pub invariant_of-self-2 : goal.invariant_of-self-2
+invariant_of-self-2 c =
     let ds = c.self.inside.devices.items in
     let lt : c.args.place < length ds = subst (λ (w : World). c.args.place < length w.devices) (sym c.self.view_is) c.requires.place in
     let here : slice_get ds c.args.place ≡ Some c.index_mut-device.result.now = slice_get_read ds (length ds) c.args.place c.index_mut-device.result.now refl lt c.index_mut-device.ensures.value in
