@@ -10,13 +10,12 @@ use Rattle.rdma_types.specs.declared.answers.Refusal.{Refusal}
 use Rattle.rdma_types.specs.declared.answers.Refusal.TheVariants as refusal
 use Rattle.rdma_types.specs.declared.names.Name.{Name}
 use Rattle.rdma_types.specs.declared.requests.Address.{Address}
-use Rattle.protocol.specs.declared.events.Event.{Event}
 use Rattle.protocol.specs.declared.events.Event.TheVariants as event
 use Rattle.protocol.specs.declared.events.WorldEvent.{WorldEvent}
 use Rattle.protocol.specs.declared.events.WorldEvent.TheVariants as world_event
 use Rattle.protocol.specs.declared.images.ContextImage.{ContextImage}
 use Rattle.protocol.specs.Refusals.{refusal_of}
-use Rattle.protocol.specs.State.{Device, World, device_at}
+use Rattle.protocol.specs.State.{World, device_at}
 use Rattle.protocol.specs.WorldStep.{carried_image, connect_causes, context_causes, context_of_event, has_device, home, is_carried, is_live, live_context, partner_moves, same_address}
 use Rattle.rdma_types.specs.Lists.{has_word}
 

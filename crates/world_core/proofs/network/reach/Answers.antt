@@ -3,10 +3,8 @@ use Rattle.std.proofs.Common.{◌≡◌, ◌∙◌, Some, ap, rules, subst, sym}
 use Rattle.std.proofs.lemmas.Result.{IfOk-weaker}
 use Rattle.std.specs.Option.{option_copied}
 use Rattle.protocol.specs.Bytes.{number_at}
-use Rattle.protocol.specs.DeviceStep.{device_step}
 use Rattle.protocol.specs.Fabric.{kept_flight}
 use Rattle.protocol.specs.State.{Flight}
-use Rattle.protocol.specs.declared.events.Event.TheVariants as event
 use Rattle.protocol.specs.Wire.{packet_of}
 use Rattle.device_core.specs.Finding.{IsFound}
 use Rattle.device_core.specs.Readings.{DoNothing}

@@ -3,7 +3,6 @@ use Rattle.std.proofs.Common.{◌∙◌, ap, sym, reverse}
 use Rattle.std.specs.Prelude.{bytes_eq}
 use Rattle.std.specs.List.{list_any}
 use Rattle.rdma_types.specs.Lists.{has_name, has_word}
-use Rattle.rdma_types.specs.declared.names.Name.{Name}
 use Rattle.protocol.specs.declared.images.ContextImage.{ContextImage}
 use Rattle.world_core.proofs.stops.Stops.make.Goals as goal
 

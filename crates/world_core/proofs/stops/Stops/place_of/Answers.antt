@@ -1,6 +1,5 @@
 -- Where it is not marked, no image has the name.
 use Rattle.std.proofs.Common.{◌≡◌, ◌∙◌, sym, rules, false}
-use Rattle.std.specs.Prelude.{bytes_eq}
 use Rattle.rdma_types.specs.Lists.{has_name}
 use Rattle.protocol.specs.declared.images.ContextImage.{ContextImage}
 use Rattle.world_core.proofs.Places.{no_place}

@@ -1,5 +1,5 @@
 -- The name goes where no other image has it.
-use Rattle.std.proofs.Common.{◌≡◌, ◌<◌, ◌∙◌, sym, ap, subst, bytes_eq, refl, length, slice_get, Some, rules, tests, true, false, Bool}
+use Rattle.std.proofs.Common.{◌≡◌, ◌<◌, ◌∙◌, sym, ap, subst, bytes_eq, refl, length, slice_get, Some, rules, tests, true, false}
 use Rattle.std.specs.HashSet.{contains}
 use Rattle.std.specs.List.{list_any, remove}
 use Rattle.std.proofs.lemmas.Iterator.{YieldsList-from_slice}
