@@ -30,7 +30,7 @@ impl<'a, G: Gate> Polling<'a, G> {
         Ok(())
     }
 
-    /// Polls until there are completions, and after each poll that gives none rests until another one's turn has ended with
+    /// Polls until there are completions, and after each poll that gives none waits until another one's turn has ended with
     /// news; false where all was halted.
     fn poll<R: Wait>(&mut self, rt: &R, alloc: Global) -> Result<bool, PlanFault> {
         for _ in rt.forever() {
@@ -43,7 +43,7 @@ impl<'a, G: Gate> Polling<'a, G> {
                 self.hand.end_turn(rt);
                 return Ok(true);
             }
-            if !self.hand.rest(rt, seen) {
+            if !self.hand.wait_for_news(rt, seen) {
                 return Ok(false);
             }
         }

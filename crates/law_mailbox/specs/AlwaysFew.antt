@@ -11,8 +11,8 @@ abbrev pub BeginningIsFew : Type 0
 BeginningIsFew = (peers : ℕ) → 1 ≤ peers → peers ≤ 8 → IsHeldFew peers [] (made peers)
 
 -- after any calls few stand there
-abbrev pub AllAreFew : Type 0
-AllAreFew = (peers : ℕ) → 1 ≤ peers → peers ≤ 8 → (ts : List Turn) (m : Mail) → IsReached (made peers) ts m → IsHeldFew peers ts m
+abbrev pub QueueEntriesAreBounded : Type 0
+QueueEntriesAreBounded = (peers : ℕ) → 1 ≤ peers → peers ≤ 8 → (ts : List Turn) (m : Mail) → IsReached (made peers) ts m → IsHeldFew peers ts m
 
 -- .. so the work of each call finds room in the queue all the while
 abbrev pub WorkAlwaysFindsRoom : Type 0

@@ -25,8 +25,8 @@ use Rattle.law_mailbox.specs.Works.{Line}
 -- ---- where all is copied
 
 -- each open letter that is asked for is given
-abbrev pub AllIsGiven : Type 0
-AllIsGiven = (m : Mail) (i : ℕ) (sent : List Letter) (open' : List Placed) (tag : Option ℕ) → is_sender m i ≡ true → AreOpen sent open' → HasArrived (channel m i) sent open' →
+abbrev pub CopiedLettersAreGiven : Type 0
+CopiedLettersAreGiven = (m : Mail) (i : ℕ) (sent : List Letter) (open' : List Placed) (tag : Option ℕ) → is_sender m i ≡ true → AreOpen sent open' → HasArrived (channel m i) sent open' →
     (channel m i).receives ≡ length sent → (channel m i).reads ≡ length (long_letters sent) → IsGiven (first_wanted tag open') (takes m i tag).reply
 
 -- a sender that lives has no untold request, and its slot is free
@@ -95,8 +95,8 @@ pub record AllWorkFinishes (m : Mail) : Type 0 where
   pub last : WorkFinishes (after m settled_thrice)
 
 -- it is enough that work finishes
-abbrev pub WorkingIsEnough : Type 0
-WorkingIsEnough = (peers : ℕ) → 1 ≤ peers → peers ≤ 8 → (ts : List Turn) (m : Mail) (machine : Machine) → IsHeldIn peers ts m machine → AllWorkFinishes m → AllTakenAfterSettling m ts
+abbrev pub FinishedWorkDeliversAll : Type 0
+FinishedWorkDeliversAll = (peers : ℕ) → 1 ≤ peers → peers ≤ 8 → (ts : List Turn) (m : Mail) (machine : Machine) → IsHeldIn peers ts m machine → AllWorkFinishes m → AllTakenAfterSettling m ts
 
 -- ---- what keeps it
 

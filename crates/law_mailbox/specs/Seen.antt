@@ -39,8 +39,8 @@ abbrev pub StepsKeep : ℕ → Type 0
 StepsKeep peers = (ts : List Turn) (m : Mail) (machine : Machine) (s : MachineStep) → IsInner s → is_enabled machine s ≡ true → AreAllKept peers ts m machine → AreAllKept peers ts m (effect machine s)
 
 -- .. where they are seen so
-abbrev pub SeeingIsEnough : Type 0
-SeeingIsEnough = (peers : ℕ) → StepsAreSeen peers → StepsKeep peers
+abbrev pub StepsSeenAsMovesKeep : Type 0
+StepsSeenAsMovesKeep = (peers : ℕ) → StepsAreSeen peers → StepsKeep peers
 
 -- ---- steps that move no bytes
 

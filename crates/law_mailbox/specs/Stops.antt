@@ -7,8 +7,8 @@ use Rattle.law_mailbox.specs.Held.{IsHeld}
 use Rattle.law_mailbox.specs.Short.{AreQueuesShort, IsLittleOwed}
 
 -- any steps of work leave it so that little is owed: a context is polled where nothing that is owed in it can be done
-abbrev pub LittleStaysOwed : Type 0
-LittleStaysOwed = (peers : ℕ) → 1 ≤ peers → peers ≤ 8 → (ts : List Turn) (m : Mail) (n : ℕ) → IsHeld peers ts m → IsLittleOwed peers m → IsLittleOwed peers (worked n (begun m)).mail
+abbrev pub DueWorkIsBounded : Type 0
+DueWorkIsBounded = (peers : ℕ) → 1 ≤ peers → peers ≤ 8 → (ts : List Turn) (m : Mail) (n : ℕ) → IsHeld peers ts m → IsLittleOwed peers m → IsLittleOwed peers (worked n (begun m)).mail
 
 -- then work is over before its steps are used up
 abbrev pub WorkStopsInTime : Type 0

@@ -4,7 +4,7 @@
 #![tactic(auto)]
 
 ghost use Rattle.law_mailbox.specs.Accepted.{SendsAreAccepted};
-ghost use Rattle.law_mailbox.specs.AlwaysFew.{AllAreFew, BeginningIsFew, WorkAlwaysFindsRoom};
+ghost use Rattle.law_mailbox.specs.AlwaysFew.{BeginningIsFew, QueueEntriesAreBounded, WorkAlwaysFindsRoom};
 ghost use Rattle.law_mailbox.specs.Answered.{EventsLeaveFurnished, FirstIsFurnished, SendsAreAnswered, SendsLeaveFurnished, StoresLeaveFurnished, WorksLeaveFurnished};
 ghost use Rattle.law_mailbox.specs.Arrived.{LettersAreGiven, OpenLettersWereSent};
 ghost use Rattle.law_mailbox.specs.Beginning.{BeginningIsHeld};
@@ -13,7 +13,7 @@ ghost use Rattle.law_mailbox.specs.Delivered.{AllIsDelivered};
 ghost use Rattle.law_mailbox.specs.Ending.{EndsEndSo, NoRequestIsRefused};
 ghost use Rattle.law_mailbox.specs.Example.{OneLetterIsDelivered, OneLetterIsSeenCalm};
 ghost use Rattle.law_mailbox.specs.Few.{FewHaveRoom, StepsKeepFew, WorksKeepFew};
-ghost use Rattle.law_mailbox.specs.Finished.{AllIsGiven, BeginsSo, DuesAreSeen, EventsKeepSo, NoneIsFull, WorkingIsEnough, WorksAreSeen, WorksKeepSo};
+ghost use Rattle.law_mailbox.specs.Finished.{BeginsSo, CopiedLettersAreGiven, DuesAreSeen, EventsKeepSo, FinishedWorkDeliversAll, NoneIsFull, WorksAreSeen, WorksKeepSo};
 ghost use Rattle.law_mailbox.specs.Flagged.{FlagsAreTrue};
 ghost use Rattle.law_mailbox.specs.Headers.{HeadersAreRead, MessagesAreRead};
 ghost use Rattle.law_mailbox.specs.Held.{KeepingIsEnough};
@@ -22,10 +22,10 @@ ghost use Rattle.law_mailbox.specs.Over.{SendsAreAnsweredAfterWork, StoppedWorkI
 ghost use Rattle.law_mailbox.specs.Postings.{PostingsAreMade};
 ghost use Rattle.law_mailbox.specs.Plans.{StepsBuildNothing, VerbsBuildNothing};
 ghost use Rattle.law_mailbox.specs.Room.{StepsAddNoLoad};
-ghost use Rattle.law_mailbox.specs.Seen.{OwnStepsAreSeen, SeeingIsEnough};
+ghost use Rattle.law_mailbox.specs.Seen.{OwnStepsAreSeen, StepsSeenAsMovesKeep};
 ghost use Rattle.law_mailbox.specs.Seen.{InnerStepsAreSeen, InnerStepsKeep, OtherStepsAreSeen, ReadStepsAreSeen, RunStepsAreSeen};
 ghost use Rattle.law_mailbox.specs.Ready.{IsReadyMail};
-ghost use Rattle.law_mailbox.specs.Stops.{LittleStaysOwed, WorkStopsInTime};
+ghost use Rattle.law_mailbox.specs.Stops.{DueWorkIsBounded, WorkStopsInTime};
 ghost use Rattle.law_mailbox.specs.Reached.{AllIsPosted, LettersAreHereAfterSettling, LettersAreKeptWhereWorkFindsRoom};
 ghost use Rattle.law_mailbox.specs.Settled.{MovesAreAhead, MovesKeepPosted, ThreeRoundsAreEnough, WorkKeepsPosted, WorksGoAhead};
 ghost use Rattle.law_mailbox.specs.Tied.{CountsAreTied};
@@ -89,8 +89,8 @@ pub fn work_keeps()
 {}
 
 /// Where each inner step of the machine is seen as such moves, it keeps what is held between calls.
-pub fn seeing_is_enough()
-    ensures { SeeingIsEnough }
+pub fn steps_seen_as_moves_keep()
+    ensures { StepsSeenAsMovesKeep }
 {}
 
 /// The steps of a connection's ends that move no bytes are seen as moves, and what the opening made stays: an end knows more of a
@@ -192,7 +192,7 @@ pub fn all_is_kept()
     stores_are_kept();
     contexts_stay_furnished();
     sends_are_answered_after_work();
-    little_stays_owed();
+    due_work_is_bounded();
     work_stops_in_time();
     settling_is_named();
 }
@@ -222,7 +222,7 @@ pub fn all_stays_posted()
 
 /// Moves never go back: what was copied, what acted and what was told stays so. Neither does work, and it keeps what is true of a
 /// connection, and what is posted, where it refuses no Read and no Send of no bytes but at an end that is over.
-pub fn nothing_goes_back()
+pub fn progress_is_monotone()
     ensures moves { MovesAreAhead }
     ensures work { WorksGoAhead }
 {}
@@ -235,15 +235,15 @@ pub fn three_rounds_are_enough()
 
 /// Where all messages and all bodies of a sender are copied, each open letter that is asked for is given; and where it has no untold
 /// request and its slot is free, or it is carried, none of its letters is refused as Full.
-pub fn all_is_given()
-    ensures given { AllIsGiven }
+pub fn copied_letters_are_given()
+    ensures given { CopiedLettersAreGiven }
     ensures room { NoneIsFull }
 {}
 
 /// Where work stops by itself and the receiver's queue has room, everything is here after settling and working three times with nothing
 /// left and no end ended: each open letter that is asked for is given, and none is refused as Full.
-pub fn working_is_enough()
-    ensures { WorkingIsEnough }
+pub fn finished_work_delivers_all()
+    ensures { FinishedWorkDeliversAll }
 {
     events_follow();
     settling_is_named();
@@ -297,8 +297,8 @@ pub fn sends_are_answered_after_work()
 
 /// Any steps of work leave it so that in each context no more is owed than one poll makes due: a context is polled where nothing that is
 /// owed in it can be done, and a carried one answers no completions.
-pub fn little_stays_owed()
-    ensures { LittleStaysOwed }
+pub fn due_work_is_bounded()
+    ensures { DueWorkIsBounded }
 {
     steps_are_named();
 }
@@ -339,8 +339,8 @@ pub fn few_have_room()
 {}
 
 /// With 1 to 8 senders, after any calls few completions stand in the receiver's queue, and few places of it are reserved.
-pub fn few_stand_always()
-    ensures { AllAreFew }
+pub fn queue_entries_are_bounded()
+    ensures { QueueEntriesAreBounded }
 {
     steps_keep_few();
     works_keep_few();
@@ -357,7 +357,7 @@ pub fn few_stand_always()
 pub fn work_finds_room()
     ensures { WorkAlwaysFindsRoom }
 {
-    few_stand_always();
+    queue_entries_are_bounded();
     works_keep_few();
     few_have_room();
     contexts_stay_furnished();
@@ -432,7 +432,7 @@ pub fn letters_are_here_after_settling()
 {
     all_is_posted();
     work_stops_in_time();
-    working_is_enough();
+    finished_work_delivers_all();
 }
 
 /// Where work finds room so, letters are kept: they are taken whole, once and in order; none is given exactly where its bytes are not

@@ -22,7 +22,7 @@ use std::alloc::{AllocError, Global};
 use world_core::Event;
 
 /// What is due next where one thing is done: nothing, or another thing in its place.
-fn go_on(owed: &mut Vec<Due>, k: usize, next: Option<Due>)
+fn replace_due(owed: &mut Vec<Due>, k: usize, next: Option<Due>)
     requires { k < vec_len owed.old }
     ensures { owed.new.items ≡ rules.due_next owed.old.items k next }
 {
@@ -164,7 +164,7 @@ impl Mailbox {
         ensures err { OnErr result (self.new ≡ self.old) }
     {
         let next = self.advance(alloc, due)?;
-        go_on(&mut self.owed, k, next);
+        replace_due(&mut self.owed, k, next);
         Ok(())
     }
 }

@@ -228,7 +228,7 @@ impl<'a, G: Gate> Stepper<'a, G> {
         self.has_worked
     }
 
-    /// Ends a turn, and wakes those who rest where it has news. The answer is how many turns of all have ended with news.
+    /// Ends a turn, and where it has news wakes those that wait for it. The answer is how many turns of all have ended with news.
     pub fn end_turn<R: Wait>(&mut self, rt: &R) -> u64 {
         let has_news = self.has_news;
         self.has_worked = false;
@@ -247,7 +247,7 @@ impl<'a, G: Gate> Stepper<'a, G> {
 
     /// Where its turn did nothing, waits until another one's turn has ended with news. Says whether to go on, and not where all
     /// was halted.
-    pub fn rest<R: Wait>(&mut self, rt: &R, seen: u64) -> bool {
+    pub fn wait_for_news<R: Wait>(&mut self, rt: &R, seen: u64) -> bool {
         self.has_worked || self.site.orders.wait_past(rt, seen)
     }
 }

@@ -49,7 +49,7 @@ fn settle<R: Wait, G: Gate>(
             return Ok(true);
         }
         hand.deliver(rt, alloc, None)?;
-        if !hand.rest(rt, seen) {
+        if !hand.wait_for_news(rt, seen) {
             break;
         }
     }

@@ -154,7 +154,7 @@ fn take_turns<R: Wait, G: Gate>(
         if push_on(rt, alloc, hand, worker, adds, &mut posted, does_poll)? {
             break;
         }
-        if !hand.rest(rt, seen) {
+        if !hand.wait_for_news(rt, seen) {
             break;
         }
     }

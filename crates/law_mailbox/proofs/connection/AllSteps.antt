@@ -19,7 +19,7 @@ use Rattle.law_mailbox.proofs.connection.OtherSteps.{other_steps}
 use Rattle.law_mailbox.proofs.connection.OwnSteps.{own_steps}
 use Rattle.law_mailbox.proofs.connection.ReadSteps.{read_steps}
 use Rattle.law_mailbox.proofs.connection.RunSteps.{run_steps}
-use Rattle.law_mailbox.proofs.connection.Seen.{enough_seen}
+use Rattle.law_mailbox.proofs.connection.Seen.{seen_steps_keep}
 use Rattle.law_mailbox.proofs.queue_room.Standing.{dues_of_it, steps_stand}
 
 -- the steps of connection i
@@ -85,4 +85,4 @@ all_seen peers ts m machine s inner enabled all = record {
 }
 
 pub all_keep : InnerStepsKeep
-all_keep peers = enough_seen peers (all_seen peers)
+all_keep peers = seen_steps_keep peers (all_seen peers)

@@ -10,7 +10,7 @@ use Rattle.mailbox_rules.specs.Opening.{receiver}
 use Rattle.mailbox_rules.specs.State.{Channel, channel}
 use Rattle.law_mailbox.specs.Held.{connection_in}
 use Rattle.law_mailbox.specs.Kept.{IsKept, Sight, dues_of, sight_of, standing}
-use Rattle.law_mailbox.specs.Seen.{IsSeen, Moved, Moves, SeeingIsEnough, Stays}
+use Rattle.law_mailbox.specs.Seen.{IsSeen, Moved, Moves, Stays, StepsSeenAsMovesKeep}
 use Rattle.law_mailbox.proofs.connection.Places.{all_back, all_front}
 use Rattle.law_mailbox.proofs.connection.Steps.{moves_keep}
 
@@ -18,8 +18,8 @@ pub all_moves : (i : ℕ) (s : Sight) {s' : Sight} (c : Channel) (sent : List Le
 all_moves i s c sent open' Stays h = h
 all_moves i s c sent open' (Moved {s' = s'} {s'' = s''} before move) h = moves_keep i s' s'' c sent open' move (all_moves i s c sent open' before h)
 
-pub enough_seen : SeeingIsEnough
-enough_seen peers seen ts m machine s inner enabled all =
+pub seen_steps_keep : StepsSeenAsMovesKeep
+seen_steps_keep peers seen ts m machine s inner enabled all =
     let a = seen ts m machine s inner enabled all in
     record {
       opened = λ i low high. (a.each i low high).opened;

@@ -15,7 +15,7 @@ use Rattle.mailbox_rules.specs.State.{Mail, made, with_world}
 use Rattle.mailbox_rules.specs.Theorem.{Begins, IsReached, Replied, WasCut}
 use Rattle.mailbox_rules.specs.Wanting.{IsPartlyStored}
 use Rattle.mailbox_rules.specs.Working.{working}
-use Rattle.law_mailbox.specs.AlwaysFew.{AllAreFew, BeginningIsFew}
+use Rattle.law_mailbox.specs.AlwaysFew.{BeginningIsFew, QueueEntriesAreBounded}
 use Rattle.law_mailbox.specs.Few.{AreFew, IsHeldFew, StepsKeepFew, WorksKeepFew}
 use Rattle.law_mailbox.specs.Held.{AreAllKept, IsAllKept, IsHeld, MayBeSent}
 use Rattle.law_mailbox.specs.Over.{SendsAreAnsweredAfterWork}
@@ -98,5 +98,5 @@ module _ (steps : StepsKeepFew) (works : WorksKeepFew) (begins : BeginningIsFew)
       let b = reached_few r in
       (after_cut (IsHeldFew peers) (λ us. IsReadyMail peers) event_few (λ us n k ready. works peers small us n k) idle_few taken_few stored_few sent_few named ts m cut may b.1 b.0, keep.also_cut ts m c m' cut may (held_of b.0) b.1)
 
-pub always_few : StepsKeepFew → WorksKeepFew → BeginningIsFew → SendsAreAnsweredAfterWork → AllIsKept → EventsFollowByName → ((e : WorldEvent) → AlwaysFollows e) → SettlingHasEvents → WorkStopsInTime → AllAreFew
-always_few steps works begins answered keeps by_name follow named stops peers low small ts m reached = (reached_few steps works begins answered keeps by_name follow named stops peers low small reached).0
+pub entries_bounded : StepsKeepFew → WorksKeepFew → BeginningIsFew → SendsAreAnsweredAfterWork → AllIsKept → EventsFollowByName → ((e : WorldEvent) → AlwaysFollows e) → SettlingHasEvents → WorkStopsInTime → QueueEntriesAreBounded
+entries_bounded steps works begins answered keeps by_name follow named stops peers low small ts m reached = (reached_few steps works begins answered keeps by_name follow named stops peers low small reached).0

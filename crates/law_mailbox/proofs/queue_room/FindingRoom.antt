@@ -7,7 +7,7 @@ use Rattle.mailbox_rules.specs.Opening.{queue_name, receiver}
 use Rattle.mailbox_rules.specs.State.{Mail}
 use Rattle.mailbox_rules.specs.Theorem.{LettersAreKept}
 use Rattle.mailbox_rules.specs.Working.{begun, worked}
-use Rattle.law_mailbox.specs.AlwaysFew.{AllAreFew, WorkAlwaysFindsRoom}
+use Rattle.law_mailbox.specs.AlwaysFew.{QueueEntriesAreBounded, WorkAlwaysFindsRoom}
 use Rattle.law_mailbox.specs.Answered.{IsFurnished, IsFurnishedFor, WorksLeaveFurnished}
 use Rattle.law_mailbox.specs.Few.{FewHaveRoom, IsHeldFew, WorksKeepFew}
 use Rattle.law_mailbox.specs.Reached.{LettersAreKeptWhereWorkFindsRoom}
@@ -22,7 +22,7 @@ not_full peers small m f few =
     let capacity = receiver_capacity_is peers m f in
     lt-leb (queue_of m receiver queue_name).capacity (length (queue_of m receiver queue_name).entries + reserved (context_of m receiver) queue_name) (omega (arith, small, few, capacity))
 
-pub finds_room : AllAreFew → WorksKeepFew → FewHaveRoom → WorksLeaveFurnished → WorkAlwaysFindsRoom
+pub finds_room : QueueEntriesAreBounded → WorksKeepFew → FewHaveRoom → WorksLeaveFurnished → WorkAlwaysFindsRoom
 finds_room few works room leaves peers low small ts m reached o ready k machine stands =
     let after : Mail = (worked k (begun m)).mail in
     let before : IsHeldFew peers ts m = few peers low small ts m reached in

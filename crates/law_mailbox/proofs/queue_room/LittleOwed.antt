@@ -24,7 +24,7 @@ use Rattle.mailbox_rules.specs.Working.{Working, asking, begun, context_of, doin
 use Rattle.law_mailbox.specs.Held.{IsHeld}
 use Rattle.law_mailbox.specs.Kept.{dues_by, dues_of, standing}
 use Rattle.law_mailbox.specs.Short.{IsLittleOwed}
-use Rattle.law_mailbox.specs.Stops.{LittleStaysOwed}
+use Rattle.law_mailbox.specs.Stops.{DueWorkIsBounded}
 use Rattle.law_mailbox.proofs.work.Changing.{one_or_not}
 use Rattle.law_mailbox.proofs.queue_room.Counts.{count_both, count_cons, one_if}
 use Rattle.law_mailbox.proofs.work.Dues.{next_is, split_at}
@@ -197,5 +197,5 @@ module _ (follow : EventsFollowByName) (peers : ℕ) (some : 1 ≤ peers) (small
       by rest None e = subst (λ (x : Working). IsLittleOwed peers x.mail) (sym (stops_there follow peers small ts n w e)) few
       by rest (Some v) e = subst (λ (x : Working). IsLittleOwed peers x.mail) (sym (goes_further follow peers small ts n w v e)) (rest v (step_held follow peers small ts w h v e) (step_few w h few v e))
 
-pub little_stays : EventsFollowByName → LittleStaysOwed
-little_stays follow peers some small ts m n h few = steps_few follow peers some small ts n (begun m) h few
+pub due_work_bounded : EventsFollowByName → DueWorkIsBounded
+due_work_bounded follow peers some small ts m n h few = steps_few follow peers some small ts n (begun m) h few

@@ -30,7 +30,7 @@ use Rattle.mailbox_rules.specs.Theorem.{AllIsHere, AllTakenAfterSettling, IsGive
 use Rattle.mailbox_rules.specs.Working.{context_of, may_be_done, most_steps, working}
 use Rattle.law_mailbox.specs.Delivered.{IsDelivered}
 use Rattle.law_mailbox.specs.Flagged.{has_failed}
-use Rattle.law_mailbox.specs.Finished.{AllWorkFinishes, IsHeldIn, IsWorkSeen, WorkFinishes, WorkingIsEnough, line_of}
+use Rattle.law_mailbox.specs.Finished.{AllWorkFinishes, FinishedWorkDeliversAll, IsHeldIn, IsWorkSeen, WorkFinishes, line_of}
 use Rattle.law_mailbox.specs.Kept.{bodies, body_in, copies, copy_in, dues_of, fetch_in, fetches, free_in, frees, long_letters, sight_of, slot_in, slots, standing}
 use Rattle.law_mailbox.specs.Over.{IsWorkOver, StoppedWorkIsOver}
 use Rattle.law_mailbox.specs.Settled.{IsAllCopied, IsLive, IsRound, IsWorkedOn}
@@ -40,7 +40,7 @@ use Rattle.law_mailbox.proofs.work.Chains.{to_work}
 use Rattle.law_mailbox.proofs.work.Channels.{IsSender, sender_is}
 use Rattle.law_mailbox.proofs.queue_room.FewMachines.{failed_as}
 use Rattle.law_mailbox.proofs.queue_room.Gaining.{nothing_of_sender}
-use Rattle.law_mailbox.proofs.settling.Given.{all_given, none_full}
+use Rattle.law_mailbox.proofs.settling.Given.{copied_given, none_full}
 use Rattle.law_mailbox.proofs.work.Noting.{no_slots_at_receiver}
 use Rattle.law_mailbox.proofs.settling.Opened.{were_sent}
 use Rattle.law_mailbox.proofs.connection.Places.{copied_long}
@@ -437,7 +437,7 @@ module _ (named : SettlingHasEvents) (follow : (e : WorldEvent) → AlwaysFollow
       given_of tag there =
           let kept3 = held3.all.kept i low high in
           subst (λ (a : After). IsGiven (first_wanted tag (placed_letters i ts)) a.reply) (sym (taken_after m3 i tag))
-          (all_given (working m3) i (sent_letters i ts) (placed_letters i ts) tag (still_there i there) (were_sent i ts) (held4.all.kept i low high).arrived
+          (copied_given (working m3) i (sent_letters i ts) (placed_letters i ts) tag (still_there i there) (were_sent i ts) (held4.all.kept i low high).arrived
           (still_received i x y kept3 (worked4 i low high) (copied3 i low high live)) (still_read i x y kept3 (worked4 i low high) (copied3 i low high live)))
 
       -- a sender that lives has room
@@ -507,5 +507,5 @@ module _ (named : SettlingHasEvents) (follow : (e : WorldEvent) → AlwaysFollow
       (live_at m machine h first second' third' home' f1 f2 f3 f4 i low high (subst (λ (n : Mail). has_failed n.world (sender_end i) ≡ false) (all_rounds m) sender_fine)
       (subst (λ (n : Mail). has_failed n.world (receiver_end i) ≡ false) (all_rounds m) receiver_fine) (subst (λ (n : Mail). (channel n i).receiver_ended ≡ false) (all_rounds m) unset)))
 
-pub enough_working : SettlingHasEvents → ((e : WorldEvent) → AlwaysFollows e) → EventsFollowByName → StoppedWorkIsOver → WorkingIsEnough
-enough_working named follow by_name over peers positive small ts m machine h finishes = all_taken named follow by_name over peers positive small ts m machine h finishes
+pub finished_work_delivers : SettlingHasEvents → ((e : WorldEvent) → AlwaysFollows e) → EventsFollowByName → StoppedWorkIsOver → FinishedWorkDeliversAll
+finished_work_delivers named follow by_name over peers positive small ts m machine h finishes = all_taken named follow by_name over peers positive small ts m machine h finishes

@@ -14,7 +14,7 @@ use Rattle.mailbox_rules.specs.Letters.{is_rendezvous}
 use Rattle.mailbox_rules.specs.State.{Mail, channel, is_away, is_sender, with_channel}
 use Rattle.mailbox_rules.specs.Theorem.{IsAwaited, IsGiven, IsLanded}
 use Rattle.mailbox_rules.specs.Working.{asking, is_too_many, posted}
-use Rattle.law_mailbox.specs.Finished.{AllIsGiven, HasRoom}
+use Rattle.law_mailbox.specs.Finished.{CopiedLettersAreGiven, HasRoom}
 use Rattle.law_mailbox.proofs.connection.Long.{fetched_less}
 use Rattle.law_mailbox.proofs.settling.Rounds.{all_long}
 use Rattle.law_mailbox.proofs.settling.Taking.{IsGivenAt, IsNotGiven, outcome}
@@ -27,8 +27,8 @@ wanted_is P tag (y ∷ ys) x all e = by (is_wanted tag y) (wanted_is P tag ys x 
     by true rest f = subst P (same_Some y x f) (All-head P y ys all)
     by false rest f = rest f
 
-pub all_given : AllIsGiven
-all_given m i sent open' tag there opened arrived received read = by (outcome m i sent open' tag there opened arrived)
+pub copied_given : CopiedLettersAreGiven
+copied_given m i sent open' tag there opened arrived received read = by (outcome m i sent open' tag there opened arrived)
   where
     landed : (x : Placed) → slice_get sent x.place ≡ Some x.letter → IsLanded (channel m i) sent x
     landed x at =

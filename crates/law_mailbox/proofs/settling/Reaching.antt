@@ -9,7 +9,7 @@ use Rattle.mailbox_rules.specs.State.{Mail, made}
 use Rattle.mailbox_rules.specs.Theorem.{Begins, IsReached, MayBeCalled, Replied, WasCut}
 use Rattle.mailbox_rules.specs.Wanting.{IsPartlyStored}
 use Rattle.mailbox_rules.specs.Working.{working}
-use Rattle.law_mailbox.specs.Finished.{AllWorkFinishes, BeginsSo, EventsKeepSo, IsHeldOn, WorkFinishes, WorkingIsEnough, WorksKeepSo}
+use Rattle.law_mailbox.specs.Finished.{AllWorkFinishes, BeginsSo, EventsKeepSo, FinishedWorkDeliversAll, IsHeldOn, WorkFinishes, WorksKeepSo}
 use Rattle.law_mailbox.specs.Held.{IsAllKept, IsHeld, MayBeSent}
 use Rattle.law_mailbox.specs.Over.{SendsAreAnsweredAfterWork}
 use Rattle.law_mailbox.specs.Ready.{IsReadyMail}
@@ -111,7 +111,7 @@ module _ (posted : AllIsPosted) (stops : WorkStopsInTime) (peers : ℕ) (low : 1
     last = finishes_after settled_thrice (tt, (tt, (tt, (tt, (tt, (tt, tt)))))) ts m r;
   }
 
-pub here_after_settling : AllIsPosted → WorkStopsInTime → WorkingIsEnough → LettersAreHereAfterSettling
+pub here_after_settling : AllIsPosted → WorkStopsInTime → FinishedWorkDeliversAll → LettersAreHereAfterSettling
 here_after_settling posted stops enough peers low small room ts m r =
     let o = (posted peers low small room ts m r).held in
     enough peers low small ts m o.machine o.held (all_finish posted stops peers low small room ts m r)

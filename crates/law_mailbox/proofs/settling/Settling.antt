@@ -26,7 +26,7 @@ use Rattle.law_mailbox.proofs.connection.AllSteps.{all_seen}
 use Rattle.law_mailbox.proofs.work.EachCall.{settling_of_network}
 use Rattle.law_mailbox.proofs.work.Held.{in_range, is_inner, no_parts, unheard}
 use Rattle.law_mailbox.proofs.work.Posted.{moves_keep_posted}
-use Rattle.law_mailbox.proofs.connection.Seen.{enough_seen}
+use Rattle.law_mailbox.proofs.connection.Seen.{seen_steps_keep}
 use Rattle.law_mailbox.proofs.connection.Steps.{moves_keep}
 
 -- ---- one connection
@@ -61,7 +61,7 @@ module _ (peers : ℕ) (ts : List Turn) (m : Mail) where
       let each : (i : ℕ) → 1 ≤ i → i ≤ peers → IsMoved i (line_of machine m ts i) (line_of (effect machine s) m ts i).sight =
       λ i low high. all_moved i (line_of machine m ts i) (seen.each i low high).moves (h.all.kept i low high) (h.posted i low high) in
       record {
-        all = enough_seen peers (all_seen peers) ts m machine s inner enabled h.all;
+        all = seen_steps_keep peers (all_seen peers) ts m machine s inner enabled h.all;
         posted = λ i low high. (each i low high).posted;
         ahead = λ i low high. (each i low high).ahead;
       }

@@ -18,7 +18,7 @@ use Rattle.law_mailbox.specs.Held.{IsHeld, KeepingIsEnough, MayBeSent}
 use Rattle.law_mailbox.specs.Over.{SendsAreAnsweredAfterWork}
 use Rattle.law_mailbox.specs.Seen.{InnerStepsKeep}
 use Rattle.law_mailbox.specs.Ready.{IsReady, IsReadyMail}
-use Rattle.law_mailbox.specs.Stops.{LittleStaysOwed, WorkStopsInTime}
+use Rattle.law_mailbox.specs.Stops.{DueWorkIsBounded, WorkStopsInTime}
 use Rattle.law_mailbox.specs.Whole.{AllIsKept, LettersAreTakenWhole}
 use Rattle.law_mailbox.proofs.opening.Furnishing.{queues_short}
 use Rattle.law_mailbox.proofs.work.KeptCalls.{called_kept, cut_kept, worked_kept}
@@ -26,7 +26,7 @@ use Rattle.law_mailbox.proofs.queue_room.LittleOwed.{owed_in}
 use Rattle.law_mailbox.proofs.work.Untouched.{posted_owed, stored_owed}
 
 module _ (begins : BeginningIsHeld) (steps : InnerStepsKeep) (works : WorksAreKept) (sends : SendsAreKept) (stores : StoresAreKept) (first : FirstIsFurnished) (events : EventsLeaveFurnished) (work : WorksLeaveFurnished) (store : StoresLeaveFurnished)
-    (post : SendsLeaveFurnished) (answered : SendsAreAnsweredAfterWork) (named : SettlingHasEvents) (little : LittleStaysOwed) (stops : WorkStopsInTime) where
+    (post : SendsLeaveFurnished) (answered : SendsAreAnsweredAfterWork) (named : SettlingHasEvents) (little : DueWorkIsBounded) (stops : WorkStopsInTime) where
   module _ (peers : ℕ) (low : 1 ≤ peers) (high : peers ≤ 8) where
     events_ready : (w : World) (owed : List Due) (e : WorldEvent) → is_of_network e ≡ true → IsReady peers w owed → IsReady peers (world_step w e).world owed
     events_ready w owed e net r = record { furnished = events peers w e net r.furnished; little = r.little }

@@ -1,5 +1,5 @@
 use Rattle.law_mailbox.proofs.settling.Ahead.{moves_are_ahead, works_go_ahead}
-use Rattle.law_mailbox.proofs.nothing_goes_back.Goals as goal
+use Rattle.law_mailbox.proofs.progress_is_monotone.Goals as goal
 
 pub returns-clause-moves : goal.returns-clause-moves
 returns-clause-moves c = moves_are_ahead
